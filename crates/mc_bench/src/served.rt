@@ -1,0 +1,47 @@
+//! What is measured.
+
+use mc_cache::Cache;
+use mc_item::CasCounter;
+use mc_server::{Server, Turn};
+use mc_store::ListStore;
+use std::alloc::Global;
+
+/// The budget of the cache in bytes, and the most items.
+const BUDGET: u64 = 67_108_864;
+
+const ITEMS: usize = 1_000;
+
+/// The moment of every turn.
+const MOMENT: u64 = 100;
+
+/// A server with one connection over a new cache.
+#[derive(Drop)]
+pub struct Served {
+    server: Server<ListStore>,
+    connection: u64,
+}
+
+impl Served {
+    pub fn new(alloc: Global) -> anyhow::Result<Served> {
+        let counter = CasCounter::starting_at(0);
+        let cache = Cache::new(ListStore::new(alloc), BUDGET, ITEMS, counter);
+        let mut server = Server::new(alloc, cache);
+        let connection = server.admit()?;
+        Ok(Served { server, connection })
+    }
+
+    /// Feeds a piece, and takes turns until nothing is left to take. Then the output is taken out, and this many
+    /// bytes it had.
+    pub fn serve(&mut self, piece: &[u8]) -> anyhow::Result<usize> {
+        self.server.feed(self.connection, piece)?;
+        for _ in 0..u64::MAX {
+            match self.server.turn(self.connection, MOMENT)? {
+                Turn::Took => {}
+                Turn::Idle | Turn::Closing => break,
+            }
+        }
+        let answered = self.server.output(self.connection).len();
+        self.server.taken_out(self.connection, answered);
+        Ok(answered)
+    }
+}

@@ -1,0 +1,4 @@
+pub mod CacheState
+pub mod Step
+pub mod Replay
+pub mod Latest

@@ -1,0 +1,108 @@
+-- What a reader stands for after a step.
+use Rattle.std.proofs.Common.{◌≡◌, ◌∙◌, ℕ, suc, zero, ◌+◌, ◌-◌, ◌<◌, ◌≤◌, Bool, true, false, List, [], ◌∷◌, ◌++◌, length, drop, Some, None, nat_lt, min, if◌then◌else◌, refl, sym, ap, arith, append_assoc, length-append, length-drop}
+use Rattle.std.proofs.lemmas.List.{drop-drop, drop-append-le, append-nil}
+use Rattle.std.proofs.Math.Seq.{drop-append-add}
+use Rattle.mc_request.specs.declared.faults.Fault.{Fault}
+use Rattle.mc_request.specs.declared.parts.Taken.{Taken}
+use Rattle.mc_request.specs.declared.parts.Taken.TheVariants.{Faulty}
+use Rattle.mc_request.specs.declared.reader.Front.{Front}
+use Rattle.mc_request.specs.Faults.{closes}
+use Rattle.mc_request.specs.Requests.{next_request, requests_from, requests_of, ends}
+use Rattle.mc_request.specs.Reader.{ReaderState, rest_of, rest_from}
+use Rattle.mc_request.specs.Peeks.{HasNone, EndsAt}
+use Rattle.mc_request.proofs.RequestLemmas.{next_request-size, requests-step, takes, waits, same_test}
+
+after_taken : (b : Bool) (bytes : List ℕ) → (if b then [] else requests_of bytes) ≡ rest_from b None bytes
+after_taken true bytes = refl
+after_taken false bytes = refl
+
+-- a whole request or fault of an unclosed reader
+pub first_whole : (s : ReaderState) (x : Taken) (front : Front) → s.closed ≡ false → s.dropping ≡ None → front.closes ≡ ends x → next_request s.unread ≡ Some (x, front.size) → EndsAt s x front
+first_whole s x front unclosed none closes_is e = record {
+  size = (next_request-size s.unread (x, front.size) e).1;
+  closes = closes_is;
+  first = record { rest = λ text. rw (unclosed, none, closes_is) (takes s.unread (x, front.size) e text ∙ ap (λ (ts : List Taken). x ∷ ts) (after_taken (ends x) (drop front.size s.unread ++ text))) };
+}
+
+-- the fault of a block that has been dropped
+pub first_dropped : (s : ReaderState) (f : Fault) (left : ℕ) → s.closed ≡ false → s.dropping ≡ Some (f, left) → left ≤ 0 → closes f ≡ false → EndsAt s (Faulty f) (record { size = 0; closes = false })
+first_dropped s f zero unclosed is done ok = record {
+  size = omega arith;
+  closes = sym ok;
+  first = record { rest = λ text. let none : nat_lt (length (s.unread ++ text)) 0 ≡ false = grind arith in rw (unclosed, is, none) refl };
+}
+first_dropped s f (suc left) unclosed is done ok = absurd (omega arith)
+
+-- nothing is whole
+pub none_yet : (old new : ReaderState) → new ≡ old → old.closed ≡ false → old.dropping ≡ None → next_request old.unread ≡ None → HasNone old new
+none_yet old new same unclosed none e = record {
+  was_open = unclosed;
+  is_open = ap (λ (s : ReaderState). s.closed) same ∙ unclosed;
+  none = rw (unclosed, none, append-nil) (waits old.unread e);
+  rest = λ text. ap (λ (s : ReaderState). rest_of s text) same;
+}
+
+-- a block that is being dropped
+pub none_dropping : (s : ReaderState) (f : Fault) (left : ℕ) → s.closed ≡ false → s.dropping ≡ Some (f, left) → 0 < left → (0 < left → length s.unread ≡ 0) → HasNone s s
+none_dropping s f left unclosed is more empty =
+    let none : length s.unread ≡ 0 = empty more in
+    let short : nat_lt (length (s.unread ++ [])) left ≡ true = grind (arith, length-append s.unread [], none) in
+    record {
+      was_open = unclosed;
+      is_open = unclosed;
+      none = rw (unclosed, is, short) refl;
+      rest = λ text. refl;
+    }
+
+-- the requests of a text whose first block is dropped
+drops : (u : List ℕ) (f : Fault) (size : ℕ) → closes f ≡ false → length u < size
+    → ((more : List ℕ) → next_request (u ++ more) ≡ (if nat_lt (length (u ++ more)) size then None else Some (Faulty f, size)))
+    → (more : List ℕ) → requests_of (u ++ more) ≡ rest_from false (Some (f, size - length u)) more
+drops u f size ok short h more =
+    let test : nat_lt (length more) (size - length u) ≡ nat_lt (length (u ++ more)) size =
+    same_test (length more) (size - length u) (length (u ++ more)) size (λ h. omega (arith, length-append u more)) (λ h. omega (arith, length-append u more)) in
+    let sizes : length u + (size - length u) ≡ size = omega arith in
+    let left : drop size (u ++ more) ≡ drop (size - length u) more = ap (λ n. drop n (u ++ more)) (sym sizes) ∙ drop-append-add u more (size - length u) in
+    requests-step (u ++ more) ∙ rw (h more, test) (elim (nat_lt (length (u ++ more)) size) as
+    (λ v. requests_from (if v then None else Some (Faulty f, size)) (u ++ more) requests_of ≡ (if v then [] else Faulty f ∷ requests_of (drop (size - length u) more))) [
+      | true ↦ refl
+      | false ↦ rw (ok, left) refl
+    ])
+
+-- a block begins to be dropped
+pub none_drops : (s new : ReaderState) (f : Fault) (size : ℕ) → s.closed ≡ false → s.dropping ≡ None → new.closed ≡ false → new.dropping ≡ Some (f, size - length s.unread) → new.unread ≡ []
+    → closes f ≡ false → length s.unread < size
+    → ((more : List ℕ) → next_request (s.unread ++ more) ≡ (if nat_lt (length (s.unread ++ more)) size then None else Some (Faulty f, size)))
+    → HasNone s new
+none_drops s new f size unclosed none new_unclosed new_dropping new_unread ok short h =
+    let test : nat_lt 0 (size - length s.unread) ≡ true = grind (arith, short) in
+    record {
+      was_open = unclosed;
+      is_open = new_unclosed;
+      none = rw (unclosed, none) (drops s.unread f size ok short h [] ∙ rw test refl);
+      rest = λ text. rw (unclosed, none, new_unclosed, new_dropping, new_unread) (sym (drops s.unread f size ok short h text));
+    }
+
+only_zero : (left n : ℕ) → (0 < left → suc n ≡ 0) → left ≡ 0
+only_zero zero n h = refl
+only_zero (suc left) n h = let e : suc n ≡ 0 = h (omega arith) in absurd (omega arith)
+
+-- the rest after a piece, part of which is dropped
+dropped : (f : Fault) (left k : ℕ) (u piece text : List ℕ) → (0 < left → length u ≡ 0) → k ≡ min left (length piece)
+    → rest_from false (Some (f, left - k)) (u ++ drop k piece ++ text) ≡ rest_from false (Some (f, left)) (u ++ (piece ++ text))
+dropped f left k [] piece text empty k_is =
+    let cut : drop k (piece ++ text) ≡ drop k piece ++ text = drop-append-le k piece text (omega arith) in
+    let test : nat_lt (length (drop k piece ++ text)) (left - k) ≡ nat_lt (length (piece ++ text)) left =
+    same_test (length (drop k piece ++ text)) (left - k) (length (piece ++ text)) left (λ h. omega (arith, length-append piece text, length-append (drop k piece) text, length-drop k piece)) (λ h. omega (arith, length-append piece text, length-append (drop k piece) text, length-drop k piece)) in
+    let sizes : k + (left - k) ≡ left = omega arith in
+    let left_is : drop (left - k) (drop k piece ++ text) ≡ drop left (piece ++ text) = rw (← cut) (drop-drop (left - k) k (piece ++ text) ∙ rw sizes refl) in
+    rw (test, left_is) refl
+dropped f left k (b ∷ bs) piece text empty k_is =
+    let none : left ≡ 0 = only_zero left (length bs) empty in
+    let k_none : k ≡ 0 = omega arith in
+    rw (k_none, none) (ap (λ (xs : List ℕ). rest_from false (Some (f, 0)) (b ∷ xs)) (append_assoc bs piece text))
+
+-- a piece comes while a block is dropped
+pub piece_dropped : (u new piece kept : List ℕ) (f : Fault) (left k : ℕ) (text : List ℕ) → (0 < left → length u ≡ 0) → k ≡ min left (length piece) → new ≡ u ++ kept → kept ≡ drop k piece
+    → rest_from false (Some (f, left - k)) (new ++ text) ≡ rest_from false (Some (f, left)) (u ++ (piece ++ text))
+piece_dropped u new piece kept f left k text empty k_is new_is kept_is = rw (new_is, kept_is) (dropped f left k u piece text empty k_is)

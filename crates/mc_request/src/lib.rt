@@ -1,0 +1,25 @@
+//! Requests: what a client's bytes ask for.
+//!
+//! A [`Reader`] is fed the bytes of a connection in whatever pieces they come ([`Reader::feed`]), and gives the
+//! requests and faults of them in order ([`Reader::next`]). [`Reader::peek`] and [`Reader::consume`] are the two
+//! halves of `next`, for a caller that has to make room before it takes a request. [`Request::atoms`] gives the
+//! commands of a request, and [`Fault::line`] the error line of a fault.
+//!
+//! A reader stands for a function: from the text still to come to the requests and faults that it will give.
+//! `feed` and `next` are proved to keep that function, so how the text is cut never matters: see
+//! `specs/Reader.antt` for the function and `specs/Requests.antt` for the requests of a text.
+#![tactic(auto)]
+
+mod command_lines;
+mod faults;
+mod laws;
+mod parts;
+mod reader;
+mod rows;
+mod steps;
+
+pub use faults::Fault;
+pub use laws::{requests_begin, requests_go_on};
+pub use parts::{Atom, ReadError, Request, Taken};
+pub use reader::{Front, Next, Peek, Reader};
+pub use rows::{block_takes_too_much, refused_block_is_swallowed, set_then_get};

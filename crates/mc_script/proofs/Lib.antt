@@ -1,0 +1,4 @@
+pub mod EscapeLemmas
+pub mod HistoryLemmas
+pub mod LineLemmas
+pub mod ScriptLemmas

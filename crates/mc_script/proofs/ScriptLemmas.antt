@@ -1,0 +1,59 @@
+-- The events of a script, from the first line on.
+use Rattle.std.proofs.Common.{◌≡◌, ℕ, List, [], ◌∷◌, ◌++◌, Some, None, Result, Ok, Err, refl, sym, ap, append-nil, append_assoc}
+use Rattle.mc_script.specs.Scripts.{events_of, event_of, with_event, script_of_lines, server_of, with_server}
+use Rattle.mc_script.specs.ScriptSeen.{Explains}
+use Rattle.mc_script.specs.declared.errors.SimError.{SimError}
+use Rattle.mc_script.specs.declared.errors.SimError.TheVariants.{BadLine, Stream, Memory}
+use Rattle.mc_script.specs.declared.events.Event.{Event}
+
+-- events in front of what lines give
+abbrev pub with_front : List Event → Result (List Event) ℕ → Result (List Event) ℕ
+with_front front (Ok events) = Ok (front ++ events)
+with_front front (Err line) = Err line
+
+pub with_front-nil : (r : Result (List Event) ℕ) → with_front [] r ≡ r
+with_front-nil (Ok events) = refl
+with_front-nil (Err line) = refl
+
+-- one event more
+pub with_front-more : (front : List Event) (n : ℕ) (event : Event) (r : Result (List Event) ℕ) → with_front front (with_event n (Some event) r) ≡ with_front (front ++ event ∷ []) r
+with_front-more front n event (Ok events) = ap (λ (es : List Event). Ok es) (sym (append_assoc front (event ∷ []) events))
+with_front-more front n event (Err line) = refl
+
+-- a line that is an event
+pub events_of-event : (front out : List Event) (n : ℕ) (line : List ℕ) (lines rest : List (ℕ × List ℕ)) (event : Event) → lines ≡ (n, line) ∷ rest → event_of line ≡ Some event → out ≡ front ++ event ∷ []
+    → with_front out (events_of rest) ≡ with_front front (events_of lines)
+unfolding events_of
+events_of-event front out n line lines rest event first is more = rw (first, is, more) (sym (with_front-more front n event (events_of rest)))
+
+-- a line that is no event
+pub events_of-bad : (front : List Event) (n : ℕ) (line : List ℕ) (lines rest : List (ℕ × List ℕ)) → lines ≡ (n, line) ∷ rest → event_of line ≡ None → with_front front (events_of lines) ≡ Err n
+unfolding events_of
+events_of-bad front n line lines rest first none = rw (first, none) refl
+
+-- no line more
+pub events_of-nil : (front : List Event) (lines : List (ℕ × List ℕ)) → lines ≡ [] → with_front front (events_of lines) ≡ Ok front
+unfolding events_of
+events_of-nil front lines none = rw none (ap (λ (es : List Event). Ok es) (append-nil front))
+
+-- a script of no line
+pub script_of_lines-nil : (lines : List (ℕ × List ℕ)) → lines ≡ [] → script_of_lines lines ≡ Err 1
+unfolding script_of_lines
+script_of_lines-nil lines none = rw none refl
+
+-- a first line that is no server's
+pub script_of_lines-bad : (n : ℕ) (line : List ℕ) (lines rest : List (ℕ × List ℕ)) → lines ≡ (n, line) ∷ rest → server_of line ≡ None → script_of_lines lines ≡ Err n
+unfolding script_of_lines
+script_of_lines-bad n line lines rest first none = rw (first, none) refl
+
+-- a first line that is a server's, before what the others give
+pub script_of_lines-server : (n : ℕ) (line : List ℕ) (lines rest : List (ℕ × List ℕ)) (limits : ℕ × ℕ) → lines ≡ (n, line) ∷ rest → server_of line ≡ Some limits
+    → script_of_lines lines ≡ with_server n (Some limits) (events_of rest)
+unfolding script_of_lines
+script_of_lines-server n line lines rest limits first is = rw (first, is) refl
+
+-- a bad line among the events is one of the script
+pub explains-more : (e : SimError) (n : ℕ) (limits : ℕ × ℕ) (events : Result (List Event) ℕ) → Explains e events → Explains e (with_server n (Some limits) events)
+explains-more (BadLine m) n limits events h = rw h refl
+explains-more Stream n limits events h = h
+explains-more Memory n limits events h = tt

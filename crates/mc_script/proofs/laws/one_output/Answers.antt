@@ -1,0 +1,5 @@
+use Rattle.mc_script.proofs.HistoryLemmas.{one_answer}
+use Rattle.mc_script.proofs.laws.one_output.Goals as goal
+
+pub returns : goal.returns
+returns c = one_answer

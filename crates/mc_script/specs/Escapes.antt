@@ -1,0 +1,92 @@
+-- Escapes: how any bytes stand in a line of printable ones. Source: this project's own.
+use Rattle.std.specs.Prelude.{◌≡◌, ℕ, ◌+◌, ◌-◌, ◌*◌, ◌/◌, ◌%◌, ◌==◌, ◌&&◌, nat_lt, nat_le, List, [], ◌∷◌, ◌++◌, Option, Some, None, is_some, codes, decimal, if◌then◌else◌}
+use Rattle.std.specs.List.{flat_map}
+use Rattle.std.specs.Option.{option_map, option_map_or}
+
+-- the small hexadecimal digit of a number below 16
+abbrev pub hex_digit : ℕ → ℕ
+hex_digit n = if nat_lt n 10 then 48 + n else 87 + n
+
+-- a byte from 32 to 126 stands for itself, but for the backslash; 13 and 10 have letters; another has
+-- two digits
+unfoldable pub escape_of : ℕ → List ℕ
+escape_of b =
+    if b == 92 then codes "\\\\"
+    else if b == 13 then codes "\\r"
+    else if b == 10 then codes "\\n"
+    else if nat_le 32 b && nat_le b 126 then b ∷ []
+    else codes "\\x" ++ hex_digit (b / 16) ∷ hex_digit (b % 16) ∷ []
+
+-- bytes, each escaped
+abbrev pub escaped : List ℕ → List ℕ
+escaped bytes = flat_map escape_of bytes
+
+-- what is printed for a client
+abbrev pub client_line : ℕ → List ℕ → List ℕ
+client_line client bytes = codes "client " ++ decimal client ++ codes ": " ++ escaped bytes ++ codes "\n"
+
+-- the value of a hexadecimal digit, small or capital
+unfoldable pub hex_value : ℕ → Option ℕ
+hex_value c =
+    if nat_le 48 c && nat_le c 57 then Some (c - 48)
+    else if nat_le 97 c && nat_le c 102 then Some (c - 87)
+    else if nat_le 65 c && nat_le c 70 then Some (c - 55)
+    else None
+
+-- the byte that a letter behind a backslash stands for
+unfoldable pub letter_value : ℕ → Option ℕ
+letter_value c = if c == 92 then Some 92 else if c == 114 then Some 13 else if c == 110 then Some 10 else None
+
+-- where a reader of escapes stands
+pub data Place : Type 0 where
+  -- behind a whole byte, or at the beginning
+  Between : Place
+  -- behind a backslash
+  Backslash : Place
+  -- behind a backslash and x
+  NoDigit : Place
+  -- behind a backslash, x and a digit of this value
+  OneDigit : ℕ → Place
+  -- behind what is no escape
+  Lost : Place
+
+-- where it stands behind one byte more
+abbrev pub place_behind : Place → ℕ → Place
+place_behind Between b = if b == 92 then Backslash else Between
+place_behind Backslash b = if b == 120 then NoDigit else if is_some (letter_value b) then Between else Lost
+place_behind NoDigit b = option_map_or OneDigit (hex_value b) Lost
+place_behind (OneDigit high) b = if is_some (hex_value b) then Between else Lost
+place_behind Lost b = Lost
+
+-- what that byte completes
+abbrev pub completed : Place → ℕ → List ℕ
+completed Between b = if b == 92 then [] else b ∷ []
+completed Backslash b = option_map_or (λ c. c ∷ []) (letter_value b) []
+completed NoDigit b = []
+completed (OneDigit high) b = option_map_or (λ low. (16 * high + low) ∷ []) (hex_value b) []
+completed Lost b = []
+
+-- a text ends behind a whole byte
+abbrev pub at_end : Place → Option (List ℕ)
+at_end Between = Some []
+at_end Backslash = None
+at_end NoDigit = None
+at_end (OneDigit high) = None
+at_end Lost = None
+
+-- what a text stands for, from a place on
+unfoldable pub text_from : Place → List ℕ → Option (List ℕ)
+text_from place [] = at_end place
+text_from place (b ∷ bs) = option_map (λ text. completed place b ++ text) (text_from (place_behind place b) bs)
+
+-- the bytes that an escaped text stands for, if each escape is one
+abbrev pub text_of : List ℕ → Option (List ℕ)
+text_of text = text_from Between text
+
+-- a text behind a place stands for a byte first, and then for what the rest stands for
+abbrev pub GivesByte : Place → List ℕ → ℕ → List ℕ → Type 0
+GivesByte place text byte rest = text_from place text ≡ option_map (λ bytes. byte ∷ bytes) (text_of rest)
+
+-- a text behind a place has no bytes that it stands for
+abbrev pub GivesNoByte : Place → List ℕ → Type 0
+GivesNoByte place text = text_from place text ≡ None

@@ -1,0 +1,27 @@
+//! Scripts of events for a server: read, checked, run and printed.
+//!
+//! A caller meets the calls in this order: [`read_input`] takes all that a reader gives, [`read_script`] reads it
+//! as a [`Script`], [`push_client_line`] prints what a client was sent, and [`run`] joins them. [`push_escaped`]
+//! and [`read_escaped`] are the two directions of the escapes that scripts and printed lines have.
+//!
+//! A script is lines of text: `server 1 <budget> <items>`, then `bytes 0 <text>` and `turn 0 <moment>`. What each
+//! means is said by the definitions in `specs/`.
+#![tactic(auto)]
+
+mod errors;
+mod escapes;
+mod events;
+mod input;
+mod laws;
+mod lines;
+mod outputs;
+mod runs;
+mod scripts;
+
+pub use errors::SimError;
+pub use escapes::{escaped_is_read_again, push_client_line, push_escaped, read_escaped};
+pub use events::{Event, Script};
+pub use input::read_input;
+pub use laws::one_output;
+pub use runs::run;
+pub use scripts::read_script;

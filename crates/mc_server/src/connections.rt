@@ -1,0 +1,98 @@
+//! A connection: its reader, and its answers.
+ghost use Rattle.std.specs.Prelude.{◌≡◌, ◌≤◌, drop, length, IfOk, IsOkUnless, OnOk, OnErr};
+
+use crate::answering::{room_for, serve};
+use crate::turns::{ServerError, Turn};
+use mc_cache::Cache;
+use mc_request::{Peek, Reader};
+use mc_store::Store;
+use mc_text::let_go;
+use std::alloc::Global;
+use std::marker::Model;
+
+/// A connection of a server.
+#[derive(Drop)]
+pub struct Connection {
+    reader: Reader,
+    output: Vec<u8>,
+    /// How many bytes of the output were taken out.
+    sent: usize,
+}
+
+impl Model for Connection {
+    ghost use Rattle.std.specs.Prelude.{◌≤◌, drop, vec_len};
+    ghost use Rattle.mc_server.specs.ServerState.{ConnectionState};
+
+    ghost Value = { ConnectionState };
+
+    ghost view = { λ c. record { reader = c.reader; output = drop c.sent c.output.items } };
+
+    ghost invariant = { λ c. c.sent ≤ vec_len c.output };
+}
+
+impl Connection {
+    ghost use Rattle.mc_server.specs.ServerState.{fresh_connection};
+    ghost use Rattle.mc_server.specs.Turns.{IsFed, IsTurn};
+
+    /// A connection to which nothing has come.
+    pub fn new(alloc: Global) -> Self
+        ensures { result ≡ fresh_connection }
+    {
+        Connection {
+            reader: Reader::new(alloc),
+            output: Vec::new(alloc),
+            sent: 0,
+        }
+    }
+
+    /// Takes the next piece of the client's text.
+    pub fn feed(&mut self, piece: &[u8]) -> Result<(), ServerError>
+        ensures fed { OnOk result (IsFed self.old piece.now self.new) }
+        ensures only_memory { IsOkUnless result ServerError.Memory }
+        ensures err { OnErr result (self.new ≡ self.old) }
+    {
+        self.reader.feed(piece)?;
+        Ok(())
+    }
+
+    /// Takes the first request or fault that has come whole, and serves it at a moment.
+    ///
+    /// The room for the answer is made before anything is taken.
+    pub fn turn<S: Store + Drop>(
+        &mut self,
+        cache: &mut Cache<S>,
+        moment: u64,
+    ) -> Result<Turn, ServerError>
+        ensures turn { IfOk result (λ turn. IsTurn moment turn cache.old cache.new self.old self.new) }
+        ensures only_memory { IsOkUnless result ServerError.Memory }
+        ensures err { OnErr result (self.new ≡ self.old) }
+        ensures cache_kept { OnErr result (cache.new ≡ cache.old) }
+    {
+        match self.reader.peek()? {
+            Peek::Closed => Ok(Turn::Closing),
+            Peek::More => Ok(Turn::Idle),
+            Peek::First(taken, front) => {
+                self.output.reserve(room_for(&taken, cache))?;
+                self.reader.consume(front);
+                serve(taken, cache, moment, &mut self.output);
+                Ok(Turn::Took)
+            }
+        }
+    }
+
+    /// The answers that were not taken out.
+    pub fn output(&self) -> &[u8]
+        ensures { result.now ≡ self.now.output }
+    {
+        let (_, output) = self.output.split_at(self.sent);
+        output
+    }
+
+    /// Lets go of the first `count` bytes of the output, which the client was sent.
+    pub fn taken_out(&mut self, count: usize)
+        requires { count ≤ length self.old.output }
+        ensures { self.new ≡ record self.old { output = drop count self.old.output } }
+    {
+        self.sent = let_go(&mut self.output, self.sent + count);
+    }
+}

@@ -1,0 +1,133 @@
+//! Keys.
+ghost use Rattle.std.specs.Prelude.{◌≡◌, ◌≤◌, ◌<◌, ◌↔◌, ◌≢◌, ℕ, [], true, false, List, length, IfOk, IsErrOf, OnOk, IsTrue};
+ghost use Rattle.std.specs.List.{list_all};
+ghost use Rattle.std.specs.Str.{bytes_eq};
+ghost use Rattle.std.specs.Cmp.Rules.{comparing};
+ghost use Rattle.std.proofs.Common.{rules};
+ghost use Rattle.std.proofs.lemmas.Cmp.{nat_list_eq_equiv};
+ghost use Rattle.mc_text.specs.Keys.{is_key_byte, is_plain_key};
+ghost use Rattle.mc_text.specs.declared.keys.KeyError.TheVariants.{Memory};
+
+use std::alloc::{AllocError, Global};
+use std::marker::Model;
+use thiserror::Error;
+
+/// The most bytes that a key has.
+pub const KEY_LIMIT: usize = 250;
+
+/// Why a word is no key. Where several causes hold, the least number is answered.
+#[derive(Debug, Drop, Error)]
+pub enum KeyError {
+    /// 1: the word has no byte.
+    #[error("empty key")]
+    Empty,
+    /// 2: the word has more than 250 bytes.
+    #[error("key longer than 250 bytes")]
+    TooLong,
+    /// 3: a byte of the word is a control byte, a space or 127.
+    #[error("control byte or space in key")]
+    BadByte,
+    /// 5: no memory for the key's bytes. (4 is kept for keys in base64.)
+    #[error("out of memory")]
+    Memory,
+}
+
+impl From<AllocError> for KeyError {
+    ghost from_gives = { λ _ e. e ≡ Memory };
+
+    fn from(_e: AllocError) -> KeyError {
+        KeyError::Memory
+    }
+}
+
+/// A key: 1 to 250 bytes. Keys with equal bytes are one key. Contracts see the bytes.
+#[derive(Clone, Debug, Drop)]
+pub struct Key {
+    bytes: Vec<u8>,
+}
+
+impl Model for Key {
+    ghost Value = { List ℕ };
+
+    ghost view = { λ k. k.bytes.items };
+
+    ghost invariant = { λ k. (0 < length k.bytes.items) × (length k.bytes.items ≤ 250) };
+}
+
+impl PartialEq for Key {
+    ghost eq = { bytes_eq };
+
+    ghost laws = { Prim.search (comparing, rules) };
+
+    fn eq(&self, other: &Key) -> bool {
+        self.bytes == other.bytes
+    }
+}
+
+impl Eq for Key {
+    ghost laws = { nat_list_eq_equiv };
+}
+
+impl Key {
+    /// The key that a plain word is.
+    pub fn plain(alloc: Global, word: &[u8]) -> Result<Key, KeyError>
+        ensures key { IfOk result (λ key. (is_plain_key word.now ≡ true) × (key ≡ word.now)) }
+        ensures empty { IsErrOf result KeyError.Empty ↔ (word.now ≡ []) }
+        ensures too_long { IsErrOf result KeyError.TooLong ↔ (250 < length word.now) }
+        ensures bad_byte { IsErrOf result KeyError.BadByte
+            ↔ ((word.now ≢ []) × (length word.now ≤ 250) × (list_all is_key_byte word.now ≡ false)) }
+    {
+        if word.is_empty() {
+            return Err(KeyError::Empty);
+        }
+        if word.len() > KEY_LIMIT {
+            return Err(KeyError::TooLong);
+        }
+        if !has_key_bytes_alone(word) {
+            return Err(KeyError::BadByte);
+        }
+        let bytes = Vec::from_slice(alloc, word)?;
+        Ok(Key { bytes })
+    }
+
+    /// The key's bytes.
+    pub fn as_bytes(&self) -> &[u8]
+        ensures bytes { result.now ≡ self.now }
+        ensures size { (0 < length self.now) × (length self.now ≤ 250) }
+    {
+        self.bytes.as_slice()
+    }
+}
+
+/// Whether a word is a plain key: 1 to 250 bytes, none a control byte, a space or 127.
+pub fn is_plain_key(word: &[u8]) -> bool
+    ensures { result ≡ is_plain_key word.now }
+{
+    !word.is_empty() && word.len() <= KEY_LIMIT && has_key_bytes_alone(word)
+}
+
+fn has_key_bytes_alone(word: &[u8]) -> bool
+    ensures { result ≡ list_all is_key_byte word.now }
+{
+    word.iter().all(|b| *b > b' ' && *b != 127)
+}
+
+#[cfg(test)]
+mod tests {
+    use super::*;
+    use std::test::Fail;
+
+    #[test]
+    fn errors_have_texts(rt: HostRuntime) -> Result<(), Fail> {
+        let texts = [
+            (KeyError::Empty, "empty key"),
+            (KeyError::TooLong, "key longer than 250 bytes"),
+            (KeyError::BadByte, "control byte or space in key"),
+            (KeyError::Memory, "out of memory"),
+        ];
+        for (error, text) in texts {
+            assert_eq!(rt; error.to_string(rt.alloc())?.as_str(), text);
+        }
+        Ok(())
+    }
+}
