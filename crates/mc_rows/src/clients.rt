@@ -35,7 +35,7 @@ impl<S: Store + Drop> Client<S> {
     /// A client of a server over an empty store, which gave `last` as the last number to an item.
     pub fn over(alloc: Global, store: S, budget: u64, last: u64) -> Result<Self, ServerError>
         requires empty { S.items store ≡ [] }
-        requires bounds { IsWithinBounds budget 1000 }
+        requires bounds { IsWithinBounds budget ITEMS }
     {
         let cache = Cache::new(store, budget, ITEMS, CasCounter::starting_at(last));
         let mut server = Server::new(alloc, cache);

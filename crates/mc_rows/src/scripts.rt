@@ -26,7 +26,8 @@ fn bad_script_line(rt: HostRuntime) -> Result<(), Fail> {
         Err(error @ SimError::BadLine(4)) => {
             assert_eq!(rt; error.to_string(rt.alloc())?.as_str(), "line 4: bad line");
         }
-        _ => return Err(Fail::from("not bad at line 4")),
+        Err(error) => return Err(Fail::from(error)),
+        Ok(()) => return Err(Fail::from("no bad line")),
     }
     assert!(rt; output.is_empty());
     Ok(())

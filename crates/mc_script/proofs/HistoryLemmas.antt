@@ -1,5 +1,5 @@
 -- A server that plays events.
-use Rattle.std.proofs.Common.{◌≡◌, ◌∙◌, ℕ, ◌+◌, ◌<◌, ◌≤◌, Bool, true, false, nat_lt, List, [], ◌∷◌, ◌++◌, length, take, drop, map, get_or, Option, Some, None, refl, sym, ap, arith, append_assoc, length-append, add-one, drop-cons, if◌then◌else◌}
+use Rattle.std.proofs.Common.{◌≡◌, ◌∙◌, ℕ, ◌+◌, ◌<◌, ◌≤◌, Bool, true, false, nat_lt, List, [], ◌∷◌, ◌++◌, length, take, drop, get_or, refl, sym, ap, arith, append_assoc, length-append, add-one, drop-cons}
 use Rattle.std.proofs.lemmas.List.{map-append, append-nil, take_more, length-map, take_all, drop_all}
 use Rattle.std.proofs.lemmas.Grind.{flat_map-append}
 use Rattle.std.proofs.Math.Seq.{take-append_seam}
@@ -9,12 +9,12 @@ use Rattle.mc_request.specs.Reader.{rest_of}
 use Rattle.mc_cache.specs.CacheState.{CacheState}
 use Rattle.mc_server.specs.Served.{Entry}
 use Rattle.mc_server.specs.Histories.{answers, taken_of, moments_of}
-use Rattle.mc_server.specs.ServerState.{ConnectionState, ServerState, connection_at, output_of}
-use Rattle.mc_server.specs.Turns.{Takes, Waits, IsTurn, Steps}
+use Rattle.mc_server.specs.ServerState.{ConnectionState}
+use Rattle.mc_server.specs.Turns.{Takes, IsTurn}
 use Rattle.mc_server.specs.Stands.{Stands}
 use Rattle.mc_server.specs.declared.turns.Turn.{Turn as Turned}
 use Rattle.mc_server.specs.declared.turns.Turn.TheVariants.{Took, Idle, Closing}
-use Rattle.mc_server.proofs.HistoryLemmas.{stands_fresh, stands_fed, stands_takes, stands_waits}
+use Rattle.mc_server.proofs.HistoryLemmas.{stands_fed, stands_takes, stands_waits}
 use Rattle.mc_script.specs.declared.events.Event.{Event}
 use Rattle.mc_script.specs.declared.events.Event.TheVariants.{Bytes, Turn}
 use Rattle.mc_script.specs.Answers.{bytes_fed, text_fed, moments_served, cache_of, Answers, refusals_of}

@@ -1,5 +1,4 @@
 -- What an event of a script does to a server.
-use Rattle.std.specs.Prelude.{ℕ}
 use Rattle.mc_cache.specs.CacheState.{CacheState}
 use Rattle.mc_server.specs.ServerState.{ConnectionState}
 use Rattle.mc_server.specs.Turns.{Feeds, IsTurn}

@@ -1,12 +1,12 @@
 -- A history that goes on.
-use Rattle.std.proofs.Common.{◌≡◌, ◌∙◌, ℕ, ◌+◌, ◌<◌, ◌≤◌, Bool, List, [], ◌∷◌, ◌++◌, length, take, drop, refl, sym, ap, append_assoc}
+use Rattle.std.proofs.Common.{◌≡◌, ◌∙◌, ℕ, List, [], ◌∷◌, ◌++◌, take, drop, refl, sym, ap, append_assoc}
 use Rattle.std.proofs.lemmas.List.{map-append, append-nil, take-append-drop}
 use Rattle.mc_request.specs.declared.parts.Taken.{Taken}
 use Rattle.mc_request.specs.Requests.{requests_of}
 use Rattle.mc_request.specs.Reader.{rest_of}
 use Rattle.mc_cache.specs.CacheState.{CacheState}
-use Rattle.mc_server.specs.Served.{Entry, cache_after, answer_after, IsLegalAt, IsServed}
-use Rattle.mc_server.specs.Histories.{replayed, answers, taken_of, moments_of, IsLegalHistory}
+use Rattle.mc_server.specs.Served.{Entry, cache_after, answer_after, IsLegalAt}
+use Rattle.mc_server.specs.Histories.{replayed, answers, taken_of, IsLegalHistory}
 use Rattle.mc_server.specs.ServerState.{ConnectionState, fresh_connection}
 use Rattle.mc_server.specs.Turns.{IsFed, Takes, Waits}
 use Rattle.mc_server.specs.Stands.{Stands}

@@ -1,5 +1,5 @@
 -- The first word of a line.
-use Rattle.std.proofs.Common.{◌≡◌, ℕ, ◌+◌, ◌<◌, ◌≤◌, ◌≢◌, Bool, true, false, not, List, [], ◌∷◌, length, take, drop, get_or, Option, Some, None, refl, sym, ap, ◌∙◌, arith, one-add, eqb, ne_eqb, if◌then◌else◌}
+use Rattle.std.proofs.Common.{◌≡◌, ℕ, ◌+◌, ◌<◌, ◌≤◌, ◌≢◌, Bool, true, false, not, List, [], ◌∷◌, length, take, drop, get_or, Some, None, refl, sym, ap, ◌∙◌, arith, one-add, eqb, ne_eqb, if◌then◌else◌}
 use Rattle.std.proofs.lemmas.List.{take_all, drop_all}
 use Rattle.std.specs.List.{prefix_len, position}
 use Rattle.mc_text.specs.Words.{words, onto_first}

@@ -1,4 +1,4 @@
-use Rattle.std.proofs.Common.{◌≡◌, ◌<◌, ◌≤◌, Some, List, length, get_or, refl, sym, subst}
+use Rattle.std.proofs.Common.{◌≡◌, ◌<◌, ◌≤◌, length, get_or, refl, sym, subst}
 use Rattle.mc_server.specs.ServerState.{ConnectionState, fresh_connection}
 use Rattle.mc_server.proofs.HistoryLemmas.{stands_fresh}
 use Rattle.mc_script.specs.Answers.{cache_of}
