@@ -2,7 +2,7 @@
 .PHONY: run test
 
 run:
-	cd crates/mc_sim && rt run < stdin
+	@cd crates/mc_sim && rt run < stdin
 
 test:
-	rt ci
+	@rt ci
