@@ -8,7 +8,7 @@ use std::alloc::{AllocError, Global};
 #[derive(Clone, Copy, Debug)]
 pub struct Case {
     pub kind: Kind,
-    /// The number of sets, or the bytes of the block.
+    /// The number of commands or keys, or the bytes of the block.
     pub size: u64,
     /// The bytes of a piece.
     pub piece: usize,
@@ -20,9 +20,15 @@ pub enum Kind {
     Block,
     /// A block of more bytes than a value has.
     RefusedBlock,
+    /// Gets of one held key.
+    Gets,
+    /// Increments of one held number.
+    Increments,
+    /// One get of so many held keys.
+    GetOfKeys,
 }
 
-pub const CASES: [Case; 7] = [
+pub const CASES: [Case; 10] = [
     Case {
         kind: Kind::SmallSets,
         size: 100_000,
@@ -58,6 +64,21 @@ pub const CASES: [Case; 7] = [
         size: 100_000_000,
         piece: 65_536,
     },
+    Case {
+        kind: Kind::Gets,
+        size: 100_000,
+        piece: 65_536,
+    },
+    Case {
+        kind: Kind::Increments,
+        size: 100_000,
+        piece: 65_536,
+    },
+    Case {
+        kind: Kind::GetOfKeys,
+        size: 1_000,
+        piece: 65_536,
+    },
 ];
 
 impl Case {
@@ -69,6 +90,9 @@ impl Case {
             Kind::SmallSets => Load::small_sets(alloc, size),
             Kind::Block => Load::block(alloc, size),
             Kind::RefusedBlock => Load::block(alloc, size.max(VALUE_LIMIT as u64 + 1)),
+            Kind::Gets => Load::gets(alloc, size),
+            Kind::Increments => Load::increments(alloc, size),
+            Kind::GetOfKeys => Load::get_of_keys(alloc, size.max(1)),
         }
     }
 }

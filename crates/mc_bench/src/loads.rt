@@ -29,6 +29,69 @@ impl Load {
         })
     }
 
+    /// A set of a value of five bytes, and so many gets of it.
+    pub fn gets(alloc: Global, count: u64) -> Result<Load, AllocError> {
+        Load::repeated(
+            alloc,
+            format!(in alloc; "{count} gets")?,
+            b"set a 0 0 5\r\nhello\r\n",
+            b"get a\r\n",
+            count,
+        )
+    }
+
+    /// A set of a number, and so many increments of it.
+    pub fn increments(alloc: Global, count: u64) -> Result<Load, AllocError> {
+        Load::repeated(
+            alloc,
+            format!(in alloc; "{count} increments")?,
+            b"set a 0 0 1\r\n0\r\n",
+            b"incr a 1\r\n",
+            count,
+        )
+    }
+
+    /// Sets of so many values of five bytes, and one get of all their keys.
+    pub fn get_of_keys(alloc: Global, count: u64) -> Result<Load, AllocError> {
+        let mut head = Vec::new(alloc);
+        for number in 0..count {
+            let set = format!(in alloc; "set key{number} 0 0 5\r\nhello\r\n")?;
+            head.extend_from_slice(set.as_bytes())?;
+        }
+        head.extend_from_slice(b"get")?;
+        for number in 0..count {
+            let key = format!(in alloc; " key{number}")?;
+            head.extend_from_slice(key.as_bytes())?;
+        }
+        head.extend_from_slice(b"\r\n")?;
+        Ok(Load {
+            name: format!(in alloc; "{count} sets and a get of their keys")?,
+            head,
+            fill: 0,
+            tail: Vec::new(alloc),
+        })
+    }
+
+    /// One request, and then so many times another.
+    fn repeated(
+        alloc: Global,
+        name: String,
+        first: &[u8],
+        then: &[u8],
+        count: u64,
+    ) -> Result<Load, AllocError> {
+        let mut head = Vec::from_slice(alloc, first)?;
+        for _ in 0..count {
+            head.extend_from_slice(then)?;
+        }
+        Ok(Load {
+            name,
+            head,
+            fill: 0,
+            tail: Vec::new(alloc),
+        })
+    }
+
     /// A set of one block of so many bytes. It is refused where it has more bytes than a value.
     pub fn block(alloc: Global, size: u64) -> Result<Load, AllocError>
         ensures line { IfOk result (λ load. load.head.items ≡ codes "set a 0 0 " ++ decimal size ++ codes "\r\n") }

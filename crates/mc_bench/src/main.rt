@@ -2,12 +2,14 @@
 //!
 //! With no argument each case runs at a thousandth of its size, and its line tells how many bytes were fed and how
 //! many answered. With the argument `measure` each case runs at full size, and its line tells the speed too. Behind
-//! each case stands the same at a tenth of the size: the time for a byte is to be the same.
+//! each case stands the same at a tenth of the size: the time for a byte is to be the same. With the argument `ring`
+//! it is measured how fast a ring finds the owners of keys.
 #![tactic(auto)]
 
 mod cases;
 mod figures;
 mod loads;
+mod rings;
 mod served;
 
 use anyhow::bail;
@@ -29,8 +31,11 @@ fn main(rt: HostRuntime) -> anyhow::Result<()> {
         }
         return Ok(());
     };
+    if argument.as_str() == "ring" {
+        return rings::measure(&rt);
+    }
     if argument.as_str() != "measure" {
-        bail!("usage: mc_bench [measure]");
+        bail!("usage: mc_bench [measure | ring]");
     }
     for case in CASES {
         measure(&rt, &case, 1)?;

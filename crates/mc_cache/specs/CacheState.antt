@@ -1,12 +1,14 @@
 -- What a cache holds: this project's own.
-use Rattle.std.specs.Prelude.{ℕ, ◌≤◌, List, [], Option, unwrap_or}
+use Rattle.std.specs.Prelude.{◌≡◌, ℕ, ◌≤◌, List, [], length, Option, None, unwrap_or}
 use Rattle.std.specs.Option.{option_map}
-use Rattle.mc_store.specs.Items.{Items, body_at}
+use Rattle.mc_store.specs.Items.{Items, body_at, without, cost_sum}
 
--- the items, the last number that one of them got, and the bounds: bytes, and items
+-- the items, the last number that one of them got, the moment of a flush that is still to come, and the bounds: bytes,
+-- and items
 pub record CacheState : Type 0 where
   pub items : Items
   pub counter : ℕ
+  pub pending : Option ℕ
   pub budget : ℕ
   pub limit : ℕ
 
@@ -17,9 +19,16 @@ pub record IsWithinBounds (budget limit : ℕ) : Type 0 where
   pub some_items : 1 ≤ limit
   pub not_too_many_items : limit ≤ 16777216
 
+-- items that a cache of these bounds may hold, one under a key
+pub record IsHeldWithin (budget limit : ℕ) (items : Items) : Type 0 where
+  pub bounds : IsWithinBounds budget limit
+  pub affordable : cost_sum items ≤ budget
+  pub few : length items ≤ limit
+  pub distinct : (key : List ℕ) → body_at key (without key items) ≡ None
+
 -- a cache that holds nothing yet
 abbrev pub opening_cache : ℕ → ℕ → ℕ → CacheState
-opening_cache budget limit counter = record { items = []; counter = counter; budget = budget; limit = limit }
+opening_cache budget limit counter = record { items = []; counter = counter; pending = None; budget = budget; limit = limit }
 
 -- the value under a key, if it is held
 abbrev pub held_value : List ℕ → Items → Option (List ℕ)

@@ -2,6 +2,7 @@
 ghost use Rattle.std.specs.Prelude.{◌≡◌};
 ghost use Rattle.mc_item.specs.Costs.{cost_of};
 
+use crate::deadlines::Deadline;
 use mc_text::{Block, Key};
 
 /// The bytes that an item costs beyond those of its key and its value.
@@ -12,6 +13,8 @@ pub const OVERHEAD: u64 = 64;
 pub struct Body {
     /// The client flags.
     pub flags: u32,
+    /// When it is dead.
+    pub expiry: Deadline,
     /// The item's number, which no other item of the cache has had.
     pub cas: u64,
     /// The value.
@@ -36,6 +39,7 @@ mod tests {
         let key = Key::plain(rt.alloc(), b"key")?;
         let body = Body {
             flags: 0,
+            expiry: Deadline::Never,
             cas: 1,
             value: Block::from_slice(rt.alloc(), b"value")?,
         };

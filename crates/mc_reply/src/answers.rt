@@ -3,10 +3,10 @@ ghost use Rattle.std.specs.Prelude.{◌≡◌, ◌+◌, ◌^◌, ◌<◌, ◌≤
 ghost use Rattle.std.specs.Option.{ForSome};
 ghost use Rattle.mc_request.specs.Atoms.{atoms_of};
 ghost use Rattle.mc_request.specs.Faults.{fault_line};
-ghost use Rattle.mc_reply.specs.Spelling.{part_of, reply_line};
+ghost use Rattle.mc_reply.specs.Spelling.{is_shown, part_of, plain_answer, reply_line};
 ghost use Rattle.mc_reply.specs.Seen.{reply_seen, bytes_seen, value_len, shown_len};
 
-use crate::appends::{append, append_last_found, append_reply_line, short_line};
+use crate::appends::{append, append_get_part, append_reply_line, short_line};
 use crate::replies::Reply;
 use mc_request::{Fault, Request};
 use std::alloc::AllocError;
@@ -17,8 +17,8 @@ use thiserror::Error;
 pub const PART_ROOM: usize = 512;
 
 /// The most bytes that [`write_line`] and [`write_fault`] append. Where a vector has so much room left, these calls
-/// take no memory.
-pub const LINE_ROOM: usize = 64;
+/// take no memory. The longest line has 62 bytes.
+pub const LINE_ROOM: usize = 128;
 
 /// Why a call of this crate gave up.
 #[derive(Debug, Drop, Error)]
@@ -38,8 +38,19 @@ impl From<AllocError> for ReplyError {
 
 ghost use Rattle.mc_reply.specs.declared.answers.ReplyError.TheVariants.{Memory};
 
+/// Whether the reply to a command of this request is shown: `noreply` hides the reply line of an update, and never an
+/// error line.
+pub fn shown(request: &Request, reply: &Reply<&[u8]>) -> bool
+    ensures { result ≡ is_shown request.now reply.now }
+{
+    match request {
+        Request::Update { noreply, .. } => !*noreply || reply.is_fault(),
+        Request::Get { .. } | Request::Version | Request::Quit => true,
+    }
+}
+
 /// Appends what the reply to the command number `at` of a request adds to the request's answer. Commands are
-/// counted from 0, and a request without a command has no reply.
+/// counted from 0. A request without a command has no reply, and its answer is appended by itself.
 pub fn write_part(
     request: &Request,
     at: usize,
@@ -57,16 +68,35 @@ pub fn write_part(
     ensures room { vec_capacity out.old ≤ vec_capacity out.new }
 {
     let Some(reply) = reply else {
-        return Ok(());
+        return write_plain_answer(request, out);
     };
-    out.reserve(value_len(reply) + PART_ROOM)?;
     match request {
-        Request::Set { .. } => append_reply_line(out, reply),
-        Request::Get { key } => {
-            // A get has one key, so this is its last one.
-            prove!(at == 0);
-            append_last_found(out, key.as_bytes(), reply);
+        Request::Get { keys, .. } => {
+            out.reserve(value_len(reply) + PART_ROOM)?;
+            append_get_part(out, keys, at, reply);
         }
+        Request::Update { .. } => {
+            if shown(request, reply) {
+                write_line(reply, out)?;
+            }
+        }
+        Request::Version | Request::Quit => {}
+    }
+    Ok(())
+}
+
+/// Appends the answer to a request without a command. Where that is empty, no memory is taken.
+fn write_plain_answer(request: &Request, out: &mut Vec<u8>) -> Result<(), ReplyError>
+    ensures ok { OnOk result (out.new.items ≡ out.old.items ++ plain_answer request.now) }
+    ensures len { vec_len out.new ≤ vec_len out.old + LINE_ROOM }
+    ensures only_memory { IsOkUnless result ReplyError.Memory }
+    ensures succeeds { vec_len out.old + LINE_ROOM ≤ vec_capacity out.old → IsOk result }
+    ensures err { OnErr result (out.new.items ≡ out.old.items) }
+    ensures room { vec_capacity out.old ≤ vec_capacity out.new }
+{
+    if let Request::Version = request {
+        out.reserve(LINE_ROOM)?;
+        append(out, b"VERSION 1.6.0\r\n");
     }
     Ok(())
 }
@@ -107,50 +137,97 @@ fn value_len(reply: &Reply<&[u8]>) -> usize
 {
     match reply {
         Reply::Hit { value, .. } => value.len(),
-        Reply::Stored | Reply::Miss | Reply::Fault(_) => 0,
+        _ => 0,
     }
 }
 
 #[cfg(test)]
 mod tests {
     use super::*;
-    use mc_text::{Block, Key};
+    use mc_request::{Keys, Update};
+    use mc_text::Key;
     use std::test::Fail;
+
+    fn deletion(rt: &HostRuntime) -> Result<Update, Fail> {
+        let key = Key::plain(rt.alloc(), b"a")?;
+        Ok(Update::Delete { key })
+    }
 
     #[test]
     fn a_get_is_answered(rt: HostRuntime) -> Result<(), Fail> {
+        let mut keys = Keys::one(rt.alloc(), Key::plain(rt.alloc(), b"a")?);
+        keys.push(Key::plain(rt.alloc(), b"b")?)?;
+        keys.push(Key::plain(rt.alloc(), b"key")?)?;
         let request = Request::Get {
-            key: Key::plain(rt.alloc(), b"a")?,
+            keys,
+            exptime: None,
+            with_cas: true,
         };
-        let hit = Reply::Hit {
+        let first = Reply::Hit {
             flags: 5,
+            cas: Some(18446744073709551615),
             value: b"xyz".as_slice(),
         };
+        let last = Reply::Hit {
+            flags: 4294967295,
+            cas: None,
+            value: b"".as_slice(),
+        };
         let mut out = Vec::new(rt.alloc());
-        write_part(&request, 0, Some(&hit), &mut out)?;
-        write_part(&request, 0, Some(&Reply::Miss), &mut out)?;
+        write_part(&request, 0, Some(&first), &mut out)?;
+        write_part(&request, 1, Some(&Reply::Miss), &mut out)?;
+        write_part(&request, 2, Some(&last), &mut out)?;
+        write_part(&request, 2, Some(&Reply::Miss), &mut out)?;
         assert_eq!(rt;
             out.as_slice(),
-            b"VALUE a 5 3\r\nxyz\r\nEND\r\nEND\r\n".as_slice()
+            b"VALUE a 5 3 18446744073709551615\r\nxyz\r\nVALUE key 4294967295 0\r\n\r\nEND\r\nEND\r\n".as_slice()
         );
         Ok(())
     }
 
     #[test]
-    fn a_set_is_answered(rt: HostRuntime) -> Result<(), Fail> {
-        let request = Request::Set {
-            key: Key::plain(rt.alloc(), b"a")?,
-            flags: 0,
-            block: Block::new(rt.alloc()),
+    fn an_update_is_answered(rt: HostRuntime) -> Result<(), Fail> {
+        let request = Request::Update {
+            update: deletion(&rt)?,
+            noreply: false,
         };
-        let refused = Reply::Fault(Fault::TooLarge);
         let mut out = Vec::new(rt.alloc());
-        write_part(&request, 0, Some(&Reply::Stored), &mut out)?;
+        write_part(&request, 0, Some(&Reply::Deleted), &mut out)?;
+        write_part(&request, 0, Some(&Reply::Number(10)), &mut out)?;
+        write_part(&request, 0, Some(&Reply::Fault(Fault::TooLarge)), &mut out)?;
+        assert_eq!(rt;
+            out.as_slice(),
+            b"DELETED\r\n10\r\nSERVER_ERROR object too large for cache\r\n".as_slice()
+        );
+        Ok(())
+    }
+
+    #[test]
+    fn noreply_hides_a_line_and_no_error(rt: HostRuntime) -> Result<(), Fail> {
+        let request = Request::Update {
+            update: deletion(&rt)?,
+            noreply: true,
+        };
+        let refused = Reply::Fault(Fault::OutOfMemory);
+        let mut out = Vec::new(rt.alloc());
+        write_part(&request, 0, Some(&Reply::NotFound), &mut out)?;
         write_part(&request, 0, Some(&refused), &mut out)?;
         assert_eq!(rt;
             out.as_slice(),
-            b"STORED\r\nSERVER_ERROR object too large for cache\r\n".as_slice()
+            b"SERVER_ERROR out of memory storing object\r\n".as_slice()
         );
+        assert!(rt; shown(&request, &refused));
+        assert!(rt; !shown(&request, &Reply::Deleted));
+        assert!(rt; Reply::<()>::Fault(Fault::OutOfMemory).is_fault());
+        Ok(())
+    }
+
+    #[test]
+    fn requests_without_a_command_are_answered(rt: HostRuntime) -> Result<(), Fail> {
+        let mut out = Vec::new(rt.alloc());
+        write_part(&Request::Version, 0, None, &mut out)?;
+        write_part(&Request::Quit, 0, None, &mut out)?;
+        assert_eq!(rt; out.as_slice(), b"VERSION 1.6.0\r\n".as_slice());
         Ok(())
     }
 
@@ -159,7 +236,8 @@ mod tests {
         let mut out = Vec::new(rt.alloc());
         write_fault(Fault::UnknownCommand, &mut out)?;
         write_line(&Reply::Stored, &mut out)?;
-        assert_eq!(rt; out.as_slice(), b"ERROR\r\nSTORED\r\n".as_slice());
+        write_line(&Reply::Flushed, &mut out)?;
+        assert_eq!(rt; out.as_slice(), b"ERROR\r\nSTORED\r\nOK\r\n".as_slice());
         Ok(())
     }
 

@@ -6,7 +6,7 @@ use Rattle.mc_text.specs.Lines as lines
 use Rattle.mc_text.specs.Lines.{FirstLine, first_line, HasNoLineFeed}
 use Rattle.mc_text.specs.Words.{words}
 use Rattle.mc_text.proofs.LineLemmas.{first_line_whole-size, first_line_whole-more, first_line_too_long, first_line_too_long-more, first_line-nil}
-use Rattle.mc_request.specs.Meanings.{Meaning, Alone, Stores, Refuses, meaning}
+use Rattle.mc_request.specs.Meanings.{Meaning, Storing, Alone, Stores, Refuses, meaning}
 use Rattle.mc_request.specs.Requests.{taken_by, with_block, next_request, next_by, ends, requests_from, requests_within, requests_of}
 use Rattle.mc_request.specs.Steps.{StartsBy, IsShortOf}
 use Rattle.mc_request.specs.declared.faults.Fault.{Fault}
@@ -29,8 +29,8 @@ taken_by-size (Refuses f n) line rest x e =
     let parts = given (nat_lt (length rest) (n + 2)) (Faulty f, line + (n + 2)) x e in
     let size : line + (n + 2) ≡ x.1 = ap (λ (y : Taken × ℕ). y.1) parts.1 in
     (omega arith, grind (arith, parts.0))
-taken_by-size (Stores k f n) line rest x e =
-    let parts = given (nat_lt (length rest) (n + 2)) (with_block k f (take n rest) (take 2 (drop n rest)), line + (n + 2)) x e in
+taken_by-size (Stores s n) line rest x e =
+    let parts = given (nat_lt (length rest) (n + 2)) (with_block s (take n rest) (take 2 (drop n rest)), line + (n + 2)) x e in
     let size : line + (n + 2) ≡ x.1 = ap (λ (y : Taken × ℕ). y.1) parts.1 in
     (omega arith, grind (arith, parts.0))
 
@@ -42,8 +42,8 @@ taken_by-more (Refuses f n) line rest more x e =
     let enough : n + 2 ≤ length rest = grind (arith, parts.0) in
     let longer : nat_lt (length (rest ++ more)) (n + 2) ≡ false = grind (arith, enough, length-append rest more) in
     rw longer (ap (λ (y : Taken × ℕ). some y) parts.1)
-taken_by-more (Stores k f n) line rest more x e =
-    let parts = given (nat_lt (length rest) (n + 2)) (with_block k f (take n rest) (take 2 (drop n rest)), line + (n + 2)) x e in
+taken_by-more (Stores s n) line rest more x e =
+    let parts = given (nat_lt (length rest) (n + 2)) (with_block s (take n rest) (take 2 (drop n rest)), line + (n + 2)) x e in
     let enough : n + 2 ≤ length rest = grind (arith, parts.0) in
     let longer : nat_lt (length (rest ++ more)) (n + 2) ≡ false = grind (arith, enough, length-append rest more) in
     let front : take n (rest ++ more) ≡ take n rest = take-append-le n rest more (omega arith) in
@@ -168,17 +168,17 @@ pub refused : (u : List ℕ) (line : ℕ) (f : Fault) (len : ℕ) → StartsBy u
 refused u line f len h more = h.next more ∙ rw (block_test u more line len h.size) refl
 
 -- a block that has not come whole, and goes on
-pub stores_short : (u : List ℕ) (line : ℕ) (key : List ℕ) (flags len : ℕ) → StartsBy u (Stores key flags len) line → IsShortOf (line + (len + 2)) u
-stores_short u line key flags len h more short =
+pub stores_short : (u : List ℕ) (line : ℕ) (s : Storing) (len : ℕ) → StartsBy u (Stores s len) line → IsShortOf (line + (len + 2)) u
+stores_short u line s len h more short =
     let test : nat_lt (length (u ++ more)) (line + (len + 2)) ≡ true = grind (arith, short) in
     h.next more ∙ rw (block_test u more line len h.size, test) refl
 
 -- a whole block
-pub stores_whole : (u : List ℕ) (line : ℕ) (key : List ℕ) (flags len : ℕ) → StartsBy u (Stores key flags len) line → line + (len + 2) ≤ length u
-    → next_request u ≡ Some (with_block key flags (take len (drop line u)) (take 2 (drop len (drop line u))), line + (len + 2))
-stores_whole u line key flags len h enough =
+pub stores_whole : (u : List ℕ) (line : ℕ) (s : Storing) (len : ℕ) → StartsBy u (Stores s len) line → line + (len + 2) ≤ length u
+    → next_request u ≡ Some (with_block s (take len (drop line u)) (take 2 (drop len (drop line u))), line + (len + 2))
+stores_whole u line s len h enough =
     let test : nat_lt (length (drop line u)) (len + 2) ≡ false = grind (arith, length-drop line u, enough) in
-    starts_now u (Stores key flags len) line h ∙ rw test refl
+    starts_now u (Stores s len) line h ∙ rw test refl
 
 -- the requests of a longer text are those of a text, followed by others
 abbrev GoesOn : List ℕ → List ℕ → Type 0
@@ -212,6 +212,6 @@ pub nothing_wanted : (u : List ℕ) → IsShortOf 0 u
 nothing_wanted u more short = absurd (omega arith)
 
 -- a block that has not come whole
-pub stores_waits : (u : List ℕ) (line : ℕ) (key : List ℕ) (flags len : ℕ) → StartsBy u (Stores key flags len) line → length u < line + (len + 2) → next_request u ≡ None
-stores_waits u line key flags len h short =
-    ap next_request (sym (append-nil u)) ∙ stores_short u line key flags len h [] (rw append-nil short)
+pub stores_waits : (u : List ℕ) (line : ℕ) (s : Storing) (len : ℕ) → StartsBy u (Stores s len) line → length u < line + (len + 2) → next_request u ≡ None
+stores_waits u line s len h short =
+    ap next_request (sym (append-nil u)) ∙ stores_short u line s len h [] (rw append-nil short)

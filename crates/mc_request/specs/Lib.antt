@@ -1,8 +1,10 @@
 pub mod Faults
 pub mod Atoms
+pub mod Names
 pub mod Meanings
 pub mod Requests
 pub mod Reader
 pub mod Peeks
 pub mod ReaderFields
+pub mod LinesSeen
 pub mod Steps

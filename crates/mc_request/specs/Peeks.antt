@@ -38,9 +38,9 @@ Peeks old (peeks.First taken front) new = (new ≡ old) × EndsAt old taken fron
 Peeks old peeks.More new = HasNone old new
 Peeks old peeks.Closed new = (old.closed ≡ true) × (new ≡ old)
 
--- the first is given, and the others are kept; after a line too long the reader is closed
+-- the first is given, and the others are kept; after `quit` or a line too long the reader is closed
 abbrev pub Gives : ReaderState → Next → ReaderState → Type 0
-Gives old (nexts.Request request) new = IsFirst old (Whole request) new × (new.closed ≡ false)
+Gives old (nexts.Request request) new = IsFirst old (Whole request) new × (new.closed ≡ ends (Whole request))
 Gives old (nexts.Fault fault) new = IsFirst old (Faulty fault) new × (new.closed ≡ closes fault)
 Gives old nexts.More new = HasNone old new
 Gives old nexts.Closed new = (old.closed ≡ true) × (new ≡ old)

@@ -12,14 +12,23 @@
 
 mod command_lines;
 mod faults;
+mod keys;
 mod laws;
+mod lines;
+mod lone_lines;
+mod names;
 mod parts;
 mod reader;
 mod rows;
 mod steps;
+mod storage_lines;
 
 pub use faults::Fault;
+pub use keys::Keys;
 pub use laws::{requests_begin, requests_go_on};
-pub use parts::{Atom, ReadError, Request, Taken};
+pub use parts::{Atom, Direction, ReadError, Request, StoreMode, Taken, Update};
 pub use reader::{Front, Next, Peek, Reader};
-pub use rows::{block_takes_too_much, refused_block_is_swallowed, set_then_get};
+pub use rows::{
+    block_takes_too_much, counts, deletions, flushes, noreply_at_the_end, quit_ends_the_text,
+    refused_block_is_swallowed, set_then_get, several_keys, storage_modes, unknown_lines,
+};

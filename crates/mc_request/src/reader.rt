@@ -17,7 +17,7 @@ pub enum Next {
     Fault(Fault),
     /// There is none until more bytes come.
     More,
-    /// Nothing is read any more, after a line too long.
+    /// Nothing is read any more, after `quit` or a line too long.
     Closed,
 }
 
@@ -37,7 +37,7 @@ pub enum Peek {
     First(Taken, Front),
     /// There is none until more bytes come.
     More,
-    /// Nothing is read any more, after a line too long.
+    /// Nothing is read any more, after `quit` or a line too long.
     Closed,
 }
 
@@ -93,7 +93,7 @@ impl Reader {
         }
     }
 
-    /// Takes the next piece of the text. After a line too long it is let go.
+    /// Takes the next piece of the text. After `quit` or a line too long it is let go.
     ///
     /// At `Memory` no byte is taken.
     pub fn feed(&mut self, piece: &[u8]) -> Result<(), ReadError>
@@ -201,5 +201,103 @@ impl Reader {
         self.wanted = 0;
         self.dropping = None;
         self.closed = front.closes;
+    }
+}
+
+#[cfg(test)]
+mod tests {
+    use super::*;
+    use crate::parts::{StoreMode, Update};
+    use std::test::Fail;
+
+    #[test]
+    fn a_store_is_peeked_and_taken(rt: HostRuntime) -> Result<(), Fail> {
+        let mut reader = Reader::new(rt.alloc());
+        reader.feed(b"add a 5 -1 1 noreply\r\nx")?;
+        assert!(rt; matches!(reader.peek()?, Peek::More));
+        reader.feed(b"\r\n")?;
+        let Peek::First(taken, front) = reader.peek()? else {
+            return Err(Fail::from("nothing whole"));
+        };
+        let Taken::Whole(
+            Request::Update {
+                update,
+                noreply: true,
+            },
+        ) = taken
+        else {
+            return Err(Fail::from("no update"));
+        };
+        let Update::Store {
+            mode,
+            key,
+            flags: 5,
+            exptime: -1,
+            block,
+        } = update
+        else {
+            return Err(Fail::from("no store"));
+        };
+        assert_eq!(rt; mode, StoreMode::Add);
+        assert_eq!(rt; key.as_bytes(), b"a".as_slice());
+        assert_eq!(rt; block.as_slice(), b"x".as_slice());
+        reader.consume(front);
+        assert!(rt; matches!(reader.next()?, Next::More));
+        Ok(())
+    }
+
+    #[test]
+    fn a_get_of_several_keys_is_taken(rt: HostRuntime) -> Result<(), Fail> {
+        let mut reader = Reader::new(rt.alloc());
+        reader.feed(b"gat 7  a b a\r\nincr a x\r\n")?;
+        let Next::Request(
+            Request::Get {
+                keys,
+                exptime: Some(7),
+                with_cas: false,
+            },
+        ) = reader.next()?
+        else {
+            return Err(Fail::from("no gat"));
+        };
+        assert_eq!(rt; keys.len(), 3);
+        assert_eq!(rt; keys.key(0).as_bytes(), b"a".as_slice());
+        assert_eq!(rt; keys.key(1).as_bytes(), b"b".as_slice());
+        assert_eq!(rt; keys.key(2).as_bytes(), b"a".as_slice());
+        assert!(rt; matches!(reader.next()?, Next::Fault(Fault::BadDelta)));
+        Ok(())
+    }
+
+    #[test]
+    fn short_lines_are_taken(rt: HostRuntime) -> Result<(), Fail> {
+        let mut reader = Reader::new(rt.alloc());
+        reader.feed(b"touch a 1\r\ndelete a 0\r\ndecr a 2\r\nflush_all -1\r\n")?;
+        for at in 0..4 {
+            let Next::Request(Request::Update { update, .. }) = reader.next()? else {
+                return Err(Fail::from("no update"));
+            };
+            assert!(rt;
+                matches!(
+                    (at, &update),
+                    (0, Update::Touch { exptime: 1, .. })
+                        | (1, Update::Delete { .. })
+                        | (2, Update::Count { delta: 2, .. })
+                        | (3, Update::FlushAll { delay: -1 })
+                )
+            );
+        }
+        Ok(())
+    }
+
+    #[test]
+    fn quit_closes_the_reader(rt: HostRuntime) -> Result<(), Fail> {
+        let mut reader = Reader::new(rt.alloc());
+        reader.feed(b"version\r\nquit\r\nget a\r\n")?;
+        assert!(rt; matches!(reader.next()?, Next::Request(Request::Version)));
+        assert!(rt; matches!(reader.next()?, Next::Request(Request::Quit)));
+        assert!(rt; matches!(reader.next()?, Next::Closed));
+        reader.feed(b"get a\r\n")?;
+        assert!(rt; matches!(reader.peek()?, Peek::Closed));
+        Ok(())
     }
 }

@@ -1,14 +1,19 @@
 //! What the bytes that have come allow.
-ghost use Rattle.std.specs.Prelude.{◌≡◌, ◌≤◌, true, length, IfOk};
+ghost use Rattle.std.specs.Prelude.{◌≡◌, ◌≤◌, ◌∷◌, true, length, IfOk};
+ghost use Rattle.std.specs.List.{list_all};
 ghost use Rattle.mc_text.specs.Lines.{HasNoLineFeed};
 ghost use Rattle.mc_text.specs.Keys.{is_plain_key};
 ghost use Rattle.mc_request.specs.Requests.{with_block};
-ghost use Rattle.mc_request.specs.Steps.{StepIs, StartsBy, IsGood, meaning_of};
+ghost use Rattle.mc_request.specs.LinesSeen.{meaning_of, storing_of, taken_of, IsGood, IsGoodLone, IsGoodStorage};
+ghost use Rattle.mc_request.specs.Steps.{StepIs, StartsBy};
+ghost use Rattle.mc_request.specs.declared.parts.Taken.TheVariants.{Whole};
 
-use crate::command_lines::{CommandLine, command_line};
+use crate::command_lines::command_line;
 use crate::faults::Fault;
-use crate::parts::{ReadError, Request, Taken};
-use mc_text::{Block, Key, KeyError, LINE_LIMIT, Line, next_line_from};
+use crate::keys::Keys;
+use crate::lines::{CommandLine, LoneLine, Storage};
+use crate::parts::{ReadError, Request, Taken, Update};
+use mc_text::{Block, Key, LINE_LIMIT, Line, WordIter, next_line_from};
 use std::alloc::Global;
 
 /// What stands behind a data block.
@@ -53,9 +58,9 @@ fn after_line(
 {
     match line {
         CommandLine::Bad(fault) => Ok(Step::Takes(Taken::Faulty(fault), taken)),
-        CommandLine::Gets(key) => {
-            let key = plain_key(alloc, key)?;
-            Ok(Step::Takes(Taken::Whole(Request::Get { key }), taken))
+        CommandLine::Lone(line) => {
+            let request = request_of(alloc, line)?;
+            Ok(Step::Takes(Taken::Whole(request), taken))
         }
         CommandLine::Refuses(fault, len) => {
             let size = taken + (len as usize + LINE_END.len());
@@ -65,7 +70,7 @@ fn after_line(
                 Ok(Step::Takes(Taken::Faulty(fault), size))
             }
         }
-        CommandLine::Stores { key, flags, len } => {
+        CommandLine::Stores(storage, len) => {
             let size = taken + (len as usize + LINE_END.len());
             if unread.len() < size {
                 return Ok(Step::Waits {
@@ -76,40 +81,96 @@ fn after_line(
             let (_, rest) = unread.split_at(taken);
             let (block, behind) = rest.split_at(len as usize);
             let (end, _) = behind.split_at(LINE_END.len());
-            Ok(Step::Takes(stored(alloc, key, flags, block, end)?, size))
+            Ok(Step::Takes(stored(alloc, storage, block, end)?, size))
         }
     }
 }
 
 /// A data block that has come, by the two bytes behind it.
-fn stored(
-    alloc: Global,
-    key: &[u8],
-    flags: u32,
-    block: &[u8],
-    end: &[u8],
-) -> Result<Taken, ReadError>
-    requires { is_plain_key key.now ≡ true }
-    ensures { IfOk result (λ taken. taken ≡ with_block key.now flags block.now end.now) }
+fn stored(alloc: Global, storage: Storage<'_>, block: &[u8], end: &[u8]) -> Result<Taken, ReadError>
+    requires { IsGoodStorage storage }
+    ensures { IfOk result (λ taken. taken ≡ with_block (storing_of storage.entry) block.now end.now) }
 {
     if end != LINE_END {
         return Ok(Taken::Faulty(Fault::BadDataChunk));
     }
-    Ok(Taken::Whole(Request::Set {
-        key: plain_key(alloc, key)?,
-        flags,
+    let update = Update::Store {
+        mode: storage.mode,
+        key: Key::of_plain(alloc, storage.key)?,
+        flags: storage.flags,
+        exptime: storage.exptime,
         block: Block::from_slice(alloc, block)?,
+    };
+    Ok(Taken::Whole(Request::Update {
+        update,
+        noreply: storage.noreply,
     }))
 }
 
-/// The key of a word that is known to be one. Only memory can be refused.
-fn plain_key(alloc: Global, word: &[u8]) -> Result<Key, ReadError>
-    requires { is_plain_key word.now ≡ true }
-    ensures { IfOk result (λ key. key ≡ word.now) }
+/// The request of a line that no data block follows. Here its keys are copied.
+fn request_of(alloc: Global, line: LoneLine<'_>) -> Result<Request, ReadError>
+    requires { IsGoodLone line }
+    ensures { IfOk result (λ request. Whole request ≡ taken_of line.entry) }
 {
-    match Key::plain(alloc, word) {
-        Ok(key) => Ok(key),
-        Err(KeyError::Memory) => Err(ReadError::Memory),
-        Err(KeyError::Empty | KeyError::TooLong | KeyError::BadByte) => unreachable!(),
+    let (update, noreply) = match line {
+        LoneLine::Gets {
+            first,
+            more,
+            exptime,
+            with_cas,
+        } => {
+            let keys = keys_of(alloc, first, more)?;
+            return Ok(Request::Get {
+                keys,
+                exptime,
+                with_cas,
+            });
+        }
+        LoneLine::Version => return Ok(Request::Version),
+        LoneLine::Quit => return Ok(Request::Quit),
+        LoneLine::Flushes { delay, noreply } => (Update::FlushAll { delay }, noreply),
+        LoneLine::Touches {
+            key,
+            exptime,
+            noreply,
+        } => {
+            let key = Key::of_plain(alloc, key)?;
+            (Update::Touch { key, exptime }, noreply)
+        }
+        LoneLine::Deletes { key, noreply } => {
+            let key = Key::of_plain(alloc, key)?;
+            (Update::Delete { key }, noreply)
+        }
+        LoneLine::Counts {
+            direction,
+            key,
+            delta,
+            noreply,
+        } => {
+            let key = Key::of_plain(alloc, key)?;
+            (
+                Update::Count {
+                    direction,
+                    key,
+                    delta,
+                },
+                noreply,
+            )
+        }
+    };
+    Ok(Request::Update { update, noreply })
+}
+
+/// The keys of words that are known to be plain ones. There is room for all before the second is copied.
+fn keys_of(alloc: Global, first: &[u8], more: WordIter<'_>) -> Result<Keys, ReadError>
+    requires first { is_plain_key first.now ≡ true }
+    requires more { list_all is_plain_key more ≡ true }
+    ensures { IfOk result (λ keys. keys ≡ first.now ∷ more.entry) }
+{
+    let mut keys = Keys::one(alloc, Key::of_plain(alloc, first)?);
+    keys.reserve(more.len())?;
+    for word in more {
+        keys.push(Key::of_plain(alloc, word)?)?;
     }
+    Ok(keys)
 }

@@ -1,7 +1,7 @@
 //! What each call that takes memory gives, where no other test calls it by itself.
 
-use mc_item::Body;
-use mc_request::{Atom, Next, Peek, Reader, Request, Taken};
+use mc_item::{Body, Deadline};
+use mc_request::{Atom, Direction, Next, Peek, Reader, Request, StoreMode, Taken, Update};
 use mc_store::{ListStore, Store};
 use mc_text::{Block, Key};
 use std::test::Fail;
@@ -9,17 +9,30 @@ use std::test::Fail;
 #[test]
 fn a_request_is_peeked_and_taken(rt: HostRuntime) -> Result<(), Fail> {
     let mut reader = Reader::new(rt.alloc());
-    reader.feed(b"set a 5 0 1\r\nx")?;
+    reader.feed(b"set a 5 -7 1 noreply\r\nx")?;
     assert!(rt; matches!(reader.peek()?, Peek::More));
     reader.feed(b"\r\n")?;
     let Peek::First(taken, front) = reader.peek()? else {
         return Err(Fail::from("nothing whole"));
     };
-    let Taken::Whole(Request::Set { key, flags, block }) = taken else {
+    let Taken::Whole(request) = taken else {
+        return Err(Fail::from("a fault"));
+    };
+    let Request::Update { update, noreply } = request else {
+        return Err(Fail::from("no update"));
+    };
+    assert!(rt; noreply);
+    let Update::Store {
+        mode: StoreMode::Set,
+        key,
+        flags: 5,
+        exptime: -7,
+        block,
+    } = update
+    else {
         return Err(Fail::from("no set"));
     };
     assert_eq!(rt; key.as_bytes(), b"a".as_slice());
-    assert_eq!(rt; flags, 5);
     assert_eq!(rt; block.as_slice(), b"x".as_slice());
     reader.consume(front);
     assert!(rt; matches!(reader.next()?, Next::More));
@@ -27,33 +40,60 @@ fn a_request_is_peeked_and_taken(rt: HostRuntime) -> Result<(), Fail> {
 }
 
 #[test]
-fn a_request_gives_its_commands(rt: HostRuntime) -> Result<(), Fail> {
+fn an_update_gives_its_command(rt: HostRuntime) -> Result<(), Fail> {
     let mut reader = Reader::new(rt.alloc());
-    reader.feed(b"set a 5 0 1\r\nx\r\nget b\n")?;
+    reader.feed(b"decr a 7\r\n")?;
     let Next::Request(request) = reader.next()? else {
-        return Err(Fail::from("no set"));
+        return Err(Fail::from("no request"));
     };
     let atoms = request.atoms(rt.alloc())?;
     let [
-        Atom::Set {
-            key,
-            flags: 5,
-            block,
-        },
+        Atom::Update(
+            Update::Count {
+                direction: Direction::Down,
+                key,
+                delta: 7,
+            },
+        ),
     ] = atoms.as_slice()
     else {
-        return Err(Fail::from("not one set"));
+        return Err(Fail::from("not one decr"));
     };
     assert_eq!(rt; key.as_bytes(), b"a".as_slice());
-    assert_eq!(rt; block.as_slice(), b"x".as_slice());
+    Ok(())
+}
+
+#[test]
+fn a_retrieval_gives_a_command_for_each_key(rt: HostRuntime) -> Result<(), Fail> {
+    let mut reader = Reader::new(rt.alloc());
+    reader.feed(b"gats 60 b a\n")?;
     let Next::Request(request) = reader.next()? else {
-        return Err(Fail::from("no get"));
+        return Err(Fail::from("no request"));
     };
     let atoms = request.atoms(rt.alloc())?;
-    let [Atom::Get { key }] = atoms.as_slice() else {
-        return Err(Fail::from("not one get"));
-    };
-    assert_eq!(rt; key.as_bytes(), b"b".as_slice());
+    assert_eq!(rt; atoms.len(), 2);
+    for (atom, name) in atoms.iter().zip([b"b".as_slice(), b"a".as_slice()]) {
+        let Atom::Get {
+            key,
+            exptime: Some(60),
+            with_cas: true,
+        } = atom
+        else {
+            return Err(Fail::from("no gats"));
+        };
+        assert_eq!(rt; key.as_bytes(), name);
+    }
+    Ok(())
+}
+
+#[test]
+fn quit_closes_the_reader(rt: HostRuntime) -> Result<(), Fail> {
+    let mut reader = Reader::new(rt.alloc());
+    reader.feed(b"quit\r\nget a\r\n")?;
+    assert!(rt; matches!(reader.next()?, Next::Request(Request::Quit)));
+    assert!(rt; matches!(reader.next()?, Next::Closed));
+    reader.feed(b"get a\r\n")?;
+    assert!(rt; matches!(reader.next()?, Next::Closed));
     Ok(())
 }
 
@@ -63,11 +103,13 @@ fn an_overwrite_keeps_one_item(rt: HostRuntime) -> Result<(), Fail> {
     let mut store = ListStore::new(rt.alloc());
     let body = Body {
         flags: 0,
+        expiry: Deadline::Never,
         cas: 1,
         value: Block::from_slice(rt.alloc(), b"x")?,
     };
     let newer = Body {
         flags: 0,
+        expiry: Deadline::Never,
         cas: 2,
         value: Block::from_slice(rt.alloc(), b"y")?,
     };

@@ -9,7 +9,13 @@ mod calls;
 #[cfg(test)]
 mod clients;
 #[cfg(test)]
+mod connections;
+#[cfg(test)]
+mod evictions;
+#[cfg(test)]
 mod limits;
+#[cfg(test)]
+mod moments;
 #[cfg(test)]
 mod rows;
 #[cfg(test)]

@@ -1,11 +1,12 @@
 //! What a client is answered at the limits of keys, values, lines, numbers and memory.
 ghost use Rattle.std.specs.Prelude.{◌≡◌, []};
 
-use crate::clients::{BUDGET, Client};
-use mc_item::Body;
+use crate::clients::{BUDGET, Client, ITEMS};
+use mc_item::{Body, Deadline};
 use mc_server::Turn;
 use mc_store::{ListStore, Store};
 use mc_text::Key;
+use std::alloc::Global;
 use std::test::Fail;
 
 #[test]
@@ -73,7 +74,7 @@ fn value_of_1_048_577_bytes(rt: HostRuntime) -> Result<(), Fail> {
 #[test]
 fn longest_line(rt: HostRuntime) -> Result<(), Fail> {
     let rows = [
-        (65_527, b"ERROR\r\nEND\r\n".as_slice(), Turn::Idle),
+        (65_527, b"VERSION 1.6.0\r\nEND\r\n".as_slice(), Turn::Idle),
         (
             65_528,
             b"CLIENT_ERROR line too long\r\n".as_slice(),
@@ -82,7 +83,7 @@ fn longest_line(rt: HostRuntime) -> Result<(), Fail> {
     ];
     for (count, answered, last) in rows {
         let spaces = " ".repeat(rt.alloc(), count)?;
-        let sent = format!(in rt.alloc(); "{spaces}get a b\r\nget a\r\n")?;
+        let sent = format!(in rt.alloc(); "{spaces}version\r\nget a\r\n")?;
         for size in [1, 4_096, 100_000] {
             let mut client = Client::new(rt.alloc())?;
             let turn = client.send_in_pieces(sent.as_bytes(), size)?;
@@ -110,7 +111,7 @@ fn numbers_used_up(rt: HostRuntime) -> Result<(), Fail> {
         ),
     ];
     for (last, answered) in rows {
-        let mut client = Client::over(rt.alloc(), ListStore::new(rt.alloc()), BUDGET, last)?;
+        let mut client = Client::over(rt.alloc(), ListStore::new(rt.alloc()), BUDGET, ITEMS, last)?;
         client.send(b"set a 0 0 1\r\nx\r\nget a\r\n")?;
         assert_eq!(rt; client.answered(), answered, "after the number {last}");
     }
@@ -128,48 +129,104 @@ fn budget_too_small(rt: HostRuntime) -> Result<(), Fail> {
         (66, b"STORED\r\nVALUE a 0 1\r\nx\r\nEND\r\n".as_slice()),
     ];
     for (budget, answered) in rows {
-        let mut client = Client::over(rt.alloc(), ListStore::new(rt.alloc()), budget, 0)?;
+        let mut client = Client::over(rt.alloc(), ListStore::new(rt.alloc()), budget, ITEMS, 0)?;
         client.send(b"set a 0 0 1\r\nx\r\nget a\r\n")?;
         assert_eq!(rt; client.answered(), answered, "with {budget} bytes");
     }
     Ok(())
 }
 
-/// A store that never has memory.
+/// A list that has memory for so many new keys.
 #[derive(Drop)]
-struct FullStore;
+struct MeagreStore {
+    list: ListStore,
+    left: u64,
+}
 
-impl Store for FullStore {
-    ghost items = { λ _. [] };
+impl MeagreStore {
+    fn new(alloc: Global, left: u64) -> MeagreStore
+        ensures { result.list ≡ [] }
+    {
+        MeagreStore {
+            list: ListStore::new(alloc),
+            left,
+        }
+    }
+}
+
+impl Store for MeagreStore {
+    ghost items = { λ s. s.list };
 
     fn len(&self) -> usize {
-        0
+        self.list.len()
     }
 
-    fn peek(&self, _key: &Key) -> Option<&Body> {
-        None
+    fn used(&self) -> u64 {
+        self.list.used()
     }
 
-    fn bring(&mut self, _key: &Key) -> bool {
-        false
+    fn peek(&self, key: &Key) -> Option<&Body> {
+        self.list.peek(key)
     }
 
-    fn replace(&mut self, _key: &Key, body: Body) -> Result<Body, Body> {
-        Err(body)
+    fn bring(&mut self, key: &Key) -> bool {
+        self.list.bring(key)
+    }
+
+    fn expire(&mut self, key: &Key, expiry: Deadline) -> bool {
+        self.list.expire(key, expiry)
+    }
+
+    fn take(&mut self, key: &Key) -> Option<Body> {
+        self.list.take(key)
+    }
+
+    fn replace(&mut self, key: &Key, body: Body) -> Result<Body, Body> {
+        self.list.replace(key, body)
     }
 
     fn put_front(&mut self, key: Key, body: Body) -> Result<(), (Key, Body)> {
-        Err((key, body))
+        if self.left == 0 {
+            return Err((key, body));
+        }
+        self.left -= 1;
+        self.list.put_front(key, body)
+    }
+
+    fn drop_last(&mut self) -> Option<(Key, Body)> {
+        self.list.drop_last()
+    }
+
+    fn clear(&mut self) {
+        self.list.clear();
     }
 }
 
 #[test]
 fn memory_refused_to_the_store(rt: HostRuntime) -> Result<(), Fail> {
-    let mut client = Client::over(rt.alloc(), FullStore, BUDGET, 0)?;
+    let store = MeagreStore::new(rt.alloc(), 0);
+    let mut client = Client::over(rt.alloc(), store, BUDGET, ITEMS, 0)?;
     client.send(b"set a 0 0 1\r\nx\r\nget a\r\n")?;
     assert_eq!(rt;
         client.answered(),
         b"SERVER_ERROR out of memory storing object\r\nEND\r\n".as_slice()
+    );
+    Ok(())
+}
+
+/// A refused key leaves the items, their order and the counter. A held key is stored all the same.
+#[test]
+fn memory_refused_to_a_third_key(rt: HostRuntime) -> Result<(), Fail> {
+    let store = MeagreStore::new(rt.alloc(), 2);
+    let mut client = Client::over(rt.alloc(), store, 132, ITEMS, 0)?;
+    client.send(b"set a 0 0 1\r\nx\r\nset b 0 0 1\r\ny\r\n")?;
+    assert_eq!(rt;
+        client.ask_at(100, b"set c 0 0 1\r\nz\r\nadd c 0 0 1 noreply\r\nz\r\n")?,
+        b"SERVER_ERROR out of memory storing object\r\nSERVER_ERROR out of memory storing object\r\n".as_slice()
+    );
+    assert_eq!(rt;
+        client.ask_at(100, b"set b 0 0 1\r\nz\r\ngets a b c\r\n")?,
+        b"STORED\r\nVALUE a 0 1 1\r\nx\r\nVALUE b 0 1 3\r\nz\r\nEND\r\n".as_slice()
     );
     Ok(())
 }

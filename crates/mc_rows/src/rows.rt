@@ -10,7 +10,7 @@ struct Row {
     answered: &'static [u8],
 }
 
-const ROWS: [Row; 19] = [
+const ROWS: [Row; 33] = [
     Row {
         name: "set_then_get",
         sent: b"set a 0 0 1\r\nx\r\nget a\r\n",
@@ -23,13 +23,13 @@ const ROWS: [Row; 19] = [
     },
     Row {
         name: "value_holds_line_ends",
-        sent: b"set a 0 0 7\r\n\r\nEND\r\n\r\nget a\r\n",
-        answered: b"STORED\r\nVALUE a 0 7\r\n\r\nEND\r\n\r\nEND\r\n",
+        sent: b"set a 0 0 7\r\n\r\nEND\r\n\r\ngets a\r\n",
+        answered: b"STORED\r\nVALUE a 0 7 1\r\n\r\nEND\r\n\r\nEND\r\n",
     },
     Row {
-        name: "value_of_no_bytes",
-        sent: b"set a 7 0 0\r\n\r\nget a\r\n",
-        answered: b"STORED\r\nVALUE a 7 0\r\n\r\nEND\r\n",
+        name: "value_of_no_bytes_and_a_doubled_key",
+        sent: b"set a 7 0 0\r\n\r\nget a a\r\n",
+        answered: b"STORED\r\nVALUE a 7 0\r\n\r\nVALUE a 7 0\r\n\r\nEND\r\n",
     },
     Row {
         name: "block_takes_too_much",
@@ -52,9 +52,9 @@ const ROWS: [Row; 19] = [
         answered: b"STORED\r\nSTORED\r\nVALUE a 2 2\r\nyz\r\nEND\r\n",
     },
     Row {
-        name: "two_keys",
-        sent: b"set a 0 0 1\r\nx\r\nset b 0 0 1\r\ny\r\nget a\r\nget b\r\nget c\r\n",
-        answered: b"STORED\r\nSTORED\r\nVALUE a 0 1\r\nx\r\nEND\r\nVALUE b 0 1\r\ny\r\nEND\r\nEND\r\n",
+        name: "three_keys_of_which_one_is_held",
+        sent: b"set b 0 0 1\r\ny\r\nget a b c\r\ngets c b a\r\n",
+        answered: b"STORED\r\nVALUE b 0 1\r\ny\r\nEND\r\nVALUE b 0 1 1\r\ny\r\nEND\r\n",
     },
     Row {
         name: "greatest_flags",
@@ -67,44 +67,114 @@ const ROWS: [Row; 19] = [
         answered: b"CLIENT_ERROR bad command line format\r\nEND\r\n",
     },
     Row {
-        name: "empty_line",
-        sent: b"\r\n",
-        answered: b"ERROR\r\n",
-    },
-    Row {
-        name: "get_without_a_key",
-        sent: b"get\r\n",
-        answered: b"ERROR\r\n",
-    },
-    Row {
-        name: "unknown_command",
-        sent: b"stats\r\n",
-        answered: b"ERROR\r\n",
-    },
-    Row {
-        name: "get_of_two_keys",
-        sent: b"get a b\r\n",
-        answered: b"ERROR\r\n",
+        name: "three_error_lines",
+        sent: b"\r\nget\r\nstats\r\n",
+        answered: b"ERROR\r\nERROR\r\nERROR\r\n",
     },
     Row {
         name: "errors_do_not_close",
-        sent: b"\r\nget\r\nstats\r\nget a b\r\nget a\r\n",
+        sent: b"\r\nget\r\nstats\r\nGET a\r\nget a\r\n",
         answered: b"ERROR\r\nERROR\r\nERROR\r\nERROR\r\nEND\r\n",
     },
     Row {
-        name: "exptime_other_than_0",
-        sent: b"set a 0 1 1\r\nx\r\nget a\r\n",
-        answered: b"CLIENT_ERROR bad command line format\r\nEND\r\n",
-    },
-    Row {
-        name: "set_of_six_words",
-        sent: b"set a 0 0 1 noreply\r\nx\r\nget a\r\n",
-        answered: b"ERROR\r\nEND\r\n",
+        name: "meta_names_are_errors_for_now",
+        sent: b"mg a v\r\nms a 1\r\nmd a\r\nma a\r\nmn\r\n",
+        answered: b"ERROR\r\nERROR\r\nERROR\r\nERROR\r\nERROR\r\n",
     },
     Row {
         name: "length_that_cannot_be_read",
         sent: b"set a 0 0 x\r\nget a\r\n",
         answered: b"CLIENT_ERROR bad command line format\r\nEND\r\n",
+    },
+    Row {
+        name: "add_append_replace_delete",
+        sent: b"add a 0 0 1\r\nx\r\nadd a 0 0 1\r\ny\r\nappend a 9 9 1\r\nz\r\nreplace b 0 0 1\r\ny\r\nget a\r\ndelete a 0\r\ndelete a\r\n",
+        answered: b"STORED\r\nNOT_STORED\r\nSTORED\r\nNOT_STORED\r\nVALUE a 0 2\r\nxz\r\nEND\r\nDELETED\r\nNOT_FOUND\r\n",
+    },
+    Row {
+        name: "prepend_and_replace",
+        sent: b"prepend a 0 0 1\r\nx\r\nset a 5 0 2\r\nyz\r\nprepend a 9 9 1\r\nx\r\nget a\r\nreplace a 6 0 1\r\nw\r\nget a\r\n",
+        answered: b"NOT_STORED\r\nSTORED\r\nSTORED\r\nVALUE a 5 3\r\nxyz\r\nEND\r\nSTORED\r\nVALUE a 6 1\r\nw\r\nEND\r\n",
+    },
+    Row {
+        name: "append_of_nothing_takes_a_number",
+        sent: b"set a 0 0 1\r\nx\r\nappend a 0 0 0\r\n\r\ngets a\r\n",
+        answered: b"STORED\r\nSTORED\r\nVALUE a 0 1 2\r\nx\r\nEND\r\n",
+    },
+    Row {
+        name: "cas_stored_exists_not_found",
+        sent: b"set a 0 0 1\r\nx\r\ncas a 0 0 1 1\r\ny\r\ncas a 0 0 1 1\r\nz\r\ncas b 0 0 1 1\r\nz\r\ngets a\r\n",
+        answered: b"STORED\r\nSTORED\r\nEXISTS\r\nNOT_FOUND\r\nVALUE a 0 1 2\r\ny\r\nEND\r\n",
+    },
+    Row {
+        name: "incr_wraps",
+        sent: b"set a 0 0 20\r\n18446744073709551615\r\nincr a 1\r\nget a\r\n",
+        answered: b"STORED\r\n0\r\nVALUE a 0 1\r\n0\r\nEND\r\n",
+    },
+    Row {
+        name: "decr_stops_at_0",
+        sent: b"set a 0 0 1\r\n5\r\ndecr a 10\r\n",
+        answered: b"STORED\r\n0\r\n",
+    },
+    Row {
+        name: "decr_pads_nothing",
+        sent: b"set a 0 0 2\r\n10\r\ndecr a 1\r\nget a\r\n",
+        answered: b"STORED\r\n9\r\nVALUE a 0 1\r\n9\r\nEND\r\n",
+    },
+    Row {
+        name: "incr_of_a_text",
+        sent: b"set a 0 0 1\r\nx\r\nincr a 1\r\nget a\r\n",
+        answered: b"STORED\r\nCLIENT_ERROR cannot increment or decrement non-numeric value\r\nVALUE a 0 1\r\nx\r\nEND\r\n",
+    },
+    Row {
+        name: "incr_of_nothing",
+        sent: b"incr b 1\r\ndecr b 1\r\n",
+        answered: b"NOT_FOUND\r\nNOT_FOUND\r\n",
+    },
+    Row {
+        name: "incr_by_a_bad_delta",
+        sent: b"incr a y\r\nincr a -1\r\ndecr a 18446744073709551616 noreply\r\nincr a y z\r\n",
+        answered: b"CLIENT_ERROR invalid numeric delta argument\r\nCLIENT_ERROR invalid numeric delta argument\r\nCLIENT_ERROR invalid numeric delta argument\r\nCLIENT_ERROR invalid numeric delta argument\r\n",
+    },
+    Row {
+        name: "incr_counts_leading_zeros_away",
+        sent: b"set a 7 0 3\r\n007\r\nincr a 1\r\ngets a\r\n",
+        answered: b"STORED\r\n8\r\nVALUE a 7 1 2\r\n8\r\nEND\r\n",
+    },
+    Row {
+        name: "noreply_hides_no_error",
+        sent: b"set a 0 0 1 noreply\r\nx\r\nset a z 0 1 noreply\r\ny\r\nget a\r\n",
+        answered: b"CLIENT_ERROR bad command line format\r\nVALUE a 0 1\r\nx\r\nEND\r\n",
+    },
+    Row {
+        name: "noreply_hides_every_reply_line",
+        sent: b"add a 0 0 1 noreply\r\n1\r\nadd a 0 0 1 noreply\r\n2\r\ncas a 0 0 1 9 noreply\r\n3\r\nincr a 4 noreply\r\ntouch b 0 noreply\r\ndelete b noreply\r\nget a\r\ndelete a 0 noreply\r\nflush_all 0 noreply\r\nget a\r\n",
+        answered: b"VALUE a 0 1\r\n5\r\nEND\r\nEND\r\n",
+    },
+    Row {
+        name: "noreply_shows_errors_of_the_step",
+        sent: b"set a 0 0 1 noreply\r\nx\r\nincr a 1 noreply\r\n",
+        answered: b"CLIENT_ERROR cannot increment or decrement non-numeric value\r\n",
+    },
+    Row {
+        name: "last_word_that_is_not_noreply",
+        sent: b"delete a 1\r\ndelete a noreply 0\r\ntouch a 0 no\r\nflush_all now\r\nset a 0 0 1 noreplay\r\nx\r\nget a\r\n",
+        answered: b"CLIENT_ERROR bad command line format\r\nCLIENT_ERROR bad command line format\r\nCLIENT_ERROR bad command line format\r\nCLIENT_ERROR bad command line format\r\nCLIENT_ERROR bad command line format\r\nEND\r\n",
+    },
+    Row {
+        name: "words_too_many",
+        sent: b"version 1\r\nquit now\r\nflush_all 0 noreply x\r\ndelete a 0 noreply x\r\ncas a 0 0 5\r\nget a\r\nget b\r\n",
+        answered: b"ERROR\r\nERROR\r\nERROR\r\nERROR\r\nERROR\r\nEND\r\n",
+    },
+    Row {
+        name: "one_bad_key_refuses_the_line",
+        sent: b"set a 0 0 1\r\nx\r\nget a b\x7f\r\ngat x a\r\n",
+        answered: b"STORED\r\nCLIENT_ERROR bad command line format\r\nCLIENT_ERROR bad command line format\r\n",
+    },
+    Row {
+        name: "version_and_quit",
+        sent: b"version\r\nquit\r\nversion\r\n",
+        answered: b"VERSION 1.6.0\r\n",
     },
 ];
 

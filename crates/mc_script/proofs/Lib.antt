@@ -1,4 +1,5 @@
 pub mod EscapeLemmas
 pub mod HistoryLemmas
 pub mod LineLemmas
+pub mod OutputLemmas
 pub mod ScriptLemmas

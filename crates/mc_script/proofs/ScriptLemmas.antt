@@ -1,6 +1,6 @@
 -- The events of a script, from the first line on.
 use Rattle.std.proofs.Common.{◌≡◌, ℕ, List, [], ◌∷◌, ◌++◌, Some, None, Result, Ok, Err, refl, sym, ap, append-nil, append_assoc}
-use Rattle.mc_script.specs.Scripts.{events_of, event_of, with_event, script_of_lines, server_of, with_server}
+use Rattle.mc_script.specs.Scripts.{events_of, event_of, with_event, script_of_lines, server_of, with_events}
 use Rattle.mc_script.specs.ScriptSeen.{Explains}
 use Rattle.mc_script.specs.declared.errors.SimError.{SimError}
 use Rattle.mc_script.specs.declared.errors.SimError.TheVariants.{BadLine, Stream, Memory}
@@ -21,20 +21,22 @@ with_front-more front n event (Ok events) = ap (λ (es : List Event). Ok es) (sy
 with_front-more front n event (Err line) = refl
 
 -- a line that is an event
-pub events_of-event : (front out : List Event) (n : ℕ) (line : List ℕ) (lines rest : List (ℕ × List ℕ)) (event : Event) → lines ≡ (n, line) ∷ rest → event_of line ≡ Some event → out ≡ front ++ event ∷ []
-    → with_front out (events_of rest) ≡ with_front front (events_of lines)
+pub events_of-event : (connections : ℕ) (front out : List Event) (n : ℕ) (line : List ℕ) (lines rest : List (ℕ × List ℕ)) (event : Event)
+    → lines ≡ (n, line) ∷ rest → event_of connections line ≡ Some event → out ≡ front ++ event ∷ []
+    → with_front out (events_of connections rest) ≡ with_front front (events_of connections lines)
 unfolding events_of
-events_of-event front out n line lines rest event first is more = rw (first, is, more) (sym (with_front-more front n event (events_of rest)))
+events_of-event connections front out n line lines rest event first is more = rw (first, is, more) (sym (with_front-more front n event (events_of connections rest)))
 
 -- a line that is no event
-pub events_of-bad : (front : List Event) (n : ℕ) (line : List ℕ) (lines rest : List (ℕ × List ℕ)) → lines ≡ (n, line) ∷ rest → event_of line ≡ None → with_front front (events_of lines) ≡ Err n
+pub events_of-bad : (connections : ℕ) (front : List Event) (n : ℕ) (line : List ℕ) (lines rest : List (ℕ × List ℕ))
+    → lines ≡ (n, line) ∷ rest → event_of connections line ≡ None → with_front front (events_of connections lines) ≡ Err n
 unfolding events_of
-events_of-bad front n line lines rest first none = rw (first, none) refl
+events_of-bad connections front n line lines rest first none = rw (first, none) refl
 
 -- no line more
-pub events_of-nil : (front : List Event) (lines : List (ℕ × List ℕ)) → lines ≡ [] → with_front front (events_of lines) ≡ Ok front
+pub events_of-nil : (connections : ℕ) (front : List Event) (lines : List (ℕ × List ℕ)) → lines ≡ [] → with_front front (events_of connections lines) ≡ Ok front
 unfolding events_of
-events_of-nil front lines none = rw none (ap (λ (es : List Event). Ok es) (append-nil front))
+events_of-nil connections front lines none = rw none (ap (λ (es : List Event). Ok es) (append-nil front))
 
 -- a script of no line
 pub script_of_lines-nil : (lines : List (ℕ × List ℕ)) → lines ≡ [] → script_of_lines lines ≡ Err 1
@@ -47,13 +49,13 @@ unfolding script_of_lines
 script_of_lines-bad n line lines rest first none = rw (first, none) refl
 
 -- a first line that is a server's, before what the others give
-pub script_of_lines-server : (n : ℕ) (line : List ℕ) (lines rest : List (ℕ × List ℕ)) (limits : ℕ × ℕ) → lines ≡ (n, line) ∷ rest → server_of line ≡ Some limits
-    → script_of_lines lines ≡ with_server n (Some limits) (events_of rest)
+pub script_of_lines-server : (n : ℕ) (line : List ℕ) (lines rest : List (ℕ × List ℕ)) (server : ℕ × ℕ × ℕ) → lines ≡ (n, line) ∷ rest → server_of line ≡ Some server
+    → script_of_lines lines ≡ with_events server (events_of server.0 rest)
 unfolding script_of_lines
-script_of_lines-server n line lines rest limits first is = rw (first, is) refl
+script_of_lines-server n line lines rest server first is = rw (first, is) refl
 
 -- a bad line among the events is one of the script
-pub explains-more : (e : SimError) (n : ℕ) (limits : ℕ × ℕ) (events : Result (List Event) ℕ) → Explains e events → Explains e (with_server n (Some limits) events)
-explains-more (BadLine m) n limits events h = rw h refl
-explains-more Stream n limits events h = h
-explains-more Memory n limits events h = tt
+pub explains-more : (e : SimError) (server : ℕ × ℕ × ℕ) (events : Result (List Event) ℕ) → Explains e events → Explains e (with_events server events)
+explains-more (BadLine m) server events h = rw h refl
+explains-more Stream server events h = h
+explains-more Memory server events h = tt

@@ -1,43 +1,56 @@
--- The output of a script: the answers of one legal history.
-use Rattle.std.specs.Prelude.{◌≡◌, ℕ, ◌+◌, nat_lt, Bool, List, [], ◌∷◌, ◌++◌, length, take, map, if◌then◌else◌}
-use Rattle.std.specs.List.{flat_map}
+-- The outputs of a script: the answers of one legal history.
+use Rattle.std.specs.Prelude.{◌≡◌, ℕ, ◌==◌, nat_lt, Bool, List, [], ◌∷◌, ◌++◌, length, take, map, count_by, if◌then◌else◌}
+use Rattle.std.specs.List.{flat_map, range_with_len}
 use Rattle.mc_request.specs.Requests.{requests_of}
 use Rattle.mc_cache.specs.CacheState.{CacheState, opening_cache}
 use Rattle.mc_server.specs.Served.{Entry}
-use Rattle.mc_server.specs.Histories.{answers, taken_of, moments_of, IsLegalHistory}
+use Rattle.mc_server.specs.Histories.{answers_to, taken_of, turns_of, IsLegalHistory}
 use Rattle.mc_script.specs.Scripts.{ScriptSeen}
 use Rattle.mc_script.specs.declared.events.Event.{Event}
 use Rattle.mc_script.specs.declared.events.Event.TheVariants.{Bytes, Turn}
 
--- the bytes that an event feeds
-abbrev pub bytes_fed : Event → List ℕ
-bytes_fed (Bytes bytes) = bytes
-bytes_fed (Turn moment) = []
+-- the bytes that an event feeds to the connection of a number
+abbrev pub bytes_fed : ℕ → Event → List ℕ
+bytes_fed number (Bytes connection bytes) = if connection == number then bytes else []
+bytes_fed number (Turn connection moment) = []
 
--- the client's text: all that the events feed
-abbrev pub text_fed : List Event → List ℕ
-text_fed events = flat_map bytes_fed events
+-- a connection's text: all that the events feed to it
+abbrev pub text_fed : ℕ → List Event → List ℕ
+text_fed number events = flat_map (λ event. bytes_fed number event) events
 
--- the moments of the turns that take something, where so many requests and faults of this text were taken before: a
--- turn takes the next one, if the text so far has it
-abbrev pub moments_served : ℕ → List ℕ → List Event → List ℕ
-moments_served taken text [] = []
-moments_served taken text (Bytes bytes ∷ events) = moments_served taken (text ++ bytes) events
-moments_served taken text (Turn moment ∷ events) =
-    if nat_lt taken (length (requests_of text)) then moment ∷ moments_served (taken + 1) text events else moments_served taken text events
+-- how many of these turns, each a connection and a moment, are of the connection of a number
+abbrev pub turns_by : ℕ → List (ℕ × ℕ) → ℕ
+turns_by number turns = count_by (λ turn. turn.0 == number) turns
+
+-- whether a turn of the connection of a number finds a request or fault, where these events came before it and these
+-- turns were served: its text so far has one more than were taken of it
+abbrev pub finds_one : ℕ → List Event → List (ℕ × ℕ) → Bool
+finds_one number before served = nat_lt (turns_by number served) (length (requests_of (text_fed number before)))
+
+-- the turns that were served, with this event if it is a turn that finds one
+abbrev pub served_with : List Event → List (ℕ × ℕ) → Event → List (ℕ × ℕ)
+served_with before served (Bytes connection bytes) = served
+served_with before served (Turn connection moment) =
+    if finds_one connection before served then served ++ (connection, moment) ∷ [] else served
+
+-- the turns that are served at the end, where these events are still to come
+abbrev pub turns_served : List Event → List (ℕ × ℕ) → List Event → List (ℕ × ℕ)
+turns_served before served [] = served
+turns_served before served (event ∷ events) = turns_served (before ++ event ∷ []) (served_with before served event) events
 
 -- the cache that a script begins with
 abbrev pub cache_of : ScriptSeen → CacheState
 cache_of script = opening_cache script.budget script.items 0
 
--- An output answers a script: there is one legal history, whose entries are the first requests and faults of the
--- client's text, in order, one for each turn that finds one, at that turn's moment; the output is its answers.
-pub record Answers (script : ScriptSeen) (output : List ℕ) : Type 0 where
+-- Outputs, one for each connection, answer a script: there is one legal history of the server. Of each connection it
+-- takes the first requests and faults of that connection's text, in order; it has one entry for each turn line that
+-- finds one, in the order of the lines, at that line's moment, and no others; the outputs are its answers.
+pub record Answers (script : ScriptSeen) (outputs : List (List ℕ)) : Type 0 where
   pub history : List Entry
   pub legal : IsLegalHistory (cache_of script) history
-  pub taken : taken_of history ≡ take (length history) (requests_of (text_fed script.events))
-  pub moments : moments_of history ≡ moments_served 0 [] script.events
-  pub answered : output ≡ answers (cache_of script) history
+  pub taken : (number : ℕ) → taken_of number history ≡ take (length (taken_of number history)) (requests_of (text_fed number script.events))
+  pub turns : turns_of history ≡ turns_served [] [] script.events
+  pub answered : outputs ≡ map (λ number. answers_to number (cache_of script) history) (range_with_len 0 script.connections)
 
 -- which entries of a history were refused memory
 abbrev pub refusals_of : List Entry → List Bool

@@ -1,6 +1,6 @@
 -- Escapes: how any bytes stand in a line of printable ones. Source: this project's own.
 use Rattle.std.specs.Prelude.{◌≡◌, ℕ, ◌+◌, ◌-◌, ◌*◌, ◌/◌, ◌%◌, ◌==◌, ◌&&◌, nat_lt, nat_le, List, [], ◌∷◌, ◌++◌, Option, Some, None, is_some, codes, decimal, if◌then◌else◌}
-use Rattle.std.specs.List.{flat_map}
+use Rattle.std.specs.List.{flat_map, enumerate_from}
 use Rattle.std.specs.Option.{option_map, option_map_or}
 
 -- the small hexadecimal digit of a number below 16
@@ -24,6 +24,10 @@ escaped bytes = flat_map escape_of bytes
 -- what is printed for a client
 abbrev pub client_line : ℕ → List ℕ → List ℕ
 client_line client bytes = codes "client " ++ decimal client ++ codes ": " ++ escaped bytes ++ codes "\n"
+
+-- what is printed for all clients, in order, the first of number 0
+abbrev pub client_lines : List (List ℕ) → List ℕ
+client_lines outputs = flat_map (λ client. client_line client.0 client.1) (enumerate_from 0 outputs)
 
 -- the value of a hexadecimal digit, small or capital
 unfoldable pub hex_value : ℕ → Option ℕ

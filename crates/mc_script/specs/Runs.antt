@@ -1,25 +1,25 @@
--- A run: a script in, a printed line out. Source: this project's own.
+-- A run: a script in, a printed line for each client out. Source: this project's own.
 use Rattle.std.specs.Prelude.{◌≡◌, ℕ, List, Option, Ok, Err}
 use Rattle.std.specs.Io.KnownBytes.{Appends, Keeps}
-use Rattle.mc_script.specs.Escapes.{client_line}
+use Rattle.mc_script.specs.Escapes.{client_lines}
 use Rattle.mc_script.specs.Scripts.{ScriptSeen, script_of}
 use Rattle.mc_script.specs.Answers.{Answers}
 use Rattle.mc_script.specs.declared.errors.SimError.{SimError}
 use Rattle.mc_script.specs.declared.errors.SimError.TheVariants.{BadLine, Stream, Memory}
 
--- a line is that of an output which answers the script that the input is
-pub record IsLineOf (input line : List ℕ) : Type 0 where
+-- a text is that of outputs which answer the script that the input is
+pub record IsTextOf (input text : List ℕ) : Type 0 where
   pub script : ScriptSeen
   pub read : script_of input ≡ Ok script
-  pub output : List ℕ
-  pub answers : Answers script output
-  pub printed : line ≡ client_line 0 output
+  pub outputs : List (List ℕ)
+  pub answers : Answers script outputs
+  pub printed : text ≡ client_lines outputs
 
--- such a line was written, and nothing else
+-- such a text was written, and nothing else
 pub record Prints (input : List ℕ) (old new : Option (List ℕ)) : Type 0 where
-  pub line : List ℕ
-  pub is : IsLineOf input line
-  pub written : Appends old new line
+  pub text : List ℕ
+  pub is : IsTextOf input text
+  pub written : Appends old new text
 
 -- a bad line and a want of memory stop a run before anything is written
 abbrev pub StopsBeforeWriting : SimError → Option (List ℕ) → Option (List ℕ) → Type 0

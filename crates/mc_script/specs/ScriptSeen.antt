@@ -7,7 +7,7 @@ use Rattle.mc_script.specs.declared.errors.SimError.TheVariants.{BadLine, Stream
 
 -- a script, whose vector is a list
 abbrev pub script_seen : Script → ScriptSeen
-script_seen s = record { budget = s.budget; items = s.items; events = s.events.items }
+script_seen s = record { connections = s.connections; budget = s.budget; items = s.items; events = s.events.items }
 
 -- why reading stopped: at the first bad line, or for want of memory, which can come at any time
 abbrev pub Explains : {Y : Type 0} → SimError → Result Y ℕ → Type 0

@@ -3,8 +3,8 @@ ghost use Rattle.std.specs.Prelude.{◌≡◌, ℕ, List};
 ghost use Rattle.mc_script.specs.Answers.{Answers, refusals_of};
 ghost use Rattle.mc_script.specs.Scripts.{ScriptSeen};
 
-/// Once it is said which stores were refused memory, exactly one output answers a script.
+/// Once it is said which stores were refused memory, exactly one output of each connection answers a script.
 pub fn one_output()
-    ensures { (script : ScriptSeen) (a b : List ℕ) (x : Answers script a) (y : Answers script b)
+    ensures { (script : ScriptSeen) (a b : List (List ℕ)) (x : Answers script a) (y : Answers script b)
         → refusals_of x.history ≡ refusals_of y.history → a ≡ b }
 {}

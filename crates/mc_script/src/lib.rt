@@ -4,8 +4,9 @@
 //! as a [`Script`], [`push_client_line`] prints what a client was sent, and [`run`] joins them. [`push_escaped`]
 //! and [`read_escaped`] are the two directions of the escapes that scripts and printed lines have.
 //!
-//! A script is lines of text: `server 1 <budget> <items>`, then `bytes 0 <text>` and `turn 0 <moment>`. What each
-//! means is said by the definitions in `specs/`.
+//! A script is lines of text: `server <connections> <budget> <items>`, then `bytes <connection> <text>` and
+//! `turn <connection> <moment>`; connections have the numbers from 0 on. What each means is said by the definitions in
+//! `specs/`.
 #![tactic(auto)]
 
 mod errors;

@@ -1,40 +1,56 @@
-//! The output of a script: a server plays its events.
-ghost use Rattle.std.specs.Prelude.{◌≡◌, Some, IsSome, IfOk, IfErr, OnOk};
-ghost use Rattle.mc_server.specs.ServerState.{connection_at, fresh_connection};
-ghost use Rattle.mc_server.specs.Turns.{Steps};
+//! The outputs of a script: a server plays its events.
+ghost use Rattle.std.specs.Prelude.{◌≡◌, ◌<◌, ◌^◌, ◌-◌, ◌++◌, length, IsSome, IfOk, IfErr, OnOk};
+ghost use Rattle.mc_server.specs.ServerState.{connection_at, with_fresh};
 ghost use Rattle.mc_script.specs.Answers.{Answers, cache_of};
-ghost use Rattle.mc_script.specs.Plays.{Plays};
+ghost use Rattle.mc_script.specs.Escapes.{client_lines};
+ghost use Rattle.mc_script.specs.Events.{moment_of, number_of};
+ghost use Rattle.mc_script.specs.Plays.{Plays, opened, outputs_of};
 ghost use Rattle.mc_script.specs.ScriptSeen.{script_seen};
 ghost use Rattle.mc_script.specs.Statuses.{IsNoBadLine};
 
 use crate::errors::SimError;
+use crate::escapes::push_client_line;
 use crate::events::{Event, Script};
 use mc_cache::Cache;
 use mc_item::CasCounter;
 use mc_server::{Server, ServerError};
 use mc_store::ListStore;
-use std::alloc::Global;
+use std::alloc::{AllocError, Global};
 
-/// What a server sends to the client of a script.
+/// A server that has played a script: its outputs are what it sends to the clients.
 ///
-/// The output is the answers of one legal history: each turn takes the next request or fault of the client's text, if
-/// it has come whole, and no other. Once it is said which stores were refused memory, no other output is right.
-pub fn output_of(alloc: Global, script: &Script) -> Result<Vec<u8>, SimError>
-    ensures output { IfOk result (λ output. Answers (script_seen script.now) output.items) }
+/// The outputs are the answers of one legal history: each turn takes the next request or fault of its connection's
+/// text, if it has come whole, and no other. Once it is said which stores were refused memory, no other outputs are
+/// right.
+pub fn played_server(alloc: Global, script: &Script) -> Result<Server<ListStore>, SimError>
+    ensures outputs { IfOk result (λ server. Answers (script_seen script.now) (outputs_of script.now.connections server)) }
     ensures error { IfErr result (λ error. IsNoBadLine error) }
 {
-    let (mut server, client) = opened_server(alloc, script);
+    let mut server = opened_server(alloc, script)?;
     for event in &script.events {
-        play(&mut server, client, event)?;
+        play(&mut server, event)?;
     }
-    let output = Vec::from_slice(alloc, server.output(client))?;
-    Ok(output)
+    Ok(server)
 }
 
-/// A server with an empty cache, as the script wants it, and the number of its connection.
-fn opened_server(alloc: Global, script: &Script) -> (Server<ListStore>, u64)
-    ensures cache { result.0.cache ≡ cache_of (script_seen script.now) }
-    ensures connection { connection_at result.0 result.1 ≡ Some fresh_connection }
+/// Puts the lines at the end of a text that say what the clients of the first connections were sent.
+pub fn push_output_lines(
+    server: &Server<ListStore>,
+    connections: u64,
+    out: &mut Vec<u8>,
+) -> Result<(), AllocError>
+    ensures { OnOk result (out.new.items ≡ out.old.items ++ client_lines (outputs_of connections server.now)) }
+{
+    for client in 0..connections {
+        push_client_line(client, server.output(client), out)?;
+    }
+    Ok(())
+}
+
+/// A server with an empty cache and fresh connections, as the script wants them.
+fn opened_server(alloc: Global, script: &Script) -> Result<Server<ListStore>, SimError>
+    ensures server { IfOk result (λ server. server ≡ opened (cache_of (script_seen script.now)) script.now.connections) }
+    ensures error { IfErr result (λ error. IsNoBadLine error) }
 {
     let store = ListStore::new(alloc);
     let cache = Cache::new(
@@ -44,19 +60,36 @@ fn opened_server(alloc: Global, script: &Script) -> (Server<ListStore>, u64)
         CasCounter::starting_at(0),
     );
     let mut server = Server::new(alloc, cache);
-    let client = server.admit().unwrap();
-    (server, client)
+    for _ in 0..script.connections {
+        admit(&mut server)?;
+    }
+    Ok(server)
+}
+
+/// Opens one connection more. Only memory can be refused.
+fn admit(server: &mut Server<ListStore>) -> Result<(), SimError>
+    requires room { length server.old.connections < 1024 }
+    requires number { server.old.admitted < 2 ^ 64 - 1 }
+    ensures admitted { OnOk result (server.new ≡ with_fresh server.old) }
+    ensures error { IfErr result (λ error. IsNoBadLine error) }
+{
+    match server.admit() {
+        Ok(_) => Ok(()),
+        Err(ServerError::Memory) => Err(SimError::Memory),
+        Err(ServerError::NoConnection | ServerError::TooMany) => unreachable!(),
+    }
 }
 
 /// One event. Only memory can be refused.
-fn play(server: &mut Server<ListStore>, client: u64, event: &Event) -> Result<(), SimError>
-    requires { IsSome (connection_at server.old client) }
-    ensures played { OnOk result (Steps client server.old server.new (Plays event.now)) }
+fn play(server: &mut Server<ListStore>, event: &Event) -> Result<(), SimError>
+    requires connection { IsSome (connection_at server.old (number_of event.now)) }
+    requires moment { moment_of event.now < 2 ^ 63 }
+    ensures played { OnOk result (Plays event.now server.old server.new) }
     ensures error { IfErr result (λ error. IsNoBadLine error) }
 {
     let played = match event {
-        Event::Bytes(block) => server.feed(client, block.as_slice()),
-        Event::Turn(moment) => server.turn(client, *moment).map(|_| ()),
+        Event::Bytes { connection, bytes } => server.feed(*connection, bytes.as_slice()),
+        Event::Turn { connection, moment } => server.turn(*connection, *moment).map(|_| ()),
     };
     match played {
         Ok(()) => Ok(()),

@@ -1,7 +1,8 @@
 //! Scripts of events.
-ghost use Rattle.std.specs.Prelude.{◌≡◌, ◌==◌, ◌^◌, ◌≤◌, IfOk, IfErr, IfSome, Ok};
+ghost use Rattle.std.specs.Prelude.{◌≡◌, ℕ, ◌^◌, ◌<◌, ◌≤◌, All, IfOk, IfErr, IfSome, Ok};
+ghost use Rattle.mc_script.specs.Events.{IsEventOf};
 ghost use Rattle.mc_script.specs.ScriptSeen.{Explains, script_seen};
-ghost use Rattle.mc_script.specs.Scripts.{event_named, event_of, events_of, is_number, limit_of, script_of, server_of};
+ghost use Rattle.mc_script.specs.Scripts.{connection_of, event_named, event_of, events_of, limit_of, script_of, server_of};
 ghost use Rattle.mc_text.specs.Numbers.{number};
 ghost use Rattle.mc_cache.specs.CacheState.{IsWithinBounds};
 
@@ -10,6 +11,7 @@ use crate::escapes::read_escaped;
 use crate::events::{Event, Script};
 use crate::lines::{LineIter, cut_at_space, lines};
 use mc_cache::{MAX_BUDGET, MAX_ITEMS};
+use mc_server::MAX_CONNECTIONS;
 use mc_text::{Block, read_u64};
 use std::alloc::{AllocError, Global};
 
@@ -25,25 +27,27 @@ pub fn read_script(alloc: Global, input: &[u8]) -> Result<Script, SimError>
     let Some((number, line)) = lines.next() else {
         return Err(SimError::BadLine(1));
     };
-    let Some((budget, items)) = read_server(line) else {
+    let Some((connections, budget, items)) = read_server(line) else {
         return Err(SimError::BadLine(number));
     };
-    let events = read_events(alloc, lines)?;
+    let events = read_events(alloc, connections, lines)?;
     Ok(Script {
+        connections,
         budget,
         items,
         events,
     })
 }
 
-/// The events of lines, one each.
-fn read_events(alloc: Global, lines: LineIter<'_>) -> Result<Vec<Event>, SimError>
-    ensures events { IfOk result (λ events. events_of lines.entry ≡ Ok events.items) }
-    ensures error { IfErr result (λ error. Explains error (events_of lines.entry)) }
+/// The events of lines, one each, where so many connections are there.
+fn read_events(alloc: Global, connections: u64, lines: LineIter<'_>) -> Result<Vec<Event>, SimError>
+    ensures events { IfOk result (λ events. events_of connections lines.entry ≡ Ok events.items) }
+    ensures all { IfOk result (λ events. All (IsEventOf connections) events.items) }
+    ensures error { IfErr result (λ error. Explains error (events_of connections lines.entry)) }
 {
     let mut events = Vec::new(alloc);
     for (number, line) in lines {
-        match read_event(alloc, line)? {
+        match read_event(alloc, connections, line)? {
             Some(event) => events.push(event)?,
             None => return Err(SimError::BadLine(number)),
         }
@@ -51,28 +55,31 @@ fn read_events(alloc: Global, lines: LineIter<'_>) -> Result<Vec<Event>, SimErro
     Ok(events)
 }
 
-/// The budget and the items of a server's line.
+/// The connections, the budget and the items of a server's line.
 #[tactic(auto, unfolding(crate::specs::Scripts::server_of))]
-fn read_server(line: &[u8]) -> Option<(u64, usize)>
-    ensures limits { result ≡ server_of line.now }
-    ensures bounds { IfSome result (λ limits. IsWithinBounds limits.0 limits.1) }
+fn read_server(line: &[u8]) -> Option<(u64, u64, usize)>
+    ensures server { result ≡ server_of line.now }
+    ensures few { IfSome result (λ server. server.0 ≤ 1024) }
+    ensures bounds { IfSome result (λ server. IsWithinBounds server.1 server.2) }
 {
     let (command, behind) = cut_at_space(line)?;
     let (connections, behind) = cut_at_space(behind)?;
     let (budget, items) = cut_at_space(behind)?;
+    let connections = read_limit(connections, MAX_CONNECTIONS as u64)?;
     let budget = read_limit(budget, MAX_BUDGET)?;
     let items = read_limit(items, MAX_ITEMS as u64)?;
-    if command == b"server".as_slice() && is_number(connections, 1) {
-        Some((budget, items as usize))
+    if command == b"server".as_slice() {
+        Some((connections, budget, items as usize))
     } else {
         None
     }
 }
 
-/// The event of a line.
+/// The event of a line, where so many connections are there.
 #[tactic(auto, unfolding(crate::specs::Scripts::event_of))]
-fn read_event(alloc: Global, line: &[u8]) -> Result<Option<Event>, AllocError>
-    ensures { IfOk result (λ event. event ≡ event_of line.now) }
+fn read_event(alloc: Global, connections: u64, line: &[u8]) -> Result<Option<Event>, AllocError>
+    ensures event { IfOk result (λ event. event ≡ event_of connections line.now) }
+    ensures of { IfOk result (λ event. IfSome event (λ event. IsEventOf connections event)) }
 {
     let Some((command, behind)) = cut_at_space(line) else {
         return Ok(None);
@@ -80,29 +87,50 @@ fn read_event(alloc: Global, line: &[u8]) -> Result<Option<Event>, AllocError>
     let Some((connection, behind)) = cut_at_space(behind) else {
         return Ok(None);
     };
-    if !is_number(connection, 0) {
+    let Some(connection) = read_connection(connection, connections) else {
         return Ok(None);
-    }
-    read_event_named(alloc, command, behind)
+    };
+    read_event_named(alloc, command, connection, behind)
 }
 
-/// The event of a command, by what follows its connection.
+/// The event of a command, by the number of its connection and what follows that.
 #[tactic(auto, unfolding(crate::specs::Scripts::event_named))]
-fn read_event_named(alloc: Global, name: &[u8], behind: &[u8]) -> Result<Option<Event>, AllocError>
-    ensures { IfOk result (λ event. event ≡ event_named name.now behind.now) }
+fn read_event_named(
+    alloc: Global,
+    name: &[u8],
+    connection: u64,
+    behind: &[u8],
+) -> Result<Option<Event>, AllocError>
+    ensures event { IfOk result (λ event. event ≡ event_named name.now connection behind.now) }
+    ensures of { IfOk result (λ event. IfSome event (λ event. (connections : ℕ) → connection < connections → IsEventOf connections event)) }
 {
     if name == b"bytes".as_slice() {
-        return Ok(read_escaped(alloc, behind)?.map(|bytes| Event::Bytes(Block::from(bytes))));
+        return Ok(read_escaped(alloc, behind)?.map(|bytes| Event::Bytes {
+            connection,
+            bytes: Block::from(bytes),
+        }));
     }
     if name == b"turn".as_slice() {
-        return Ok(read_moment(behind).map(Event::Turn));
+        return Ok(read_moment(behind).map(|moment| Event::Turn { connection, moment }));
     }
     Ok(None)
 }
 
+/// The number of a connection that is there, where so many are.
+fn read_connection(word: &[u8], connections: u64) -> Option<u64>
+    ensures number { result ≡ connection_of connections word.now }
+    ensures inside { IfSome result (λ number. number < connections) }
+{
+    match read_u64(word) {
+        Some(number) if number < connections => Some(number),
+        _ => None,
+    }
+}
+
 /// A moment: a number below 2^63.
 fn read_moment(word: &[u8]) -> Option<u64>
-    ensures { result ≡ number 20 (2 ^ 63) word.now }
+    ensures value { result ≡ number 20 (2 ^ 63) word.now }
+    ensures small { IfSome result (λ moment. moment < 2 ^ 63) }
 {
     match read_u64(word) {
         Some(moment) if moment <= MAX_MOMENT => Some(moment),
@@ -122,13 +150,6 @@ fn read_limit(word: &[u8], most: u64) -> Option<u64>
     }
 }
 
-/// Whether a word is this number.
-fn is_number(word: &[u8], number: u64) -> bool
-    ensures { result ≡ is_number number word.now }
-{
-    read_u64(word) == Some(number)
-}
-
 #[cfg(test)]
 mod tests {
     use super::*;
@@ -136,16 +157,48 @@ mod tests {
 
     #[test]
     fn a_script_is_read(rt: HostRuntime) -> Result<(), Fail> {
-        let text = b"\nserver 01 64 2\nbytes 00 get\\x20a\\r\\n\n\nturn 0 9223372036854775807";
+        let text = b"\nserver 02 64 2\nbytes 00 get\\x20a\\r\\n\n\nturn 1 9223372036854775807";
         let script = read_script(rt.alloc(), text.as_slice())?;
+        assert_eq!(rt; script.connections, 2);
         assert_eq!(rt; script.budget, 64);
         assert_eq!(rt; script.items, 2);
         assert_eq!(rt; script.events.len(), 2);
-        let Event::Bytes(block) = &script.events[0] else {
+        let Event::Bytes {
+            connection: 0,
+            bytes,
+        } = &script.events[0]
+        else {
             return Err(Fail::from("no bytes"));
         };
-        assert_eq!(rt; block.as_slice(), b"get a\r\n".as_slice());
-        assert!(rt; matches!(&script.events[1], Event::Turn(9_223_372_036_854_775_807)));
+        assert_eq!(rt; bytes.as_slice(), b"get a\r\n".as_slice());
+        let is_turn = matches!(
+            &script.events[1],
+            Event::Turn {
+                connection: 1,
+                moment: 9_223_372_036_854_775_807
+            }
+        );
+        assert!(rt; is_turn);
+        Ok(())
+    }
+
+    #[test]
+    fn the_greatest_server_is_read(rt: HostRuntime) -> Result<(), Fail> {
+        let text = b"server 1024 1099511627776 16777216\nturn 1023 0\n";
+        let script = read_script(rt.alloc(), text.as_slice())?;
+        assert_eq!(rt; script.connections, 1024);
+        assert_eq!(rt; script.budget, 1_099_511_627_776);
+        assert_eq!(rt; script.items, 16_777_216);
+        assert_eq!(rt; script.events.len(), 1);
+        assert!(rt;
+            matches!(
+                &script.events[0],
+                Event::Turn {
+                    connection: 1023,
+                    moment: 0
+                }
+            )
+        );
         Ok(())
     }
 
@@ -153,14 +206,23 @@ mod tests {
     fn the_first_bad_line_is_answered(rt: HostRuntime) -> Result<(), Fail> {
         let rows = [
             (b"".as_slice(), 1),
-            (b"\n\nserver 2 1 1\nbytes".as_slice(), 3),
+            (b"\n\nserver 0 1 1\nbytes".as_slice(), 3),
+            (b"server 1025 1 1\nturn 0 1".as_slice(), 1),
             (b"server 1 0 1".as_slice(), 1),
+            (b"server 1 1099511627777 1".as_slice(), 1),
+            (b"server 1 1 16777217".as_slice(), 1),
+            (b"server  1 1 1".as_slice(), 1),
             (b"server 1 1 1\r\n".as_slice(), 1),
+            (b"pool 1 1 1 1".as_slice(), 1),
             (b"server 1 1 1\n\nbytes 0 a\\q\nturn".as_slice(), 3),
             (b"server 1 1 1\nbytes 0".as_slice(), 2),
             (b"server 1 1 1\nbytes 0 \nturn 1 5".as_slice(), 3),
+            (b"server 3 1 1\nturn 2 1\nturn 3 1".as_slice(), 3),
+            (b"server 3 1 1\nbytes 3 x".as_slice(), 2),
+            (b"server 3 1 1\nturn -1 1".as_slice(), 2),
             (b"server 1 1 1\nturn 0 9223372036854775808".as_slice(), 2),
             (b"server 1 1 1\npool 1".as_slice(), 2),
+            (b"server 1 1 1\nserver 1 1 1".as_slice(), 2),
         ];
         for (text, line) in rows {
             let is_bad =

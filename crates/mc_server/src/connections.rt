@@ -1,5 +1,5 @@
 //! A connection: its reader, and its answers.
-ghost use Rattle.std.specs.Prelude.{◌≡◌, ◌≤◌, drop, length, IfOk, IsOkUnless, OnOk, OnErr};
+ghost use Rattle.std.specs.Prelude.{◌≡◌, ◌≤◌, ◌<◌, ◌^◌, ℕ, drop, length, IfOk, IsOkUnless, OnOk, OnErr};
 
 use crate::answering::{room_for, serve};
 use crate::turns::{ServerError, Turn};
@@ -63,7 +63,9 @@ impl Connection {
         cache: &mut Cache<S>,
         moment: u64,
     ) -> Result<Turn, ServerError>
-        ensures turn { IfOk result (λ turn. IsTurn moment turn cache.old cache.new self.old self.new) }
+        requires { moment < 2 ^ 63 }
+        ensures turn { (number : ℕ)
+            → IfOk result (λ turn. IsTurn number moment turn cache.old cache.new self.old self.new) }
         ensures only_memory { IsOkUnless result ServerError.Memory }
         ensures err { OnErr result (self.new ≡ self.old) }
         ensures cache_kept { OnErr result (cache.new ≡ cache.old) }

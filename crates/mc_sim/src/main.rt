@@ -1,4 +1,4 @@
-//! Runs the script on standard input over one server, and prints what its client was sent.
+//! Runs the script on standard input over one server, and prints what its clients were sent.
 //!
 //! The exit status is 0 where the script was run to its end. Else it is 2 at a bad line, 3 where a read or a write
 //! failed, and 4 where there was no memory, and standard error says why.

@@ -86,6 +86,14 @@ impl Key {
         if !has_key_bytes_alone(word) {
             return Err(KeyError::BadByte);
         }
+        Ok(Key::of_plain(alloc, word)?)
+    }
+
+    /// The key of a word that is known to be a plain one: its bytes are copied, and not tested again.
+    pub fn of_plain(alloc: Global, word: &[u8]) -> Result<Key, AllocError>
+        requires { is_plain_key word.now ≡ true }
+        ensures { IfOk result (λ key. key ≡ word.now) }
+    {
         let bytes = Vec::from_slice(alloc, word)?;
         Ok(Key { bytes })
     }
@@ -128,6 +136,13 @@ mod tests {
         for (error, text) in texts {
             assert_eq!(rt; error.to_string(rt.alloc())?.as_str(), text);
         }
+        Ok(())
+    }
+
+    #[test]
+    fn a_plain_word_is_copied(rt: HostRuntime) -> Result<(), Fail> {
+        let key = Key::of_plain(rt.alloc(), b"ab")?;
+        assert_eq!(rt; key.as_bytes(), b"ab".as_slice());
         Ok(())
     }
 }

@@ -2,7 +2,8 @@
 //!
 //! A caller meets the calls in this order: [`next_line`] cuts a line from the bytes that have come,
 //! [`words`] gives its words, [`read_u64`], [`read_i64`], [`read_len`] and [`read_flags`] read a word as a
-//! number, and [`Key::plain`] makes a key of one. [`Block`] is the bytes of a data block.
+//! number, and [`Key::plain`] makes a key of one ([`Key::of_plain`] where [`is_plain_key`] has tested it already).
+//! [`Block`] is the bytes of a data block.
 //! [`let_go`] serves whoever keeps bytes that are taken from the front.
 //!
 //! Each call gives exactly what the definition of its name in `specs/` says of the bytes. Only what makes a

@@ -1,5 +1,5 @@
 use Rattle.std.proofs.Common.{sym}
-use Rattle.mc_request.specs.Steps.{meaning_of}
+use Rattle.mc_request.specs.LinesSeen.{meaning_of}
 use Rattle.mc_request.proofs.RequestLemmas.{starts_by, partial_none, too_long_fault, nothing_wanted}
 use Rattle.mc_request.proofs.steps.first_step.Goals as goal
 

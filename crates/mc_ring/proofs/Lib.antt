@@ -1,0 +1,5 @@
+pub mod AddressLemmas
+pub mod OwnerLemmas
+pub mod PairLemmas
+pub mod ShownLemmas
+pub mod RingLemmas

@@ -1,0 +1,5 @@
+pub mod Addresses
+pub mod Points
+pub mod Owners
+pub mod Rings
+pub mod Refusals

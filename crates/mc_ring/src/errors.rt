@@ -1,0 +1,63 @@
+//! Errors.
+ghost use Rattle.std.specs.Prelude.{◌≡◌};
+ghost use Rattle.mc_ring.specs.declared.errors.RingError.TheVariants.{Memory};
+
+use std::alloc::{AllocError, AllocFailed};
+use thiserror::Error;
+
+/// Why there is no ring, or no address. Where several causes hold, the least number is answered, `Memory` last.
+#[derive(Debug, Drop, Error)]
+pub enum RingError {
+    /// 1: there is no server, or no point.
+    #[error("no server")]
+    NoServer,
+    /// 2: there are more than 64 servers.
+    #[error("more than 64 servers")]
+    TooMany,
+    /// 3: two servers have equal addresses.
+    #[error("server given twice")]
+    Doubled,
+    /// 4: a text is no address, or a point belongs to a server that is not there.
+    #[error("bad server address")]
+    BadAddress,
+    /// 5: no memory.
+    #[error("out of memory")]
+    Memory,
+}
+
+impl From<AllocError> for RingError {
+    ghost from_gives = { λ _ e. e ≡ Memory };
+
+    fn from(_e: AllocError) -> RingError {
+        RingError::Memory
+    }
+}
+
+impl<T: Drop> From<AllocFailed<T>> for RingError {
+    ghost from_gives = { λ _ e. e ≡ Memory };
+
+    fn from(_e: AllocFailed<T>) -> RingError {
+        RingError::Memory
+    }
+}
+
+#[cfg(test)]
+mod tests {
+    use super::*;
+    use std::test::Fail;
+
+    #[test]
+    fn errors_have_texts(rt: HostRuntime) -> Result<(), Fail> {
+        let texts = [
+            (RingError::NoServer, "no server"),
+            (RingError::TooMany, "more than 64 servers"),
+            (RingError::Doubled, "server given twice"),
+            (RingError::BadAddress, "bad server address"),
+            (RingError::Memory, "out of memory"),
+        ];
+        for (error, text) in texts {
+            assert_eq!(rt; error.to_string(rt.alloc())?.as_str(), text);
+        }
+        Ok(())
+    }
+}

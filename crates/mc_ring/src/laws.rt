@@ -1,0 +1,20 @@
+//! Laws of the definitions: what a ring's owner depends on.
+ghost use Rattle.std.specs.Prelude.{◌≡◌, ℕ, List};
+ghost use Rattle.mc_ring.specs.declared.points.Point.{Point};
+ghost use Rattle.mc_ring.specs.Owners.{owner_of};
+ghost use Rattle.mc_ring.specs.Rings.{HasSame, Shows};
+
+/// Who owns a hash depends only on which pairs there are, and not on their order, nor on how often each is listed.
+pub fn only_members_count()
+    ensures { (pairs others : List Point) (hash : ℕ) → HasSame pairs others → owner_of pairs hash ≡ owner_of others hash }
+{}
+
+/// The owner among the points that show some pairs is the owner among these pairs.
+pub fn shown_points_own_alike()
+    ensures { (pairs points : List Point) (hash : ℕ) → Shows pairs points → owner_of points hash ≡ owner_of pairs hash }
+{}
+
+/// Only one list of points shows some pairs.
+pub fn points_are_one()
+    ensures { (pairs points others : List Point) → Shows pairs points → Shows pairs others → points ≡ others }
+{}

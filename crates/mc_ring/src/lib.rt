@@ -1,0 +1,30 @@
+//! The ring, which decides which server owns a key: libketama's continuum with equal weights.
+//!
+//! A caller meets the calls in this order: [`Address::new`] reads a server's address, [`Ring::new`] makes the ring of a
+//! list of servers, and [`Ring::owner`] gives the place of the server that owns a key. [`Ring::with_server`] makes the
+//! ring with one server more, [`Ring::of_points`] one with points of the caller's own. [`Ring::servers`] and
+//! [`Ring::points`] show what a ring is made of.
+//!
+//! Each server has 160 points: four of each of the 40 MD5 digests of `host:port-k`. A key belongs to the server of the
+//! least point that is not below the key's hash, or, where there is none, of the least point of all. The definitions
+//! in `specs/` say this of a set of pairs; the code keeps them sorted and searches by halves. A new server takes keys
+//! from the others and moves none between them.
+//!
+//! `owner` takes no memory. A refused call keeps nothing.
+#![tactic(auto)]
+
+mod addresses;
+mod errors;
+mod laws;
+mod points;
+mod rings;
+mod rows;
+
+pub use addresses::{Address, HOST_LIMIT};
+pub use errors::RingError;
+pub use laws::{only_members_count, points_are_one, shown_points_own_alike};
+pub use points::{POINTS_OF_SERVER, Point};
+pub use rings::{Ring, SERVER_LIMIT};
+pub use rows::{
+    equal_points, hash_of_a, hash_of_abc, past_the_last_point, the_next_point, the_point_itself,
+};
