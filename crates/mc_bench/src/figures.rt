@@ -2,6 +2,7 @@
 
 use crate::loads::Load;
 use crate::served::Served;
+use mc_server::ServerError;
 use std::alloc::Global;
 use std::fmt;
 use std::time::Duration;
@@ -22,7 +23,7 @@ pub struct Speed {
 
 impl Figures {
     /// Feeds a new server what a client sends, in pieces of so many bytes, at least 1.
-    pub fn of_run(alloc: Global, load: &Load, piece: usize) -> anyhow::Result<Figures> {
+    pub fn of_run(alloc: Global, load: &Load, piece: usize) -> Result<Figures, ServerError> {
         let piece = piece.max(1);
         let mut served = Served::new(alloc)?;
         let mut figures = Figures {
@@ -36,7 +37,7 @@ impl Figures {
     }
 
     /// Feeds bytes in pieces.
-    fn feed(&mut self, served: &mut Served, bytes: &[u8], piece: usize) -> anyhow::Result<()> {
+    fn feed(&mut self, served: &mut Served, bytes: &[u8], piece: usize) -> Result<(), ServerError> {
         for piece in bytes.chunks(piece.max(1)) {
             self.serve(served, piece)?;
         }
@@ -50,7 +51,7 @@ impl Figures {
         served: &mut Served,
         fill: u64,
         piece: usize,
-    ) -> anyhow::Result<()> {
+    ) -> Result<(), ServerError> {
         let bytes = vec![in alloc; b'x'; piece]?;
         let size = (piece as u64).max(1);
         for _ in 0..fill / size {
@@ -64,7 +65,7 @@ impl Figures {
     }
 
     /// Feeds a piece and counts.
-    fn serve(&mut self, served: &mut Served, piece: &[u8]) -> anyhow::Result<()> {
+    fn serve(&mut self, served: &mut Served, piece: &[u8]) -> Result<(), ServerError> {
         let answered = served.serve(piece)?;
         self.fed = self.fed.saturating_add(piece.len() as u64);
         self.answered = self.answered.saturating_add(answered as u64);

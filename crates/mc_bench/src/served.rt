@@ -2,7 +2,7 @@
 
 use mc_cache::Cache;
 use mc_item::CasCounter;
-use mc_server::{Server, Turn};
+use mc_server::{Server, ServerError, Turn};
 use mc_store::ListStore;
 use std::alloc::Global;
 
@@ -22,7 +22,7 @@ pub struct Served {
 }
 
 impl Served {
-    pub fn new(alloc: Global) -> anyhow::Result<Served> {
+    pub fn new(alloc: Global) -> Result<Served, ServerError> {
         let counter = CasCounter::starting_at(0);
         let cache = Cache::new(ListStore::new(alloc), BUDGET, ITEMS, counter);
         let mut server = Server::new(alloc, cache);
@@ -32,7 +32,7 @@ impl Served {
 
     /// Feeds a piece, and takes turns until nothing is left to take. Then the output is taken out, and this many
     /// bytes it had.
-    pub fn serve(&mut self, piece: &[u8]) -> anyhow::Result<usize> {
+    pub fn serve(&mut self, piece: &[u8]) -> Result<usize, ServerError> {
         self.server.feed(self.connection, piece)?;
         for _ in 0..u64::MAX {
             match self.server.turn(self.connection, MOMENT)? {

@@ -2,6 +2,7 @@ pub mod Faults
 pub mod Atoms
 pub mod Names
 pub mod Meanings
+pub mod Examples
 pub mod Requests
 pub mod Reader
 pub mod Peeks

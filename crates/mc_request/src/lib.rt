@@ -30,5 +30,6 @@ pub use parts::{Atom, Direction, ReadError, Request, StoreMode, Taken, Update};
 pub use reader::{Front, Next, Peek, Reader};
 pub use rows::{
     block_takes_too_much, counts, deletions, flushes, noreply_at_the_end, quit_ends_the_text,
-    refused_block_is_swallowed, set_then_get, several_keys, storage_modes, unknown_lines,
+    refused_block_is_swallowed, refused_blocks, set_then_get, several_keys, storage_modes,
+    unknown_lines,
 };

@@ -1,50 +1,69 @@
 //! A client of a new server.
-ghost use Rattle.mc_cache.specs.CacheState.{IsWithinBounds};
-ghost use Rattle.std.specs.Prelude.{◌≡◌, ◌<◌, ◌^◌, []};
+ghost use Rattle.std.specs.Prelude.{◌≡◌, ◌<◌, ◌^◌};
 
-use mc_cache::Cache;
+use crate::meagre::MeagreStore;
+use mc_cache::{Cache, is_within_bounds};
 use mc_item::CasCounter;
 use mc_server::{Server, ServerError, Turn};
-use mc_store::{ListStore, Store};
-use std::alloc::Global;
+use std::alloc::{AllocError, Global};
+use std::test::Fail;
 
-/// The budget of a server, in bytes, where an example names no other.
-pub const BUDGET: u64 = 67_108_864;
+/// How a server is set up.
+#[derive(Clone, Copy, Debug)]
+pub struct Setup {
+    /// The budget, in bytes.
+    pub budget: u64,
+    /// How many items there is room for.
+    pub items: usize,
+    /// The last number that was given to an item.
+    pub last: u64,
+    /// For how many new keys there is memory.
+    pub keys: u64,
+}
 
-/// How many items a server has room for, where an example names no other number.
-pub const ITEMS: usize = 1_000;
+/// A server with room, numbers and memory for all that an example stores.
+pub const WIDE: Setup = Setup {
+    budget: 67_108_864,
+    items: 1_000,
+    last: 0,
+    keys: u64::MAX,
+};
 
 /// The moment of every turn, in seconds, where an example names no other.
 const MOMENT: u64 = 100;
 
+/// So many of one letter. (A test that repeats by a large number itself carries the text through its proof.)
+pub fn repeated(alloc: Global, letter: &str, count: usize) -> Result<String, AllocError> {
+    letter.repeat(alloc, count)
+}
+
+/// A server that is set up so.
+pub fn new_server(alloc: Global, setup: Setup) -> Result<Server<MeagreStore>, Fail> {
+    if !is_within_bounds(setup.budget, setup.items) {
+        return Err(Fail::from("no cache has these bounds"));
+    }
+    let store = MeagreStore::new(alloc, setup.keys);
+    let counter = CasCounter::starting_at(setup.last);
+    let cache = Cache::new(store, setup.budget, setup.items, counter);
+    Ok(Server::new(alloc, cache))
+}
+
 /// A new server, and the number of its only client's connection.
 #[derive(Drop)]
-pub struct Client<S: Store + Drop> {
-    server: Server<S>,
+pub struct Client {
+    server: Server<MeagreStore>,
     number: u64,
 }
 
-impl Client<ListStore> {
-    /// A client of a server over a plain list, which has given no number to an item.
-    pub fn new(alloc: Global) -> Result<Self, ServerError> {
-        Client::over(alloc, ListStore::new(alloc), BUDGET, ITEMS, 0)
+impl Client {
+    /// A client of a server with room for all that it stores.
+    pub fn new(alloc: Global) -> Result<Self, Fail> {
+        Client::of(alloc, WIDE)
     }
-}
 
-impl<S: Store + Drop> Client<S> {
-    /// A client of a server over an empty store, which gave `last` as the last number to an item.
-    pub fn over(
-        alloc: Global,
-        store: S,
-        budget: u64,
-        items: usize,
-        last: u64,
-    ) -> Result<Self, ServerError>
-        requires empty { S.items store ≡ [] }
-        requires bounds { IsWithinBounds budget items }
-    {
-        let cache = Cache::new(store, budget, items, CasCounter::starting_at(last));
-        let mut server = Server::new(alloc, cache);
+    /// A client of a server that is set up so.
+    pub fn of(alloc: Global, setup: Setup) -> Result<Self, Fail> {
+        let mut server = new_server(alloc, setup)?;
         let number = server.admit()?;
         Ok(Client { server, number })
     }

@@ -1,28 +1,16 @@
 //! What several clients of one server are answered.
 
-use crate::clients::{BUDGET, ITEMS};
-use mc_cache::Cache;
-use mc_item::CasCounter;
-use mc_server::{Server, ServerError, Turn};
-use mc_store::ListStore;
-use std::alloc::Global;
+use crate::clients::{WIDE, new_server, repeated};
+use mc_server::{ServerError, Turn};
 use std::test::Fail;
 
 /// How many connections a server has open at most.
 const CONNECTIONS: u64 = 1_024;
 
-fn new_server(alloc: Global) -> Server<ListStore> {
-    let counter = CasCounter::starting_at(0);
-    Server::new(
-        alloc,
-        Cache::new(ListStore::new(alloc), BUDGET, ITEMS, counter),
-    )
-}
-
 /// Each has its own bytes and answers, and all share the items.
 #[test]
 fn two_clients_share_the_items(rt: HostRuntime) -> Result<(), Fail> {
-    let mut server = new_server(rt.alloc());
+    let mut server = new_server(rt.alloc(), WIDE)?;
     let (first, second) = (server.admit()?, server.admit()?);
     server.feed(first, b"set a 0 0 1\r\n")?;
     server.feed(second, b"get a\r\nget a\r\n")?;
@@ -41,7 +29,7 @@ fn two_clients_share_the_items(rt: HostRuntime) -> Result<(), Fail> {
 
 #[test]
 fn a_closed_number_is_never_used_again(rt: HostRuntime) -> Result<(), Fail> {
-    let mut server = new_server(rt.alloc());
+    let mut server = new_server(rt.alloc(), WIDE)?;
     for number in 0..CONNECTIONS {
         assert_eq!(rt; server.admit()?, number);
     }
@@ -62,8 +50,8 @@ fn a_closed_number_is_never_used_again(rt: HostRuntime) -> Result<(), Fail> {
 /// A line too long closes its own connection alone.
 #[test]
 fn one_connection_closes_alone(rt: HostRuntime) -> Result<(), Fail> {
-    let spaces = " ".repeat(rt.alloc(), 65_536)?;
-    let mut server = new_server(rt.alloc());
+    let spaces = repeated(rt.alloc(), " ", 65_536)?;
+    let mut server = new_server(rt.alloc(), WIDE)?;
     let (first, second) = (server.admit()?, server.admit()?);
     server.feed(first, spaces.as_bytes())?;
     server.feed(second, b"version\r\n")?;

@@ -1,16 +1,8 @@
 //! What a client is answered as time goes by.
 
-use crate::clients::Client;
+use crate::clients::WIDE;
+use crate::dialogues::{Dialogue, answered_so};
 use std::test::Fail;
-
-/// What a client sends at a moment, and what it is answered.
-type Said = (u64, &'static [u8], &'static [u8]);
-
-/// One client of a new server.
-struct Row {
-    name: &'static str,
-    said: &'static [Said],
-}
 
 const STORED: &[u8] = b"STORED\r\n";
 
@@ -18,46 +10,52 @@ const FOUND: &[u8] = b"VALUE a 0 1\r\nx\r\nEND\r\n";
 
 const MISSED: &[u8] = b"END\r\n";
 
-const ROWS: [Row; 14] = [
-    Row {
+const DIALOGUES: [Dialogue; 14] = [
+    Dialogue {
         name: "thirty_days",
+        server: WIDE,
         said: &[
             (1_000_000_000, b"set a 0 2592000 1\r\nx\r\n", STORED),
             (1_002_591_999, b"get a\r\n", FOUND),
             (1_002_592_000, b"get a\r\n", MISSED),
         ],
     },
-    Row {
+    Dialogue {
         name: "a_second_more_than_thirty_days_is_a_moment_of_1970",
+        server: WIDE,
         said: &[
             (1_000_000_000, b"set a 0 2592001 1\r\nx\r\n", STORED),
             (1_000_000_000, b"get a\r\n", MISSED),
         ],
     },
-    Row {
+    Dialogue {
         name: "absolute_moment",
+        server: WIDE,
         said: &[
             (1_000_000_000, b"set a 0 1000000060 1\r\nx\r\n", STORED),
             (1_000_000_059, b"get a\r\n", FOUND),
             (1_000_000_060, b"get a\r\n", MISSED),
         ],
     },
-    Row {
+    Dialogue {
         name: "below_zero_is_dead_at_every_moment",
+        server: WIDE,
         said: &[
             (1_000_000_000, b"set a 0 -1 1\r\nx\r\n", STORED),
             (0, b"get a\r\n", MISSED),
         ],
     },
-    Row {
+    Dialogue {
         name: "zero_is_never",
+        server: WIDE,
         said: &[
             (1_000_000_000, b"set a 0 0 1\r\nx\r\n", STORED),
             (9_223_372_036_854_775_807, b"get a\r\n", FOUND),
         ],
     },
-    Row {
+    Dialogue {
         name: "moments_need_not_rise",
+        server: WIDE,
         said: &[
             (200, b"set a 0 10 1\r\nx\r\n", STORED),
             (209, b"get a\r\n", FOUND),
@@ -66,8 +64,9 @@ const ROWS: [Row; 14] = [
             (100, b"get a\r\n", MISSED),
         ],
     },
-    Row {
+    Dialogue {
         name: "touch_sets_the_expiry",
+        server: WIDE,
         said: &[
             (100, b"touch a 10\r\n", b"NOT_FOUND\r\n"),
             (100, b"set a 0 10 1\r\nx\r\n", STORED),
@@ -77,8 +76,9 @@ const ROWS: [Row; 14] = [
             (114, b"get a\r\n", MISSED),
         ],
     },
-    Row {
+    Dialogue {
         name: "gat_sets_the_expiry_and_keeps_the_number",
+        server: WIDE,
         said: &[
             (100, b"set a 0 10 1\r\nx\r\n", STORED),
             (105, b"gats 10 b a\r\n", b"VALUE a 0 1 1\r\nx\r\nEND\r\n"),
@@ -86,8 +86,9 @@ const ROWS: [Row; 14] = [
             (1_000, b"gets a\r\n", b"VALUE a 0 1 1\r\nx\r\nEND\r\n"),
         ],
     },
-    Row {
+    Dialogue {
         name: "a_dead_key_is_not_held",
+        server: WIDE,
         said: &[
             (100, b"set a 0 1 1\r\nx\r\n", STORED),
             (101, b"replace a 0 0 1\r\ny\r\n", b"NOT_STORED\r\n"),
@@ -98,8 +99,9 @@ const ROWS: [Row; 14] = [
             (101, b"add a 0 0 1\r\ny\r\n", STORED),
         ],
     },
-    Row {
+    Dialogue {
         name: "append_and_incr_keep_the_expiry",
+        server: WIDE,
         said: &[
             (100, b"set a 0 10 1\r\n1\r\n", STORED),
             (105, b"append a 0 0 1\r\n2\r\n", STORED),
@@ -108,8 +110,9 @@ const ROWS: [Row; 14] = [
             (110, b"get a\r\n", MISSED),
         ],
     },
-    Row {
+    Dialogue {
         name: "flush_with_a_delay",
+        server: WIDE,
         said: &[
             (100, b"set a 0 0 1\r\nx\r\n", STORED),
             (100, b"flush_all 10\r\n", b"OK\r\n"),
@@ -120,8 +123,9 @@ const ROWS: [Row; 14] = [
             (111, b"get a\r\n", FOUND),
         ],
     },
-    Row {
+    Dialogue {
         name: "flush_at_an_absolute_moment",
+        server: WIDE,
         said: &[
             (100, b"flush_all 2592001\r\n", b"OK\r\n"),
             (100, b"set a 0 0 1\r\nx\r\n", STORED),
@@ -129,8 +133,9 @@ const ROWS: [Row; 14] = [
             (2_592_001, b"get a\r\n", MISSED),
         ],
     },
-    Row {
+    Dialogue {
         name: "flush_at_a_moment_that_is_past",
+        server: WIDE,
         said: &[
             (3_000_000, b"set a 0 0 1\r\nx\r\n", STORED),
             (3_000_000, b"flush_all 2592001\r\n", b"OK\r\n"),
@@ -139,8 +144,9 @@ const ROWS: [Row; 14] = [
             (3_000_000, b"get a\r\n", FOUND),
         ],
     },
-    Row {
+    Dialogue {
         name: "flush_at_once_takes_a_pending_one_away",
+        server: WIDE,
         said: &[
             (
                 100,
@@ -155,19 +161,6 @@ const ROWS: [Row; 14] = [
 ];
 
 #[test]
-fn rows_at_their_moments(rt: HostRuntime) -> Result<(), Fail> {
-    for row in &ROWS {
-        let mut client = Client::new(rt.alloc())?;
-        for (moment, sent, answered) in row.said {
-            // The client's turns are at moments below 2^63.
-            let moment = (*moment).min(9_223_372_036_854_775_807);
-            assert_eq!(rt;
-                client.ask_at(moment, sent)?,
-                *answered,
-                "{} at {moment}",
-                row.name
-            );
-        }
-    }
-    Ok(())
+fn answers_at_their_moments(rt: HostRuntime) -> Result<(), Fail> {
+    answered_so(&rt, rt.alloc(), &DIALOGUES)
 }

@@ -1,6 +1,8 @@
 //! What a client is answered, however its text is cut.
 
 use crate::clients::Client;
+use std::alloc::Global;
+use std::process::Abort;
 use std::test::Fail;
 
 /// What a client sends to a new server, and what it is answered.
@@ -179,31 +181,35 @@ const ROWS: [Row; 33] = [
 ];
 
 #[test]
-fn rows_sent_whole(rt: HostRuntime) -> Result<(), Fail> {
-    for row in &ROWS {
-        let mut client = Client::new(rt.alloc())?;
+fn rows_however_they_are_cut(rt: HostRuntime) -> Result<(), Fail> {
+    sent_whole(&rt, rt.alloc(), &ROWS)?;
+    sent_in_bytes(&rt, rt.alloc(), &ROWS)?;
+    sent_in_two_pieces(&rt, rt.alloc(), &ROWS)
+}
+
+fn sent_whole(rt: &impl Abort, alloc: Global, rows: &[Row]) -> Result<(), Fail> {
+    for row in rows {
+        let mut client = Client::new(alloc)?;
         client.send(row.sent)?;
         assert_eq!(rt; client.answered(), row.answered, "{}", row.name);
     }
     Ok(())
 }
 
-#[test]
-fn rows_sent_in_bytes(rt: HostRuntime) -> Result<(), Fail> {
-    for row in &ROWS {
-        let mut client = Client::new(rt.alloc())?;
+fn sent_in_bytes(rt: &impl Abort, alloc: Global, rows: &[Row]) -> Result<(), Fail> {
+    for row in rows {
+        let mut client = Client::new(alloc)?;
         client.send_in_pieces(row.sent, 1)?;
-        assert_eq!(rt; client.answered(), row.answered, "{}", row.name);
+        assert_eq!(rt; client.answered(), row.answered, "{} in bytes", row.name);
     }
     Ok(())
 }
 
-#[test]
-fn rows_sent_in_two_pieces(rt: HostRuntime) -> Result<(), Fail> {
-    for row in &ROWS {
+fn sent_in_two_pieces(rt: &impl Abort, alloc: Global, rows: &[Row]) -> Result<(), Fail> {
+    for row in rows {
         for cut in 0..=row.sent.len() {
             let (front, back) = row.sent.split_at(cut);
-            let mut client = Client::new(rt.alloc())?;
+            let mut client = Client::new(alloc)?;
             client.send(front)?;
             client.send(back)?;
             assert_eq!(rt;

@@ -6,7 +6,7 @@
 //!
 //! A script is lines of text: `server <connections> <budget> <items>`, then `bytes <connection> <text>` and
 //! `turn <connection> <moment>`; connections have the numbers from 0 on. What each means is said by the definitions in
-//! `specs/`.
+//! `specs/`; worked examples stand in `src/rows.rt`.
 #![tactic(auto)]
 
 mod errors;
@@ -16,6 +16,7 @@ mod input;
 mod laws;
 mod lines;
 mod outputs;
+mod rows;
 mod runs;
 mod scripts;
 
@@ -24,5 +25,6 @@ pub use escapes::{escaped_is_read_again, push_client_line, push_escaped, read_es
 pub use events::{Event, Script};
 pub use input::read_input;
 pub use laws::one_output;
+pub use rows::{texts_by_connection, turns_that_find_one};
 pub use runs::run;
 pub use scripts::read_script;

@@ -1,0 +1,73 @@
+//! A store that is refused memory.
+ghost use Rattle.std.specs.Prelude.{◌≡◌, []};
+
+use mc_item::{Body, Deadline};
+use mc_store::{ListStore, Store};
+use mc_text::Key;
+use std::alloc::Global;
+
+/// A list that has memory for so many new keys.
+#[derive(Drop)]
+pub struct MeagreStore {
+    list: ListStore,
+    left: u64,
+}
+
+impl MeagreStore {
+    pub fn new(alloc: Global, left: u64) -> MeagreStore
+        ensures { result.list ≡ [] }
+    {
+        MeagreStore {
+            list: ListStore::new(alloc),
+            left,
+        }
+    }
+}
+
+impl Store for MeagreStore {
+    ghost items = { λ s. s.list };
+
+    fn len(&self) -> usize {
+        self.list.len()
+    }
+
+    fn used(&self) -> u64 {
+        self.list.used()
+    }
+
+    fn peek(&self, key: &Key) -> Option<&Body> {
+        self.list.peek(key)
+    }
+
+    fn bring(&mut self, key: &Key) -> bool {
+        self.list.bring(key)
+    }
+
+    fn expire(&mut self, key: &Key, expiry: Deadline) -> bool {
+        self.list.expire(key, expiry)
+    }
+
+    fn take(&mut self, key: &Key) -> Option<Body> {
+        self.list.take(key)
+    }
+
+    fn replace(&mut self, key: &Key, body: Body) -> Result<Body, Body> {
+        self.list.replace(key, body)
+    }
+
+    fn put_front(&mut self, key: Key, body: Body) -> Result<(), (Key, Body)> {
+        if self.left == 0 {
+            return Err((key, body));
+        }
+        self.left -= 1;
+        self.list.put_front(key, body)
+    }
+
+    fn drop_last(&mut self) -> Option<(Key, Body)> {
+        self.list.drop_last()
+    }
+
+    fn clear(&mut self) {
+        self.list.clear();
+    }
+}
