@@ -1,5 +1,5 @@
 -- What a reader stands for after a step.
-use Rattle.std.proofs.Common.{◌≡◌, ◌∙◌, ℕ, suc, zero, ◌+◌, ◌-◌, ◌<◌, ◌≤◌, Bool, true, false, List, [], ◌∷◌, ◌++◌, length, drop, Some, None, nat_lt, min, if◌then◌else◌, refl, sym, ap, arith, append_assoc, length-append, length-drop}
+use Rattle.std.proofs.Common.{◌≡◌, ◌∙◌, ℕ, suc, zero, ◌+◌, ◌-◌, ◌<◌, ◌≤◌, Bool, true, false, List, [], ◌∷◌, ◌++◌, length, drop, Option, Some, None, is_some, IsTrue, nat_lt, min, if◌then◌else◌, refl, sym, ap, arith, append_assoc, length-append, length-drop}
 use Rattle.std.proofs.lemmas.List.{drop-drop, drop-append-le, append-nil}
 use Rattle.std.proofs.Math.Seq.{drop-append-add}
 use Rattle.mc_request.specs.declared.faults.Fault.{Fault}
@@ -106,3 +106,14 @@ dropped f left k (b ∷ bs) piece text empty k_is =
 pub piece_dropped : (u new piece kept : List ℕ) (f : Fault) (left k : ℕ) (text : List ℕ) → (0 < left → length u ≡ 0) → k ≡ min left (length piece) → new ≡ u ++ kept → kept ≡ drop k piece
     → rest_from false (Some (f, left - k)) (new ++ text) ≡ rest_from false (Some (f, left)) (u ++ (piece ++ text))
 piece_dropped u new piece kept f left k text empty k_is new_is kept_is = rw (new_is, kept_is) (dropped f left k u piece text empty k_is)
+
+ready_from : (o : Option (Taken × ℕ)) (text : List ℕ) (rest : List Taken) (b : Bool) → rest ≡ requests_from o text requests_of → b ≡ is_some o → (IsTrue b → 0 < length rest) × (0 < length rest → IsTrue b)
+ready_from None text rest b e is = (λ t. absurd cc, λ lt. let none : length rest ≡ 0 = rw e refl in absurd (omega (arith, none, lt)))
+ready_from (Some x) text rest b e is =
+    let some : length rest ≡ suc (length (if ends x.0 then [] else requests_of (drop x.1 text))) = rw e refl in
+    (λ t. omega (arith, some), λ lt. is)
+
+-- whether something is whole where no block is dropped
+pub ready_by : (s : ReaderState) (b : Bool) → s.closed ≡ false → s.dropping ≡ None → b ≡ is_some (next_request s.unread) → (IsTrue b → 0 < length (rest_of s [])) × (0 < length (rest_of s []) → IsTrue b)
+ready_by s b unclosed none is =
+    ready_from (next_request s.unread) s.unread (rest_of s []) b (rw (unclosed, none, append-nil) (requests-step s.unread)) is

@@ -1,5 +1,5 @@
 -- The requests of a text that grows.
-use Rattle.std.proofs.Common.{◌≡◌, ℕ, zero, suc, ◌+◌, if◌then◌else◌, ◌<◌, ◌≤◌, inl, inr, Bool, true, false, cond, List, [], ◌∷◌, ◌++◌, length, take, drop, Option, Some, None, refl, sym, ap, ◌∙◌, arith, nat_lt, length-append, length-drop}
+use Rattle.std.proofs.Common.{◌≡◌, ℕ, zero, suc, ◌+◌, if◌then◌else◌, ◌<◌, ◌≤◌, inl, inr, Bool, true, false, cond, List, [], ◌∷◌, ◌++◌, length, take, drop, Option, Some, None, refl, sym, ap, ◌∙◌, arith, nat_lt, nat_le, is_some, length-append, length-drop}
 use Rattle.std.proofs.lemmas.Bool.{cases_lt}
 use Rattle.std.proofs.lemmas.List.{take-append-le, drop-append-le, append-nil}
 use Rattle.mc_text.specs.Lines as lines
@@ -215,3 +215,22 @@ nothing_wanted u more short = absurd (omega arith)
 pub stores_waits : (u : List ℕ) (line : ℕ) (s : Storing) (len : ℕ) → StartsBy u (Stores s len) line → length u < line + (len + 2) → next_request u ≡ None
 stores_waits u line s len h short =
     ap next_request (sym (append-nil u)) ∙ stores_short u line s len h [] (rw append-nil short)
+
+come_by : (o : Option (Taken × ℕ)) (n size : ℕ) → (n < size → o ≡ None) → (size ≤ n → is_some o ≡ true) → nat_le size n ≡ is_some o
+come_by o n size short whole = elim (cases_lt n size) [
+  | inl h ↦ let p : nat_le size n ≡ false = grind (arith, h) in p ∙ rw (short h) refl
+  | inr h ↦ let p : nat_le size n ≡ true = grind (arith, h) in p ∙ sym (whole h)
+]
+
+-- whether a block has come whole, refused or not
+pub stores_come : (u : List ℕ) (line : ℕ) (s : Storing) (len : ℕ) → StartsBy u (Stores s len) line → nat_le (line + (len + 2)) (length u) ≡ is_some (next_request u)
+stores_come u line s len h =
+    come_by (next_request u) (length u) (line + (len + 2)) (stores_waits u line s len h) (λ enough. rw (stores_whole u line s len h enough) refl)
+
+pub refuses_come : (u : List ℕ) (line : ℕ) (f : Fault) (len : ℕ) → StartsBy u (Refuses f len) line → nat_le (line + (len + 2)) (length u) ≡ is_some (next_request u)
+refuses_come u line f len h =
+    let now : next_request u ≡ (if nat_lt (length u) (line + (len + 2)) then None else Some (Faulty f, line + (len + 2))) =
+    ap next_request (sym (append-nil u)) ∙ refused u line f len h [] ∙ rw append-nil refl in
+    come_by (next_request u) (length u) (line + (len + 2))
+    (λ short. let test : nat_lt (length u) (line + (len + 2)) ≡ true = grind (arith, short) in now ∙ rw test refl)
+    (λ enough. let test : nat_lt (length u) (line + (len + 2)) ≡ false = grind (arith, enough) in rw (now, test) refl)

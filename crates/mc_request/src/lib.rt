@@ -2,8 +2,8 @@
 //!
 //! A [`Reader`] is fed the bytes of a connection in whatever pieces they come ([`Reader::feed`]), and gives the
 //! requests and faults of them in order ([`Reader::next`]). [`Reader::peek`] and [`Reader::consume`] are the two
-//! halves of `next`, for a caller that has to make room before it takes a request. [`Request::atoms`] gives the
-//! commands of a request, and [`Fault::line`] the error line of a fault.
+//! halves of `next`, for a caller that has to make room before it takes a request; [`Reader::ready`] says whether there
+//! is one. [`Request::atoms`] gives the commands of a request, and [`Fault::line`] the error line of a fault.
 //!
 //! A reader stands for a function: from the text still to come to the requests and faults that it will give.
 //! `feed` and `next` are proved to keep that function, so how the text is cut never matters: see

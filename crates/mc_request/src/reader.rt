@@ -1,9 +1,9 @@
 //! A reader of requests, fed in pieces.
-ghost use Rattle.std.specs.Prelude.{◌≡◌, ◌≤◌, ℕ, List, ◌++◌, length, false, None, IfOk, OnOk, OnErr};
+ghost use Rattle.std.specs.Prelude.{◌≡◌, ◌≤◌, ◌<◌, ◌↔◌, ℕ, List, [], ◌++◌, length, false, None, is_some, IsTrue, IfOk, OnOk, OnErr};
 
 use crate::faults::Fault;
 use crate::parts::{ReadError, Request, Taken};
-use crate::steps::{Step, first_step};
+use crate::steps::{Step, first_step, is_whole};
 use mc_text::let_go;
 use std::alloc::Global;
 use std::marker::Model;
@@ -75,6 +75,7 @@ impl Model for Reader {
 }
 
 impl Reader {
+    ghost use Rattle.mc_request.specs.Requests.{next_request};
     ghost use Rattle.mc_request.specs.Reader.{fresh_reader, rest_of};
     ghost use Rattle.mc_request.specs.Peeks.{Peeks, Gives, past};
 
@@ -191,6 +192,27 @@ impl Reader {
         }
     }
 
+    /// Whether a whole request or fault has come, which [`Reader::next`] would give. It takes no memory, and copies nothing.
+    pub fn ready(&self) -> bool
+        ensures { IsTrue result ↔ (0 < length (rest_of self.now [])) }
+    {
+        if self.closed {
+            return false;
+        }
+        match self.dropping {
+            None => self.has_whole(),
+            Some((_, left)) => left == 0,
+        }
+    }
+
+    /// The same where no block is dropped.
+    fn has_whole(&self) -> bool
+        ensures { result ≡ is_some (next_request self.now.unread) }
+    {
+        let (_, unread) = self.buffer.split_at(self.start);
+        unread.len() >= self.wanted && is_whole(unread, self.scanned)
+    }
+
     /// Takes what [`Reader::peek`] showed. It takes no memory.
     pub fn consume(&mut self, front: Front)
         requires { front.size ≤ length self.old.unread }
@@ -214,8 +236,10 @@ mod tests {
     fn a_store_is_peeked_and_taken(rt: HostRuntime) -> Result<(), Fail> {
         let mut reader = Reader::new(rt.alloc());
         reader.feed(b"add a 5 -1 1 noreply\r\nx")?;
+        assert!(rt; !reader.ready());
         assert!(rt; matches!(reader.peek()?, Peek::More));
         reader.feed(b"\r\n")?;
+        assert!(rt; reader.ready());
         let Peek::First(taken, front) = reader.peek()? else {
             return Err(Fail::from("nothing whole"));
         };

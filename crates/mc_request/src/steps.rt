@@ -1,9 +1,9 @@
 //! What the bytes that have come allow.
-ghost use Rattle.std.specs.Prelude.{◌≡◌, ◌≤◌, ◌∷◌, true, length, IfOk};
+ghost use Rattle.std.specs.Prelude.{◌≡◌, ◌≤◌, ◌∷◌, true, length, is_some, IfOk};
 ghost use Rattle.std.specs.List.{list_all};
 ghost use Rattle.mc_text.specs.Lines.{HasNoLineFeed};
 ghost use Rattle.mc_text.specs.Keys.{is_plain_key};
-ghost use Rattle.mc_request.specs.Requests.{with_block};
+ghost use Rattle.mc_request.specs.Requests.{with_block, next_request};
 ghost use Rattle.mc_request.specs.LinesSeen.{meaning_of, storing_of, taken_of, IsGood, IsGoodLone, IsGoodStorage};
 ghost use Rattle.mc_request.specs.Steps.{StepIs, StartsBy};
 ghost use Rattle.mc_request.specs.declared.parts.Taken.TheVariants.{Whole};
@@ -45,7 +45,33 @@ pub fn first_step(alloc: Global, unread: &[u8], scanned: usize) -> Result<Step, 
     }
 }
 
+/// Whether the first request or fault of the bytes is whole. Nothing is copied, and the first `scanned` bytes are not
+/// looked at again.
+pub fn is_whole(unread: &[u8], scanned: usize) -> bool
+    requires { HasNoLineFeed scanned unread.now }
+    ensures { result ≡ is_some (next_request unread.now) }
+{
+    match next_line_from(unread, scanned) {
+        Line::Partial => false,
+        Line::TooLong => true,
+        Line::Whole { content, taken } => has_come(unread, command_line(content), taken),
+    }
+}
+
 /// The same where the first line is whole, and takes so many bytes.
+fn has_come(unread: &[u8], line: CommandLine<'_>, taken: usize) -> bool
+    requires { StartsBy unread.now (meaning_of line) taken }
+    ensures { result ≡ is_some (next_request unread.now) }
+{
+    match line {
+        CommandLine::Bad(_) => true,
+        CommandLine::Lone(_) => true,
+        CommandLine::Refuses(_, len) => unread.len() >= taken + (len as usize + LINE_END.len()),
+        CommandLine::Stores(_, len) => unread.len() >= taken + (len as usize + LINE_END.len()),
+    }
+}
+
+/// What the bytes allow where the first line is whole, and takes so many bytes.
 fn after_line(
     alloc: Global,
     unread: &[u8],

@@ -1,5 +1,5 @@
 //! A connection: its reader, and its answers.
-ghost use Rattle.std.specs.Prelude.{◌≡◌, ◌≤◌, ◌<◌, ◌^◌, ℕ, drop, length, IfOk, IsOkUnless, OnOk, OnErr};
+ghost use Rattle.std.specs.Prelude.{◌≡◌, ◌≤◌, ◌<◌, ◌^◌, ◌↔◌, ℕ, [], drop, length, IsTrue, IfOk, IsOkUnless, OnOk, OnErr};
 
 use crate::answering::{room_for, serve};
 use crate::turns::{ServerError, Turn};
@@ -31,6 +31,7 @@ impl Model for Connection {
 }
 
 impl Connection {
+    ghost use Rattle.mc_request.specs.Reader.{rest_of};
     ghost use Rattle.mc_server.specs.ServerState.{fresh_connection};
     ghost use Rattle.mc_server.specs.Turns.{IsFed, IsTurn};
 
@@ -53,6 +54,13 @@ impl Connection {
     {
         self.reader.feed(piece)?;
         Ok(())
+    }
+
+    /// Whether a whole request or fault has come.
+    pub fn ready(&self) -> bool
+        ensures { IsTrue result ↔ (0 < length (rest_of self.now.reader [])) }
+    {
+        self.reader.ready()
     }
 
     /// Takes the first request or fault that has come whole, and serves it at a moment.
