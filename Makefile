@@ -1,8 +1,12 @@
 # `make run` proves and runs the script program on its stored script; `make test` is the merge gate.
 .PHONY: run test
 
+ifeq ($(shell command -v rt 2> /dev/null),)
+$(error the Rattle toolchain is missing: its command `rt` is not on the PATH (`rt version` names the toolchain))
+endif
+
 run:
 	@cd crates/mc_sim && rt run < stdin
 
 test:
-	@rt ci
+	@tests/gate.sh

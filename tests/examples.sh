@@ -1,16 +1,83 @@
 #!/usr/bin/env bash
-# Plays each example of docs/PROTOCOL.md and compares what is printed with what the document says.
+# Plays each script of tests/examples/ to mc_sim and compares what is printed with what stands beside it: the examples of
+# README.md and docs/PROTOCOL.md, and the worked examples over all crates.
 #
-# mc_sim must be built (`make run`). It ends with 1 at the first difference.
-set -eu
+# Usage: examples.sh [PROGRAM]      (mc_sim, as each compiler built it; tests/model.py can stand in its place)
+#
+# NAME.txt is the script and NAME.out what is printed; NAME.err, where there is one, is what is written on standard error,
+# with status 2. mc_sim is played each script twice, as it stands and with its bytes fed one by one. Then it is seen that
+# a read and a write that fail are told. mc_sim must be built (`make run`, or `rt ci`). It prints a line for each script
+# that fails; the last line is 'N passed, M failed'.
+set -u
+program=$(realpath "${1:-/}")
 cd "$(dirname "$0")"
-program=../crates/mc_sim/out/mc_sim
-count=0
-for script in examples/*.txt; do
-    if ! "$program" < "$script" | cmp - "${script%.txt}.out"; then
-        echo "$script: another output"
-        exit 1
+built=../crates/mc_sim/out/mc_sim
+if [ $# -eq 0 ] && ! [ -x "$built" ]; then
+    echo "tests/examples.sh: mc_sim is not built, so no example was played"
+    echo "0 passed, 1 failed"
+    exit 1
+fi
+scratch=$(mktemp -d)
+trap 'rm -rf "$scratch"' EXIT
+passed=0
+failed=0
+
+# Whether a program given a script writes what stands beside it, and ends as it is to.
+plays() {
+    local out=examples/$3.out err=/dev/null status=0
+    [ -f "examples/$3.err" ] && err=examples/$3.err status=2
+    "$1" < "$2" > "$scratch/out" 2> "$scratch/err"
+    [ $? -eq "$status" ] && cmp -s "$scratch/out" "$out" && cmp -s "$scratch/err" "$err"
+}
+
+# Whether mc_sim plays a script as each compiler built it, whole and in bytes. (In bytes a bad line has another number.)
+plays_however() {
+    LC_ALL=C awk -f in_bytes.awk "$1" > "$scratch/in_bytes"
+    for each in "$built" "$built.by-rattle"; do
+        [ -x "$each" ] || continue
+        plays "$each" "$1" "$2" || return 1
+        [ -f "examples/$2.err" ] || plays "$each" "$scratch/in_bytes" "$2" || return 1
+    done
+}
+
+# Whether mc_sim says that its input or its output failed.
+tells() {
+    [ "$1" -eq 3 ] && [ "$(cat "$scratch/err")" = 'mc_sim: input or output failed' ]
+}
+
+reads_that_fail() {
+    "$built" < . > /dev/null 2> "$scratch/err"
+    tells $?
+}
+
+writes_that_fail() {
+    "$built" < examples/set.txt > /dev/full 2> "$scratch/err"
+    tells $?
+}
+
+# Runs a check, counts it, and tells where it failed.
+count() {
+    local name=$1
+    shift
+    if "$@"; then
+        passed=$((passed + 1))
+    else
+        echo "tests/examples/$name: another output"
+        failed=$((failed + 1))
     fi
-    count=$((count + 1))
+}
+
+for script in examples/*.txt; do
+    name=$(basename "$script" .txt)
+    if [ $# -eq 0 ]; then
+        count "$name" plays_however "$script" "$name"
+    elif ! [ -f "examples/$name.err" ]; then
+        count "$name" plays "$program" "$script" "$name"
+    fi
 done
-echo "$count examples, all as the document says"
+if [ $# -eq 0 ]; then
+    count "set, from a stream that fails" reads_that_fail
+    count "set, to a stream that fails" writes_that_fail
+fi
+echo "$passed passed, $failed failed"
+[ "$failed" -eq 0 ]

@@ -1,10 +1,11 @@
 #!/usr/bin/env python3
 """Writes a script of random commands for mc_sim: several clients, few keys, a fixed seed.
 
-Usage: random_script.py [COMMANDS [SEED [CLIENTS]]]      (10,000 commands, seed 1, 8 clients)
+Usage: random_script.py [COMMANDS [SEED [CLIENTS [PIECES]]]]      (10,000 commands, seed 1, 8 clients, `commands`)
 
 Each command goes to a random client, sometimes cut in two at a random place with a turn of another client between, and
-is followed by a turn of its client. Moments mostly rise by 0 to 2 seconds, and now and then fall back.
+is followed by a turn of its client. With `bytes` for the pieces each byte comes by itself, with a turn of its client behind
+it. Moments mostly rise by 0 to 2 seconds, and now and then fall back.
 """
 
 import random
@@ -83,7 +84,9 @@ def command(dice):
 
 
 def main(words):
-    commands, seed, clients = (int(word) for word in (words + ["10000", "1", "8"][len(words) :]))
+    words = words + ["10000", "1", "8", "commands"][len(words) :]
+    commands, seed, clients = (int(word) for word in words[:3])
+    in_bytes = words[3] == "bytes"
     dice = random.Random(seed)
     lines = [f"server {clients} {BUDGET} {ITEMS}"]
     moment = 3000
@@ -91,6 +94,11 @@ def main(words):
         client = dice.randrange(clients)
         moment = max(0, moment + dice.choice([0, 0, 0, 1, 2] + [-3] * (dice.random() < 0.02)))
         text = command(dice)
+        if in_bytes:
+            for at in range(len(text)):
+                lines.append(f"bytes {client} {escaped(text[at : at + 1])}")
+                lines.append(f"turn {client} {moment}")
+            continue
         if dice.random() < 0.2:
             cut = dice.randrange(len(text))
             lines.append(f"bytes {client} {escaped(text[:cut])}")

@@ -1,5 +1,6 @@
 //! What a run gave.
 
+use crate::cases::Case;
 use crate::loads::Load;
 use crate::served::Served;
 use mc_server::ServerError;
@@ -8,38 +9,37 @@ use std::fmt;
 use std::time::Duration;
 
 /// The bytes that were fed and those that were answered.
-#[derive(Clone, Copy, Debug)]
+#[derive(Clone, Copy)]
 pub struct Figures {
     fed: u64,
     answered: u64,
 }
 
 /// Bytes in a second, and the nanoseconds that 10,000 bytes take.
-#[derive(Clone, Copy, Debug)]
+#[derive(Clone, Copy)]
 pub struct Speed {
     bytes_per_second: u64,
     nanos_for_10_000: u64,
 }
 
 impl Figures {
-    /// Feeds a new server what a client sends, in pieces of so many bytes, at least 1.
-    pub fn of_run(alloc: Global, load: &Load, piece: usize) -> Result<Figures, ServerError> {
-        let piece = piece.max(1);
+    /// Feeds a new server what a client sends, in the case's pieces.
+    pub fn of_run(alloc: Global, load: &Load, case: &Case) -> Result<Figures, ServerError> {
         let mut served = Served::new(alloc)?;
         let mut figures = Figures {
             fed: 0,
             answered: 0,
         };
-        figures.feed(&mut served, &load.head, piece)?;
-        figures.feed_fill(alloc, &mut served, load.fill, piece)?;
-        figures.feed(&mut served, &load.tail, piece)?;
+        figures.feed(&mut served, &load.head, case)?;
+        figures.feed_fill(alloc, &mut served, load.fill, case)?;
+        figures.feed(&mut served, &load.tail, case)?;
         Ok(figures)
     }
 
     /// Feeds bytes in pieces.
-    fn feed(&mut self, served: &mut Served, bytes: &[u8], piece: usize) -> Result<(), ServerError> {
-        for piece in bytes.chunks(piece.max(1)) {
-            self.serve(served, piece)?;
+    fn feed(&mut self, served: &mut Served, bytes: &[u8], case: &Case) -> Result<(), ServerError> {
+        for piece in bytes.chunks(case.piece.max(1)) {
+            self.serve(served, piece, case)?;
         }
         Ok(())
     }
@@ -50,23 +50,23 @@ impl Figures {
         alloc: Global,
         served: &mut Served,
         fill: u64,
-        piece: usize,
+        case: &Case,
     ) -> Result<(), ServerError> {
-        let bytes = vec![in alloc; b'x'; piece]?;
-        let size = (piece as u64).max(1);
+        let bytes = vec![in alloc; b'x'; case.piece]?;
+        let size = (case.piece as u64).max(1);
         for _ in 0..fill / size {
-            self.serve(served, &bytes)?;
+            self.serve(served, &bytes, case)?;
         }
         let rest = bytes.get(..(fill % size) as usize).unwrap_or(&[]);
         if !rest.is_empty() {
-            self.serve(served, rest)?;
+            self.serve(served, rest, case)?;
         }
         Ok(())
     }
 
     /// Feeds a piece and counts.
-    fn serve(&mut self, served: &mut Served, piece: &[u8]) -> Result<(), ServerError> {
-        let answered = served.serve(piece)?;
+    fn serve(&mut self, served: &mut Served, piece: &[u8], case: &Case) -> Result<(), ServerError> {
+        let answered = served.serve(piece, case.caller)?;
         self.fed = self.fed.saturating_add(piece.len() as u64);
         self.answered = self.answered.saturating_add(answered as u64);
         Ok(())

@@ -29,6 +29,13 @@ impl Load {
         })
     }
 
+    /// A set of a value of five bytes, and so many more of the same key.
+    pub fn sets_of_one_key(alloc: Global, count: u64) -> Result<Load, AllocError> {
+        let set = b"set a 0 0 5\r\nhello\r\n";
+        let name = format!(in alloc; "{count} sets of one key")?;
+        Load::repeated(alloc, name, set, set, count)
+    }
+
     /// A set of a value of five bytes, and so many gets of it.
     pub fn gets(alloc: Global, count: u64) -> Result<Load, AllocError> {
         Load::repeated(

@@ -1,5 +1,6 @@
 //! What is measured.
 
+use crate::cases::Caller;
 use mc_cache::Cache;
 use mc_item::CasCounter;
 use mc_server::{Server, ServerError, Turn};
@@ -24,7 +25,7 @@ pub struct Served {
 impl Served {
     pub fn new(alloc: Global) -> Result<Served, ServerError> {
         let counter = CasCounter::starting_at(0);
-        let cache = Cache::new(ListStore::new(alloc), BUDGET, ITEMS, counter);
+        let cache = Cache::new(alloc, ListStore::new(alloc), BUDGET, ITEMS, counter);
         let mut server = Server::new(alloc, cache);
         let connection = server.admit()?;
         Ok(Served { server, connection })
@@ -32,16 +33,28 @@ impl Served {
 
     /// Feeds a piece, and takes turns until nothing is left to take. Then the output is taken out, and this many
     /// bytes it had.
-    pub fn serve(&mut self, piece: &[u8]) -> Result<usize, ServerError> {
+    pub fn serve(&mut self, piece: &[u8], caller: Caller) -> Result<usize, ServerError> {
         self.server.feed(self.connection, piece)?;
         for _ in 0..u64::MAX {
-            match self.server.turn(self.connection, MOMENT)? {
-                Turn::Took => {}
-                Turn::Idle | Turn::Closing => break,
+            if !self.takes(caller)? {
+                break;
             }
         }
         let answered = self.server.output(self.connection).len();
         self.server.taken_out(self.connection, answered);
         Ok(answered)
+    }
+
+    /// Whether something was taken. A caller that asks first has no turn where there is nothing.
+    fn takes(&mut self, caller: Caller) -> Result<bool, ServerError> {
+        if let Caller::AsksFirst = caller
+            && !self.server.ready(self.connection)?
+        {
+            return Ok(false);
+        }
+        match self.server.turn(self.connection, MOMENT)? {
+            Turn::Took => Ok(true),
+            Turn::Idle | Turn::Closing => Ok(false),
+        }
     }
 }

@@ -1,7 +1,8 @@
 -- What a cache holds: this project's own.
-use Rattle.std.specs.Prelude.{◌≡◌, ℕ, ◌≤◌, List, [], length, Option, None, unwrap_or}
+use Rattle.std.specs.Prelude.{◌≡◌, ℕ, ◌≤◌, ◌<◌, IfSome, List, [], length, Option, None, unwrap_or}
 use Rattle.std.specs.Option.{option_map}
-use Rattle.mc_store.specs.Items.{Items, body_at, without, cost_sum}
+use Rattle.mc_cache.specs.declared.caches.TheConstants.{MAX_BUDGET, MAX_ITEMS}
+use Rattle.mc_store.specs.Items.{Items, body_at, front_body, without, cost_sum}
 
 -- the items, the last number that one of them got, the moment of a flush that is still to come, and the bounds: bytes,
 -- and items
@@ -15,9 +16,9 @@ pub record CacheState : Type 0 where
 -- bounds that a cache may have: a budget of up to 1 TiB, and up to 16,777,216 items
 pub record IsWithinBounds (budget limit : ℕ) : Type 0 where
   pub some_bytes : 1 ≤ budget
-  pub not_too_many_bytes : budget ≤ 1099511627776
+  pub not_too_many_bytes : budget ≤ MAX_BUDGET
   pub some_items : 1 ≤ limit
-  pub not_too_many_items : limit ≤ 16777216
+  pub not_too_many_items : limit ≤ MAX_ITEMS
 
 -- items that a cache of these bounds may hold, one under a key
 pub record IsHeldWithin (budget limit : ℕ) (items : Items) : Type 0 where
@@ -25,6 +26,10 @@ pub record IsHeldWithin (budget limit : ℕ) (items : Items) : Type 0 where
   pub affordable : cost_sum items ≤ budget
   pub few : length items ≤ limit
   pub distinct : (key : List ℕ) → body_at key (without key items) ≡ None
+
+-- a store of this greatest length, if it has one, holds one item more than the limit
+abbrev pub HasRoom : ℕ → Option ℕ → Type 0
+HasRoom limit most = IfSome most (λ most. limit < most)
 
 -- a cache that holds nothing yet
 abbrev pub opening_cache : ℕ → ℕ → ℕ → CacheState
@@ -37,3 +42,7 @@ held_value key items = option_map (λ body. body.value) (body_at key items)
 -- the value under a key, and none of its bytes where it is not held
 abbrev pub value_at : List ℕ → Items → List ℕ
 value_at key items = unwrap_or (held_value key items) []
+
+-- the value of the first item, and none of its bytes where there is none
+abbrev pub front_value : Items → List ℕ
+front_value items = unwrap_or (option_map (λ body. body.value) (front_body items)) []

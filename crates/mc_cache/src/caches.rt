@@ -1,9 +1,10 @@
 //! Cache: the items, their numbers and their bounds.
-ghost use Rattle.std.specs.Prelude.{◌≡◌, ◌↔◌, ◌<◌, ◌≤◌, ◌^◌, ℕ, List, [], length, IsTrue, true, false};
+ghost use Rattle.std.specs.Prelude.{◌≡◌, ◌↔◌, ◌<◌, ◌≤◌, ◌^◌, ℕ, List, [], length, IsTrue, true, false, IfOk, OnErr};
 ghost use Rattle.std.specs.Option.{option_copied};
-ghost use Rattle.mc_cache.specs.CacheState.{IsWithinBounds};
+ghost use Rattle.mc_cache.specs.CacheState.{IsWithinBounds, HasRoom};
 
 mod counting;
+mod putting;
 mod retrieving;
 mod settling;
 mod storing;
@@ -12,8 +13,10 @@ use mc_item::{Body, CasCounter, Deadline};
 use mc_reply::Reply;
 use mc_request::{Atom, Update};
 use mc_store::Store;
-use mc_text::Key;
+use mc_text::{Block, Key};
+use std::alloc::{AllocError, Global};
 use std::marker::Model;
+use storing::Lent;
 
 /// The most bytes that a cache's budget has.
 pub const MAX_BUDGET: u64 = 1_099_511_627_776;
@@ -31,6 +34,7 @@ pub fn is_within_bounds(budget: u64, limit: usize) -> bool
 /// A cache over a store. Contracts see its items, its counter, the flush that is still to come, and its bounds.
 #[derive(Drop)]
 pub struct Cache<S: Store + Drop> {
+    alloc: Global,
     store: S,
     counter: CasCounter,
     pending: Option<u64>,
@@ -39,7 +43,7 @@ pub struct Cache<S: Store + Drop> {
 }
 
 impl<S: Store + Drop> Model for Cache<S> {
-    ghost use Rattle.mc_cache.specs.CacheState.{CacheState, IsHeldWithin};
+    ghost use Rattle.mc_cache.specs.CacheState.{CacheState, IsHeldWithin, HasRoom};
 
     ghost Value = { CacheState };
 
@@ -51,25 +55,29 @@ impl<S: Store + Drop> Model for Cache<S> {
       limit = c.limit;
     } };
 
-    ghost invariant = { λ c. IsHeldWithin c.budget c.limit (S.items c.store) };
+    ghost invariant = { λ c. IsHeldWithin c.budget c.limit (S.items c.store) × HasRoom c.limit (S.most c.store) };
 }
 
 impl<S: Store + Drop> Cache<S> {
     ghost use Rattle.mc_request.specs.declared.parts.Atom.TheVariants.{Get, Update as AnUpdate};
+    ghost use Rattle.mc_request.specs.Parts.{update_seen};
     ghost use Rattle.mc_reply.specs.Replies.{filled};
-    ghost use Rattle.mc_cache.specs.CacheState.{opening_cache, held_value, value_at};
+    ghost use Rattle.mc_cache.specs.CacheState.{opening_cache, held_value, value_at, front_value};
     ghost use Rattle.mc_cache.specs.Step.{step_of};
-    ghost use Rattle.mc_cache.specs.Refusals.{may_refuse, is_refusal, value_after};
+    ghost use Rattle.mc_cache.specs.Refusals.{may_refuse, takes_block, HasKey, is_refusal, value_after};
 
-    /// A cache that holds nothing, over an empty store.
+    /// A cache that holds nothing, over an empty store that may hold more items than the limit.
     ///
-    /// The budget is in bytes, the limit in items, and the counter gives the items their numbers.
-    pub fn new(store: S, budget: u64, limit: usize, counter: CasCounter) -> Self
+    /// The budget is in bytes, the limit in items, and the counter gives the items their numbers. The allocator is the
+    /// one that keys and blocks are made with.
+    pub fn new(alloc: Global, store: S, budget: u64, limit: usize, counter: CasCounter) -> Self
         requires empty { S.items store ≡ [] }
         requires bounds { IsWithinBounds budget limit }
+        requires room { HasRoom limit (S.most store) }
         ensures { result ≡ opening_cache budget limit counter }
     {
         Cache {
+            alloc,
             store,
             counter,
             pending: None,
@@ -78,12 +86,12 @@ impl<S: Store + Drop> Cache<S> {
         }
     }
 
-    /// One command at a moment, in seconds since 1970.
+    /// One command at a moment, in seconds since 1970. Its key and its block are its own.
     ///
     /// It takes memory only where a key that is not held is stored, or where a held value is made longer. Where there
     /// is none the reply is `Fault::OutOfMemory`, and nothing changes but what the moment brings: a flush that is
     /// due, and the end of the key's dead item.
-    pub fn step(&mut self, atom: Atom, moment: u64) -> Reply<()>
+    pub fn step(&mut self, atom: Atom<Block>, moment: u64) -> Reply<()>
         requires { moment < 2 ^ 63 }
         ensures step { step_of self.old atom moment (is_refusal result)
             ≡ (self.new, filled result (value_after atom self.new)) }
@@ -94,77 +102,122 @@ impl<S: Store + Drop> Cache<S> {
                 key,
                 exptime,
                 with_cas,
-            } => self.get(&key, exptime, with_cas, moment),
-            Atom::Update(update) => self.update(update, moment),
+            } => self.get(key.as_bytes(), exptime, with_cas, moment),
+            Atom::Update(update) => self.update_by_own(update, moment),
         }
     }
 
     /// The command `Get`, with the key lent. It takes no memory, and no value gets longer.
-    pub fn get(&mut self, key: &Key, exptime: Option<i64>, with_cas: bool, moment: u64) -> Reply<()>
+    ///
+    /// The item that a hit shows stands first: [`Cache::front_value`] is its value.
+    pub fn get(
+        &mut self,
+        key: &[u8],
+        exptime: Option<i64>,
+        with_cas: bool,
+        moment: u64,
+    ) -> Reply<()>
         requires { moment < 2 ^ 63 }
         ensures step { step_of self.old (Get key.now exptime with_cas) moment false
             ≡ (self.new, filled result (value_after (Get key.now exptime with_cas) self.new)) }
+        ensures front { step_of self.old (Get key.now exptime with_cas) moment false
+            ≡ (self.new, filled result (front_value self.new.items)) }
         ensures refusal { is_refusal result ≡ false }
         ensures shrinks { (other : List ℕ)
             → length (value_at other self.new.items) ≤ length (value_at other self.old.items) }
     {
-        let found = self.settle(key, moment);
-        self.retrieve(key, exptime, with_cas, moment, found)
+        self.retrieve(key, exptime, with_cas, moment)
     }
 
-    /// The command `Update`.
+    /// The command `Update`, with the key and the block lent. Its reply shows no value.
     ///
-    /// It takes memory only where a key that is not held is stored, or where a held value is made longer. Where there
-    /// is none the reply is `Fault::OutOfMemory`, and nothing changes but what the moment brings.
-    pub fn update(&mut self, update: Update, moment: u64) -> Reply<()>
-        requires { moment < 2 ^ 63 }
-        ensures step { step_of self.old (AnUpdate update) moment (is_refusal result)
-            ≡ (self.new, filled result (value_after (AnUpdate update) self.new)) }
-        ensures refusal { is_refusal result ≡ true → may_refuse self.old (AnUpdate update) moment ≡ true }
+    /// A key is made the cache's own only where one that is not held is stored, and a block only where it is stored.
+    /// Where there is no memory for a key that is not held, or for a held value that is made longer, the reply is
+    /// `Fault::OutOfMemory`, and nothing changes but what the moment brings.
+    ///
+    /// # Errors
+    ///
+    /// A whole value is to be stored under a held key, and there is no memory for its block. Nothing has changed.
+    pub fn update(
+        &mut self,
+        update: &Update<&[u8], &[u8]>,
+        moment: u64,
+    ) -> Result<Reply<()>, AllocError>
+        requires moment { moment < 2 ^ 63 }
+        requires key { HasKey (update_seen update.now) }
+        ensures step { IfOk result (λ reply. (value : List ℕ)
+            → step_of self.old (AnUpdate (update_seen update.now)) moment (is_refusal reply)
+            ≡ (self.new, filled reply value)) }
+        ensures refusal { IfOk result (λ reply.
+            is_refusal reply ≡ true → may_refuse self.old (AnUpdate (update_seen update.now)) moment ≡ true) }
+        ensures err { OnErr result (self.new ≡ self.old) }
+        ensures cause { OnErr result (takes_block self.old (update_seen update.now) moment ≡ true) }
     {
         match update {
             Update::Store {
                 mode,
+                compare,
                 key,
                 flags,
                 exptime,
                 block,
             } => {
-                let found = self.settle(&key, moment);
+                let lent = Lent {
+                    flags: *flags,
+                    expiry: Deadline::of(*exptime, moment),
+                    block,
+                };
+                self.store_lent(*mode, *compare, key, lent, moment)
+            }
+            Update::Touch { key, exptime } => Ok(self.touch(key, *exptime, moment)),
+            Update::Delete { key } => Ok(self.delete(key, moment)),
+            Update::Count {
+                direction,
+                key,
+                delta,
+            } => Ok(self.count(*direction, key, *delta, moment)),
+            Update::FlushAll { delay } => Ok(self.flush_all(*delay, moment)),
+        }
+    }
+
+    /// The command `Update`, whose key and block are its own. Its reply shows no value.
+    fn update_by_own(&mut self, update: Update<Key, Block>, moment: u64) -> Reply<()>
+        requires { moment < 2 ^ 63 }
+        ensures step { (value : List ℕ) → step_of self.old (AnUpdate update) moment (is_refusal result)
+            ≡ (self.new, filled result value) }
+        ensures refusal { is_refusal result ≡ true → may_refuse self.old (AnUpdate update) moment ≡ true }
+    {
+        match update {
+            Update::Store {
+                mode,
+                compare,
+                key,
+                flags,
+                exptime,
+                block,
+            } => {
                 let body = Body {
                     flags,
                     expiry: Deadline::of(exptime, moment),
                     cas: 0,
                     value: block,
                 };
-                self.store(mode, key, body, found)
+                let found = self.settle(key.as_bytes(), moment);
+                self.store_own(mode, compare, key, body, found)
             }
-            Update::Touch { key, exptime } => {
-                let _ = self.settle(&key, moment);
-                self.touch(&key, exptime, moment)
-            }
-            Update::Delete { key } => {
-                let _ = self.settle(&key, moment);
-                self.delete(&key)
-            }
+            Update::Touch { key, exptime } => self.touch(key.as_bytes(), exptime, moment),
+            Update::Delete { key } => self.delete(key.as_bytes(), moment),
             Update::Count {
                 direction,
                 key,
                 delta,
-            } => {
-                let found = self.settle(&key, moment);
-                self.count(direction, key, delta, found)
-            }
-            Update::FlushAll { delay } => {
-                self.flush_due(moment);
-                self.flush(delay, moment);
-                Reply::Flushed
-            }
+            } => self.count(direction, key.as_bytes(), delta, moment),
+            Update::FlushAll { delay } => self.flush_all(delay, moment),
         }
     }
 
     /// The value under a key.
-    pub fn value(&self, key: &Key) -> Option<&[u8]>
+    pub fn value(&self, key: &[u8]) -> Option<&[u8]>
         ensures { option_copied result ≡ held_value key.now self.now.items }
     {
         match self.store.peek(key) {
@@ -173,8 +226,18 @@ impl<S: Store + Drop> Cache<S> {
         }
     }
 
+    /// The value of the first item, which has no bytes where there is none.
+    pub fn front_value(&self) -> &[u8]
+        ensures { result.now ≡ front_value self.now.items }
+    {
+        match self.store.front() {
+            Some(body) => body.value.as_slice(),
+            None => &[],
+        }
+    }
+
     /// How many bytes the value under a key has: 0 where the key is not held. No value has 2^63 bytes.
-    pub fn room(&self, key: &Key) -> usize
+    pub fn room(&self, key: &[u8]) -> usize
         ensures room { result ≡ length (value_at key.now self.now.items) }
         ensures bound { result < 2 ^ 63 }
     {
@@ -184,6 +247,3 @@ impl<S: Store + Drop> Cache<S> {
         }
     }
 }
-
-#[cfg(test)]
-mod tests;

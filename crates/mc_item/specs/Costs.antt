@@ -1,6 +1,10 @@
 -- What an item costs.
 use Rattle.std.specs.Prelude.{ℕ, ◌+◌, List, length}
+use Rattle.mc_item.specs.declared.bodies.TheConstants.{OVERHEAD}
 
--- the bytes of the key and of the value, and 64 more: this project's own measure
+-- by how many bytes its key and its value have, and so many more: this project's own measure
+abbrev pub cost_at : ℕ → ℕ → ℕ
+cost_at key value = key + value + OVERHEAD
+
 abbrev pub cost_of : List ℕ → List ℕ → ℕ
-cost_of key value = length key + length value + 64
+cost_of key value = cost_at (length key) (length value)

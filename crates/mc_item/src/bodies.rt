@@ -1,6 +1,6 @@
 //! What is held under a key.
-ghost use Rattle.std.specs.Prelude.{◌≡◌};
-ghost use Rattle.mc_item.specs.Costs.{cost_of};
+ghost use Rattle.std.specs.Prelude.{◌≡◌, ◌<◌, ◌^◌};
+ghost use Rattle.mc_item.specs.Costs.{cost_at, cost_of};
 
 use crate::deadlines::Deadline;
 use mc_text::{Block, Key};
@@ -26,25 +26,13 @@ pub fn cost(key: &Key, body: &Body) -> u64
     ensures { result ≡ cost_of key.now body.now.value }
 {
     let value = body.value.as_slice();
-    key.as_bytes().len() as u64 + value.len() as u64 + OVERHEAD
+    cost_at(key.as_bytes().len(), value.len())
 }
 
-#[cfg(test)]
-mod tests {
-    use super::*;
-    use std::test::Fail;
-
-    #[test]
-    fn an_item_costs_its_bytes_and_64(rt: HostRuntime) -> Result<(), Fail> {
-        let key = Key::plain(rt.alloc(), b"key")?;
-        let body = Body {
-            flags: 0,
-            expiry: Deadline::Never,
-            cas: 1,
-            value: Block::from_slice(rt.alloc(), b"value")?,
-        };
-        assert_eq!(rt; cost(&key, &body), 72);
-        assert_eq!(rt; cost(&key, &body.clone()?), 72);
-        Ok(())
-    }
+/// What an item costs whose key and value have so many bytes.
+pub fn cost_at(key: usize, value: usize) -> u64
+    requires { cost_at key value < 2 ^ 64 }
+    ensures { result ≡ cost_at key value }
+{
+    key as u64 + value as u64 + OVERHEAD
 }

@@ -11,7 +11,7 @@ mod counters;
 mod deadlines;
 mod rows;
 
-pub use bodies::{Body, OVERHEAD, cost};
+pub use bodies::{Body, OVERHEAD, cost, cost_at};
 pub use counters::CasCounter;
 pub use deadlines::{Deadline, RELATIVE_LIMIT};
 pub use rows::{

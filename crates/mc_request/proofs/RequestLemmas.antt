@@ -5,10 +5,11 @@ use Rattle.std.proofs.lemmas.List.{take-append-le, drop-append-le, append-nil}
 use Rattle.mc_text.specs.Lines as lines
 use Rattle.mc_text.specs.Lines.{FirstLine, first_line, HasNoLineFeed}
 use Rattle.mc_text.specs.Words.{words}
-use Rattle.mc_text.proofs.LineLemmas.{first_line_whole-size, first_line_whole-more, first_line_too_long, first_line_too_long-more, first_line-nil}
+use Rattle.mc_text.proofs.LineLemmas.{first_line_whole-size, first_line_whole-limit, first_line_whole-more, first_line_too_long, first_line_too_long-more, first_line-nil}
 use Rattle.mc_request.specs.Meanings.{Meaning, Storing, Alone, Stores, Refuses, meaning}
 use Rattle.mc_request.specs.Requests.{taken_by, with_block, next_request, next_by, ends, requests_from, requests_within, requests_of}
-use Rattle.mc_request.specs.Steps.{StartsBy, IsShortOf}
+use Rattle.mc_request.specs.Steps.{StartsBy, IsShortOf, IsWholeFrom}
+use Rattle.mc_request.proofs.WellFormedLemmas.{block_in}
 use Rattle.mc_request.specs.declared.faults.Fault.{Fault}
 use Rattle.mc_request.specs.declared.faults.Fault.TheVariants.{LineTooLong}
 use Rattle.mc_request.specs.declared.parts.Taken.{Taken}
@@ -18,7 +19,7 @@ abbrev some : Taken × ℕ → Option (Taken × ℕ)
 some x = Some x
 
 -- a test that gave something
-given : {A : Type 0} (b : Bool) (x y : A) → cond b None (Some x) ≡ Some y → (b ≡ false) × (x ≡ y)
+pub given : {A : Type 0} (b : Bool) (x y : A) → cond b None (Some x) ≡ Some y → (b ≡ false) × (x ≡ y)
 given true x y e = absurd cc
 given false x y e = (refl, cc)
 
@@ -139,6 +140,7 @@ starts_by u content line m e means =
     let here = first_line_whole-size u content line e in
     record {
       size = here;
+      limit = first_line_whole-limit u content line e;
       next = λ more. next_from (u ++ more) (lines.Whole content line) (first_line_whole-more u more content line e) ∙ rw (means, drop-append-le line u more here.1) refl;
     }
 
@@ -234,3 +236,62 @@ refuses_come u line f len h =
     come_by (next_request u) (length u) (line + (len + 2))
     (λ short. let test : nat_lt (length u) (line + (len + 2)) ≡ true = grind (arith, short) in now ∙ rw test refl)
     (λ enough. let test : nat_lt (length u) (line + (len + 2)) ≡ false = grind (arith, enough) in rw (now, test) refl)
+
+-- a refused block, now
+refused_now : (u : List ℕ) (line : ℕ) (f : Fault) (len : ℕ) → StartsBy u (Refuses f len) line → next_request u ≡ (if nat_lt (length u) (line + (len + 2)) then None else Some (Faulty f, line + (len + 2)))
+refused_now u line f len h = ap next_request (sym (append-nil u)) ∙ refused u line f len h [] ∙ rw append-nil refl
+
+pub refuses_waits : (u : List ℕ) (line : ℕ) (f : Fault) (len : ℕ) → StartsBy u (Refuses f len) line → length u < line + (len + 2) → next_request u ≡ None
+refuses_waits u line f len h short =
+    let test : nat_lt (length u) (line + (len + 2)) ≡ true = grind (arith, short) in refused_now u line f len h ∙ rw test refl
+
+pub refuses_whole : (u : List ℕ) (line : ℕ) (f : Fault) (len : ℕ) → StartsBy u (Refuses f len) line → line + (len + 2) ≤ length u
+    → next_request u ≡ Some (Faulty f, line + (len + 2))
+refuses_whole u line f len h enough =
+    let test : nat_lt (length u) (line + (len + 2)) ≡ false = grind (arith, enough) in refused_now u line f len h ∙ rw test refl
+
+whole_by : (o : Option (Taken × ℕ)) (u more : List ℕ) → next_request u ≡ o → is_some o ≡ true → is_some (next_request (u ++ more)) ≡ true
+whole_by None u more e some = absurd cc
+whole_by (Some x) u more e some = rw (next_request-more u more x e) refl
+
+-- what is whole stays whole
+pub whole_more : (u more : List ℕ) → is_some (next_request u) ≡ true → is_some (next_request (u ++ more)) ≡ true
+whole_more u more some = whole_by (next_request u) u more refl some
+
+-- what is whole is so with whatever follows
+pub whole_from : (u : List ℕ) (wanted : ℕ) → is_some (next_request u) ≡ true → IsWholeFrom wanted u
+whole_from u wanted some more enough = whole_more u more some
+
+-- a block that has not come whole is whole with its last byte
+pub stores_from : (u : List ℕ) (line : ℕ) (s : Storing) (len : ℕ) → StartsBy u (Stores s len) line → IsWholeFrom (line + (len + 2)) u
+stores_from u line s len h more enough =
+    let test : nat_lt (length (u ++ more)) (line + (len + 2)) ≡ false = grind (arith, enough) in
+    rw (h.next more, block_test u more line len h.size, test) refl
+
+-- where nothing is whole, nothing is before another byte has come
+pub one_wanted : (u : List ℕ) → next_request u ≡ None → IsShortOf (length u + 1) u
+one_wanted u none [] short = rw append-nil none
+one_wanted u none (b ∷ bs) short = absurd (omega (arith, short, length-append u (b ∷ bs)))
+
+-- whether what stands first has come, by the block that its line announces
+pub has_come : (u : List ℕ) (line : ℕ) (m : Meaning) → StartsBy u m line → block_in m ≡ None → is_some (next_request u) ≡ true
+has_come u line (Alone taken) h none = rw (starts_now u (Alone taken) line h) refl
+has_come u line (Stores s len) h none = absurd cc
+has_come u line (Refuses f len) h none = absurd cc
+
+pub block_has_come : (u : List ℕ) (line : ℕ) (m : Meaning) (len : ℕ) → StartsBy u m line → block_in m ≡ Some len → nat_le (line + (len + 2)) (length u) ≡ is_some (next_request u)
+block_has_come u line (Alone taken) len h block = absurd cc
+block_has_come u line (Stores s n) len h block = let same : n ≡ len = cc in rw (← same) (stores_come u line s n h)
+block_has_come u line (Refuses f n) len h block = let same : n ≡ len = cc in rw (← same) (refuses_come u line f n h)
+
+-- what is not whole has not come
+pub not_come : (o : Option (Taken × ℕ)) → is_some o ≡ false → o ≡ None
+not_come None h = refl
+not_come (Some x) h = absurd cc
+
+short_of : (o : Option (Taken × ℕ)) (n size : ℕ) → o ≡ None → nat_le size n ≡ is_some o → n < size
+short_of o n size none is = let short : nat_le size n ≡ false = is ∙ rw none refl in grind (arith, short)
+
+-- a block that has not come whole is behind what has come
+pub block_is_behind : (u : List ℕ) (line : ℕ) (m : Meaning) (len : ℕ) → StartsBy u m line → block_in m ≡ Some len → next_request u ≡ None → length u < line + (len + 2)
+block_is_behind u line m len h block none = short_of (next_request u) (length u) (line + (len + 2)) none (block_has_come u line m len h block)

@@ -1,11 +1,14 @@
 pub mod Faults
+pub mod Parts
 pub mod Atoms
 pub mod Names
 pub mod Meanings
 pub mod Examples
 pub mod Requests
+pub mod WellFormed
 pub mod Reader
-pub mod Peeks
-pub mod ReaderFields
+pub mod Hides
 pub mod LinesSeen
+pub mod Peeks
 pub mod Steps
+pub mod UnreadFields

@@ -1,24 +1,59 @@
 -- What the bytes that have come allow.
-use Rattle.std.specs.Prelude.{ℕ, ◌≡◌, ◌<◌, ◌≤◌, false, nat_lt, List, ◌++◌, length, drop, Some, None, if◌then◌else◌}
+use Rattle.std.specs.Prelude.{ℕ, ◌≡◌, ◌<◌, ◌≤◌, ◌&&◌, Bool, not, nat_le, true, false, nat_lt, List, [], ◌∷◌, ◌++◌, length, drop, Option, Some, None, is_some, if◌then◌else◌}
 use Rattle.mc_text.specs.Lines.{HasNoLineFeed}
+use Rattle.mc_text.specs.declared.blocks.TheConstants.{VALUE_LIMIT}
+use Rattle.mc_text.specs.declared.lines.TheConstants.{LINE_LIMIT}
+use Rattle.mc_request.specs.declared.names.Name.{Name}
 use Rattle.mc_request.specs.declared.parts.Taken.TheVariants as takens
-use Rattle.mc_request.specs.declared.steps.Step.{Step}
-use Rattle.mc_request.specs.declared.steps.Step.TheVariants.{Takes, Waits, Drops}
+use Rattle.mc_request.specs.declared.peeks.TheConstants.{REQUEST_LIMIT}
+use Rattle.mc_request.specs.declared.steps.Stand.{Stand}
+use Rattle.mc_request.specs.declared.steps.Stand.TheVariants.{Whole, Waits, Drops}
 use Rattle.mc_request.specs.Faults.{closes}
-use Rattle.mc_request.specs.Meanings.{Meaning}
+use Rattle.mc_request.specs.WellFormed.{is_well_formed, is_good_update}
+use Rattle.mc_request.specs.Names.{name_of}
+use Rattle.mc_request.specs.Meanings.{Meaning, Alone, Stores, Refuses, announced}
 use Rattle.mc_request.specs.Requests.{next_request, taken_by}
 
 -- no text that begins so has a whole request before it has so many bytes
 abbrev pub IsShortOf : ℕ → List ℕ → Type 0
 IsShortOf wanted unread = (more : List ℕ) → length (unread ++ more) < wanted → next_request (unread ++ more) ≡ None
 
-abbrev pub StepIs : List ℕ → Step → Type 0
-StepIs unread (Takes taken size) = next_request unread ≡ Some (taken, size)
-StepIs unread (Waits scanned wanted) = (next_request unread ≡ None) × HasNoLineFeed scanned unread × IsShortOf wanted unread
-StepIs unread (Drops fault size) = (closes fault ≡ false) × (length unread < size)
+-- each text that begins so has a whole request once it has so many bytes
+abbrev pub IsWholeFrom : ℕ → List ℕ → Type 0
+IsWholeFrom wanted unread = (more : List ℕ) → wanted ≤ length (unread ++ more) → is_some (next_request (unread ++ more)) ≡ true
+
+-- bytes that wait for others
+pub record IsWaiting (unread : List ℕ) (scanned wanted : ℕ) (sure : Bool) : Type 0 where
+  pub searched : HasNoLineFeed scanned unread
+  pub short : IsShortOf wanted unread
+  pub few : length unread < wanted
+  pub limit : wanted ≤ REQUEST_LIMIT
+  pub whole : sure ≡ true → IsWholeFrom wanted unread
+
+-- what stands at the front of bytes: it is whole, it waits, or its block is dropped while it comes
+abbrev pub StandIs : List ℕ → Stand → Type 0
+StandIs unread Whole = is_some (next_request unread) ≡ true
+StandIs unread (Waits scanned wanted sure) = IsWaiting unread scanned wanted sure
+StandIs unread (Drops fault size) = (closes fault ≡ false) × (length unread < size)
     × ((more : List ℕ) → next_request (unread ++ more) ≡ (if nat_lt (length (unread ++ more)) size then None else Some (takens.Faulty fault, size)))
 
 -- a text that begins with a line of so many bytes, which asks for this, and is followed by whatever comes
 pub record StartsBy (unread : List ℕ) (m : Meaning) (line : ℕ) : Type 0 where
   pub size : (0 < line) × (line ≤ length unread)
+  pub limit : line ≤ LINE_LIMIT
   pub next : (more : List ℕ) → next_request (unread ++ more) ≡ taken_by m line (drop line unread ++ more)
+
+-- the length of the data block that a line announces, by its words
+abbrev pub announced_by : Option Name → List (List ℕ) → Option ℕ
+announced_by None words = None
+announced_by (Some name) words = announced name words
+
+abbrev pub announced_in : List (List ℕ) → Option ℕ
+announced_in [] = None
+announced_in (name ∷ words) = announced_by (name_of name) words
+
+-- what every line asks for keeps to: what is taken is well formed, and what swallows a block closes nothing
+abbrev pub is_good_meaning : Meaning → Bool
+is_good_meaning (Alone taken) = is_well_formed taken
+is_good_meaning (Stores storing len) = is_good_update (λ _. true) storing.update && nat_le len VALUE_LIMIT
+is_good_meaning (Refuses fault len) = not (closes fault)

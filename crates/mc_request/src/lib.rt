@@ -2,32 +2,44 @@
 //!
 //! A [`Reader`] is fed the bytes of a connection in whatever pieces they come ([`Reader::feed`]), and gives the
 //! requests and faults of them in order ([`Reader::next`]). [`Reader::peek`] and [`Reader::consume`] are the two
-//! halves of `next`, for a caller that has to make room before it takes a request; [`Reader::ready`] says whether there
-//! is one. [`Request::atoms`] gives the commands of a request, and [`Fault::line`] the error line of a fault.
+//! halves of `next`: the one lends what stands first, its keys and its block being bytes of the reader, and the other
+//! takes it. [`Reader::ready`] says whether there is one, and [`Reader::held`] how many bytes are kept.
+//! [`Request::atoms`] gives the commands of a request, [`Request::hides`] what it hides of its answer, and
+//! [`Fault::line`] the error line of a fault.
 //!
 //! A reader stands for a function: from the text still to come to the requests and faults that it will give.
-//! `feed` and `next` are proved to keep that function, so how the text is cut never matters: see
+//! `feed`, `next` and `consume` are proved to keep that function, so how the text is cut never matters: see
 //! `specs/Reader.antt` for the function and `specs/Requests.antt` for the requests of a text.
+//!
+//! Of the calls, `feed`, `next`, `atoms` and those that make a copy of what is lent take memory; all others take none,
+//! and cannot fail.
 #![tactic(auto)]
 
 mod command_lines;
 mod faults;
+mod hides;
 mod keys;
 mod laws;
 mod lines;
 mod lone_lines;
 mod names;
+mod owned;
 mod parts;
+mod peeks;
 mod reader;
 mod rows;
 mod steps;
 mod storage_lines;
+mod unread;
 
 pub use faults::Fault;
+pub use hides::Hides;
 pub use keys::Keys;
-pub use laws::{requests_begin, requests_go_on};
+pub use laws::{requests_are_well_formed, requests_begin, requests_go_on};
+pub use lines::Asked;
 pub use parts::{Atom, Direction, ReadError, Request, StoreMode, Taken, Update};
-pub use reader::{Front, Next, Peek, Reader};
+pub use peeks::{Front, Peek, REQUEST_LIMIT};
+pub use reader::{Next, Reader};
 pub use rows::{
     block_takes_too_much, counts, deletions, flushes, noreply_at_the_end, quit_ends_the_text,
     refused_block_is_swallowed, refused_blocks, set_then_get, several_keys, storage_modes,

@@ -1,65 +1,44 @@
-//! What a command line asks for. Its words are borrowed, and each key among them is a plain one.
+//! What a command line asks for. Its words are lent.
 use crate::faults::Fault;
-use crate::parts::{Direction, StoreMode};
+use crate::parts::Update;
 use mc_text::WordIter;
 
-/// What a command line asks for.
-pub enum CommandLine<'a> {
-    /// A line that is faulty by itself.
-    Bad(Fault),
-    /// A request that no data block follows.
-    Lone(LoneLine<'a>),
-    /// A storage command, which a data block of so many bytes follows.
-    Stores(Storage<'a>, u32),
-    /// A faulty line whose data block of so many bytes is swallowed.
-    Refuses(Fault, u32),
-}
-
-/// A request that no data block follows.
+/// What stands first in a reader: its keys and its data block are bytes of the reader.
 #[derive(Drop)]
-pub enum LoneLine<'a> {
-    /// `get` and `gets`, or with an exptime `gat` and `gats`: the first key, and the others.
-    Gets {
-        first: &'a [u8],
-        more: WordIter<'a>,
+pub enum Asked<'a> {
+    /// `get` and `gets`, or with an exptime `gat` and `gats`, by the words that are its keys: one at least.
+    Get {
+        keys: WordIter<'a>,
         exptime: Option<i64>,
         with_cas: bool,
     },
-    /// `touch`.
-    Touches {
-        key: &'a [u8],
-        exptime: i64,
-        noreply: bool,
-    },
-    /// `delete`.
-    Deletes {
-        key: &'a [u8],
-        noreply: bool,
-    },
-    /// `incr` and `decr`.
-    Counts {
-        direction: Direction,
-        key: &'a [u8],
-        delta: u64,
-        noreply: bool,
-    },
-    /// `flush_all`.
-    Flushes {
-        delay: i64,
+    /// A command that may change what is held. With `noreply` its reply line is hidden.
+    Update {
+        update: Update<&'a [u8], &'a [u8]>,
         noreply: bool,
     },
     /// `version`.
     Version,
     /// `quit`.
     Quit,
+    /// A line, a data block or both that are no request.
+    Faulty(Fault),
 }
 
 /// A storage command before its data block.
-#[derive(Clone, Copy)]
-pub struct Storage<'a> {
-    pub mode: StoreMode,
-    pub key: &'a [u8],
-    pub flags: u32,
-    pub exptime: i64,
+#[derive(Drop)]
+pub struct Storing<'a> {
+    pub update: Update<&'a [u8], ()>,
     pub noreply: bool,
+}
+
+/// What a command line asks for.
+#[derive(Drop)]
+pub enum CommandLine<'a> {
+    /// What is taken alone: a request that no data block follows, or a fault.
+    Alone(Asked<'a>),
+    /// A storage command, which a data block of so many bytes follows.
+    Stores(Storing<'a>, u32),
+    /// A faulty line whose data block of so many bytes is swallowed.
+    Refuses(Fault, u32),
 }

@@ -1,32 +1,37 @@
 //! Command lines that no data block follows.
-ghost use Rattle.std.specs.Prelude.{◌≡◌, ◌∷◌, [], true, IfOk};
+ghost use Rattle.std.specs.Prelude.{◌≡◌, true, Err, if◌then◌else◌};
 ghost use Rattle.std.specs.List.{list_all};
 ghost use Rattle.mc_text.specs.Keys.{is_plain_key};
-ghost use Rattle.mc_request.specs.Meanings.{keys_line, gat_line, touch_line, delete_line, delete_ending, count_line, flush_line, flush_by, word_line};
-ghost use Rattle.mc_request.specs.LinesSeen.{taken_of, lone_seen, IsGoodLone};
+ghost use Rattle.mc_request.specs.Names.{at_most, at_least, between, noreply_of};
+ghost use Rattle.mc_request.specs.Meanings.{keys_line, gat_line, touch_line, delete_line, without_zero, count_line, flush_line};
+ghost use Rattle.mc_request.specs.LinesSeen.{lone_seen, asked_of, line_of_taken};
+ghost use Rattle.mc_request.specs.declared.faults.Fault.TheVariants.{UnknownCommand};
+ghost use Rattle.mc_request.specs.declared.parts.Request.TheVariants.{Update as AnUpdate};
+ghost use Rattle.mc_request.specs.declared.parts.Update.TheVariants.{FlushAll};
+ghost use Rattle.mc_request.specs.declared.parts.Taken.TheVariants.{Whole};
 
 use crate::faults::Fault;
-use crate::lines::LoneLine;
-use crate::names::{Ending, ending_of, ending_word, is_noreply};
-use crate::parts::Direction;
+use crate::lines::Asked;
+use crate::names::{is_noreply, noreply_of, noreply_word};
+use crate::parts::{Direction, Update};
 use mc_text::{WordIter, is_plain_key, read_i64, read_u64};
 
 /// `get`, and behind its exptime `gat`, by the keys. One that is none refuses the line.
 pub fn keys_line(
     exptime: Option<i64>,
     with_cas: bool,
-    mut keys: WordIter<'_>,
-) -> Result<LoneLine<'_>, Fault>
-    ensures seen { lone_seen result ≡ keys_line exptime with_cas keys.entry }
-    ensures good { IfOk result IsGoodLone }
+    keys: WordIter<'_>,
+) -> Result<Asked<'_>, Fault>
+    ensures { lone_seen result ≡ (if at_least 1 keys.entry then keys_line exptime with_cas keys.entry else Err UnknownCommand) }
 {
-    let first = keys.next().ok_or(Fault::UnknownCommand)?;
-    if !is_plain_key(first) || !are_plain_keys(keys.again()) {
+    if keys.again().next().is_none() {
+        return Err(Fault::UnknownCommand);
+    }
+    if !are_plain_keys(keys.again()) {
         return Err(Fault::BadFormat);
     }
-    Ok(LoneLine::Gets {
-        first,
-        more: keys,
+    Ok(Asked::Get {
+        keys,
         exptime,
         with_cas,
     })
@@ -45,9 +50,8 @@ fn are_plain_keys(words: WordIter<'_>) -> bool
 }
 
 /// `gat <exptime> <key>*`.
-pub fn gat_line(with_cas: bool, mut words: WordIter<'_>) -> Result<LoneLine<'_>, Fault>
-    ensures seen { lone_seen result ≡ gat_line with_cas words.entry }
-    ensures good { IfOk result IsGoodLone }
+pub fn gat_line(with_cas: bool, mut words: WordIter<'_>) -> Result<Asked<'_>, Fault>
+    ensures { lone_seen result ≡ (if at_least 2 words.entry then gat_line with_cas words.entry else Err UnknownCommand) }
 {
     let exptime = words.next().ok_or(Fault::UnknownCommand)?;
     if words.again().next().is_none() {
@@ -58,129 +62,123 @@ pub fn gat_line(with_cas: bool, mut words: WordIter<'_>) -> Result<LoneLine<'_>,
 }
 
 /// `touch <key> <exptime> [noreply]`.
-pub fn touch_line(mut words: WordIter<'_>) -> Result<LoneLine<'_>, Fault>
-    ensures seen { lone_seen result ≡ touch_line words.entry }
-    ensures good { IfOk result IsGoodLone }
+pub fn touch_line(mut words: WordIter<'_>) -> Result<Asked<'_>, Fault>
+    ensures { lone_seen result ≡ (if between 2 3 words.entry then touch_line words.entry else Err UnknownCommand) }
 {
     let (Some(key), Some(exptime)) = (words.next(), words.next()) else {
         return Err(Fault::UnknownCommand);
     };
-    let noreply = ending_of(words).noreply()?;
+    let noreply = noreply_of(words)?;
     if !is_plain_key(key) {
         return Err(Fault::BadFormat);
     }
     let exptime = read_i64(exptime).ok_or(Fault::BadFormat)?;
-    Ok(LoneLine::Touches {
-        key,
-        exptime,
+    Ok(Asked::Update {
+        update: Update::Touch { key, exptime },
         noreply,
     })
 }
 
 /// `delete <key> [0] [noreply]`.
-pub fn delete_line(mut words: WordIter<'_>) -> Result<LoneLine<'_>, Fault>
-    ensures seen { lone_seen result ≡ delete_line words.entry }
-    ensures good { IfOk result IsGoodLone }
+pub fn delete_line(mut words: WordIter<'_>) -> Result<Asked<'_>, Fault>
+    ensures { lone_seen result ≡ (if between 1 3 words.entry then delete_line words.entry else Err UnknownCommand) }
 {
     let key = words.next().ok_or(Fault::UnknownCommand)?;
-    let noreply = delete_ending(words).noreply()?;
+    let noreply = noreply_behind_zero(words)?;
     if !is_plain_key(key) {
         return Err(Fault::BadFormat);
     }
-    Ok(LoneLine::Deletes { key, noreply })
+    Ok(Asked::Update {
+        update: Update::Delete { key },
+        noreply,
+    })
 }
 
-/// What stands behind the key of a deletion.
-fn delete_ending(mut words: WordIter<'_>) -> Ending
-    ensures { result ≡ delete_ending words.entry }
+/// Whether the reply of a deletion is hidden, by what stands behind its key.
+fn noreply_behind_zero(mut words: WordIter<'_>) -> Result<bool, Fault>
+    ensures { result ≡ (if at_most 2 words.entry then noreply_of (without_zero words.entry) else Err UnknownCommand) }
 {
     let Some(word) = words.next() else {
-        return Ending::Shown;
+        return Ok(false);
     };
     let zero = word == b"0".as_slice();
     let Some(last) = words.next() else {
-        return if zero {
-            Ending::Shown
-        } else {
-            ending_word(word)
-        };
+        return if zero { Ok(false) } else { noreply_word(word) };
     };
     if words.next().is_some() {
-        Ending::TooMany
+        Err(Fault::UnknownCommand)
     } else if zero {
-        ending_word(last)
+        noreply_word(last)
     } else {
-        Ending::Misspelt
+        Err(Fault::BadFormat)
     }
 }
 
 /// `incr <key> <delta> [noreply]`, and `decr` likewise.
-pub fn count_line(direction: Direction, mut words: WordIter<'_>) -> Result<LoneLine<'_>, Fault>
-    ensures seen { lone_seen result ≡ count_line direction words.entry }
-    ensures good { IfOk result IsGoodLone }
+pub fn count_line(direction: Direction, mut words: WordIter<'_>) -> Result<Asked<'_>, Fault>
+    ensures { lone_seen result ≡ (if between 2 3 words.entry then count_line direction words.entry else Err UnknownCommand) }
 {
     let (Some(key), Some(delta)) = (words.next(), words.next()) else {
         return Err(Fault::UnknownCommand);
     };
-    let ending = ending_of(words);
-    if matches!(ending, Ending::TooMany) {
+    let noreply = noreply_of(words);
+    if let Err(Fault::UnknownCommand) = noreply {
         return Err(Fault::UnknownCommand);
     }
     if !is_plain_key(key) {
         return Err(Fault::BadFormat);
     }
     let delta = read_u64(delta).ok_or(Fault::BadDelta)?;
-    let noreply = ending.noreply()?;
-    Ok(LoneLine::Counts {
-        direction,
-        key,
-        delta,
+    let noreply = noreply?;
+    Ok(Asked::Update {
+        update: Update::Count {
+            direction,
+            key,
+            delta,
+        },
         noreply,
     })
 }
 
 /// `flush_all [delay] [noreply]`.
-pub fn flush_line<'a>(mut words: WordIter<'a>) -> Result<LoneLine<'a>, Fault>
-    ensures seen { lone_seen result ≡ flush_line words.entry }
-    ensures good { IfOk result IsGoodLone }
+pub fn flush_line<'a>(mut words: WordIter<'a>) -> Result<Asked<'a>, Fault>
+    ensures { lone_seen result ≡ (if at_most 2 words.entry then flush_line words.entry else Err UnknownCommand) }
 {
     let Some(first) = words.next() else {
-        return flush(Some(0), Ending::Shown);
+        return Ok(flush(0, false));
     };
     let Some(second) = words.next() else {
-        return if is_noreply(first) {
-            flush(Some(0), Ending::Hidden)
-        } else {
-            flush(read_i64(first), Ending::Shown)
-        };
+        if is_noreply(first) {
+            return Ok(flush(0, true));
+        }
+        let delay = read_i64(first).ok_or(Fault::BadFormat)?;
+        return Ok(flush(delay, false));
     };
-    let ending = if words.next().is_some() {
-        Ending::TooMany
-    } else {
-        ending_word(second)
-    };
-    flush(read_i64(first), ending)
+    if words.next().is_some() {
+        return Err(Fault::UnknownCommand);
+    }
+    let delay = read_i64(first).ok_or(Fault::BadFormat)?;
+    let noreply = noreply_word(second)?;
+    Ok(flush(delay, noreply))
 }
 
-/// A flush after a delay, where that can be read.
-fn flush<'a>(delay: Option<i64>, ending: Ending) -> Result<LoneLine<'a>, Fault>
-    ensures seen { lone_seen result ≡ flush_by delay ending }
-    ensures good { IfOk result IsGoodLone }
+/// A flush after a delay.
+fn flush<'a>(delay: i64, noreply: bool) -> Asked<'a>
+    ensures { asked_of result ≡ Whole (AnUpdate (FlushAll delay) noreply) }
 {
-    let noreply = ending.noreply()?;
-    let delay = delay.ok_or(Fault::BadFormat)?;
-    Ok(LoneLine::Flushes { delay, noreply })
+    Asked::Update {
+        update: Update::FlushAll { delay },
+        noreply,
+    }
 }
 
 /// A command of one word: none stands behind its name.
-pub fn word_line<'a>(line: LoneLine<'a>, mut words: WordIter<'_>) -> Result<LoneLine<'a>, Fault>
-    requires { IsGoodLone line }
-    ensures seen { lone_seen result ≡ word_line (taken_of line.entry) words.entry }
-    ensures good { IfOk result IsGoodLone }
+pub fn word_line<'a>(asked: Asked<'a>, mut words: WordIter<'_>) -> Result<Asked<'a>, Fault>
+    ensures { lone_seen result ≡ (if at_most 0 words.entry then line_of_taken (asked_of asked.entry) else Err UnknownCommand) }
 {
     if words.next().is_some() {
         Err(Fault::UnknownCommand)
     } else {
-        Ok(line)
+        Ok(asked)
     }
 }

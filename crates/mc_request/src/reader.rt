@@ -1,10 +1,10 @@
 //! A reader of requests, fed in pieces.
-ghost use Rattle.std.specs.Prelude.{◌≡◌, ◌≤◌, ◌<◌, ◌↔◌, ℕ, List, [], ◌++◌, length, false, None, is_some, IsTrue, IfOk, OnOk, OnErr};
+ghost use Rattle.std.specs.Prelude.{◌≡◌, ◌<◌, ◌↔◌, ℕ, List, [], ◌++◌, length, true, Some, IsTrue, IsOk, IfOk, OnOk, OnErr};
 
 use crate::faults::Fault;
 use crate::parts::{ReadError, Request, Taken};
-use crate::steps::{Step, first_step, is_whole};
-use mc_text::let_go;
+use crate::peeks::{Front, Peek, REQUEST_LIMIT};
+use crate::unread::Unread;
 use std::alloc::Global;
 use std::marker::Model;
 
@@ -21,63 +21,32 @@ pub enum Next {
     Closed,
 }
 
-/// Where the first request or fault of a reader ends.
-#[derive(Clone, Copy, Debug)]
-pub struct Front {
-    /// How many of the bytes that are kept it takes.
-    pub size: usize,
-    /// Whether nothing is read after it.
-    pub closes: bool,
-}
-
-/// What stands first in a reader. It is not taken yet.
-#[derive(Debug, Drop)]
-pub enum Peek {
-    /// A whole request or fault, and where it ends.
-    First(Taken, Front),
-    /// There is none until more bytes come.
-    More,
-    /// Nothing is read any more, after `quit` or a line too long.
-    Closed,
-}
-
 /// A reader of the requests of one connection. Contracts see what it stands for: the bytes that are not taken, the
-/// block that is dropped while it comes, and whether it is closed.
+/// block that is dropped while it comes, whether it is closed, and how many bytes it keeps.
 ///
-/// Each byte is looked at a constant number of times, however the text is cut: a line that has not come whole is
-/// not searched from its start again, a line whose block has not come whole is read once more when it has, and a
-/// block that is refused is dropped while it comes.
+/// Each byte is looked at a constant number of times, however the text is cut and whichever calls are made: a line that
+/// has not come whole is not searched from its start again, a line whose block has not come whole is read once more
+/// when it has, and a block that is refused is dropped while it comes. Where nothing is whole, a reader keeps fewer than
+/// [`REQUEST_LIMIT`] bytes.
 #[derive(Drop)]
 pub struct Reader {
     alloc: Global,
-    buffer: Vec<u8>,
-    /// How many bytes of the buffer are taken.
-    start: usize,
-    /// How many of the bytes behind them are known to hold no line feed.
-    scanned: usize,
-    /// With fewer bytes behind them than this nothing is whole.
-    wanted: usize,
-    /// The fault of a block that is dropped, and how many bytes of it are to come.
-    dropping: Option<(Fault, usize)>,
-    closed: bool,
+    unread: Unread,
 }
 
 impl Model for Reader {
-    ghost use Rattle.mc_request.specs.Reader.{ReaderState};
+    ghost use Rattle.mc_request.specs.Reader.{ReaderState, KeepsLittle};
 
     ghost Value = { ReaderState };
 
-    ghost use Rattle.mc_request.specs.ReaderFields.{state_of, IsReader};
+    ghost view = { λ r. r.unread };
 
-    ghost view = { state_of };
-
-    ghost invariant = { IsReader };
+    ghost invariant = { λ r. KeepsLittle r.unread };
 }
 
 impl Reader {
-    ghost use Rattle.mc_request.specs.Requests.{next_request};
-    ghost use Rattle.mc_request.specs.Reader.{fresh_reader, rest_of};
-    ghost use Rattle.mc_request.specs.Peeks.{Peeks, Gives, past};
+    ghost use Rattle.mc_request.specs.Reader.{fresh_reader, rest_of, KeepsRest, KeepsLittle};
+    ghost use Rattle.mc_request.specs.Peeks.{Peeks, Gives, IsWellFormedPeek, front_of, past};
 
     /// A reader to which nothing has come. It takes no memory.
     pub fn new(alloc: Global) -> Self
@@ -85,12 +54,7 @@ impl Reader {
     {
         Reader {
             alloc,
-            buffer: Vec::new(alloc),
-            start: 0,
-            scanned: 0,
-            wanted: 0,
-            dropping: None,
-            closed: false,
+            unread: Unread::new(alloc),
         }
     }
 
@@ -100,32 +64,29 @@ impl Reader {
     pub fn feed(&mut self, piece: &[u8]) -> Result<(), ReadError>
         ensures fed { OnOk result ((text : List ℕ) → rest_of self.new text ≡ rest_of self.old (piece.now ++ text)) }
         ensures closed { self.new.closed ≡ self.old.closed }
+        ensures after_end { self.old.closed ≡ true → self.new ≡ self.old }
+        ensures never_refused { self.old.closed ≡ true → IsOk result }
+        ensures little { KeepsLittle self.new }
         ensures err { OnErr result (self.new ≡ self.old) }
     {
-        if self.closed {
-            return Ok(());
-        }
-        self.start = let_go(&mut self.buffer, self.start);
-        match self.dropping {
-            None => self.buffer.extend_from_slice(piece)?,
-            Some((fault, left)) => {
-                let (dropped, kept) = piece.split_at(left.min(piece.len()));
-                self.buffer.extend_from_slice(kept)?;
-                self.dropping = Some((fault, left - dropped.len()));
-            }
+        self.unread.append(piece)?;
+        if !self.unread.waits() {
+            self.unread.advance();
         }
         Ok(())
     }
 
-    /// The first request or fault that has come whole, which is taken.
+    /// The first request or fault that has come whole, which is taken: its keys and its block are copied.
     ///
     /// At `Memory` it is not taken, and nothing has changed.
     pub fn next(&mut self) -> Result<Next, ReadError>
         ensures given { IfOk result (λ next. Gives self.old next self.new) }
+        ensures little { KeepsLittle self.new }
         ensures err { OnErr result (self.new ≡ self.old) }
     {
-        match self.peek()? {
-            Peek::First(taken, front) => {
+        match self.peek() {
+            Peek::First(asked, front) => {
+                let taken = asked.taken(self.alloc)?;
                 self.consume(front);
                 Ok(match taken {
                     Taken::Whole(request) => Next::Request(request),
@@ -137,191 +98,52 @@ impl Reader {
         }
     }
 
-    /// The first request or fault that has come whole. It is not taken: [`Reader::consume`] takes it.
+    /// The first request or fault that has come whole. It is lent, and not taken: [`Reader::consume`] takes it.
     ///
-    /// At `Memory` nothing has changed.
-    pub fn peek(&mut self) -> Result<Peek, ReadError>
-        ensures seen { IfOk result (λ peek. Peeks self.old peek self.new) }
-        ensures err { OnErr result (self.new ≡ self.old) }
+    /// Its line is read once. It takes no memory, and copies nothing.
+    pub fn peek(&self) -> Peek<'_>
+        ensures seen { Peeks self.now result }
+        ensures well_formed { IsWellFormedPeek result }
+        ensures little { KeepsLittle self.now }
     {
-        if self.closed {
-            return Ok(Peek::Closed);
-        }
-        match self.dropping {
-            None => self.peek_unread(),
-            Some((_, left)) if left > 0 => Ok(Peek::More),
-            Some((fault, _)) => Ok(Peek::First(
-                Taken::Faulty(fault),
-                Front {
-                    size: 0,
-                    closes: false,
-                },
-            )),
-        }
+        self.unread.peek()
     }
 
-    /// The same where no block is dropped.
-    fn peek_unread(&mut self) -> Result<Peek, ReadError>
-        requires open { self.old.closed ≡ false }
-        requires whole { self.old.dropping ≡ None }
-        ensures seen { IfOk result (λ peek. Peeks self.old peek self.new) }
-        ensures err { OnErr result (self.new ≡ self.old) }
-    {
-        let (_, unread) = self.buffer.split_at(self.start);
-        if unread.len() < self.wanted {
-            return Ok(Peek::More);
-        }
-        match first_step(self.alloc, unread, self.scanned)? {
-            Step::Takes(taken, size) => {
-                let closes = taken.ends();
-                Ok(Peek::First(taken, Front { size, closes }))
-            }
-            Step::Waits { scanned, wanted } => {
-                self.scanned = scanned;
-                self.wanted = wanted;
-                Ok(Peek::More)
-            }
-            Step::Drops(fault, size) => {
-                self.dropping = Some((fault, size - unread.len()));
-                self.buffer.clear();
-                self.start = 0;
-                self.scanned = 0;
-                self.wanted = 0;
-                Ok(Peek::More)
-            }
-        }
-    }
-
-    /// Whether a whole request or fault has come, which [`Reader::next`] would give. It takes no memory, and copies nothing.
+    /// Whether a whole request or fault has come, which [`Reader::next`] would give. It takes no memory, and copies
+    /// nothing; behind a feed no byte is looked at.
     pub fn ready(&self) -> bool
-        ensures { IsTrue result ↔ (0 < length (rest_of self.now [])) }
+        ensures ready { IsTrue result ↔ (0 < length (rest_of self.now [])) }
+        ensures little { KeepsLittle self.now }
     {
-        if self.closed {
-            return false;
-        }
-        match self.dropping {
-            None => self.has_whole(),
-            Some((_, left)) => left == 0,
-        }
+        self.unread.ready()
     }
 
-    /// The same where no block is dropped.
-    fn has_whole(&self) -> bool
-        ensures { result ≡ is_some (next_request self.now.unread) }
+    /// Whether nothing is read any more, after `quit` or a line too long.
+    pub fn is_closed(&self) -> bool
+        ensures { result ≡ self.now.closed }
     {
-        let (_, unread) = self.buffer.split_at(self.start);
-        unread.len() >= self.wanted && is_whole(unread, self.scanned)
+        self.unread.is_closed()
     }
 
-    /// Takes what [`Reader::peek`] showed. It takes no memory.
+    /// Takes what [`Reader::peek`] showed, and lets go of its bytes once they are more than half of all. It takes no
+    /// memory.
     pub fn consume(&mut self, front: Front)
-        requires { front.size ≤ length self.old.unread }
-        ensures { self.new ≡ past front self.old }
+        requires { front_of self.old ≡ Some front }
+        ensures taken { KeepsRest (past front self.old) self.new }
+        ensures little { KeepsLittle self.new }
     {
-        self.start += front.size;
-        self.scanned = 0;
-        self.wanted = 0;
-        self.dropping = None;
-        self.closed = front.closes;
-    }
-}
-
-#[cfg(test)]
-mod tests {
-    use super::*;
-    use crate::parts::{StoreMode, Update};
-    use std::test::Fail;
-
-    #[test]
-    fn a_store_is_peeked_and_taken(rt: HostRuntime) -> Result<(), Fail> {
-        let mut reader = Reader::new(rt.alloc());
-        reader.feed(b"add a 5 -1 1 noreply\r\nx")?;
-        assert!(rt; !reader.ready());
-        assert!(rt; matches!(reader.peek()?, Peek::More));
-        reader.feed(b"\r\n")?;
-        assert!(rt; reader.ready());
-        let Peek::First(taken, front) = reader.peek()? else {
-            return Err(Fail::from("nothing whole"));
-        };
-        let Taken::Whole(
-            Request::Update {
-                update,
-                noreply: true,
-            },
-        ) = taken
-        else {
-            return Err(Fail::from("no update"));
-        };
-        let Update::Store {
-            mode,
-            key,
-            flags: 5,
-            exptime: -1,
-            block,
-        } = update
-        else {
-            return Err(Fail::from("no store"));
-        };
-        assert_eq!(rt; mode, StoreMode::Add);
-        assert_eq!(rt; key.as_bytes(), b"a".as_slice());
-        assert_eq!(rt; block.as_slice(), b"x".as_slice());
-        reader.consume(front);
-        assert!(rt; matches!(reader.next()?, Next::More));
-        Ok(())
-    }
-
-    #[test]
-    fn a_get_of_several_keys_is_taken(rt: HostRuntime) -> Result<(), Fail> {
-        let mut reader = Reader::new(rt.alloc());
-        reader.feed(b"gat 7  a b a\r\nincr a x\r\n")?;
-        let Next::Request(
-            Request::Get {
-                keys,
-                exptime: Some(7),
-                with_cas: false,
-            },
-        ) = reader.next()?
-        else {
-            return Err(Fail::from("no gat"));
-        };
-        assert_eq!(rt; keys.len(), 3);
-        assert_eq!(rt; keys.key(0).as_bytes(), b"a".as_slice());
-        assert_eq!(rt; keys.key(1).as_bytes(), b"b".as_slice());
-        assert_eq!(rt; keys.key(2).as_bytes(), b"a".as_slice());
-        assert!(rt; matches!(reader.next()?, Next::Fault(Fault::BadDelta)));
-        Ok(())
-    }
-
-    #[test]
-    fn short_lines_are_taken(rt: HostRuntime) -> Result<(), Fail> {
-        let mut reader = Reader::new(rt.alloc());
-        reader.feed(b"touch a 1\r\ndelete a 0\r\ndecr a 2\r\nflush_all -1\r\n")?;
-        for at in 0..4 {
-            let Next::Request(Request::Update { update, .. }) = reader.next()? else {
-                return Err(Fail::from("no update"));
-            };
-            assert!(rt;
-                matches!(
-                    (at, &update),
-                    (0, Update::Touch { exptime: 1, .. })
-                        | (1, Update::Delete { .. })
-                        | (2, Update::Count { delta: 2, .. })
-                        | (3, Update::FlushAll { delay: -1 })
-                )
-            );
+        self.unread.consume(front);
+        if self.unread.held() >= REQUEST_LIMIT {
+            self.unread.advance();
         }
-        Ok(())
     }
 
-    #[test]
-    fn quit_closes_the_reader(rt: HostRuntime) -> Result<(), Fail> {
-        let mut reader = Reader::new(rt.alloc());
-        reader.feed(b"version\r\nquit\r\nget a\r\n")?;
-        assert!(rt; matches!(reader.next()?, Next::Request(Request::Version)));
-        assert!(rt; matches!(reader.next()?, Next::Request(Request::Quit)));
-        assert!(rt; matches!(reader.next()?, Next::Closed));
-        reader.feed(b"get a\r\n")?;
-        assert!(rt; matches!(reader.peek()?, Peek::Closed));
-        Ok(())
+    /// How many bytes the reader keeps: those that are not taken, and of those taken the ones that are not let go yet,
+    /// which are never more. Where nothing is whole, they are fewer than [`REQUEST_LIMIT`].
+    pub fn held(&self) -> usize
+        ensures held { result ≡ self.now.held }
+        ensures little { KeepsLittle self.now }
+    {
+        self.unread.held()
     }
 }

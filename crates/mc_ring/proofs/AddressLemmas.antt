@@ -1,5 +1,5 @@
 -- Where an address is cut.
-use Rattle.std.proofs.Common.{◌≡◌, ◌==◌, ◌&&◌, ◌+◌, ℕ, Bool, true, false, cond, List, Option, Some, None, length, take, drop, nat_lt, position, refl, sym, ap, ◌∙◌}
+use Rattle.std.proofs.Common.{◌≡◌, ◌==◌, ◌&&◌, ◌+◌, ℕ, Bool, true, false, cond, List, Some, None, length, take, drop, nat_lt, position, sym, ap, ◌∙◌}
 use Rattle.std.proofs.lemmas.List.{drop-drop}
 use Rattle.std.specs.List.{position_or_len}
 use Rattle.mc_ring.specs.Addresses.{is_host, is_port, is_address}

@@ -1,12 +1,12 @@
 -- Pairs of servers.
-use Rattle.std.proofs.Common.{◌≡◌, ℕ, zero, suc, ◌+◌, ◌*◌, ◌<◌, ◌≤◌, List, [], ◌∷◌, ◌++◌, length, map, get_or, refl, sym, ap, ◌∙◌, arith, length-append, append_assoc, append-nil, add-one}
-use Rattle.std.specs.List.{All, Contains}
+use Rattle.std.proofs.Common.{◌≡◌, ℕ, zero, suc, ◌+◌, ◌*◌, ◌<◌, ◌≤◌, List, [], ◌∷◌, ◌++◌, length, get_or, refl, sym, ap, ◌∙◌, arith, length-append, append_assoc, append-nil, add-one}
+use Rattle.std.specs.List.{All}
 use Rattle.std.proofs.lemmas.List.{length-map, map-append}
-use Rattle.std.proofs.lemmas.List.Elements.{All-append, All-map, All-nil, All-contains, Contains-get_or, All-from_get_or}
+use Rattle.std.proofs.lemmas.List.Elements.{All-append, All-map, All-nil, All-contains, Contains-get_or}
 use Rattle.md5.specs.Md5.{md5}
 use Rattle.mc_ring.specs.declared.points.Point.{Point}
 use Rattle.mc_ring.specs.Points.{label, points_of_digest, first_points, points_of, pair_at, pairs_at, pairs_from}
-use Rattle.mc_ring.specs.Rings.{HasSame, Shows}
+use Rattle.mc_ring.specs.Rings.{Shows}
 
 -- one digest more
 pub first_points-more : (address : List ℕ) (k place : ℕ) → pairs_at place (first_points address (k + 1)) ≡ pairs_at place (first_points address k) ++ pairs_at place (points_of_digest (md5 (label address k)))
@@ -17,7 +17,7 @@ pub first_points-none : (address : List ℕ) (place : ℕ) → pairs_at place (f
 unfolding first_points
 first_points-none address place = refl
 
-length-first_points : (address : List ℕ) (k : ℕ) → length (first_points address k) ≡ k * 4
+pub length-first_points : (address : List ℕ) (k : ℕ) → length (first_points address k) ≡ k * 4
 unfolding first_points points_of_digest
 length-first_points address zero = refl
 length-first_points address (suc k) =

@@ -1,6 +1,6 @@
 -- What is true of a new ring.
-use Rattle.std.proofs.Common.{◌≡◌, ◌==◌, ◌||◌, ℕ, ◌+◌, ◌<◌, ◌≤◌, ◌⊎◌, inl, inr, Bool, true, false, cond, nat_lt, nat_le, List, [], ◌∷◌, ◌++◌, Option, Some, None, Err, length, refl, sym, ap, ◌∙◌, subst, arith, length-append}
-use Rattle.std.specs.List.{All, Contains, list_any, list_all}
+use Rattle.std.proofs.Common.{◌≡◌, ◌==◌, ◌||◌, ℕ, ◌+◌, ◌<◌, ◌≤◌, ◌⊎◌, inl, inr, Bool, true, false, cond, nat_lt, nat_le, List, [], ◌∷◌, ◌++◌, Option, Some, None, length, refl, sym, ap, ◌∙◌, arith, length-append}
+use Rattle.std.specs.List.{All, list_any, list_all}
 use Rattle.std.specs.List.Sorted.{IsPermutation}
 use Rattle.std.specs.Option.{option_or, option_map_or}
 use Rattle.std.specs.Str.{bytes_eq}
@@ -13,12 +13,12 @@ use Rattle.std.proofs.lemmas.List.Sorted.{Contains-permutation, IsPermutation-sy
 use Rattle.mc_ring.specs.declared.points.Point.{Point}
 use Rattle.mc_ring.specs.declared.errors.RingError.{RingError}
 use Rattle.mc_ring.specs.declared.errors.RingError.TheVariants.{NoServer, TooMany, Doubled, BadAddress, Memory}
-use Rattle.mc_ring.specs.Points.{points_of, pair_at, pairs_at, pairs_of, pairs_from}
+use Rattle.mc_ring.specs.Points.{points_of, pairs_at, pairs_of}
 use Rattle.mc_ring.specs.Owners.{holder_of, owner_of}
 use Rattle.mc_ring.specs.Rings.{RingState, IsRing, Shows, has_doubled, MovesOnlyTo}
 use Rattle.mc_ring.specs.Refusals.{cause_of, refusal_of, refusal_of_pairs, refusal_of_points, refusal_of_more}
-use Rattle.mc_ring.proofs.OwnerLemmas.{Member, member_from, contains_from, Holds, holds_from, holder_some, holder_is}
-use Rattle.mc_ring.proofs.PairLemmas.{pairs_from-places, pairs_from-some, All-shown, shown-some, more-places, places_are, length-points_of}
+use Rattle.mc_ring.proofs.OwnerLemmas.{member_from, contains_from, holds_from, holder_some, holder_is}
+use Rattle.mc_ring.proofs.PairLemmas.{pairs_from-places, pairs_from-some, All-shown, shown-some, more-places, places_are}
 
 -- ---- refusals
 

@@ -1,7 +1,7 @@
 -- Points in rising order, each once, and the place where a hash stands among them.
-use Rattle.std.proofs.Common.{◌≡◌, ◌==◌, ◌&&◌, ℕ, suc, ◌+◌, ◌<◌, ◌≤◌, ◌⊎◌, inl, inr, Less, Bool, true, false, nat_lt, List, [], ◌∷◌, length, get_or, refl, sym, ap, ◌∙◌, subst, arith}
-use Rattle.std.specs.List.{All, AllPairs, AllWithin, AllByRecursion, Contains, dedup}
-use Rattle.std.specs.List.Sorted.{IsPermutation, IsSorted, IsStrictlySortedBy, IsNonDecreasingBy, IsPartitionedBy, IsPartitionPoint}
+use Rattle.std.proofs.Common.{◌≡◌, ◌==◌, ◌&&◌, ℕ, suc, ◌<◌, ◌≤◌, ◌⊎◌, inl, inr, Less, Bool, true, false, nat_lt, List, [], ◌∷◌, length, get_or, refl, sym, ap, ◌∙◌, subst, arith}
+use Rattle.std.specs.List.{AllByRecursion, dedup}
+use Rattle.std.specs.List.Sorted.{IsPermutation, IsSorted, IsStrictlySortedBy, IsPartitionedBy, IsPartitionPoint}
 use Rattle.std.specs.Ordering.{nat_cmp, ordering_then, eq_by_cmp}
 use Rattle.std.specs.declared.cmp.Ordering.{Ordering}
 use Rattle.std.specs.Cmp.{IsTotalOrder, IsEquivalence}
@@ -13,10 +13,9 @@ use Rattle.std.proofs.lemmas.List.Elements.{All-from_recursion, Contains-get_or}
 use Rattle.std.proofs.lemmas.List.Kept.{AllPairs-cons, Contains-dedup, Contains-from_dedup, IsStrictlySortedBy-dedup}
 use Rattle.std.proofs.lemmas.List.Sorted.{Contains-permutation, IsPermutation-sym, IsPartitionedBy-ltb}
 use Rattle.mc_ring.specs.declared.points.Point.{Point}
-use Rattle.mc_ring.specs.Points.{pair_at}
-use Rattle.mc_ring.specs.Owners.{is_before, holder_of}
+use Rattle.mc_ring.specs.Owners.{is_before}
 use Rattle.mc_ring.specs.Rings.{IsRising, Shows}
-use Rattle.mc_ring.proofs.OwnerLemmas.{IsUpTo, from_before, up_to-refl, same_point, Member, member_from, contains_from, Holds, holder_is}
+use Rattle.mc_ring.proofs.OwnerLemmas.{IsUpTo, from_before, up_to-refl, same_point, Member, member_from, contains_from, Holds}
 
 -- the orders that the code sorts by
 abbrev pub point_cmp : Point → Point → Ordering

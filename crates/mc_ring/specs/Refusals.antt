@@ -1,6 +1,6 @@
 -- When an address or a ring is refused, and for which cause. Want of memory is none of these
 -- causes. All of it is this project's own.
-use Rattle.std.specs.Prelude.{ℕ, ◌==◌, Bool, nat_lt, nat_le, List, [], ◌∷◌, length, Option, Some, None, Result, Ok, Err, if◌then◌else◌}
+use Rattle.std.specs.Prelude.{ℕ, ◌==◌, nat_lt, nat_le, List, length, Option, Some, None, Result, Ok, Err, if◌then◌else◌}
 use Rattle.std.specs.List.{list_all, list_any}
 use Rattle.std.specs.Option.{option_or}
 use Rattle.std.specs.Str.{bytes_eq}

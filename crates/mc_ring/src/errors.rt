@@ -40,24 +40,3 @@ impl<T: Drop> From<AllocFailed<T>> for RingError {
         RingError::Memory
     }
 }
-
-#[cfg(test)]
-mod tests {
-    use super::*;
-    use std::test::Fail;
-
-    #[test]
-    fn errors_have_texts(rt: HostRuntime) -> Result<(), Fail> {
-        let texts = [
-            (RingError::NoServer, "no server"),
-            (RingError::TooMany, "more than 64 servers"),
-            (RingError::Doubled, "server given twice"),
-            (RingError::BadAddress, "bad server address"),
-            (RingError::Memory, "out of memory"),
-        ];
-        for (error, text) in texts {
-            assert_eq!(rt; error.to_string(rt.alloc())?.as_str(), text);
-        }
-        Ok(())
-    }
-}

@@ -1,8 +1,11 @@
 //! Laws of the definitions: what a ring's owner depends on.
-ghost use Rattle.std.specs.Prelude.{◌≡◌, ℕ, List};
+ghost use Rattle.std.specs.Prelude.{◌≡◌, ℕ, List, length};
 ghost use Rattle.mc_ring.specs.declared.points.Point.{Point};
+ghost use Rattle.mc_ring.specs.Points.{points_of};
 ghost use Rattle.mc_ring.specs.Owners.{owner_of};
 ghost use Rattle.mc_ring.specs.Rings.{HasSame, Shows};
+
+use crate::points::POINTS_OF_SERVER;
 
 /// Who owns a hash depends only on which pairs there are, and not on their order, nor on how often each is listed.
 pub fn only_members_count()
@@ -17,4 +20,9 @@ pub fn shown_points_own_alike()
 /// Only one list of points shows some pairs.
 pub fn points_are_one()
     ensures { (pairs points others : List Point) → Shows pairs points → Shows pairs others → points ≡ others }
+{}
+
+/// Each server has as many points as the constant says.
+pub fn every_server_has_its_points()
+    ensures { (address : List ℕ) → length (points_of address) ≡ POINTS_OF_SERVER }
 {}

@@ -22,7 +22,9 @@ mod rows;
 
 pub use addresses::{Address, HOST_LIMIT};
 pub use errors::RingError;
-pub use laws::{only_members_count, points_are_one, shown_points_own_alike};
+pub use laws::{
+    every_server_has_its_points, only_members_count, points_are_one, shown_points_own_alike,
+};
 pub use points::{POINTS_OF_SERVER, Point};
 pub use rings::{Ring, SERVER_LIMIT};
 pub use rows::{

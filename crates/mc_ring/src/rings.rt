@@ -204,6 +204,3 @@ fn copy_of(server: &Address) -> Result<Address, AllocError>
 {
     server.clone()
 }
-
-#[cfg(test)]
-mod tests;

@@ -1,24 +1,27 @@
-//! Worked examples over all crates: what a client is answered, and what a script prints.
+//! Tests over all crates of what no clause says and no script can bring about.
 //!
-//! There is nothing here but tests. What they expect is worked out by hand from the protocol's rules, and is never
-//! taken from what the program wrote.
+//! A script of `tests/examples/` plays bytes to a server. Here is what is left: numbers used up, memory refused, output
+//! taken out in parts, and connections that are admitted and closed. What is expected is worked out by hand from the
+//! protocol's rules, and is never taken from what the program wrote.
 #![tactic(auto)]
 
 #[cfg(test)]
 mod bounds;
 #[cfg(test)]
+mod caches;
+#[cfg(test)]
 mod clients;
 #[cfg(test)]
 mod connections;
 #[cfg(test)]
-mod dialogues;
-#[cfg(test)]
-mod limits;
-#[cfg(test)]
 mod meagre;
 #[cfg(test)]
-mod moments;
+mod replies;
 #[cfg(test)]
-mod rows;
+mod rings;
 #[cfg(test)]
 mod scripts;
+#[cfg(test)]
+mod stores;
+#[cfg(test)]
+mod texts;

@@ -1,5 +1,5 @@
 //! A store that is refused memory.
-ghost use Rattle.std.specs.Prelude.{◌≡◌, []};
+ghost use Rattle.std.specs.Prelude.{◌≡◌, [], None};
 
 use mc_item::{Body, Deadline};
 use mc_store::{ListStore, Store};
@@ -27,6 +27,8 @@ impl MeagreStore {
 impl Store for MeagreStore {
     ghost items = { λ s. s.list };
 
+    ghost most = { λ _. None };
+
     fn len(&self) -> usize {
         self.list.len()
     }
@@ -35,23 +37,27 @@ impl Store for MeagreStore {
         self.list.used()
     }
 
-    fn peek(&self, key: &Key) -> Option<&Body> {
+    fn peek(&self, key: &[u8]) -> Option<&Body> {
         self.list.peek(key)
     }
 
-    fn bring(&mut self, key: &Key) -> bool {
+    fn front(&self) -> Option<&Body> {
+        self.list.front()
+    }
+
+    fn bring(&mut self, key: &[u8]) -> bool {
         self.list.bring(key)
     }
 
-    fn expire(&mut self, key: &Key, expiry: Deadline) -> bool {
+    fn expire(&mut self, key: &[u8], expiry: Deadline) -> bool {
         self.list.expire(key, expiry)
     }
 
-    fn take(&mut self, key: &Key) -> Option<Body> {
+    fn take(&mut self, key: &[u8]) -> Option<Body> {
         self.list.take(key)
     }
 
-    fn replace(&mut self, key: &Key, body: Body) -> Result<Body, Body> {
+    fn replace(&mut self, key: &[u8], body: Body) -> Result<Body, Body> {
         self.list.replace(key, body)
     }
 

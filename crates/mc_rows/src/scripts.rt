@@ -1,48 +1,77 @@
-//! What a script prints.
+//! What no clause says of a script's run: that it succeeds, that a stream which fails is told, and the errors' texts.
 
-use mc_script::{SimError, run};
+use mc_script::{Side, SimError, run};
+use std::alloc::Global;
+use std::io::{self, Read, Write};
 use std::test::Fail;
 
-#[test]
-fn set_then_get(rt: HostRuntime) -> Result<(), Fail> {
-    let script =
-        b"server 1 67108864 1000\nbytes 0 set a 0 0 1\\r\\nx\\r\\nget a\\r\\n\nturn 0 100\nturn 0 100\n";
-    let mut output = Vec::new(rt.alloc());
-    run(rt.alloc(), &mut script.as_slice(), &mut output)?;
-    assert_eq!(rt;
-        output.as_slice(),
-        b"client 0: STORED\\r\\nVALUE a 0 1\\r\\nx\\r\\nEND\\r\\n\n".as_slice()
-    );
-    Ok(())
+/// Gives its bytes at one read, and fails at the next.
+#[derive(Drop)]
+struct Halting {
+    bytes: &'static [u8],
 }
 
-/// Two clients, a turn each: the second finds what the first has stored.
-#[test]
-fn two_clients(rt: HostRuntime) -> Result<(), Fail> {
-    let script =
-        b"server 2 67108864 1000\nbytes 1 get a\\r\\n\nbytes 0 set a 0 0 1\\r\\nx\\r\\n\nturn 0 100\nturn 1 100\n";
-    let mut output = Vec::new(rt.alloc());
-    run(rt.alloc(), &mut script.as_slice(), &mut output)?;
-    assert_eq!(rt;
-        output.as_slice(),
-        b"client 0: STORED\\r\\n\nclient 1: VALUE a 0 1\\r\\nx\\r\\nEND\\r\\n\n".as_slice()
-    );
-    Ok(())
-}
-
-/// A bad line prints nothing, though the lines before it are good.
-#[test]
-fn bad_script_line(rt: HostRuntime) -> Result<(), Fail> {
-    let script =
-        b"server 1 67108864 1000\nbytes 0 set a 0 0 1\\r\\nx\\r\\nget a\\r\\n\nturn 0 100\nturn 1 100\n";
-    let mut output = Vec::new(rt.alloc());
-    match run(rt.alloc(), &mut script.as_slice(), &mut output) {
-        Err(error @ SimError::BadLine(4)) => {
-            assert_eq!(rt; error.to_string(rt.alloc())?.as_str(), "line 4: bad line");
+impl Read for Halting {
+    fn read(&mut self, buf: &mut [u8]) -> io::Result<usize> {
+        let count = self.bytes.read(buf)?;
+        if count == 0 {
+            return Err(io::Error::from(io::ErrorKind::BrokenPipe));
         }
-        Err(error) => return Err(Fail::from(error)),
-        Ok(()) => return Err(Fail::from("no bad line")),
+        Ok(count)
     }
-    assert!(rt; output.is_empty());
+}
+
+/// Takes so many bytes, and fails then.
+#[derive(Drop)]
+struct Filling {
+    left: usize,
+}
+
+impl Write for Filling {
+    fn write(&mut self, buf: &[u8]) -> io::Result<usize> {
+        if self.left == 0 {
+            return Err(io::Error::from(io::ErrorKind::BrokenPipe));
+        }
+        let count = self.left.min(buf.len());
+        self.left -= count;
+        Ok(count)
+    }
+
+    fn flush(&mut self) -> io::Result<()> {
+        Ok(())
+    }
+}
+
+/// What is said of a run's outcome.
+fn told(alloc: Global, outcome: Result<(), SimError>) -> Result<String, Fail> {
+    match outcome {
+        Ok(()) => Ok(format!(in alloc; "done")?),
+        Err(error) => Ok(format!(in alloc; "{error}, status {}", error.status())?),
+    }
+}
+
+const SCRIPT: &[u8] = b"server 1 64 2\nbytes 0 get a\\r\\n\nturn 0 1\n";
+
+#[test]
+fn runs_end_so(rt: HostRuntime) -> Result<(), Fail> {
+    let mut printed = Vec::new(rt.alloc());
+    run(rt.alloc(), &mut { SCRIPT }, &mut printed)?;
+    assert_eq!(rt; printed.as_slice(), b"client 0: END\\r\\n\n".as_slice());
+
+    let mut unprinted = Vec::new(rt.alloc());
+    let halted = run(rt.alloc(), &mut Halting { bytes: SCRIPT }, &mut unprinted);
+    assert!(rt; matches!(halted, Err(SimError::Stream(Side::Input))) && unprinted.is_empty());
+
+    let filled = run(rt.alloc(), &mut { SCRIPT }, &mut Filling { left: 7 });
+    assert!(rt; matches!(filled, Err(SimError::Stream(Side::Output))));
+
+    let rows = [
+        (filled, "input or output failed, status 3"),
+        (Err(SimError::BadLine(4)), "line 4: bad line, status 2"),
+        (Err(SimError::Memory), "out of memory, status 4"),
+    ];
+    for (outcome, text) in rows {
+        assert_eq!(rt; told(rt.alloc(), outcome)?.as_str(), text);
+    }
     Ok(())
 }

@@ -1,3 +1,4 @@
+pub mod AnswerLemmas
 pub mod EscapeLemmas
 pub mod HistoryLemmas
 pub mod LineLemmas

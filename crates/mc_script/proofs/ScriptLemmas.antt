@@ -57,5 +57,5 @@ script_of_lines-server n line lines rest server first is = rw (first, is) refl
 -- a bad line among the events is one of the script
 pub explains-more : (e : SimError) (server : ℕ × ℕ × ℕ) (events : Result (List Event) ℕ) → Explains e events → Explains e (with_events server events)
 explains-more (BadLine m) server events h = rw h refl
-explains-more Stream server events h = h
+explains-more (Stream side) server events h = h
 explains-more Memory server events h = tt

@@ -1,7 +1,9 @@
 -- The outputs of a script: the answers of one legal history.
-use Rattle.std.specs.Prelude.{◌≡◌, ℕ, ◌==◌, nat_lt, Bool, List, [], ◌∷◌, ◌++◌, length, take, map, count_by, if◌then◌else◌}
+use Rattle.std.specs.Prelude.{◌≡◌, ℕ, ◌==◌, nat_lt, Bool, List, [], ◌∷◌, ◌++◌, length, take, map, count_by, All, false, if◌then◌else◌}
 use Rattle.std.specs.List.{flat_map, range_with_len}
+use Rattle.mc_request.specs.Faults.{fault_line}
 use Rattle.mc_request.specs.Requests.{requests_of}
+use Rattle.mc_request.specs.declared.faults.Fault.TheVariants.{OutOfMemory}
 use Rattle.mc_cache.specs.CacheState.{CacheState, opening_cache}
 use Rattle.mc_server.specs.Served.{Entry}
 use Rattle.mc_server.specs.Histories.{answers_to, taken_of, turns_of, IsLegalHistory}
@@ -55,3 +57,18 @@ pub record Answers (script : ScriptSeen) (outputs : List (List ℕ)) : Type 0 wh
 -- which entries of a history were refused memory
 abbrev pub refusals_of : List Entry → List Bool
 refusals_of entries = map (λ e. e.refused) entries
+
+-- outputs answer a script, and memory was refused to nothing
+pub record AnswersUnrefused (script : ScriptSeen) (outputs : List (List ℕ)) : Type 0 where
+  pub answers : Answers script outputs
+  pub granted : All (λ refused. refused ≡ false) (refusals_of answers.history)
+
+-- some bytes have others as a part
+pub record HasPart (bytes part : List ℕ) : Type 0 where
+  pub before : List ℕ
+  pub behind : List ℕ
+  pub is : bytes ≡ before ++ part ++ behind
+
+-- no output has the line for want of memory as a part
+abbrev pub TellNoRefusal : List (List ℕ) → Type 0
+TellNoRefusal outputs = All (λ bytes. ¬ HasPart bytes (fault_line OutOfMemory)) outputs

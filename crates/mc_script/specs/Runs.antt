@@ -6,6 +6,7 @@ use Rattle.mc_script.specs.Scripts.{ScriptSeen, script_of}
 use Rattle.mc_script.specs.Answers.{Answers}
 use Rattle.mc_script.specs.declared.errors.SimError.{SimError}
 use Rattle.mc_script.specs.declared.errors.SimError.TheVariants.{BadLine, Stream, Memory}
+use Rattle.mc_script.specs.declared.errors.Side.TheVariants.{Input, Output}
 
 -- a text is that of outputs which answer the script that the input is
 pub record IsTextOf (input text : List ℕ) : Type 0 where
@@ -21,14 +22,15 @@ pub record Prints (input : List ℕ) (old new : Option (List ℕ)) : Type 0 wher
   pub is : IsTextOf input text
   pub written : Appends old new text
 
--- a bad line and a want of memory stop a run before anything is written
+-- whatever stops a run but a failed write stops it before anything is written
 abbrev pub StopsBeforeWriting : SimError → Option (List ℕ) → Option (List ℕ) → Type 0
 StopsBeforeWriting (BadLine n) old new = Keeps old new
+StopsBeforeWriting (Stream Input) old new = Keeps old new
+StopsBeforeWriting (Stream Output) old new = Unit {0}
 StopsBeforeWriting Memory old new = Keeps old new
-StopsBeforeWriting Stream old new = Unit {0}
 
--- a bad line is the first one of the input
+-- where a run stopped at a bad line, that is the first one of the input
 abbrev pub IsBadLineOf : SimError → List ℕ → Type 0
 IsBadLineOf (BadLine n) input = script_of input ≡ Err n
-IsBadLineOf Stream input = Unit {0}
+IsBadLineOf (Stream side) input = Unit {0}
 IsBadLineOf Memory input = Unit {0}

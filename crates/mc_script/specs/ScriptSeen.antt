@@ -12,5 +12,5 @@ script_seen s = record { connections = s.connections; budget = s.budget; items =
 -- why reading stopped: at the first bad line, or for want of memory, which can come at any time
 abbrev pub Explains : {Y : Type 0} → SimError → Result Y ℕ → Type 0
 Explains (BadLine n) read = read ≡ Err n
-Explains Stream read = ⊥
+Explains (Stream side) read = ⊥
 Explains Memory read = Unit {0}

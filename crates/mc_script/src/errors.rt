@@ -1,10 +1,9 @@
 //! Errors.
 ghost use Rattle.std.specs.Prelude.{◌≡◌};
-ghost use Rattle.mc_script.specs.declared.errors.SimError.TheVariants.{Memory, Stream};
+ghost use Rattle.mc_script.specs.declared.errors.SimError.TheVariants.{Memory};
 ghost use Rattle.mc_script.specs.Statuses.{status_of};
 
 use std::alloc::{AllocError, AllocFailed};
-use std::io;
 use thiserror::Error;
 
 /// Why a script was not run to its end.
@@ -13,12 +12,21 @@ pub enum SimError {
     /// 1: the line of this number, counted from 1, is no line of a script. It is the first such line.
     #[error("line {0}: bad line")]
     BadLine(u64),
-    /// 2: a read or a write failed, or the input did not end.
+    /// 2: a read failed, or the input did not end; or a write failed.
     #[error("input or output failed")]
-    Stream,
+    Stream(Side),
     /// 3: no memory.
     #[error("out of memory")]
     Memory,
+}
+
+/// Which of a run's two streams failed.
+#[derive(Clone, Copy, Debug, PartialEq, Eq)]
+pub enum Side {
+    /// The reader of the script.
+    Input,
+    /// The writer of the lines.
+    Output,
 }
 
 impl SimError {
@@ -28,17 +36,9 @@ impl SimError {
     {
         match self {
             SimError::BadLine(_) => 2,
-            SimError::Stream => 3,
+            SimError::Stream(_) => 3,
             SimError::Memory => 4,
         }
-    }
-}
-
-impl From<io::Error> for SimError {
-    ghost from_gives = { λ _ e. e ≡ Stream };
-
-    fn from(_e: io::Error) -> SimError {
-        SimError::Stream
     }
 }
 
@@ -55,24 +55,5 @@ impl<T: Drop> From<AllocFailed<T>> for SimError {
 
     fn from(_e: AllocFailed<T>) -> SimError {
         SimError::Memory
-    }
-}
-
-#[cfg(test)]
-mod tests {
-    use super::*;
-    use std::test::Fail;
-
-    #[test]
-    fn errors_have_texts(rt: HostRuntime) -> Result<(), Fail> {
-        let texts = [
-            (SimError::BadLine(7), "line 7: bad line"),
-            (SimError::Stream, "input or output failed"),
-            (SimError::Memory, "out of memory"),
-        ];
-        for (error, text) in texts {
-            assert_eq!(rt; error.to_string(rt.alloc())?.as_str(), text);
-        }
-        Ok(())
     }
 }

@@ -183,30 +183,3 @@ fn letter_value(letter: u8) -> Option<u8>
         _ => None,
     }
 }
-
-#[cfg(test)]
-mod tests {
-    use super::*;
-    use std::test::Fail;
-
-    #[test]
-    fn a_line_is_printed(rt: HostRuntime) -> Result<(), Fail> {
-        let mut out = Vec::new(rt.alloc());
-        push_client_line(0, b"a b\\\r\n\x00\xff".as_slice(), &mut out)?;
-        assert_eq!(rt;
-            out.as_slice(),
-            b"client 0: a b\\\\\\r\\n\\x00\\xff\n".as_slice()
-        );
-        Ok(())
-    }
-
-    #[test]
-    fn what_was_escaped_is_read(rt: HostRuntime) -> Result<(), Fail> {
-        let mut out = Vec::new(rt.alloc());
-        push_escaped(b"\x7f~\t".as_slice(), &mut out)?;
-        assert_eq!(rt; out.as_slice(), b"\\x7f~\\x09".as_slice());
-        let bytes = read_escaped(rt.alloc(), out.as_slice())?.ok_or("no escape")?;
-        assert_eq!(rt; bytes.as_slice(), b"\x7f~\t".as_slice());
-        Ok(())
-    }
-}

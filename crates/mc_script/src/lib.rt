@@ -1,8 +1,10 @@
 //! Scripts of events for a server: read, checked, run and printed.
 //!
-//! A caller meets the calls in this order: [`read_input`] takes all that a reader gives, [`read_script`] reads it
-//! as a [`Script`], [`push_client_line`] prints what a client was sent, and [`run`] joins them. [`push_escaped`]
-//! and [`read_escaped`] are the two directions of the escapes that scripts and printed lines have.
+//! [`text_of_script`] goes from a script's bytes to what is printed for it: its contract is the main theorem. [`run`]
+//! is that call between a reader and a writer. A caller that wants the parts meets them in this order: [`read_input`]
+//! takes all that a reader gives, [`read_script`] reads it as a [`Script`], and [`push_client_line`] prints what a client
+//! was sent. [`push_escaped`] and [`read_escaped`] are the two directions of the escapes that scripts and printed lines
+//! have.
 //!
 //! A script is lines of text: `server <connections> <budget> <items>`, then `bytes <connection> <text>` and
 //! `turn <connection> <moment>`; connections have the numbers from 0 on. What each means is said by the definitions in
@@ -20,11 +22,11 @@ mod rows;
 mod runs;
 mod scripts;
 
-pub use errors::SimError;
+pub use errors::{Side, SimError};
 pub use escapes::{escaped_is_read_again, push_client_line, push_escaped, read_escaped};
 pub use events::{Event, Script};
 pub use input::read_input;
-pub use laws::one_output;
+pub use laws::{one_output, only_output, some_output};
 pub use rows::{texts_by_connection, turns_that_find_one};
-pub use runs::run;
+pub use runs::{run, text_of_script};
 pub use scripts::read_script;

@@ -1,12 +1,11 @@
 //! The outputs of a script: a server plays its events.
-ghost use Rattle.std.specs.Prelude.{◌≡◌, ◌<◌, ◌^◌, ◌-◌, ◌++◌, length, IsSome, IfOk, IfErr, OnOk};
+ghost use Rattle.std.specs.Prelude.{◌≡◌, ◌<◌, ◌^◌, ◌-◌, ◌++◌, ◌↔◌, length, IsSome, IsOk, IsErrOf, IsOkUnless, IfOk, OnOk};
 ghost use Rattle.mc_server.specs.ServerState.{connection_at, with_fresh};
 ghost use Rattle.mc_script.specs.Answers.{Answers, cache_of};
 ghost use Rattle.mc_script.specs.Escapes.{client_lines};
 ghost use Rattle.mc_script.specs.Events.{moment_of, number_of};
 ghost use Rattle.mc_script.specs.Plays.{Plays, opened, outputs_of};
 ghost use Rattle.mc_script.specs.ScriptSeen.{script_seen};
-ghost use Rattle.mc_script.specs.Statuses.{IsNoBadLine};
 
 use crate::errors::SimError;
 use crate::escapes::push_client_line;
@@ -24,7 +23,7 @@ use std::alloc::{AllocError, Global};
 /// right.
 pub fn played_server(alloc: Global, script: &Script) -> Result<Server<ListStore>, SimError>
     ensures outputs { IfOk result (λ server. Answers (script_seen script.now) (outputs_of script.now.connections server)) }
-    ensures error { IfErr result (λ error. IsNoBadLine error) }
+    ensures only_memory { IsOkUnless result SimError.Memory }
 {
     let mut server = opened_server(alloc, script)?;
     for event in &script.events {
@@ -50,10 +49,11 @@ pub fn push_output_lines(
 /// A server with an empty cache and fresh connections, as the script wants them.
 fn opened_server(alloc: Global, script: &Script) -> Result<Server<ListStore>, SimError>
     ensures server { IfOk result (λ server. server ≡ opened (cache_of (script_seen script.now)) script.now.connections) }
-    ensures error { IfErr result (λ error. IsNoBadLine error) }
+    ensures only_memory { IsOkUnless result SimError.Memory }
 {
     let store = ListStore::new(alloc);
     let cache = Cache::new(
+        alloc,
         store,
         script.budget,
         script.items,
@@ -66,32 +66,37 @@ fn opened_server(alloc: Global, script: &Script) -> Result<Server<ListStore>, Si
     Ok(server)
 }
 
-/// Opens one connection more. Only memory can be refused.
+/// Opens one connection more.
 fn admit(server: &mut Server<ListStore>) -> Result<(), SimError>
     requires room { length server.old.connections < 1024 }
     requires number { server.old.admitted < 2 ^ 64 - 1 }
     ensures admitted { OnOk result (server.new ≡ with_fresh server.old) }
-    ensures error { IfErr result (λ error. IsNoBadLine error) }
+    ensures only_memory { IsOkUnless result SimError.Memory }
 {
-    match server.admit() {
-        Ok(_) => Ok(()),
-        Err(ServerError::Memory) => Err(SimError::Memory),
-        Err(ServerError::NoConnection | ServerError::TooMany) => unreachable!(),
-    }
+    refused_memory_alone(server.admit().map(|_| ()))
 }
 
-/// One event. Only memory can be refused.
+/// One event.
 fn play(server: &mut Server<ListStore>, event: &Event) -> Result<(), SimError>
     requires connection { IsSome (connection_at server.old (number_of event.now)) }
     requires moment { moment_of event.now < 2 ^ 63 }
     ensures played { OnOk result (Plays event.now server.old server.new) }
-    ensures error { IfErr result (λ error. IsNoBadLine error) }
+    ensures only_memory { IsOkUnless result SimError.Memory }
 {
-    let played = match event {
+    refused_memory_alone(match event {
         Event::Bytes { connection, bytes } => server.feed(*connection, bytes.as_slice()),
         Event::Turn { connection, moment } => server.turn(*connection, *moment).map(|_| ()),
-    };
-    match played {
+    })
+}
+
+/// What a call of a server answered that could be refused memory alone.
+fn refused_memory_alone(called: Result<(), ServerError>) -> Result<(), SimError>
+    requires connection { ¬ IsErrOf called ServerError.NoConnection }
+    requires few { ¬ IsErrOf called ServerError.TooMany }
+    ensures ok { IsOk result ↔ IsOk called }
+    ensures only_memory { IsOkUnless result SimError.Memory }
+{
+    match called {
         Ok(()) => Ok(()),
         Err(ServerError::Memory) => Err(SimError::Memory),
         Err(ServerError::NoConnection | ServerError::TooMany) => unreachable!(),

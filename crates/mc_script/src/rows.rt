@@ -1,5 +1,5 @@
 //! Worked examples, computed from the definitions alone.
-#![tactic(auto, unfolding(mc_text::specs::Lines::line_end, mc_text::specs::Lines::first_line, mc_request::specs::Names::name_of, mc_request::specs::Requests::next_request, mc_request::specs::Requests::requests_within, mc_request::specs::Requests::requests_of))]
+#![tactic(auto, unfolding(mc_text::specs::Words::words, mc_text::specs::Lines::line_end, mc_text::specs::Lines::first_line, mc_request::specs::Names::name_of, mc_request::specs::Requests::next_request, mc_request::specs::Requests::requests_within, mc_request::specs::Requests::requests_of))]
 
 ghost use Rattle.std.specs.Prelude.{◌≡◌, [], ◌∷◌, codes};
 ghost use Rattle.mc_script.specs.Answers.{text_fed, turns_served};

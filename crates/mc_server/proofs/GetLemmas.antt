@@ -1,22 +1,24 @@
 -- A retrieval command, key by key.
-use Rattle.std.proofs.Common.{◌≡◌, ◌∙◌, ℕ, ℤ, ◌+◌, ◌<◌, ◌≤◌, Bool, false, List, [], ◌∷◌, ◌++◌, length, get_or, drop, map, Option, Some, refl, sym, ap, append_assoc, arith}
+use Rattle.std.proofs.Common.{◌≡◌, ◌∙◌, ℕ, ℤ, ◌≤◌, Bool, true, false, ◌&&◌, List, [], ◌∷◌, ◌++◌, length, map, Option, refl, sym, ap, append_assoc, arith}
 use Rattle.std.specs.Borrow.{Bor}
-use Rattle.std.proofs.lemmas.List.{at_drop_more, at_drop_all, append-nil}
+use Rattle.std.specs.List.{list_all}
+use Rattle.mc_text.specs.Keys.{is_plain_key}
+use Rattle.std.proofs.lemmas.List.{append-nil}
 use Rattle.mc_request.specs.Atoms.{gets_of}
 use Rattle.mc_request.specs.declared.parts.Atom.TheVariants as atoms
-use Rattle.mc_request.specs.declared.parts.Request.{Request}
 use Rattle.mc_request.specs.declared.parts.Request.TheVariants.{Get}
+use Rattle.mc_request.specs.declared.parts.Taken.{Taken}
 use Rattle.mc_request.specs.declared.parts.Taken.TheVariants.{Whole}
-use Rattle.mc_reply.proofs.SpellingLemmas.{answer_of-get}
 use Rattle.mc_reply.specs.declared.replies.Reply.{Reply}
 use Rattle.mc_reply.specs.declared.replies.Reply.TheVariants.{Stored, NotStored, Exists, NotFound, Deleted, Touched, Flushed, Number, Miss, Hit, Fault}
 use Rattle.mc_reply.specs.Replies.{filled}
 use Rattle.mc_reply.specs.Seen.{bytes_seen, value_len}
-use Rattle.mc_reply.specs.Spelling.{part_of, parts_from}
+use Rattle.mc_reply.specs.Spelling.{key_part, blocks_of, end_line, answer}
 use Rattle.mc_cache.specs.CacheState.{CacheState}
 use Rattle.mc_cache.specs.Replay.{Command, replay, replies, IsLegal}
-use Rattle.mc_cache.specs.Step.{step_of, Outcome}
-use Rattle.mc_server.specs.Served.{Serves}
+use Rattle.mc_cache.specs.Step.{step_of}
+use Rattle.mc_server.specs.Served.{Serves, atoms_taken}
+use Rattle.mc_server.proofs.RefusalLemmas.{gets_tell_none}
 
 -- the bytes of a reply that is filled with a lent value
 pub bytes_seen-filled : {V : Type 0} (reply : Reply V) (value : Bor (List ℕ)) → bytes_seen (filled reply value) ≡ filled reply value.now
@@ -56,48 +58,50 @@ gets_are_legal s exptime with_cas moment [] = tt
 gets_are_legal s exptime with_cas moment (key ∷ keys) =
     (λ refused. absurd cc, gets_are_legal (step_of s (atoms.Get key exptime with_cas) moment false).0 exptime with_cas moment keys)
 
--- the keys before a place are served: what those from it on will do and add is all that is missing
-pub record IsServing (request : Request) (keys : List (List ℕ)) (exptime : Option ℤ) (with_cas : Bool) (moment at : ℕ) (s now : CacheState) (before output : List ℕ) : Type 0 where
-  pub cache : replay now (gets exptime with_cas moment (drop at keys)) ≡ replay s (gets exptime with_cas moment keys)
-  pub answered : output ++ parts_from request at (replies now (gets exptime with_cas moment (drop at keys)))
-      ≡ before ++ parts_from request 0 (replies s (gets exptime with_cas moment keys))
+both_of : (a b : Bool) → (a && b) ≡ true → (a ≡ true) × (b ≡ true)
+both_of true b e = (refl, e)
+both_of false b e = absurd cc
 
-pub serving_none : (request : Request) (keys : List (List ℕ)) (exptime : Option ℤ) (with_cas : Bool) (moment : ℕ) (s : CacheState) (before : List ℕ)
-    → IsServing request keys exptime with_cas moment 0 s s before before
-serving_none request keys exptime with_cas moment s before = record { cache = refl; answered = refl }
+-- a good key and the good keys behind it
+pub good_keys : (all left : List (List ℕ)) (key : List ℕ) → all ≡ key ∷ left → list_all is_plain_key all ≡ true → (is_plain_key key ≡ true) × (list_all is_plain_key left ≡ true)
+good_keys all left key all_is good = both_of (is_plain_key key) (list_all is_plain_key left) (rw all_is at good)
+
+-- the keys but those that are left are served: what those do and add is all that is missing
+pub record IsServing (keys left : List (List ℕ)) (exptime : Option ℤ) (with_cas : Bool) (moment : ℕ) (s now : CacheState) (before output : List ℕ) : Type 0 where
+  pub cache : replay now (gets exptime with_cas moment left) ≡ replay s (gets exptime with_cas moment keys)
+  pub answered : output ++ blocks_of left (replies now (gets exptime with_cas moment left))
+      ≡ before ++ blocks_of keys (replies s (gets exptime with_cas moment keys))
+
+pub serving_none : (keys : List (List ℕ)) (exptime : Option ℤ) (with_cas : Bool) (moment : ℕ) (s : CacheState) (before : List ℕ)
+    → IsServing keys keys exptime with_cas moment s s before before
+serving_none keys exptime with_cas moment s before = record { cache = refl; answered = refl }
 
 -- one key more
-pub serving_more : (request : Request) (keys : List (List ℕ)) (exptime : Option ℤ) (with_cas : Bool) (moment at : ℕ) (s now next : CacheState) (before output longer : List ℕ) (reply seen : Reply (List ℕ))
-    → at < length keys → step_of now (atoms.Get (get_or keys at []) exptime with_cas) moment false ≡ (next, reply)
-    → seen ≡ reply → longer ≡ output ++ part_of request at (Some seen)
-    → IsServing request keys exptime with_cas moment at s now before output
-    → IsServing request keys exptime with_cas moment (at + 1) s next before longer
-serving_more request keys exptime with_cas moment at s now next before output longer reply seen inside step seen_is longer_is h =
-    let longer_by : longer ≡ output ++ part_of request at (Some reply) = longer_is ∙ ap (λ (r : Reply (List ℕ)). output ++ part_of request at (Some r)) seen_is in
+pub serving_more : (keys left : List (List ℕ)) (key : List ℕ) (exptime : Option ℤ) (with_cas : Bool) (moment : ℕ) (s now next : CacheState) (before output longer : List ℕ)
+    → next ≡ (step_of now (atoms.Get key exptime with_cas) moment false).0
+    → longer ≡ output ++ key_part key (step_of now (atoms.Get key exptime with_cas) moment false).1
+    → IsServing keys (key ∷ left) exptime with_cas moment s now before output
+    → IsServing keys left exptime with_cas moment s next before longer
+serving_more keys left key exptime with_cas moment s now next before output longer next_is longer_is h =
+    let part = key_part key (step_of now (atoms.Get key exptime with_cas) moment false).1 in
+    let after = blocks_of left (replies (step_of now (atoms.Get key exptime with_cas) moment false).0 (gets exptime with_cas moment left)) in
     record {
-      cache = ap (λ (o : Outcome). replay o.0 (gets exptime with_cas moment (drop (at + 1) keys))) (sym step)
-          ∙ sym (at_drop_more (λ (ks : List (List ℕ)). replay now (gets exptime with_cas moment ks)) keys at [] inside) ∙ h.cache;
-      answered =
-          ap (λ (bytes : List ℕ). bytes ++ parts_from request (at + 1) (replies next (gets exptime with_cas moment (drop (at + 1) keys)))) longer_by
-          ∙ append_assoc output (part_of request at (Some reply)) (parts_from request (at + 1) (replies next (gets exptime with_cas moment (drop (at + 1) keys))))
-          ∙ ap (λ (o : Outcome). output ++ parts_from request at (o.1 ∷ replies o.0 (gets exptime with_cas moment (drop (at + 1) keys)))) (sym step)
-          ∙ sym (at_drop_more (λ (ks : List (List ℕ)). output ++ parts_from request at (replies now (gets exptime with_cas moment ks))) keys at [] inside)
-          ∙ h.answered;
+      cache = rw next_is h.cache;
+      answered = rw (next_is, longer_is) (append_assoc output part after ∙ h.answered);
     }
 
--- all keys are served
-pub serving_all : (number : ℕ) (keys : List (List ℕ)) (exptime : Option ℤ) (with_cas : Bool) (moment at : ℕ) (s now : CacheState) (before output : List ℕ)
-    → length keys ≤ at → IsServing (Get keys exptime with_cas) keys exptime with_cas moment at s now before output
-    → Serves s now (record { connection = number; what = Whole (Get keys exptime with_cas); moment = moment; refused = false }) before output
-serving_all number keys exptime with_cas moment at s now before output past h = record {
-  legal = gets_are_legal s exptime with_cas moment keys;
-  cache = sym (at_drop_all (λ (ks : List (List ℕ)). replay now (gets exptime with_cas moment ks)) keys at past) ∙ h.cache;
-  answered =
-      sym (append-nil output)
-      ∙ sym (at_drop_all (λ (ks : List (List ℕ)). output ++ parts_from (Get keys exptime with_cas) at (replies now (gets exptime with_cas moment ks))) keys at past)
-      ∙ h.answered
-      ∙ ap (λ (bytes : List ℕ). before ++ bytes) (sym (answer_of-get keys exptime with_cas (replies s (gets exptime with_cas moment keys))));
-}
+-- all keys are served, and the end is written
+pub serving_all : (number : ℕ) (keys : List (List ℕ)) (exptime : Option ℤ) (with_cas : Bool) (moment : ℕ) (s now : CacheState) (before output whole : List ℕ)
+    → IsServing keys [] exptime with_cas moment s now before output → whole ≡ output ++ end_line
+    → Serves s now (record { connection = number; what = Whole (Get keys exptime with_cas); moment = moment; refused = false }) before whole
+serving_all number keys exptime with_cas moment s now before output whole h whole_is =
+    let all = replies s (gets exptime with_cas moment keys) in
+    let served : output ≡ before ++ blocks_of keys all = sym (append-nil output) ∙ h.answered in
+    record {
+      legal = (gets_are_legal s exptime with_cas moment keys, sym (gets_tell_none s exptime with_cas moment false keys));
+      cache = h.cache;
+      answered = whole_is ∙ ap (λ (bytes : List ℕ). bytes ++ end_line) served ∙ append_assoc before (blocks_of keys all) end_line;
+    }
 
 -- what the code's reply shows of the value that it was filled with
 pub filled_is_seen : {V : Type 0} (reply : Reply V) (value : Bor (List ℕ)) (held : List ℕ) (whole : Reply (Bor (List ℕ)))
@@ -108,3 +112,9 @@ filled_is_seen reply value held whole whole_is held_is =
 pub filled_fits : {V : Type 0} (reply : Reply V) (value : Bor (List ℕ)) (held : List ℕ) (whole : Reply (Bor (List ℕ)))
     → whole ≡ filled reply value → value.now ≡ held → value_len (bytes_seen whole) ≤ length held
 filled_fits reply value held whole whole_is held_is = rw (filled_is_seen reply value held whole whole_is held_is) (value_len-filled reply held)
+
+-- what makes no command
+pub nothing_served : (number moment : ℕ) (s : CacheState) (what : Taken) (before after : List ℕ) → atoms_taken what ≡ [] → after ≡ before ++ answer what []
+    → Serves s s (record { connection = number; what = what; moment = moment; refused = false }) before after
+nothing_served number moment s what before after none after_is =
+    record { legal = rw none (tt, refl); cache = rw none refl; answered = rw none after_is }

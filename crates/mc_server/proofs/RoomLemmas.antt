@@ -1,36 +1,38 @@
 -- The room of keys, one by one.
-use Rattle.std.proofs.Common.{◌≡◌, ◌∙◌, ℕ, ◌+◌, ◌<◌, ◌≤◌, List, [], ◌∷◌, length, get_or, drop, min, sym, ap, arith}
-use Rattle.std.proofs.Math.Nat.{min-eq_left}
-use Rattle.std.proofs.lemmas.List.{at_drop_more, at_drop_all}
+use Rattle.std.proofs.Common.{◌≡◌, ℕ, ◌+◌, ◌<◌, ◌≤◌, ◌&&◌, Bool, true, false, nat_lt, List, [], ◌∷◌, length, arith}
+use Rattle.std.proofs.lemmas.Bool.Decides.{nat_tests}
+use Rattle.mc_request.specs.declared.parts.Request.TheVariants.{Get, Update, Version, Quit}
+use Rattle.mc_request.specs.declared.parts.Taken.{Taken}
+use Rattle.mc_request.specs.declared.parts.Taken.TheVariants.{Whole, Faulty}
+use Rattle.mc_request.specs.WellFormed.{is_well_formed}
 use Rattle.mc_cache.specs.CacheState.{CacheState, value_at}
-use Rattle.mc_server.specs.Rooms.{keys_room}
-
--- the room from a key on is that of the key, and that of those behind it
-pub keys_room-drop : (keys : List (List ℕ)) (s : CacheState) (at : ℕ) → at < length keys
-    → keys_room (drop at keys) s ≡ length (value_at (get_or keys at []) s.items) + 512 + keys_room (drop (at + 1) keys) s
-keys_room-drop keys s at inside = at_drop_more (λ (ks : List (List ℕ)). keys_room ks s) keys at [] inside
-
--- behind the last key no room is needed
-pub keys_room-drop_all : (keys : List (List ℕ)) (s : CacheState) (at : ℕ) → length keys ≤ at → keys_room (drop at keys) s ≡ 0
-keys_room-drop_all keys s at past = at_drop_all (λ (ks : List (List ℕ)). keys_room ks s) keys at past
-
-pub ruleset rooms = (keys_room-drop, keys_room-drop_all)
+use Rattle.mc_server.specs.Rooms.{keys_room, room_of, taken_bound}
 
 -- where no value gets longer, no more room is needed
-keys_room-shrinks : (keys : List (List ℕ)) (s t : CacheState)
-    → ((other : List ℕ) → length (value_at other t.items) ≤ length (value_at other s.items)) → keys_room keys t ≤ keys_room keys s
-keys_room-shrinks [] s t shrinks = omega arith
-keys_room-shrinks (key ∷ keys) s t shrinks = omega (arith, shrinks key, keys_room-shrinks keys s t shrinks)
+pub keys_room-shrinks : (beside : ℕ) (keys : List (List ℕ)) (s t : CacheState)
+    → ((other : List ℕ) → length (value_at other t.items) ≤ length (value_at other s.items)) → keys_room beside keys t ≤ keys_room beside keys s
+keys_room-shrinks beside [] s t shrinks = omega arith
+keys_room-shrinks beside (key ∷ keys) s t shrinks = omega (arith, shrinks key, keys_room-shrinks beside keys s t shrinks)
 
--- once a key's command is made, the room from the key on is enough for what it shows and for those behind it
-pub keys_room-step : (keys : List (List ℕ)) (s t : CacheState) (at : ℕ) (key : List ℕ) → at < length keys → key ≡ get_or keys at []
-    → ((other : List ℕ) → length (value_at other t.items) ≤ length (value_at other s.items))
-    → length (value_at key t.items) + 512 + keys_room (drop (at + 1) keys) t ≤ keys_room (drop at keys) s
-keys_room-step keys s t at key inside key_is shrinks =
-    rw key_is (omega (arith, keys_room-drop keys s at inside, shrinks (get_or keys at []), keys_room-shrinks (drop (at + 1) keys) s t shrinks))
+-- with more beside each key, there is more room
+keys_room-wider : (beside wider : ℕ) (keys : List (List ℕ)) (s : CacheState) → beside ≤ wider → keys_room beside keys s ≤ keys_room wider keys s
+keys_room-wider beside wider [] s le = omega arith
+keys_room-wider beside wider (key ∷ keys) s le = omega (arith, le, keys_room-wider beside wider keys s le)
 
--- a sum that stops at a limit is the whole, where nothing is to come
-pub room_is : (room more whole limit : ℕ) → more ≡ 0 → room ≤ limit → min (room + more) limit ≡ min whole limit → room ≡ min whole limit
-room_is room more whole limit none bound same =
-    let all : room + more ≡ room = omega arith in
-    sym (min-eq_left bound) ∙ ap (λ (n : ℕ). min n limit) (sym all) ∙ same
+some_keys : (b c : Bool) → (b && c) ≡ true → b ≡ true
+some_keys true c h = cc
+some_keys false c h = absurd cc
+
+-- the room of an answer is within what a caller is told
+keys_within : (keys : List (List ℕ)) (s : CacheState) → 0 < length keys → 64 + keys_room 384 keys s ≤ keys_room 1024 keys s
+keys_within [] s some = absurd (omega arith)
+keys_within (key ∷ keys) s some = omega (arith, keys_room-wider 384 1024 keys s (omega arith))
+
+pub room_within : (what : Taken) (s : CacheState) → is_well_formed what ≡ true → room_of what s ≤ taken_bound what s
+room_within (Faulty fault) s good = omega arith
+room_within (Whole (Get keys exptime with_cas)) s good =
+    let some : nat_lt 0 (length keys) ≡ true = some_keys (nat_lt 0 (length keys)) _ (some_keys (nat_lt 0 (length keys) && _) _ good) in
+    keys_within keys s (grind (arith, nat_tests, some))
+room_within (Whole (Update update noreply)) s good = omega arith
+room_within (Whole Version) s good = omega arith
+room_within (Whole Quit) s good = omega arith

@@ -1,114 +1,125 @@
-//! Serving what was taken: the cache makes its commands, and the answer goes behind the output.
-ghost use Rattle.std.specs.Prelude.{◌≡◌, ◌+◌, ◌≤◌, ◌<◌, ◌^◌, ◌≢◌, ◌-◌, min, Bool, false, ℕ, vec_len, vec_capacity};
+//! Serving what stands first in a reader: the cache makes its commands, and the answer goes behind the output.
+ghost use Rattle.std.specs.Prelude.{◌≡◌, ◌+◌, ◌≤◌, ◌<◌, ◌^◌, ◌-◌, ◌++◌, min, Bool, true, false, ℕ, List, length, vec_len, vec_capacity, OnOk, OnErr};
+ghost use Rattle.std.specs.List.{list_all};
+ghost use Rattle.mc_text.specs.Keys.{is_key, is_plain_key};
+ghost use Rattle.mc_request.specs.Hides.{hides_of};
+ghost use Rattle.mc_request.specs.LinesSeen.{asked_of};
+ghost use Rattle.mc_request.specs.Parts.{update_seen};
+ghost use Rattle.mc_request.specs.WellFormed.{is_well_formed};
+ghost use Rattle.mc_request.specs.declared.parts.Atom.TheVariants.{Get as GetOne};
 ghost use Rattle.mc_request.specs.declared.parts.Request.TheVariants.{Get, Update as AnUpdate};
-ghost use Rattle.mc_request.specs.declared.parts.Update.{Update as AnyUpdate};
 ghost use Rattle.mc_request.specs.declared.parts.Taken.TheVariants.{Whole};
+ghost use Rattle.mc_reply.specs.Spelling.{key_part};
 ghost use Rattle.mc_cache.specs.CacheState.{value_at};
-ghost use Rattle.mc_server.specs.Served.{IsServed, Serves};
-ghost use Rattle.mc_server.specs.Rooms.{keys_room, request_room, room_of};
+ghost use Rattle.mc_cache.specs.Refusals.{HasKey};
+ghost use Rattle.mc_cache.specs.Step.{step_of};
+ghost use Rattle.mc_server.specs.Served.{IsServed};
+ghost use Rattle.mc_server.specs.Rooms.{keys_room, room_of, taken_bound};
 
 use mc_cache::Cache;
-use mc_reply::{PART_ROOM, write_fault, write_line, write_part};
-use mc_request::{Keys, Request, Taken, Update};
+use mc_reply::{KEY_ROOM, LINE_ROOM, write_end, write_fault, write_key, write_line, write_version};
+use mc_request::{Asked, Hides, Update};
 use mc_store::Store;
-use mc_text::Key;
+use mc_text::WordIter;
+use std::alloc::AllocError;
 
-/// How many bytes of room the answer to what was taken may need; [`usize::MAX`] where it is that or more.
-pub fn room_for<S: Store + Drop>(taken: &Taken, cache: &Cache<S>) -> usize
-    ensures { result ≡ min (room_of taken.now cache.now) (2 ^ 64 - 1) }
+/// The most bytes that a command adds to an answer beside the value that it shows, as a caller is told.
+pub const COMMAND_BOUND: usize = 1024;
+
+/// How many bytes of room the answer to what is asked may need; [`usize::MAX`] where it is that or more.
+pub fn room_for<S: Store + Drop>(asked: &Asked<'_>, cache: &Cache<S>) -> usize
+    ensures { result ≡ min (room_of (asked_of asked.now) cache.now) (2 ^ 64 - 1) }
 {
-    match taken {
-        Taken::Whole(Request::Get { keys, .. }) => room_for_keys(keys, cache),
-        Taken::Whole(Request::Update { .. } | Request::Version | Request::Quit)
-        | Taken::Faulty(_) => PART_ROOM,
+    match asked {
+        Asked::Get { keys, .. } => {
+            LINE_ROOM.saturating_add(room_for_keys(KEY_ROOM, keys.again(), cache))
+        }
+        Asked::Update { .. } | Asked::Version | Asked::Quit | Asked::Faulty(_) => LINE_ROOM,
     }
 }
 
-/// The same for the keys of a retrieval command.
-#[tactic(auto, using(crate::proofs::RoomLemmas::rooms))]
-fn room_for_keys<S: Store + Drop>(keys: &Keys, cache: &Cache<S>) -> usize
-    ensures { result ≡ min (keys_room keys.now cache.now) (2 ^ 64 - 1) }
+/// A bound on the answer to what is asked, as a caller is told it; [`usize::MAX`] where it is that or more.
+pub fn bound_for<S: Store + Drop>(asked: &Asked<'_>, cache: &Cache<S>) -> usize
+    ensures { result ≡ min (taken_bound (asked_of asked.now) cache.now) (2 ^ 64 - 1) }
+{
+    match asked {
+        Asked::Get { keys, .. } => room_for_keys(COMMAND_BOUND, keys.again(), cache),
+        Asked::Update { .. } | Asked::Version | Asked::Quit | Asked::Faulty(_) => COMMAND_BOUND,
+    }
+}
+
+/// The bytes of the values under some keys, and so many beside each; [`usize::MAX`] where it is that or more.
+fn room_for_keys<S: Store + Drop>(beside: usize, keys: WordIter<'_>, cache: &Cache<S>) -> usize
+    requires { beside < 2 ^ 16 }
+    ensures { result ≡ min (keys_room beside keys.entry cache.now) (2 ^ 64 - 1) }
 {
     let mut room: usize = 0;
-    for at in 0..keys.len() {
-        room = room.saturating_add(cache.room(keys.key(at)) + PART_ROOM);
+    for key in keys {
+        room = room.saturating_add(cache.room(key) + beside);
     }
     room
 }
 
-/// Serves what was taken at a moment. It takes no memory but what the cache may take to store an item.
-pub fn serve<S: Store + Drop>(taken: Taken, cache: &mut Cache<S>, moment: u64, output: &mut Vec<u8>)
-    requires moment { moment < 2 ^ 63 }
-    requires room { vec_len output.old + room_of taken cache.old ≤ vec_capacity output.old }
-    ensures { (number : ℕ) → IsServed number cache.old taken moment cache.new output.old.items output.new.items }
-{
-    match taken {
-        Taken::Faulty(fault) => write_fault(fault, output).unwrap(),
-        Taken::Whole(request) => serve_request(request, cache, moment, output),
-    }
-}
-
-/// Serves a request.
-fn serve_request<S: Store + Drop>(
-    request: Request,
+/// Serves what is asked at a moment. Beside what the cache may take to store an item, memory is taken only for the
+/// block of a value that is stored under a held key, and where there is none nothing has changed.
+pub fn serve<S: Store + Drop>(
+    asked: Asked<'_>,
     cache: &mut Cache<S>,
     moment: u64,
     output: &mut Vec<u8>,
-)
+) -> Result<(), AllocError>
     requires moment { moment < 2 ^ 63 }
-    requires room { vec_len output.old + request_room request cache.old ≤ vec_capacity output.old }
-    ensures { (number : ℕ) → IsServed number cache.old (Whole request) moment cache.new output.old.items output.new.items }
+    requires well_formed { is_well_formed (asked_of asked) ≡ true }
+    requires room { vec_len output.old + room_of (asked_of asked) cache.old ≤ vec_capacity output.old }
+    ensures served { OnOk result ((number : ℕ)
+        → IsServed number cache.old (asked_of asked.entry) moment cache.new output.old.items output.new.items) }
+    ensures len { OnOk result (vec_len output.new ≤ vec_len output.old + room_of (asked_of asked.entry) cache.old) }
+    ensures cache_kept { OnErr result (cache.new ≡ cache.old) }
+    ensures output_kept { OnErr result (output.new.items ≡ output.old.items) }
 {
-    match request {
-        Request::Update { update, noreply } => serve_update(update, noreply, cache, moment, output),
-        lent => serve_lent(&lent, cache, moment, output),
-    }
-}
-
-/// Serves a request whose keys, if it has any, the cache is only lent.
-fn serve_lent<S: Store + Drop>(
-    request: &Request,
-    cache: &mut Cache<S>,
-    moment: u64,
-    output: &mut Vec<u8>,
-)
-    requires moment { moment < 2 ^ 63 }
-    requires no_update { (update : AnyUpdate) → (noreply : Bool) → request.now ≢ AnUpdate update noreply }
-    requires room { vec_len output.old + request_room request.now cache.old ≤ vec_capacity output.old }
-    ensures { (number : ℕ) → IsServed number cache.old (Whole request.now) moment cache.new output.old.items output.new.items }
-{
-    match request {
-        Request::Get {
+    let hides = asked.hides();
+    match asked {
+        Asked::Get {
             keys,
             exptime,
             with_cas,
-        } => serve_keys(request, keys, *exptime, *with_cas, cache, moment, output),
-        _ => write_part(request, 0, None, output).unwrap(),
+        } => serve_keys(keys, exptime, with_cas, cache, moment, output),
+        Asked::Update { update, .. } => serve_update(&update, hides, cache, moment, output)?,
+        Asked::Version => write_version(output).unwrap(),
+        Asked::Quit => {}
+        Asked::Faulty(fault) => write_fault(fault, output).unwrap(),
     }
+    Ok(())
 }
 
-/// Serves a command that may change what is held: with `noreply` its reply line is hidden, and never an error line.
+/// Serves a command that may change what is held.
 fn serve_update<S: Store + Drop>(
-    update: Update,
-    noreply: bool,
+    update: &Update<&[u8], &[u8]>,
+    hides: Hides,
     cache: &mut Cache<S>,
     moment: u64,
     output: &mut Vec<u8>,
-)
+) -> Result<(), AllocError>
     requires moment { moment < 2 ^ 63 }
-    requires room { vec_len output.old + PART_ROOM ≤ vec_capacity output.old }
-    ensures { (number : ℕ) → IsServed number cache.old (Whole (AnUpdate update noreply)) moment cache.new output.old.items output.new.items }
+    requires key { HasKey (update_seen update.now) }
+    requires room { vec_len output.old + LINE_ROOM ≤ vec_capacity output.old }
+    ensures served { OnOk result ((number : ℕ) → (noreply : Bool)
+        → hides_of (AnUpdate (update_seen update.now) noreply) ≡ hides
+        → IsServed number cache.old (Whole (AnUpdate (update_seen update.now) noreply)) moment cache.new output.old.items output.new.items) }
+    ensures len { OnOk result (vec_len output.new ≤ vec_len output.old + LINE_ROOM) }
+    ensures cache_kept { OnErr result (cache.new ≡ cache.old) }
+    ensures output_kept { OnErr result (output.new.items ≡ output.old.items) }
 {
-    let reply = cache.update(update, moment);
-    if !noreply || reply.is_fault() {
+    let reply = cache.update(update, moment)?;
+    if !reply.is_hidden(hides) {
         write_line(&reply.with(b"".as_slice()), output).unwrap();
     }
+    Ok(())
 }
 
 /// Serves a retrieval command, key by key: each value is copied once, from the cache into the output.
 fn serve_keys<S: Store + Drop>(
-    request: &Request,
-    keys: &Keys,
+    keys: WordIter<'_>,
     exptime: Option<i64>,
     with_cas: bool,
     cache: &mut Cache<S>,
@@ -116,26 +127,39 @@ fn serve_keys<S: Store + Drop>(
     output: &mut Vec<u8>,
 )
     requires moment { moment < 2 ^ 63 }
-    requires request { request.now ≡ Get keys.now exptime with_cas }
-    requires room { vec_len output.old + keys_room keys.now cache.old ≤ vec_capacity output.old }
-    ensures { (number : ℕ) → Serves cache.old cache.new
-        (record { connection = number; what = Whole request.now; moment = moment; refused = false })
-        output.old.items output.new.items }
+    requires plain { list_all is_plain_key keys ≡ true }
+    requires room { vec_len output.old + (LINE_ROOM + keys_room KEY_ROOM keys cache.old) ≤ vec_capacity output.old }
+    ensures served { (number : ℕ)
+        → IsServed number cache.old (Whole (Get keys.entry exptime with_cas)) moment cache.new output.old.items output.new.items }
+    ensures len { vec_len output.new ≤ vec_len output.old + (LINE_ROOM + keys_room KEY_ROOM keys.entry cache.old) }
 {
-    for at in 0..keys.len() {
-        let key = keys.key(at);
-        let reply = cache.get(key, exptime, with_cas, moment);
-        let reply = reply.with(held_bytes(cache, key));
-        write_part(request, at, Some(&reply), output).unwrap();
+    for key in keys {
+        serve_key(key, exptime, with_cas, cache, moment, output);
     }
+    write_end(output).unwrap();
 }
 
-/// The value under a key, which has no bytes where the key is not held.
-fn held_bytes<'a, S: Store + Drop>(cache: &'a Cache<S>, key: &Key) -> &'a [u8]
-    ensures { result.now ≡ value_at key.now cache.now.items }
+/// Serves a key of a retrieval command. The value that it shows is read from the front of the cache.
+fn serve_key<S: Store + Drop>(
+    key: &[u8],
+    exptime: Option<i64>,
+    with_cas: bool,
+    cache: &mut Cache<S>,
+    moment: u64,
+    output: &mut Vec<u8>,
+)
+    requires moment { moment < 2 ^ 63 }
+    requires key { is_key key.now ≡ true }
+    requires room { vec_len output.old + length (value_at key.now cache.old.items) + KEY_ROOM ≤ vec_capacity output.old }
+    ensures cache { cache.new ≡ (step_of cache.old (GetOne key.now exptime with_cas) moment false).0 }
+    ensures answered { output.new.items ≡ output.old.items
+        ++ key_part key.now (step_of cache.old (GetOne key.now exptime with_cas) moment false).1 }
+    ensures len { vec_len output.new ≤ vec_len output.old + length (value_at key.now cache.old.items) + KEY_ROOM }
+    ensures room { vec_capacity output.old ≤ vec_capacity output.new }
+    ensures shrinks { (other : List ℕ)
+        → length (value_at other cache.new.items) ≤ length (value_at other cache.old.items) }
 {
-    match cache.value(key) {
-        Some(value) => value,
-        None => &[],
-    }
+    let reply = cache.get(key, exptime, with_cas, moment);
+    let reply = reply.with(cache.front_value());
+    write_key(key, &reply, output).unwrap();
 }

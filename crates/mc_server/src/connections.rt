@@ -1,7 +1,7 @@
 //! A connection: its reader, and its answers.
-ghost use Rattle.std.specs.Prelude.{◌≡◌, ◌≤◌, ◌<◌, ◌^◌, ◌↔◌, ℕ, [], drop, length, IsTrue, IfOk, IsOkUnless, OnOk, OnErr};
+ghost use Rattle.std.specs.Prelude.{◌≡◌, ◌+◌, ◌-◌, ◌≤◌, ◌<◌, ◌^◌, ◌↔◌, ℕ, [], drop, length, min, IsTrue, IfOk, IsOkUnless, OnOk, OnErr};
 
-use crate::answering::{room_for, serve};
+use crate::answering::{bound_for, room_for, serve};
 use crate::turns::{ServerError, Turn};
 use mc_cache::Cache;
 use mc_request::{Peek, Reader};
@@ -20,18 +20,19 @@ pub struct Connection {
 }
 
 impl Model for Connection {
-    ghost use Rattle.std.specs.Prelude.{◌≤◌, drop, vec_len};
+    ghost use Rattle.std.specs.Prelude.{◌≤◌, ◌*◌, drop, vec_len};
     ghost use Rattle.mc_server.specs.ServerState.{ConnectionState};
 
     ghost Value = { ConnectionState };
 
     ghost view = { λ c. record { reader = c.reader; output = drop c.sent c.output.items } };
 
-    ghost invariant = { λ c. c.sent ≤ vec_len c.output };
+    ghost invariant = { λ c. 2 * c.sent ≤ vec_len c.output };
 }
 
 impl Connection {
     ghost use Rattle.mc_request.specs.Reader.{rest_of};
+    ghost use Rattle.mc_server.specs.Rooms.{bound_of};
     ghost use Rattle.mc_server.specs.ServerState.{fresh_connection};
     ghost use Rattle.mc_server.specs.Turns.{IsFed, IsTurn};
 
@@ -63,9 +64,27 @@ impl Connection {
         self.reader.ready()
     }
 
+    /// Whether nothing is read any more.
+    pub fn is_closed(&self) -> bool
+        ensures { result ≡ self.now.reader.closed }
+    {
+        self.reader.is_closed()
+    }
+
+    /// A bound on what the next turn adds to the output; [`usize::MAX`] where it is that or more.
+    pub fn bound<S: Store + Drop>(&self, cache: &Cache<S>) -> usize
+        ensures { result ≡ min (bound_of (rest_of self.now.reader []) cache.now) (2 ^ 64 - 1) }
+    {
+        match self.reader.peek() {
+            Peek::First(asked, _) => bound_for(&asked, cache),
+            Peek::More | Peek::Closed => 0,
+        }
+    }
+
     /// Takes the first request or fault that has come whole, and serves it at a moment.
     ///
-    /// The room for the answer is made before anything is taken.
+    /// What it may need of memory is taken before anything is: room for the answer, and the block of a value that is
+    /// stored under a held key. Where none waits it needs none.
     pub fn turn<S: Store + Drop>(
         &mut self,
         cache: &mut Cache<S>,
@@ -74,17 +93,20 @@ impl Connection {
         requires { moment < 2 ^ 63 }
         ensures turn { (number : ℕ)
             → IfOk result (λ turn. IsTurn number moment turn cache.old cache.new self.old self.new) }
+        ensures bounded { OnOk result (length self.new.output
+            ≤ length self.old.output + bound_of (rest_of self.old.reader []) cache.old) }
         ensures only_memory { IsOkUnless result ServerError.Memory }
+        ensures cause { OnErr result (0 < length (rest_of self.old.reader [])) }
         ensures err { OnErr result (self.new ≡ self.old) }
         ensures cache_kept { OnErr result (cache.new ≡ cache.old) }
     {
-        match self.reader.peek()? {
+        match self.reader.peek() {
             Peek::Closed => Ok(Turn::Closing),
             Peek::More => Ok(Turn::Idle),
-            Peek::First(taken, front) => {
-                self.output.reserve(room_for(&taken, cache))?;
+            Peek::First(asked, front) => {
+                self.output.reserve(room_for(&asked, cache))?;
+                serve(asked, cache, moment, &mut self.output)?;
                 self.reader.consume(front);
-                serve(taken, cache, moment, &mut self.output);
                 Ok(Turn::Took)
             }
         }

@@ -1,18 +1,21 @@
 //! What a cache stands over.
-ghost use Rattle.std.specs.Prelude.{◌≡◌, ◌∷◌, ◌++◌, ◌+◌, ◌<◌, ◌^◌, [], length, is_some, None, Some, IfOk, OnOk, IfErr, OnErr, IfSome, IfNone};
+ghost use Rattle.std.specs.Prelude.{ℕ, Option, ◌≡◌, ◌∷◌, ◌++◌, ◌+◌, ◌<◌, ◌^◌, [], length, is_some, None, Some, IfOk, OnOk, IfErr, OnErr, IfSome, IfNone};
 ghost use Rattle.std.specs.Option.{option_copied};
 ghost use Rattle.mc_item.specs.Costs.{cost_of};
-ghost use Rattle.mc_store.specs.Items.{Items, body_at, without, brought, expiring, cost_sum};
+ghost use Rattle.mc_store.specs.Items.{Items, body_at, front_body, without, brought, expiring, cost_sum};
 
 use mc_item::{Body, Deadline};
 use mc_text::Key;
 
 /// The items of a cache, one under a key, most recent first.
 ///
-/// Only [`Store::put_front`] takes memory.
+/// A key is asked for by its bytes. Only [`Store::put_front`] takes memory.
 pub trait Store {
     /// The keys and bodies, most recent first.
     ghost items: { Self → Items };
+
+    /// The most items that there may be, if there is such a number. No call changes it.
+    ghost most: { Self → Option ℕ };
 
     /// How many items there are.
     fn len(&self) -> usize
@@ -23,52 +26,64 @@ pub trait Store {
         ensures { result ≡ cost_sum (items self.now) };
 
     /// The body under the key. The order stays.
-    fn peek(&self, key: &Key) -> Option<&Body>
+    fn peek(&self, key: &[u8]) -> Option<&Body>
         ensures { option_copied result ≡ body_at key.now (items self.now) };
 
+    /// The body of the first item.
+    fn front(&self) -> Option<&Body>
+        ensures { option_copied result ≡ front_body (items self.now) };
+
     /// Moves the key's item to the front, and says whether there is one.
-    fn bring(&mut self, key: &Key) -> bool
+    fn bring(&mut self, key: &[u8]) -> bool
         ensures held { result ≡ is_some (body_at key.now (items self.old)) }
-        ensures items { items self.new ≡ brought key.now (body_at key.now (items self.old)) (items self.old) };
+        ensures items { items self.new ≡ brought key.now (body_at key.now (items self.old)) (items self.old) }
+        ensures most { most self.new ≡ most self.old };
 
     /// Sets the expiry of the key's item, moves it to the front, and says whether there is one.
-    fn expire(&mut self, key: &Key, expiry: Deadline) -> bool
+    fn expire(&mut self, key: &[u8], expiry: Deadline) -> bool
         ensures held { result ≡ is_some (body_at key.now (items self.old)) }
         ensures items { items self.new
-            ≡ brought key.now (expiring expiry (body_at key.now (items self.old))) (items self.old) };
+            ≡ brought key.now (expiring expiry (body_at key.now (items self.old))) (items self.old) }
+        ensures most { most self.new ≡ most self.old };
 
     /// Takes the key's item out, and gives its body.
-    fn take(&mut self, key: &Key) -> Option<Body>
+    fn take(&mut self, key: &[u8]) -> Option<Body>
         ensures body { result ≡ body_at key.now (items self.old) }
-        ensures items { items self.new ≡ without key.now (items self.old) };
+        ensures items { items self.new ≡ without key.now (items self.old) }
+        ensures most { most self.new ≡ most self.old };
 
     /// Puts a body under a key that is held, moves its item to the front, and gives the old body.
     ///
     /// Where the key is not held, `Err` hands the body back.
-    fn replace(&mut self, key: &Key, body: Body) -> Result<Body, Body>
+    fn replace(&mut self, key: &[u8], body: Body) -> Result<Body, Body>
         requires { cost_sum (items self.old) + cost_of key.now body.value < 2 ^ 63 }
         ensures before { IfOk result (λ before. body_at key.now (items self.old) ≡ Some before) }
         ensures ok { OnOk result (items self.new ≡ (key.now, body) ∷ without key.now (items self.old)) }
         ensures absent { OnErr result (body_at key.now (items self.old) ≡ None) }
         ensures back { IfErr result (λ back. back ≡ body) }
-        ensures err { OnErr result (items self.new ≡ items self.old) };
+        ensures err { OnErr result (items self.new ≡ items self.old) }
+        ensures most { most self.new ≡ most self.old };
 
     /// Puts an item in front, under a key that is not held.
     ///
     /// Where there is no memory, `Err` hands the key and the body back.
     fn put_front(&mut self, key: Key, body: Body) -> Result<(), (Key, Body)>
         requires absent { body_at key (items self.old) ≡ None }
+        requires room { IfSome (most self.old) (λ most. length (items self.old) < most) }
         requires cost { cost_sum (items self.old) + cost_of key body.value < 2 ^ 63 }
         ensures ok { OnOk result (items self.new ≡ (key, body) ∷ items self.old) }
         ensures back { IfErr result (λ back. back ≡ (key, body)) }
-        ensures err { OnErr result (items self.new ≡ items self.old) };
+        ensures err { OnErr result (items self.new ≡ items self.old) }
+        ensures most { most self.new ≡ most self.old };
 
     /// Takes the last item out.
     fn drop_last(&mut self) -> Option<(Key, Body)>
         ensures last { IfSome result (λ last. items self.old ≡ items self.new ++ last ∷ []) }
-        ensures empty { IfNone result ((items self.old ≡ []) × (items self.new ≡ [])) };
+        ensures empty { IfNone result ((items self.old ≡ []) × (items self.new ≡ [])) }
+        ensures most { most self.new ≡ most self.old };
 
     /// Takes all items out.
     fn clear(&mut self)
-        ensures { items self.new ≡ [] };
+        ensures items { items self.new ≡ [] }
+        ensures most { most self.new ≡ most self.old };
 }

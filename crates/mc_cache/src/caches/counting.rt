@@ -1,14 +1,16 @@
-//! Counting: what `incr` and `decr` do on a settled cache.
-ghost use Rattle.std.specs.Prelude.{◌≡◌, ◌<◌, ◌≤◌, ◌^◌, ℕ, List, [], length, Some, None, is_some, is_ok, true, false};
+//! Counting: what `incr` and `decr` do.
+ghost use Rattle.std.specs.Prelude.{◌≡◌, ◌<◌, ℕ, List, length, Some, true};
 ghost use Rattle.std.specs.Fmt.{decimal};
+ghost use Rattle.mc_request.specs.declared.parts.Atom.TheVariants.{Update as AnUpdate};
+ghost use Rattle.mc_request.specs.declared.parts.Update.TheVariants.{Count};
 ghost use Rattle.mc_reply.specs.declared.replies.Reply.{Reply as AReply};
 ghost use Rattle.mc_reply.specs.Replies.{filled};
 ghost use Rattle.mc_store.specs.Items.{body_at};
 ghost use Rattle.mc_cache.specs.CacheState.{value_at};
-ghost use Rattle.mc_cache.specs.Step.{stored, count_step, counted};
-ghost use Rattle.mc_cache.specs.Refusals.{is_refusal, count_may_refuse};
+ghost use Rattle.mc_cache.specs.Step.{stored, step_of, count_step, counted};
+ghost use Rattle.mc_cache.specs.Refusals.{is_refusal, count_may_refuse, may_refuse};
 ghost use Rattle.mc_cache.specs.Found.{found_body};
-ghost use Rattle.mc_cache.specs.Admissions.{admission, is_refused, reply_or_fault, renewed};
+ghost use Rattle.mc_cache.specs.Admissions.{is_refused, reply_or_fault, renewed};
 
 use super::Cache;
 use super::settling::Found;
@@ -16,28 +18,45 @@ use itoa::Buffer;
 use mc_reply::Reply;
 use mc_request::{Direction, Fault};
 use mc_store::Store;
-use mc_text::{Block, Key, read_u64};
+use mc_text::{Block, read_u64};
 
 impl<S: Store + Drop> Cache<S> {
-    /// `incr` or `decr` on a settled cache, where this was found under the key.
+    /// The commands `incr` and `decr`.
     pub(super) fn count(
         &mut self,
         direction: Direction,
-        key: Key,
+        key: &[u8],
         delta: u64,
-        found: Option<Found>,
+        moment: u64,
     ) -> Reply<()>
-        requires found { body_at key self.old.items ≡ found_body found (value_at key self.old.items) }
         ensures step { (value : List ℕ)
-            → count_step self.old key (body_at key self.old.items) direction delta (is_refusal result)
+            → step_of self.old (AnUpdate (Count direction key.now delta)) moment (is_refusal result)
             ≡ (self.new, filled result value) }
         ensures refusal { is_refusal result ≡ true
-            → count_may_refuse direction delta (body_at key self.old.items) ≡ true }
+            → may_refuse self.old (AnUpdate (Count direction key.now delta)) moment ≡ true }
     {
-        let Some(found) = found else {
-            return Reply::NotFound;
-        };
-        let before = self.store.peek(&key).unwrap().value.as_slice();
+        match self.settle(key, moment) {
+            Some(found) => self.count_held(direction, key, delta, found),
+            None => Reply::NotFound,
+        }
+    }
+
+    /// The same on a settled cache, where this was found under the key.
+    fn count_held(
+        &mut self,
+        direction: Direction,
+        key: &[u8],
+        delta: u64,
+        found: Found,
+    ) -> Reply<()>
+        requires found { body_at key.now self.old.items ≡ found_body (Some found) (value_at key.now self.old.items) }
+        ensures step { (value : List ℕ)
+            → count_step self.old key.now (body_at key.now self.old.items) direction delta (is_refusal result)
+            ≡ (self.new, filled result value) }
+        ensures refusal { is_refusal result ≡ true
+            → count_may_refuse direction delta (body_at key.now self.old.items) ≡ true }
+    {
+        let before = self.store.peek(key).unwrap().value.as_slice();
         let Some(number) = read_u64(before) else {
             return Reply::Fault(Fault::NonNumeric);
         };
@@ -49,40 +68,28 @@ impl<S: Store + Drop> Cache<S> {
     }
 
     /// Stores a number's text in place of a held value. It takes memory only where the text is longer.
-    fn write_number(&mut self, key: Key, number: u64, found: Found) -> Result<(), Fault>
-        requires found { body_at key self.old.items ≡ found_body (Some found) (value_at key self.old.items) }
+    fn write_number(&mut self, key: &[u8], number: u64, found: Found) -> Result<(), Fault>
+        requires found { body_at key.now self.old.items ≡ found_body (Some found) (value_at key.now self.old.items) }
         ensures step { (reply : AReply (List ℕ))
-            → stored self.old key (renewed found (decimal number)) (is_refused result) reply
+            → stored self.old key.now (renewed found (decimal number)) (is_refused result) reply
             ≡ (self.new, reply_or_fault result reply) }
-        ensures refusal { is_refused result ≡ true → length (value_at key self.old.items) < length (decimal number) }
+        ensures refusal { is_refused result ≡ true
+            → length (value_at key.now self.old.items) < length (decimal number) }
     {
         let mut digits = Buffer::new();
         let text = digits.format(number).as_bytes();
-        let before = &self.store.peek(&key).unwrap().value;
-        self.admit(&key, text.len())?;
-        let empty = before.emptied();
-        if text.len() <= before.len() {
-            return self.overwrite(key, empty, text, found);
+        let cas = self.admit(key, text.len())?;
+        if text.len() <= self.room(key) {
+            self.overwrite(key, text, found, cas);
+            return Ok(());
         }
-        match empty.joined(text) {
-            Ok(value) => self.put(key, found.with(value), true),
+        match Block::from_slice(self.alloc, text) {
+            Ok(value) => {
+                self.put_held(key, found.with(value, cas));
+                Ok(())
+            }
             Err(_) => Err(Fault::OutOfMemory),
         }
-    }
-
-    /// Stores a text that is no longer than the held value, in its bytes. It takes no memory.
-    fn overwrite(&mut self, key: Key, empty: Block, text: &[u8], found: Found) -> Result<(), Fault>
-        requires empty { empty ≡ [] }
-        requires found { body_at key self.old.items ≡ found_body (Some found) (value_at key self.old.items) }
-        requires fits { length text.now ≤ length (value_at key self.old.items) }
-        requires admitted { is_ok (admission self.old key (length text.now)) ≡ true }
-        ensures step { (reply : AReply (List ℕ))
-            → stored self.old key (renewed found text.now) false reply ≡ (self.new, reply) }
-        ensures stored { is_ok result ≡ true }
-    {
-        let mut body = self.lift(&key, empty);
-        body.value.overwrite(text);
-        self.put(key, body, true)
     }
 }
 

@@ -2,41 +2,45 @@
 ghost use Rattle.std.specs.Prelude.{◌≡◌, ◌<◌, ◌^◌, ℕ, List, None, is_some, false};
 ghost use Rattle.mc_reply.specs.Replies.{filled};
 ghost use Rattle.mc_store.specs.Items.{body_at, without, brought, expiring};
-ghost use Rattle.mc_cache.specs.CacheState.{value_at};
-ghost use Rattle.mc_cache.specs.Step.{fronted, get_step, touch_step, delete_step};
-ghost use Rattle.mc_cache.specs.Refusals.{is_refusal};
-ghost use Rattle.mc_cache.specs.Found.{found_body};
+ghost use Rattle.mc_request.specs.declared.parts.Atom.TheVariants.{Get, Update as AnUpdate};
+ghost use Rattle.mc_request.specs.declared.parts.Update.TheVariants.{Touch, Delete};
+ghost use Rattle.mc_cache.specs.CacheState.{front_value};
+ghost use Rattle.mc_cache.specs.Step.{step_of, fronted};
+ghost use Rattle.mc_cache.specs.Refusals.{is_refusal, value_after};
 
 use super::Cache;
-use super::settling::Found;
 use mc_item::Deadline;
 use mc_reply::Reply;
 use mc_store::Store;
-use mc_text::Key;
 
 impl<S: Store + Drop> Cache<S> {
-    /// A retrieval command on a settled cache, where this was found under the key.
+    /// The command `Get`. The key is looked up once.
     pub(super) fn retrieve(
         &mut self,
-        key: &Key,
+        key: &[u8],
         exptime: Option<i64>,
         with_cas: bool,
         moment: u64,
-        found: Option<Found>,
     ) -> Reply<()>
-        requires moment { moment < 2 ^ 63 }
-        requires found { body_at key.now self.old.items ≡ found_body found (value_at key.now self.old.items) }
-        ensures step { get_step self.old key.now (body_at key.now self.old.items) exptime with_cas moment
-            ≡ (self.new, filled result (value_at key.now self.new.items)) }
+        requires { moment < 2 ^ 63 }
+        ensures step { step_of self.old (Get key.now exptime with_cas) moment false
+            ≡ (self.new, filled result (value_after (Get key.now exptime with_cas) self.new)) }
+        ensures front { step_of self.old (Get key.now exptime with_cas) moment false
+            ≡ (self.new, filled result (front_value self.new.items)) }
         ensures refusal { is_refusal result ≡ false }
+        ensures distinct { (key : List ℕ) → body_at key (without key self.old.items) ≡ None }
     {
-        let Some(found) = found else {
+        self.flush_due(moment);
+        let Some(found) = self.find(key) else {
             return Reply::Miss;
         };
-        match exptime {
-            Some(exptime) => self.expire(key, Deadline::of(exptime, moment)),
-            None => self.bring(key),
-        };
+        if found.expiry.is_dead(moment) {
+            let _ = self.take(key);
+            return Reply::Miss;
+        }
+        if let Some(exptime) = exptime {
+            let _ = self.expire(key, Deadline::of(exptime, moment));
+        }
         Reply::Hit {
             flags: found.flags,
             cas: if with_cas { Some(found.cas) } else { None },
@@ -44,13 +48,15 @@ impl<S: Store + Drop> Cache<S> {
         }
     }
 
-    /// The command `touch` on a settled cache.
-    pub(super) fn touch(&mut self, key: &Key, exptime: i64, moment: u64) -> Reply<()>
+    /// The command `touch`.
+    pub(super) fn touch(&mut self, key: &[u8], exptime: i64, moment: u64) -> Reply<()>
         requires { moment < 2 ^ 63 }
-        ensures step { (value : List ℕ) → touch_step self.old key.now (body_at key.now self.old.items) exptime moment
+        ensures step { (value : List ℕ)
+            → step_of self.old (AnUpdate (Touch key.now exptime)) moment (is_refusal result)
             ≡ (self.new, filled result value) }
         ensures refusal { is_refusal result ≡ false }
     {
+        let _ = self.settle(key, moment);
         if self.expire(key, Deadline::of(exptime, moment)) {
             Reply::Touched
         } else {
@@ -58,13 +64,14 @@ impl<S: Store + Drop> Cache<S> {
         }
     }
 
-    /// The command `delete` on a settled cache.
+    /// The command `delete`.
     #[tactic(auto, using(mc_store::proofs::ItemLemmas::absent))]
-    pub(super) fn delete(&mut self, key: &Key) -> Reply<()>
-        ensures step { (value : List ℕ) → delete_step self.old key.now (body_at key.now self.old.items)
+    pub(super) fn delete(&mut self, key: &[u8], moment: u64) -> Reply<()>
+        ensures step { (value : List ℕ) → step_of self.old (AnUpdate (Delete key.now)) moment (is_refusal result)
             ≡ (self.new, filled result value) }
         ensures refusal { is_refusal result ≡ false }
     {
+        let _ = self.settle(key, moment);
         if self.take(key) {
             Reply::Deleted
         } else {
@@ -73,7 +80,7 @@ impl<S: Store + Drop> Cache<S> {
     }
 
     /// Takes the key's item out, and says whether there was one.
-    pub(super) fn take(&mut self, key: &Key) -> bool
+    pub(super) fn take(&mut self, key: &[u8]) -> bool
         ensures held { result ≡ is_some (body_at key.now self.old.items) }
         ensures items { self.new ≡ record self.old { items = without key.now self.old.items } }
         ensures absent { body_at key.now self.new.items ≡ None }
@@ -82,7 +89,7 @@ impl<S: Store + Drop> Cache<S> {
     }
 
     /// Moves the key's item to the front.
-    pub(super) fn bring(&mut self, key: &Key) -> bool
+    pub(super) fn bring(&mut self, key: &[u8]) -> bool
         ensures held { result ≡ is_some (body_at key.now self.old.items) }
         ensures items { self.new ≡ fronted self.old key.now }
     {
@@ -90,7 +97,7 @@ impl<S: Store + Drop> Cache<S> {
     }
 
     /// Sets the expiry of the key's item, moves it to the front, and says whether there is one.
-    pub(super) fn expire(&mut self, key: &Key, expiry: Deadline) -> bool
+    pub(super) fn expire(&mut self, key: &[u8], expiry: Deadline) -> bool
         ensures held { result ≡ is_some (body_at key.now self.old.items) }
         ensures items { self.new
             ≡ record self.old { items = brought key.now (expiring expiry (body_at key.now self.old.items)) self.old.items } }

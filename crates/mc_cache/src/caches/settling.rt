@@ -1,9 +1,11 @@
 //! What time does to a cache before a command, and the small steps that commands are made of.
-ghost use Rattle.std.specs.Prelude.{◌≡◌, ◌<◌, ◌^◌, ℕ, List, Some, None, is_some, true, false};
-ghost use Rattle.mc_store.specs.Items.{body_at, without, brought, expiring};
-ghost use Rattle.mc_cache.specs.CacheState.{value_at};
+ghost use Rattle.std.specs.Prelude.{◌≡◌, ◌<◌, ◌^◌, ℕ, List, Some, None, OnSome, false};
+ghost use Rattle.mc_request.specs.declared.parts.Atom.TheVariants.{Update as AnUpdate};
+ghost use Rattle.mc_request.specs.declared.parts.Update.TheVariants.{FlushAll};
+ghost use Rattle.mc_store.specs.Items.{body_at, without};
+ghost use Rattle.mc_cache.specs.CacheState.{value_at, front_value};
 ghost use Rattle.mc_cache.specs.Settling.{settled, flushed, emptied};
-ghost use Rattle.mc_cache.specs.Step.{fronted, flush_step, touch_step, delete_step};
+ghost use Rattle.mc_cache.specs.Step.{step_of, fronted, flush_step};
 ghost use Rattle.mc_cache.specs.Refusals.{is_refusal};
 ghost use Rattle.mc_reply.specs.Replies.{filled};
 ghost use Rattle.mc_cache.specs.Found.{found_body};
@@ -12,7 +14,7 @@ use super::Cache;
 use mc_item::{Body, Deadline};
 use mc_reply::Reply;
 use mc_store::Store;
-use mc_text::{Block, Key};
+use mc_text::Block;
 
 /// What a look at a held item tells a command.
 #[derive(Clone, Copy, Debug)]
@@ -26,27 +28,29 @@ pub struct Found {
 }
 
 impl Found {
-    ghost use Rattle.mc_cache.specs.Admissions.{content_of, renewed};
+    ghost use Rattle.mc_cache.specs.Step.{numbered};
+    ghost use Rattle.mc_cache.specs.Admissions.{renewed};
 
-    /// The body as it was found, with another value. The number is not set.
-    pub fn with(self, value: Block) -> Body
-        ensures { content_of result ≡ renewed self value }
+    /// The body as it was found, with another value and another number.
+    pub fn with(self, value: Block, cas: u64) -> Body
+        ensures { result ≡ numbered (renewed self value) cas }
     {
         Body {
             flags: self.flags,
             expiry: self.expiry,
-            cas: 0,
+            cas,
             value,
         }
     }
 }
 
 impl<S: Store + Drop> Cache<S> {
-    /// Brings the cache to a moment for a command on a key, and looks at what is then held under it.
-    pub(super) fn settle(&mut self, key: &Key, moment: u64) -> Option<Found>
+    /// Brings the cache to a moment for a command on a key, and looks at what is then held under it. Where something is,
+    /// that moment has changed nothing.
+    pub(super) fn settle(&mut self, key: &[u8], moment: u64) -> Option<Found>
         ensures settled { self.new ≡ settled self.old (Some key.now) moment }
         ensures found { body_at key.now self.new.items ≡ found_body result (value_at key.now self.new.items) }
-        ensures distinct { (key : List ℕ) → body_at key (without key self.old.items) ≡ None }
+        ensures held { OnSome result (self.new ≡ self.old) }
     {
         self.flush_due(moment);
         let found = self.look(key)?;
@@ -68,8 +72,20 @@ impl<S: Store + Drop> Cache<S> {
         }
     }
 
+    /// The command `flush_all`.
+    pub(super) fn flush_all(&mut self, delay: i64, moment: u64) -> Reply<()>
+        requires { moment < 2 ^ 63 }
+        ensures step { (value : List ℕ) → step_of self.old (AnUpdate (FlushAll delay)) moment (is_refusal result)
+            ≡ (self.new, filled result value) }
+        ensures refusal { is_refusal result ≡ false }
+    {
+        self.flush_due(moment);
+        self.flush(delay, moment);
+        Reply::Flushed
+    }
+
     /// The command `flush_all` on a settled cache.
-    pub(super) fn flush(&mut self, delay: i64, moment: u64)
+    fn flush(&mut self, delay: i64, moment: u64)
         requires { moment < 2 ^ 63 }
         ensures { self.new ≡ flush_step self.old delay moment }
     {
@@ -84,6 +100,22 @@ impl<S: Store + Drop> Cache<S> {
         }
     }
 
+    /// Moves the key's item to the front, and looks at it.
+    pub(super) fn find(&mut self, key: &[u8]) -> Option<Found>
+        ensures found { body_at key.now self.old.items ≡ found_body result (front_value self.new.items) }
+        ensures items { self.new ≡ fronted self.old key.now }
+    {
+        if !self.bring(key) {
+            return None;
+        }
+        let body = self.store.front()?;
+        Some(Found {
+            flags: body.flags,
+            expiry: body.expiry,
+            cas: body.cas,
+        })
+    }
+
     fn drop_all(&mut self)
         ensures { self.new ≡ emptied self.old }
     {
@@ -91,7 +123,7 @@ impl<S: Store + Drop> Cache<S> {
         self.pending = None;
     }
 
-    fn look(&self, key: &Key) -> Option<Found>
+    fn look(&self, key: &[u8]) -> Option<Found>
         ensures { body_at key.now self.now.items ≡ found_body result (value_at key.now self.now.items) }
     {
         let body = self.store.peek(key)?;

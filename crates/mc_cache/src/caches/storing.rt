@@ -1,211 +1,243 @@
 //! Storing: what a storage command does on a settled cache.
-ghost use Rattle.std.specs.Prelude.{◌≡◌, ◌<◌, ◌≤◌, ◌+◌, ◌^◌, ◌∷◌, ◌++◌, ℕ, List, [], length, Some, None, is_some, is_ok, true, false};
-ghost use Rattle.std.specs.Bool.{OnTrue, OnFalse};
-ghost use Rattle.mc_item.specs.Costs.{cost_of};
+ghost use Rattle.std.specs.Prelude.{◌≡◌, ◌<◌, ℕ, List, length, Some, None, true, IfOk, OnErr, IfSome, IfNone, false};
+ghost use Rattle.std.specs.Option.{option_map};
+ghost use Rattle.mc_text.specs.Keys.{is_key};
+ghost use Rattle.mc_item.specs.declared.deadlines.Deadline.{Deadline as ADeadline};
 ghost use Rattle.mc_reply.specs.declared.replies.Reply.{Reply as AReply};
-ghost use Rattle.mc_reply.specs.declared.replies.Reply.TheVariants.{Stored};
 ghost use Rattle.mc_reply.specs.Replies.{filled};
-ghost use Rattle.mc_store.specs.Items.{body_at, without, cost_sum};
+ghost use Rattle.mc_store.specs.Items.{body_at};
 ghost use Rattle.mc_cache.specs.CacheState.{value_at};
-ghost use Rattle.mc_cache.specs.Step.{stored, store_step};
-ghost use Rattle.mc_cache.specs.Refusals.{is_refusal, store_may_refuse};
+ghost use Rattle.mc_cache.specs.Settling.{settled};
+ghost use Rattle.mc_cache.specs.Step.{compared, unmet, unstored, stored, store_step, numbered};
+ghost use Rattle.mc_cache.specs.Refusals.{is_refusal, store_may_refuse, store_takes_block};
 ghost use Rattle.mc_cache.specs.Found.{found_body};
-ghost use Rattle.mc_cache.specs.Admissions.{admission, content_of, is_refused, reply_or_fault, lifted, renewed};
+ghost use Rattle.mc_cache.specs.Admissions.{content_of, lent_content, joined, is_refused, reply_or_fault, renewed, IsWhole};
 
 use super::Cache;
+use super::putting::stored_or_fault;
 use super::settling::Found;
-use mc_item::{Body, CasCounter, Deadline, OVERHEAD};
+use mc_item::{Body, Deadline};
 use mc_reply::Reply;
 use mc_request::{Fault, StoreMode};
-use mc_store::{Store, keep};
-use mc_text::{Block, Key, VALUE_LIMIT};
+use mc_store::Store;
+use mc_text::{Block, Key};
+use std::alloc::AllocError;
+
+/// What a storage command stores, with its block lent.
+#[derive(Clone, Copy)]
+pub struct Lent<'a> {
+    /// The client flags.
+    pub flags: u32,
+    /// When the item is dead.
+    pub expiry: Deadline,
+    /// The value.
+    pub block: &'a [u8],
+}
+
+impl Lent<'_> {
+    /// The body of this number, with a copy of the block.
+    pub fn with(self, value: Block, cas: u64) -> Body
+        requires { value ≡ (lent_content self).value }
+        ensures { result ≡ numbered (lent_content self.entry) cas }
+    {
+        Body {
+            flags: self.flags,
+            expiry: self.expiry,
+            cas,
+            value,
+        }
+    }
+}
+
+/// Where a block is joined to a held value.
+#[derive(Clone, Copy)]
+pub enum Side {
+    /// `prepend`.
+    Before,
+    /// `append`.
+    Behind,
+}
 
 impl<S: Store + Drop> Cache<S> {
     /// A storage command on a settled cache, where this was found under its key. The body's number is not read.
-    pub(super) fn store(
+    pub(super) fn store_own(
         &mut self,
         mode: StoreMode,
+        compare: Option<u64>,
         key: Key,
         body: Body,
         found: Option<Found>,
     ) -> Reply<()>
         requires found { body_at key self.old.items ≡ found_body found (value_at key self.old.items) }
-        ensures step { (value : List ℕ) → store_step self.old mode key (content_of body) (is_refusal result)
+        ensures step { (value : List ℕ)
+            → store_step self.old compare mode key (body_at key self.old.items) (content_of body) (is_refusal result)
             ≡ (self.new, filled result value) }
         ensures refusal { is_refusal result ≡ true
-            → store_may_refuse mode (body_at key self.old.items) body.value ≡ true }
+            → store_may_refuse compare mode (body_at key self.old.items) body.value ≡ true }
     {
-        match found {
-            Some(found) => self.store_held(mode, key, body, found),
-            None => self.store_new(mode, key, body),
+        let block = body.value.as_slice();
+        match self.store_but_whole(mode, compare, key.as_bytes(), block, found) {
+            Some(reply) => reply,
+            None => stored_or_fault(self.put_own(key, body, found.is_some())),
         }
     }
 
-    /// A storage command on a key that is not held.
-    fn store_new(&mut self, mode: StoreMode, key: Key, body: Body) -> Reply<()>
-        requires absent { body_at key self.old.items ≡ None }
-        ensures step { (value : List ℕ) → store_step self.old mode key (content_of body) (is_refusal result)
-            ≡ (self.new, filled result value) }
-        ensures refusal { is_refusal result ≡ true
-            → store_may_refuse mode (body_at key self.old.items) body.value ≡ true }
+    /// A storage command with the key and the block lent.
+    ///
+    /// `Err` where a whole value is stored under a held key, and there is no memory for its block: nothing has changed.
+    pub(super) fn store_lent(
+        &mut self,
+        mode: StoreMode,
+        compare: Option<u64>,
+        key: &[u8],
+        lent: Lent<'_>,
+        moment: u64,
+    ) -> Result<Reply<()>, AllocError>
+        requires { is_key key.now ≡ true }
+        ensures step { let s = settled self.old (Some key.now) moment in
+            IfOk result (λ reply. (value : List ℕ)
+            → store_step s compare mode key.now (body_at key.now s.items) (lent_content lent.entry) (is_refusal reply)
+            ≡ (self.new, filled reply value)) }
+        ensures refusal { let s = settled self.old (Some key.now) moment in
+            IfOk result (λ reply. is_refusal reply ≡ true
+            → store_may_refuse compare mode (body_at key.now s.items) (lent_content lent.entry).value ≡ true) }
+        ensures err { OnErr result (self.new ≡ self.old) }
+        ensures cause { let s = settled self.old (Some key.now) moment in
+            OnErr result (store_takes_block s compare mode key.now (body_at key.now s.items) (lent_content lent.entry).value ≡ true) }
     {
-        match mode {
-            StoreMode::Set | StoreMode::Add => stored_or_fault(self.put(key, body, false)),
-            StoreMode::Replace | StoreMode::Append | StoreMode::Prepend => Reply::NotStored,
-            StoreMode::Cas(_) => Reply::NotFound,
-        }
-    }
-
-    /// A storage command on a key that is held.
-    fn store_held(&mut self, mode: StoreMode, key: Key, body: Body, found: Found) -> Reply<()>
-        requires found { body_at key self.old.items ≡ found_body (Some found) (value_at key self.old.items) }
-        ensures step { (value : List ℕ) → store_step self.old mode key (content_of body) (is_refusal result)
-            ≡ (self.new, filled result value) }
-        ensures refusal { is_refusal result ≡ true
-            → store_may_refuse mode (body_at key self.old.items) body.value ≡ true }
-    {
-        match mode {
-            StoreMode::Set | StoreMode::Replace => stored_or_fault(self.put(key, body, true)),
-            StoreMode::Append => stored_or_fault(self.append(key, body.value, found)),
-            StoreMode::Prepend => stored_or_fault(self.prepend(key, body.value, found)),
-            StoreMode::Cas(number) if found.cas == number => {
-                stored_or_fault(self.put(key, body, true))
-            }
-            StoreMode::Cas(_) => {
-                let _ = self.bring(&key);
-                Reply::Exists
-            }
-            StoreMode::Add => {
-                let _ = self.bring(&key);
-                Reply::NotStored
+        if let (StoreMode::Set, None) = (mode, compare) {
+            if let Some(reply) = self.set_at_once(key, lent, moment) {
+                return Ok(reply);
             }
         }
+        let found = self.settle(key, moment);
+        self.store_settled(mode, compare, key, lent, found)
     }
 
-    /// Stores a held value with a block behind it. It takes memory where the block has bytes.
-    fn append(&mut self, key: Key, block: Block, found: Found) -> Result<(), Fault>
-        requires found { body_at key self.old.items ≡ found_body (Some found) (value_at key self.old.items) }
-        ensures step { (reply : AReply (List ℕ))
-            → stored self.old key (renewed found (value_at key self.old.items ++ block)) (is_refused result) reply
-            ≡ (self.new, reply_or_fault result reply) }
-        ensures refusal { is_refused result ≡ true → 0 < length block }
+    /// The same on a settled cache, where this was found under the key.
+    fn store_settled(
+        &mut self,
+        mode: StoreMode,
+        compare: Option<u64>,
+        key: &[u8],
+        lent: Lent<'_>,
+        found: Option<Found>,
+    ) -> Result<Reply<()>, AllocError>
+        requires key { is_key key.now ≡ true }
+        requires found { body_at key.now self.old.items ≡ found_body found (value_at key.now self.old.items) }
+        ensures step { IfOk result (λ reply. (value : List ℕ)
+            → store_step self.old compare mode key.now (body_at key.now self.old.items) (lent_content lent.entry) (is_refusal reply)
+            ≡ (self.new, filled reply value)) }
+        ensures refusal { IfOk result (λ reply. is_refusal reply ≡ true
+            → store_may_refuse compare mode (body_at key.now self.old.items) (lent_content lent.entry).value ≡ true) }
+        ensures err { OnErr result (self.new ≡ self.old) }
+        ensures cause { OnErr result (store_takes_block self.old compare mode key.now
+            (body_at key.now self.old.items) (lent_content lent.entry).value ≡ true) }
     {
-        let before = &self.store.peek(&key).unwrap().value;
-        self.admit(&key, before.as_slice().len() + block.as_slice().len())?;
-        if block.is_empty() {
-            return self.renew(key, block, found);
-        }
-        match before.joined(block.as_slice()) {
-            Ok(longer) => self.put(key, found.with(longer), true),
-            Err(_) => Err(Fault::OutOfMemory),
-        }
-    }
-
-    /// Stores a held value with a block before it. It takes memory where the block has bytes.
-    fn prepend(&mut self, key: Key, block: Block, found: Found) -> Result<(), Fault>
-        requires found { body_at key self.old.items ≡ found_body (Some found) (value_at key self.old.items) }
-        ensures step { (reply : AReply (List ℕ))
-            → stored self.old key (renewed found (block ++ value_at key self.old.items)) (is_refused result) reply
-            ≡ (self.new, reply_or_fault result reply) }
-        ensures refusal { is_refused result ≡ true → 0 < length block }
-    {
-        let before = &self.store.peek(&key).unwrap().value;
-        self.admit(&key, before.as_slice().len() + block.as_slice().len())?;
-        if block.is_empty() {
-            return self.renew(key, block, found);
-        }
-        match block.joined(before.as_slice()) {
-            Ok(value) => self.put(key, found.with(value), true),
-            Err(_) => Err(Fault::OutOfMemory),
+        match self.store_but_whole(mode, compare, key, lent.block, found) {
+            Some(reply) => Ok(reply),
+            None => self.put_lent(key, lent, found.is_some()),
         }
     }
 
-    /// Stores a held value anew. It takes no memory.
-    fn renew(&mut self, key: Key, empty: Block, found: Found) -> Result<(), Fault>
-        requires empty { empty ≡ [] }
-        requires found { body_at key self.old.items ≡ found_body (Some found) (value_at key self.old.items) }
-        requires admitted { is_ok (admission self.old key (length (value_at key self.old.items))) ≡ true }
-        ensures step { (reply : AReply (List ℕ))
-            → stored self.old key (renewed found (value_at key self.old.items)) false reply ≡ (self.new, reply) }
-        ensures stored { is_ok result ≡ true }
+    /// A storage command that stores nothing, or joins its block to what is held. `None` where it stores its block as
+    /// the whole value, which is not done here.
+    fn store_but_whole(
+        &mut self,
+        mode: StoreMode,
+        compare: Option<u64>,
+        key: &[u8],
+        block: &[u8],
+        found: Option<Found>,
+    ) -> Option<Reply<()>>
+        requires found { body_at key.now self.old.items ≡ found_body found (value_at key.now self.old.items) }
+        ensures step { IfSome result (λ reply. (flags : ℕ) → (expiry : ADeadline) → (value : List ℕ)
+            → store_step self.old compare mode key.now (body_at key.now self.old.items)
+            (record { flags = flags; expiry = expiry; value = block.now }) (is_refusal reply)
+            ≡ (self.new, filled reply value)) }
+        ensures refusal { IfSome result (λ reply. is_refusal reply ≡ true
+            → store_may_refuse compare mode (body_at key.now self.old.items) block.now ≡ true) }
+        ensures unchanged { IfNone result (self.new ≡ self.old) }
+        ensures whole { IfNone result (IsWhole compare mode (body_at key.now self.old.items)) }
     {
-        let body = self.lift(&key, empty);
-        self.put(key, body, true)
-    }
-
-    /// Takes the body from under a held key, which stays held with no bytes.
-    pub(super) fn lift(&mut self, key: &Key, empty: Block) -> Body
-        requires empty { empty ≡ [] }
-        requires held { is_some (body_at key.now self.old.items) ≡ true }
-        ensures body { body_at key.now self.old.items ≡ Some result }
-        ensures lifted { self.new ≡ lifted self.old key.now }
-    {
-        let bare = Body {
-            flags: 0,
-            expiry: Deadline::Never,
-            cas: 0,
-            value: empty,
+        if let Some(reply) = unstored(compare, mode, found) {
+            let _ = self.bring(key);
+            return Some(reply);
+        }
+        let found = found?;
+        let side = match mode {
+            StoreMode::Append => Side::Behind,
+            StoreMode::Prepend => Side::Before,
+            StoreMode::Set | StoreMode::Add | StoreMode::Replace => return None,
         };
-        self.store.replace(key, bare).unwrap()
+        Some(stored_or_fault(self.join(side, key, block, found)))
     }
 
-    /// Stores a body under a key, with a number of its own. Where the key is held it takes no memory.
-    pub(super) fn put(&mut self, key: Key, mut body: Body, is_held: bool) -> Result<(), Fault>
-        requires held { is_some (body_at key self.old.items) ≡ is_held }
-        ensures step { (reply : AReply (List ℕ)) → stored self.old key (content_of body) (is_refused result) reply
+    /// Stores a held value with a block before or behind it. It takes memory where the block has bytes.
+    fn join(&mut self, side: Side, key: &[u8], block: &[u8], found: Found) -> Result<(), Fault>
+        requires found { body_at key.now self.old.items ≡ found_body (Some found) (value_at key.now self.old.items) }
+        ensures step { (reply : AReply (List ℕ))
+            → stored self.old key.now (renewed found (joined side (value_at key.now self.old.items) block.now)) (is_refused result) reply
             ≡ (self.new, reply_or_fault result reply) }
-        ensures refusal { is_refused result ≡ true → is_held ≡ false }
+        ensures refusal { is_refused result ≡ true → 0 < length block.now }
     {
-        let cas = self.admit(&key, body.value.len())?;
-        body.cas = cas;
-        if !place(&mut self.store, key, body, is_held) {
-            return Err(Fault::OutOfMemory);
+        let before = self.store.peek(key).unwrap().value.as_slice();
+        let cas = self.admit(key, before.len() + block.len())?;
+        if block.is_empty() {
+            self.renew(key, found, cas);
+            return Ok(());
         }
-        self.counter = CasCounter::starting_at(cas);
-        keep(&mut self.store, self.budget, self.limit);
-        Ok(())
-    }
-
-    /// The number of an item whose value has so many bytes, or why it is not stored under a key.
-    pub(super) fn admit(&self, key: &Key, bytes: usize) -> Result<u64, Fault>
-        ensures { result ≡ admission self.now key.now bytes }
-    {
-        if bytes > VALUE_LIMIT
-            || key.as_bytes().len() as u64 + bytes as u64 + OVERHEAD > self.budget
-        {
-            return Err(Fault::TooLarge);
-        }
-        let mut counter = self.counter;
-        match counter.next() {
-            Some(cas) => Ok(cas),
-            None => Err(Fault::CasUsedUp),
+        let value = match side {
+            Side::Before => Block::joined(self.alloc, block, before),
+            Side::Behind => Block::joined(self.alloc, before, block),
+        };
+        match value {
+            Ok(value) => {
+                self.put_held(key, found.with(value, cas));
+                Ok(())
+            }
+            Err(_) => Err(Fault::OutOfMemory),
         }
     }
 }
 
-/// Puts a body in front under a key, in place of one that is held, and says whether there was memory.
-#[tactic(auto, using(mc_store::proofs::ItemLemmas::absent))]
-fn place<S: Store + Drop>(store: &mut S, key: Key, body: Body, is_held: bool) -> bool
-    requires held { is_some (body_at key (S.items store.old)) ≡ is_held }
-    requires cost { cost_sum (S.items store.old) + cost_of key body.value < 2 ^ 63 }
-    ensures placed { OnTrue result (S.items store.new ≡ (key, body) ∷ without key (S.items store.old)) }
-    ensures unchanged { OnFalse result (S.items store.new ≡ S.items store.old) }
-    ensures absent { OnFalse result (is_held ≡ false) }
+/// What a storage command answers that stores nothing, where this was found under its key.
+fn unstored(compare: Option<u64>, mode: StoreMode, found: Option<Found>) -> Option<Reply<()>>
+    ensures reply { (before value : List ℕ)
+        → option_map (λ reply. filled reply value) result ≡ unstored compare mode (found_body found before) }
+    ensures refusal { IfSome result (λ reply. is_refusal reply ≡ false) }
 {
-    if is_held {
-        store.replace(&key, body).is_ok()
-    } else {
-        store.put_front(key, body).is_ok()
+    match compared(compare, found) {
+        Some(reply) => Some(reply),
+        None => unmet(mode, found),
     }
 }
 
-/// The reply to a storage command that stored, or why it did not.
-fn stored_or_fault(stored: Result<(), Fault>) -> Reply<()>
-    ensures reply { (value : List ℕ) → filled result value ≡ reply_or_fault stored Stored }
-    ensures refusal { is_refusal result ≡ is_refused stored }
+/// What a command answers that compares what was found with a number, and goes no further.
+fn compared(compare: Option<u64>, found: Option<Found>) -> Option<Reply<()>>
+    ensures reply { (before value : List ℕ)
+        → option_map (λ reply. filled reply value) result ≡ compared compare (found_body found before) }
+    ensures refusal { IfSome result (λ reply. is_refusal reply ≡ false) }
 {
-    match stored {
-        Ok(()) => Reply::Stored,
-        Err(fault) => Reply::Fault(fault),
+    let number = compare?;
+    match found {
+        None => Some(Reply::NotFound),
+        Some(found) if found.cas == number => None,
+        Some(_) => Some(Reply::Exists),
+    }
+}
+
+/// What a storage command answers whose condition is not met by what was found.
+fn unmet(mode: StoreMode, found: Option<Found>) -> Option<Reply<()>>
+    ensures reply { (before value : List ℕ)
+        → option_map (λ reply. filled reply value) result ≡ unmet mode (found_body found before) }
+    ensures refusal { IfSome result (λ reply. is_refusal reply ≡ false) }
+{
+    match (mode, found) {
+        (StoreMode::Add, Some(_))
+        | (StoreMode::Replace | StoreMode::Append | StoreMode::Prepend, None) => {
+            Some(Reply::NotStored)
+        }
+        _ => None,
     }
 }

@@ -1,6 +1,5 @@
-use Rattle.std.proofs.Common.{◌≡◌, ◌++◌, List}
+use Rattle.std.proofs.Common.{◌≡◌, ◌++◌}
 use Rattle.std.proofs.lemmas.List.Filters.{dedup_is}
-use Rattle.mc_ring.specs.declared.points.Point.{Point}
 use Rattle.mc_ring.proofs.ShownLemmas.{shown}
 use Rattle.mc_ring.proofs.points.joined.Goals as goal
 

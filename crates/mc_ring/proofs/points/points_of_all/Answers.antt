@@ -1,4 +1,4 @@
-use Rattle.std.proofs.Common.{◌≡◌, ◌+◌, length, take, arith, zero-add, ◌∙◌}
+use Rattle.std.proofs.Common.{◌≡◌, ◌+◌, length, take, arith}
 use Rattle.std.proofs.lemmas.List.{take_more, length-take-le}
 use Rattle.mc_ring.proofs.PairLemmas.{pairs_from-more}
 use Rattle.mc_ring.proofs.points.points_of_all.Goals as goal

@@ -1,4 +1,4 @@
-use Rattle.std.proofs.Common.{append_assoc, append-nil, ◌++◌, sym, ap, ◌∙◌}
+use Rattle.std.proofs.Common.{append_assoc, append-nil, ◌++◌, ap, ◌∙◌}
 use Rattle.mc_ring.specs.Points.{points_of_digest, pairs_at}
 use Rattle.mc_ring.proofs.PairLemmas.{first_points-none, first_points-more}
 use Rattle.mc_ring.proofs.points.push_points.Goals as goal

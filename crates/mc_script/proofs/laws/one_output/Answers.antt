@@ -1,4 +1,4 @@
-use Rattle.mc_script.proofs.HistoryLemmas.{one_answer}
+use Rattle.mc_script.proofs.AnswerLemmas.{one_answer}
 use Rattle.mc_script.proofs.laws.one_output.Goals as goal
 
 pub returns : goal.returns

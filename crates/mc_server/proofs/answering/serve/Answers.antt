@@ -1,4 +1,10 @@
+use Rattle.std.proofs.Common.{sym}
 use Rattle.mc_server.proofs.answering.serve.Goals as goal
 
-pub returns-in-Whole : goal.returns-in-Whole
-returns-in-Whole g c = rw c.in-Whole.is c.serve_request.ensures
+pub returns-in-Get-clause-served : goal.returns-in-Get-clause-served
+returns-in-Get-clause-served g c number = rw c.in-Get.is (c.serve_keys.ensures.served number)
+
+pub returns-in_ok-serve_update-in-Update-clause-served : goal.returns-in_ok-serve_update-in-Update-clause-served
+returns-in_ok-serve_update-in-Update-clause-served g c number =
+    let hides = rw c.in-Update.is at c.hides-hides.ensures in
+    rw c.in-Update.is (c.in_ok-serve_update-in-Update.ensures.served number c.in-Update.noreply (sym hides))

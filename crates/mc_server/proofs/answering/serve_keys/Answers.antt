@@ -1,35 +1,42 @@
-use Rattle.std.proofs.Common.{arith}
-use Rattle.mc_reply.specs.Seen.{bytes_seen}
-use Rattle.mc_cache.specs.CacheState.{value_at}
-use Rattle.mc_server.proofs.RoomLemmas.{keys_room-step}
-use Rattle.mc_server.proofs.GetLemmas.{filled_is_seen, filled_fits, serving_more, serving_all}
+use Rattle.std.proofs.Common.{false, arith}
+use Rattle.mc_server.proofs.RoomLemmas.{keys_room-shrinks}
+use Rattle.mc_server.proofs.GetLemmas.{good_keys, serving_none, serving_more, serving_all}
 use Rattle.mc_server.proofs.answering.serve_keys.Goals as goal
 
--- there is room for the key's part
-pub unwrap-requires : goal.unwrap-requires
-unwrap-requires g c =
-    let held = value_at c.key-key.result.now c.get-reply.new.self.items in
-    let room = keys_room-step c.args.keys.now c.loop-at.cache c.get-reply.new.self c.loop-at.at c.key-key.result.now (omega arith) c.key-key.ensures c.get-reply.ensures.shrinks in
-    let shown = filled_fits c.get-reply.result c.held_bytes.result held c.with-reply.result c.with-reply.ensures c.held_bytes.ensures in
-    c.write_part.ensures.succeeds (omega (arith, room, shown))
+-- no key is served yet
+pub loop-key-init : goal.loop-key-init
+loop-key-init g c =
+    rw c.into_iter-key-iterator.ensures.into_iter_gives (record {
+      good = c.requires.plain;
+      served = serving_none c.args.keys c.args.exptime c.args.with_cas c.args.moment c.args.cache.now c.args.output.now.items;
+      room = c.requires.room;
+      len = omega arith;
+    })
 
--- the key's command is made, and its part stands behind the others
-pub loop-at-preserved : goal.loop-at-preserved
-loop-at-preserved g c =
-    let held = value_at c.key-key.result.now c.get-reply.new.self.items in
-    let room = keys_room-step c.args.keys.now c.loop-at.cache c.get-reply.new.self c.loop-at.at c.key-key.result.now (omega arith) c.key-key.ensures c.get-reply.ensures.shrinks in
-    let shown = filled_fits c.get-reply.result c.held_bytes.result held c.with-reply.result c.with-reply.ensures c.held_bytes.ensures in
-    let seen = filled_is_seen c.get-reply.result c.held_bytes.result held c.with-reply.result c.with-reply.ensures c.held_bytes.ensures in
-    let written = rw c.unwrap.ensures at c.write_part.ensures.ok in
+-- one key more
+pub loop-key-preserved : goal.loop-key-preserved
+loop-key-preserved g c =
+    let facts = c.serve_key.ensures in
+    let left = c.next.new.self in
+    let key = c.in-Some.key.now in
+    let shrinks = keys_room-shrinks 384 left c.loop-key.cache c.serve_key.new.cache facts.shrinks in
+    let room = rw c.in-Some.ensures.steps at c.loop-key.invariant.room in
+    let len = rw c.in-Some.ensures.steps at c.loop-key.invariant.len in
     record {
-      served = serving_more c.args.request.now c.args.keys.now c.args.exptime c.args.with_cas c.args.moment c.loop-at.at c.args.cache.now c.loop-at.cache c.get-reply.new.self
-          c.args.output.now.items c.loop-at.output.items c.write_part.new.out.items _ (bytes_seen c.with-reply.result) (omega arith)
-          (rw (← c.key-key.ensures) c.get-reply.ensures.step) seen written c.loop-at.invariant.served;
-      room = omega (arith, room, shown);
+      good = (good_keys c.loop-key.key-iterator left key c.in-Some.ensures.steps c.loop-key.invariant.good).1;
+      served = serving_more c.args.keys left key c.args.exptime c.args.with_cas c.args.moment c.args.cache.now c.loop-key.cache c.serve_key.new.cache
+          c.args.output.now.items c.loop-key.output.items c.serve_key.new.output.items facts.cache facts.answered
+          (rw c.in-Some.ensures.steps at c.loop-key.invariant.served);
+      room = omega (arith, room, shrinks, facts.len, facts.room);
+      len = omega (arith, len, shrinks, facts.len);
     }
 
--- each key is served
-pub returns : goal.returns
-returns g c number =
-    rw c.requires.request (serving_all number c.args.keys.now c.args.exptime c.args.with_cas c.args.moment c.loop-at.at c.args.cache.now c.loop-at.cache
-    c.args.output.now.items c.loop-at.output.items (omega arith) (rw c.requires.request at c.loop-at.invariant.served))
+-- each key is served, and the end is written
+pub returns-clause-served : goal.returns-clause-served
+returns-clause-served g c number =
+    let none = c.in-None.ensures.steps.0 in
+    let written = rw c.unwrap.ensures at c.write_end.ensures.ok in (
+      false,
+      serving_all number c.args.keys c.args.exptime c.args.with_cas c.args.moment c.args.cache.now c.loop-key.cache
+          c.args.output.now.items c.loop-key.output.items c.write_end.new.out.items (rw none at c.loop-key.invariant.served) written,
+    )

@@ -1,0 +1,34 @@
+#!/usr/bin/env bash
+# Counts the instructions that a request costs, by valgrind's callgrind: the difference of two runs of `mc_bench case` of
+# different size, less that of two runs that only make what the client sends. It does not change with the machine's load.
+#
+# Usage: instructions.sh [PROGRAM]      (crates/mc_bench/out/mc_bench, which is built where it is missing)
+set -eu
+program=$(realpath "${1:-/}")
+if [ $# -eq 0 ]; then
+    cd "$(dirname "$0")/../crates/mc_bench"
+    [ -x out/mc_bench ] || rt run > /dev/null
+    program=$PWD/out/mc_bench
+fi
+
+# The instructions of a run.
+instructions() {
+    valgrind --tool=callgrind --callgrind-out-file=/dev/null "$program" "$@" 2>&1 > /dev/null | awk '/Collected/ { print $NF }'
+}
+
+# What one more costs, of the sizes of a kind, in these pieces.
+each() {
+    local kind=$1 piece=$2 few=$3 many=$4
+    local served=$(($(instructions case "$kind" "$many" "$piece") - $(instructions case "$kind" "$few" "$piece")))
+    local made=$(($(instructions load "$kind" "$many" "$piece") - $(instructions load "$kind" "$few" "$piece")))
+    echo $(((served - made) / (many - few)))
+}
+
+set_of_one=$(each set 65536 1000 5000)
+in_bytes=$(each set 1 1000 5000)
+echo "a get of one held key: $(each get 65536 1000 5000) instructions"
+echo "a set of one held key: $set_of_one instructions"
+echo "a set of one of sixteen held keys: $(each sets 65536 1000 5000) instructions"
+echo "an increment of one held number: $(each incr 65536 1000 5000) instructions"
+echo "a piece of one byte, of a small set: $(((in_bytes - set_of_one) / 21)) instructions beside the set's own"
+echo "a piece of one byte, of a block: $(each block 1 1000 9000) instructions"

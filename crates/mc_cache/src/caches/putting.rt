@@ -1,0 +1,229 @@
+//! Putting: an item that is admitted stands first, and the bounds are kept.
+ghost use Rattle.std.specs.Prelude.{◌≡◌, ◌<◌, ◌≤◌, ◌^◌, ℕ, List, [], length, Some, None, Ok, is_some, is_ok, true, false, IfOk, IfErr, OnOk, OnErr, IfSome, OnSome, IfNone};
+ghost use Rattle.mc_text.specs.Keys.{is_key};
+ghost use Rattle.mc_request.specs.declared.faults.Fault.TheVariants.{OutOfMemory};
+ghost use Rattle.mc_reply.specs.declared.replies.Reply.{Reply as AReply};
+ghost use Rattle.mc_reply.specs.declared.replies.Reply.TheVariants.{Stored};
+ghost use Rattle.mc_reply.specs.Replies.{filled};
+ghost use Rattle.mc_store.specs.Items.{body_at};
+ghost use Rattle.mc_cache.specs.CacheState.{value_at};
+ghost use Rattle.mc_cache.specs.Settling.{settled};
+ghost use Rattle.mc_cache.specs.Step.{admission, stored, numbered, with_item};
+ghost use Rattle.mc_cache.specs.Refusals.{is_refusal};
+ghost use Rattle.mc_cache.specs.Found.{found_body};
+ghost use Rattle.mc_cache.specs.Admissions.{content_of, lent_content, is_refused, reply_or_fault, lifted, renewed};
+
+use super::Cache;
+use super::settling::Found;
+use super::storing::Lent;
+use mc_item::{Body, CasCounter, Deadline, cost_at};
+use mc_reply::Reply;
+use mc_request::Fault;
+use mc_store::{Store, keep};
+use mc_text::{Block, Key, VALUE_LIMIT};
+use std::alloc::AllocError;
+
+impl<S: Store + Drop> Cache<S> {
+    /// Stores a body of its own, with a number of its own. Where the key is held it takes no memory.
+    pub(super) fn put_own(&mut self, key: Key, mut body: Body, is_held: bool) -> Result<(), Fault>
+        requires held { is_some (body_at key self.old.items) ≡ is_held }
+        ensures step { (reply : AReply (List ℕ)) → stored self.old key (content_of body) (is_refused result) reply
+            ≡ (self.new, reply_or_fault result reply) }
+        ensures refusal { is_refused result ≡ true → is_held ≡ false }
+    {
+        body.cas = self.admit(key.as_bytes(), body.value.len())?;
+        if is_held {
+            self.put_held(key.as_bytes(), body);
+            return Ok(());
+        }
+        self.put_new(key, body)
+    }
+
+    /// Stores what is lent, with a number of its own.
+    ///
+    /// `Err` where the key is held and there is no memory for the block: nothing has changed.
+    pub(super) fn put_lent(
+        &mut self,
+        key: &[u8],
+        lent: Lent<'_>,
+        is_held: bool,
+    ) -> Result<Reply<()>, AllocError>
+        requires key { is_key key.now ≡ true }
+        requires held { is_some (body_at key.now self.old.items) ≡ is_held }
+        ensures step { IfOk result (λ reply. (value : List ℕ)
+            → stored self.old key.now (lent_content lent.entry) (is_refusal reply) Stored ≡ (self.new, filled reply value)) }
+        ensures refusal { IfOk result (λ reply. is_refusal reply ≡ true → is_held ≡ false) }
+        ensures err { OnErr result (self.new ≡ self.old) }
+        ensures held { OnErr result (is_held ≡ true) }
+        ensures admitted { OnErr result (is_ok (admission self.old key.now (length (lent_content lent.entry).value)) ≡ true) }
+    {
+        match self.admit(key, lent.block.len()) {
+            Ok(cas) if is_held => {
+                let value = Block::from_slice(self.alloc, lent.block)?;
+                self.put_held(key, lent.with(value, cas));
+                Ok(Reply::Stored)
+            }
+            Ok(cas) => match Block::from_slice(self.alloc, lent.block) {
+                Ok(value) => Ok(stored_or_fault(self.put_copied(key, lent.with(value, cas)))),
+                Err(_) => Ok(Reply::Fault(Fault::OutOfMemory)),
+            },
+            Err(fault) => Ok(Reply::Fault(fault)),
+        }
+    }
+
+    /// Stores what is lent whatever is held under its key, and looks its key up only once.
+    ///
+    /// `None` where it is not admitted, or where there is no memory for its block: nothing has changed.
+    pub(super) fn set_at_once(
+        &mut self,
+        key: &[u8],
+        lent: Lent<'_>,
+        moment: u64,
+    ) -> Option<Reply<()>>
+        requires { is_key key.now ≡ true }
+        ensures step { IfSome result (λ reply. (value : List ℕ)
+            → stored (settled self.old (Some key.now) moment) key.now (lent_content lent.entry) (is_refusal reply) Stored
+            ≡ (self.new, filled reply value)) }
+        ensures refusal { IfSome result (λ reply. is_refusal reply ≡ true
+            → body_at key.now (settled self.old (Some key.now) moment).items ≡ None) }
+        ensures unchanged { IfNone result (self.new ≡ self.old) }
+    {
+        let Ok(cas) = self.admit(key, lent.block.len()) else {
+            return None;
+        };
+        let Ok(value) = Block::from_slice(self.alloc, lent.block) else {
+            return None;
+        };
+        self.flush_due(moment);
+        match self.put_if_held(key, lent.with(value, cas)) {
+            None => Some(Reply::Stored),
+            Some(body) => Some(stored_or_fault(self.put_copied(key, body))),
+        }
+    }
+
+    /// Stores a body that is admitted under a key that is not held, of which a copy is made.
+    fn put_copied(&mut self, key: &[u8], body: Body) -> Result<(), Fault>
+        requires key { is_key key.now ≡ true }
+        requires absent { body_at key.now self.old.items ≡ None }
+        requires admitted { admission self.old key.now (length body.value) ≡ Ok body.cas }
+        ensures ok { OnOk result (self.new ≡ with_item self.old key.now body) }
+        ensures err { OnErr result (self.new ≡ self.old) }
+        ensures cause { IfErr result (λ fault. fault ≡ OutOfMemory) }
+    {
+        match Key::of_bytes(self.alloc, key) {
+            Ok(own) => self.put_new(own, body),
+            Err(_) => Err(Fault::OutOfMemory),
+        }
+    }
+
+    /// Stores a body that is admitted under a key that is not held.
+    #[tactic(auto, using(mc_store::proofs::ItemLemmas::absent))]
+    fn put_new(&mut self, key: Key, body: Body) -> Result<(), Fault>
+        requires absent { body_at key self.old.items ≡ None }
+        requires admitted { admission self.old key (length body.value) ≡ Ok body.cas }
+        ensures ok { OnOk result (self.new ≡ with_item self.old key body) }
+        ensures err { OnErr result (self.new ≡ self.old) }
+        ensures cause { IfErr result (λ fault. fault ≡ OutOfMemory) }
+    {
+        let cas = body.cas;
+        let Ok(()) = self.store.put_front(key, body) else {
+            return Err(Fault::OutOfMemory);
+        };
+        self.counter = CasCounter::starting_at(cas);
+        keep(&mut self.store, self.budget, self.limit);
+        Ok(())
+    }
+
+    /// Stores a body that is admitted under a held key. It takes no memory.
+    pub(super) fn put_held(&mut self, key: &[u8], body: Body)
+        requires held { is_some (body_at key.now self.old.items) ≡ true }
+        requires admitted { admission self.old key.now (length body.value) ≡ Ok body.cas }
+        ensures { self.new ≡ with_item self.old key.now body }
+    {
+        let _ = self.put_if_held(key, body);
+    }
+
+    /// Stores a body that is admitted, if its key is held, and hands it back if not. It takes no memory.
+    fn put_if_held(&mut self, key: &[u8], body: Body) -> Option<Body>
+        requires { admission self.old key.now (length body.value) ≡ Ok body.cas }
+        ensures held { IfNone result (self.new ≡ with_item self.old key.now body) }
+        ensures absent { OnSome result (body_at key.now self.old.items ≡ None) }
+        ensures back { IfSome result (λ back. back ≡ body) }
+        ensures unchanged { OnSome result (self.new ≡ self.old) }
+    {
+        let cas = body.cas;
+        match self.store.replace(key, body) {
+            Ok(_) => {
+                self.counter = CasCounter::starting_at(cas);
+                keep(&mut self.store, self.budget, self.limit);
+                None
+            }
+            Err(body) => Some(body),
+        }
+    }
+
+    /// Stores a held body anew, with this number. It takes no memory.
+    pub(super) fn renew(&mut self, key: &[u8], found: Found, cas: u64)
+        requires found { body_at key.now self.old.items ≡ found_body (Some found) (value_at key.now self.old.items) }
+        requires admitted { admission self.old key.now (length (value_at key.now self.old.items)) ≡ Ok cas }
+        ensures { self.new
+            ≡ with_item self.old key.now (numbered (renewed found (value_at key.now self.old.items)) cas) }
+    {
+        let mut body = self.lift(key);
+        body.cas = cas;
+        self.put_held(key, body);
+    }
+
+    /// Stores a text that is no longer than the held value, in its bytes. It takes no memory.
+    pub(super) fn overwrite(&mut self, key: &[u8], text: &[u8], found: Found, cas: u64)
+        requires found { body_at key.now self.old.items ≡ found_body (Some found) (value_at key.now self.old.items) }
+        requires fits { length text.now ≤ length (value_at key.now self.old.items) }
+        requires admitted { admission self.old key.now (length text.now) ≡ Ok cas }
+        ensures { self.new ≡ with_item self.old key.now (numbered (renewed found text.now) cas) }
+    {
+        let mut body = self.lift(key);
+        body.value.overwrite(text);
+        body.cas = cas;
+        self.put_held(key, body);
+    }
+
+    /// Takes the body from under a held key, which stays held with no bytes.
+    fn lift(&mut self, key: &[u8]) -> Body
+        requires { is_some (body_at key.now self.old.items) ≡ true }
+        ensures body { body_at key.now self.old.items ≡ Some result }
+        ensures lifted { self.new ≡ lifted self.old key.now }
+    {
+        let bare = Body {
+            flags: 0,
+            expiry: Deadline::Never,
+            cas: 0,
+            value: Block::new(self.alloc),
+        };
+        self.store.replace(key, bare).unwrap()
+    }
+
+    /// The number of an item whose value has so many bytes, or why it is not stored under a key.
+    pub(super) fn admit(&self, key: &[u8], bytes: usize) -> Result<u64, Fault>
+        ensures { result ≡ admission self.now key.now bytes }
+    {
+        if bytes > VALUE_LIMIT || cost_at(key.len(), bytes) > self.budget {
+            return Err(Fault::TooLarge);
+        }
+        let mut counter = self.counter;
+        match counter.next() {
+            Some(cas) => Ok(cas),
+            None => Err(Fault::CasUsedUp),
+        }
+    }
+}
+
+/// The reply to a storage command that stored, or why it did not.
+pub(super) fn stored_or_fault(stored: Result<(), Fault>) -> Reply<()>
+    ensures reply { (value : List ℕ) → filled result value ≡ reply_or_fault stored Stored }
+    ensures refusal { is_refusal result ≡ is_refused stored }
+{
+    match stored {
+        Ok(()) => Reply::Stored,
+        Err(fault) => Reply::Fault(fault),
+    }
+}

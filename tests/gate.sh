@@ -1,0 +1,33 @@
+#!/usr/bin/env bash
+# The merge gate: every proof from nothing, the must-fail edits, tests and programs (`rt ci`), and then the scripts of
+# tests/ with the program that was just built. The last line is 'N passed, M failed', the sum of all parts.
+set -u
+shopt -s lastpipe
+cd "$(dirname "$0")/.."
+passed=0
+failed=0
+
+# Runs a part and prints what it writes, but its last line 'N passed, M failed', which is added.
+add() {
+    local counts= line status
+    "$@" 2>&1 | while IFS= read -r line; do
+        if [[ $line =~ ^[0-9]+\ passed,\ [0-9]+\ failed$ ]]; then
+            [ -z "$counts" ] || printf '%s\n' "$counts"
+            counts=$line
+        else
+            printf '%s\n' "$line"
+        fi
+    done
+    status=${PIPESTATUS[0]}
+    read -r more _ fewer _ <<< "${counts:-0 passed, 0 failed}"
+    [ "$status" -eq 0 ] || [ "$fewer" -gt 0 ] || { echo "$*: ended with status $status"; fewer=1; }
+    echo "$*: $more passed, $fewer failed"
+    passed=$((passed + more))
+    failed=$((failed + fewer))
+}
+
+add rt ci
+add tests/examples.sh
+add tests/random.sh 5 2000
+echo "$passed passed, $failed failed"
+[ "$failed" -eq 0 ]
