@@ -24,9 +24,10 @@ pub enum Next {
 /// A reader of the requests of one connection. Contracts see what it stands for: the bytes that are not taken, the
 /// block that is dropped while it comes, whether it is closed, and how many bytes it keeps.
 ///
-/// Each byte is looked at a constant number of times, however the text is cut and whichever calls are made: a line that
-/// has not come whole is not searched from its start again, a line whose block has not come whole is read once more
-/// when it has, and a block that is refused is dropped while it comes. Where nothing is whole, a reader keeps fewer than
+/// Each byte is looked at a constant number of times, however the text is cut, by a caller that feeds, and takes until
+/// there is no more: a line that has not come whole is not searched from its start again, a line whose block has not come
+/// whole is read once more when it has, and a block that is refused is dropped while it comes. A look behind a `consume`
+/// that no feed followed searches the first line again each time. Where nothing is whole, a reader keeps fewer than
 /// [`REQUEST_LIMIT`] bytes.
 #[derive(Drop)]
 pub struct Reader {
