@@ -5,12 +5,15 @@ use Rattle.std.specs.Prelude.{unwrap_or}
 use Rattle.std.proofs.lemmas.List.{get_or_append_left, drop-drop, drop-append-le, append-nil}
 use Rattle.std.proofs.Math.Seq.{drop-append-add}
 use Rattle.mc_text.specs.Lines.{HasNoLineFeed}
+use Rattle.mc_text.proofs.LineLemmas.{line_end-more, first_line_too_long-more}
 use Rattle.mc_request.specs.declared.faults.Fault.{Fault}
 use Rattle.mc_request.specs.declared.parts.Taken.{Taken}
 use Rattle.mc_request.specs.declared.parts.Taken.TheVariants.{Faulty}
 use Rattle.mc_request.specs.declared.peeks.Front.{Front}
 use Rattle.mc_request.specs.Faults.{closes}
-use Rattle.mc_request.specs.Steps.{IsShortOf, IsWholeFrom}
+use Rattle.mc_request.specs.declared.searched.Searched.{Searched}
+use Rattle.mc_request.specs.declared.searched.Searched.TheVariants as searches
+use Rattle.mc_request.specs.Steps.{IsSearched, IsShortOf, IsWholeFrom}
 use Rattle.mc_request.specs.Requests.{next_request, requests_from, requests_of, ends}
 use Rattle.mc_request.specs.Reader.{ReaderState, rest_of, rest_from, KeepsRest, KeepsLittle}
 use Rattle.mc_request.specs.Peeks.{HasNone, IsFirst, Shows, front_of, first_by, past}
@@ -64,11 +67,16 @@ front_size s front is =
     front_size_by s.dropping s.unread (first_by s.dropping s.unread) front refl (passed s.closed (option_map front_at (first_by s.dropping s.unread)) front is)
 
 -- what was looked at stays so when more comes
-pub scanned_more : (scanned : ℕ) (u more : List ℕ) → HasNoLineFeed scanned u → HasNoLineFeed scanned (u ++ more)
+scanned_more : (scanned : ℕ) (u more : List ℕ) → HasNoLineFeed scanned u → HasNoLineFeed scanned (u ++ more)
 scanned_more scanned u more h = record {
   inside = omega (arith, h.inside, length-append u more);
   none = λ k lt is. h.none k lt (sym (get_or_append_left u more 0 k (omega (arith, lt, h.inside))) ∙ is);
 }
+
+pub searched_more : (known : Searched) (u more : List ℕ) → IsSearched known u → IsSearched known (u ++ more)
+searched_more (searches.Without count) u more h = scanned_more count u more h
+searched_more (searches.Ends end) u more h = line_end-more u more end h
+searched_more searches.TooLong u more h = first_line_too_long-more u more h
 
 pub short_more : (wanted : ℕ) (u more : List ℕ) → IsShortOf wanted u → IsShortOf wanted (u ++ more)
 short_more wanted u more h rest short = rw append_assoc (h (more ++ rest) (rw append_assoc at short))

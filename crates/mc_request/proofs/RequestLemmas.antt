@@ -1,11 +1,11 @@
 -- The requests of a text that grows.
-use Rattle.std.proofs.Common.{◌≡◌, ℕ, zero, suc, ◌+◌, if◌then◌else◌, ◌<◌, ◌≤◌, inl, inr, Bool, true, false, cond, List, [], ◌∷◌, ◌++◌, length, take, drop, Option, Some, None, refl, sym, ap, ◌∙◌, arith, nat_lt, nat_le, is_some, length-append, length-drop}
+use Rattle.std.proofs.Common.{◌≡◌, ℕ, zero, suc, ◌+◌, ◌-◌, if◌then◌else◌, ◌<◌, ◌≤◌, inl, inr, Bool, true, false, cond, List, [], ◌∷◌, ◌++◌, length, take, drop, Option, Some, None, refl, sym, ap, ◌∙◌, arith, nat_lt, nat_le, is_some, length-append, length-drop}
 use Rattle.std.proofs.lemmas.Bool.{cases_lt}
 use Rattle.std.proofs.lemmas.List.{take-append-le, drop-append-le, append-nil}
 use Rattle.mc_text.specs.Lines as lines
-use Rattle.mc_text.specs.Lines.{FirstLine, first_line, HasNoLineFeed}
+use Rattle.mc_text.specs.Lines.{FirstLine, first_line, line_end, HasNoLineFeed}
 use Rattle.mc_text.specs.Words.{words}
-use Rattle.mc_text.proofs.LineLemmas.{first_line_whole-size, first_line_whole-limit, first_line_whole-more, first_line_too_long, first_line_too_long-more, first_line-nil}
+use Rattle.mc_text.proofs.LineLemmas.{first_line_whole, first_line_whole-size, first_line_whole-limit, first_line_whole-more, first_line_too_long, first_line_too_long-more, first_line-nil}
 use Rattle.mc_request.specs.Meanings.{Meaning, Storing, Alone, Stores, Refuses, meaning}
 use Rattle.mc_request.specs.Requests.{taken_by, with_block, next_request, next_by, ends, requests_from, requests_within, requests_of}
 use Rattle.mc_request.specs.Steps.{StartsBy, IsShortOf, IsWholeFrom}
@@ -143,6 +143,13 @@ starts_by u content line m e means =
       limit = first_line_whole-limit u content line e;
       next = λ more. next_from (u ++ more) (lines.Whole content line) (first_line_whole-more u more content line e) ∙ rw (means, drop-append-le line u more here.1) refl;
     }
+
+-- where it ends
+pub line_ends : (u content : List ℕ) (line : ℕ) → first_line u ≡ lines.Whole content line → line_end u ≡ Some (line - 1)
+line_ends u content line e =
+    let parts = first_line_whole u content line e in
+    let end_is : parts.0 ≡ line - 1 = omega (arith, parts.3) in
+    rw (← end_is) parts.1
 
 -- what stands there now
 pub starts_now : (u : List ℕ) (m : Meaning) (line : ℕ) → StartsBy u m line → next_request u ≡ taken_by m line (drop line u)

@@ -1,11 +1,13 @@
 -- What the bytes that have come allow.
 use Rattle.std.specs.Prelude.{ℕ, ◌≡◌, ◌<◌, ◌≤◌, ◌&&◌, Bool, not, nat_le, true, false, nat_lt, List, [], ◌∷◌, ◌++◌, length, drop, Option, Some, None, is_some, if◌then◌else◌}
-use Rattle.mc_text.specs.Lines.{HasNoLineFeed}
+use Rattle.mc_text.specs.Lines.{HasNoLineFeed, TooLong, first_line, line_end}
 use Rattle.mc_text.specs.declared.blocks.TheConstants.{VALUE_LIMIT}
 use Rattle.mc_text.specs.declared.lines.TheConstants.{LINE_LIMIT}
 use Rattle.mc_request.specs.declared.names.Name.{Name}
 use Rattle.mc_request.specs.declared.parts.Taken.TheVariants as takens
 use Rattle.mc_request.specs.declared.peeks.TheConstants.{REQUEST_LIMIT}
+use Rattle.mc_request.specs.declared.searched.Searched.{Searched}
+use Rattle.mc_request.specs.declared.searched.Searched.TheVariants as searches
 use Rattle.mc_request.specs.declared.steps.Stand.{Stand}
 use Rattle.mc_request.specs.declared.steps.Stand.TheVariants.{Whole, Waits, Drops}
 use Rattle.mc_request.specs.Faults.{closes}
@@ -22,9 +24,15 @@ IsShortOf wanted unread = (more : List ℕ) → length (unread ++ more) < wanted
 abbrev pub IsWholeFrom : ℕ → List ℕ → Type 0
 IsWholeFrom wanted unread = (more : List ℕ) → wanted ≤ length (unread ++ more) → is_some (next_request (unread ++ more)) ≡ true
 
+-- what is known of the end of the first line of bytes, and stays so when more come
+abbrev pub IsSearched : Searched → List ℕ → Type 0
+IsSearched (searches.Without count) unread = HasNoLineFeed count unread
+IsSearched (searches.Ends end) unread = line_end unread ≡ Some end
+IsSearched searches.TooLong unread = first_line unread ≡ TooLong
+
 -- bytes that wait for others
-pub record IsWaiting (unread : List ℕ) (scanned wanted : ℕ) (sure : Bool) : Type 0 where
-  pub searched : HasNoLineFeed scanned unread
+pub record IsWaiting (unread : List ℕ) (known : Searched) (wanted : ℕ) (sure : Bool) : Type 0 where
+  pub searched : IsSearched known unread
   pub short : IsShortOf wanted unread
   pub few : length unread < wanted
   pub limit : wanted ≤ REQUEST_LIMIT
@@ -32,8 +40,8 @@ pub record IsWaiting (unread : List ℕ) (scanned wanted : ℕ) (sure : Bool) : 
 
 -- what stands at the front of bytes: it is whole, it waits, or its block is dropped while it comes
 abbrev pub StandIs : List ℕ → Stand → Type 0
-StandIs unread Whole = is_some (next_request unread) ≡ true
-StandIs unread (Waits scanned wanted sure) = IsWaiting unread scanned wanted sure
+StandIs unread (Whole searched) = IsSearched searched unread × (is_some (next_request unread) ≡ true)
+StandIs unread (Waits searched wanted sure) = IsWaiting unread searched wanted sure
 StandIs unread (Drops fault size) = (closes fault ≡ false) × (length unread < size)
     × ((more : List ℕ) → next_request (unread ++ more) ≡ (if nat_lt (length (unread ++ more)) size then None else Some (takens.Faulty fault, size)))
 

@@ -1,12 +1,11 @@
 -- How the bytes that are not taken are kept.
 use Rattle.std.specs.Prelude.{ℕ, ◌≡◌, ◌*◌, ◌<◌, ◌≤◌, List, length, drop, true, false, Option, Some, None}
-use Rattle.mc_text.specs.Lines.{HasNoLineFeed}
 use Rattle.mc_request.specs.declared.faults.Fault.{Fault}
 use Rattle.mc_request.specs.declared.peeks.TheConstants.{REQUEST_LIMIT}
 use Rattle.mc_request.specs.declared.unread.Unread.TheInside.{Inside}
 use Rattle.mc_request.specs.Faults.{closes}
 use Rattle.mc_request.specs.Reader.{ReaderState}
-use Rattle.mc_request.specs.Steps.{IsShortOf, IsWholeFrom}
+use Rattle.mc_request.specs.Steps.{IsSearched, IsShortOf, IsWholeFrom}
 
 abbrev pub state_of : Inside → ReaderState
 state_of r = record { unread = drop r.start r.buffer.items; dropping = r.dropping; closed = r.closed; held = length r.buffer.items }
@@ -19,8 +18,8 @@ IsEmptyWhile (Some d) unread = (closes d.0 ≡ false) × (0 < d.1 → length unr
 pub record IsUnread (r : Inside) : Type 0 where
   -- at most half of what is kept was taken
   pub half : 2 * r.start ≤ length r.buffer.items
-  -- the bytes that were searched hold no line feed
-  pub searched : HasNoLineFeed r.scanned (drop r.start r.buffer.items)
+  -- what is known of the end of the first line
+  pub searched : IsSearched r.searched (drop r.start r.buffer.items)
   -- nothing is whole before so many bytes
   pub short : IsShortOf r.wanted (drop r.start r.buffer.items)
   pub limit : r.wanted ≤ REQUEST_LIMIT

@@ -28,6 +28,7 @@ mod parts;
 mod peeks;
 mod reader;
 mod rows;
+mod searched;
 mod steps;
 mod storage_lines;
 mod unread;

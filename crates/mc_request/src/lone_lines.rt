@@ -17,6 +17,7 @@ use crate::parts::{Direction, Update};
 use mc_text::{WordIter, is_plain_key, read_i64, read_u64};
 
 /// `get`, and behind its exptime `gat`, by the keys. One that is none refuses the line.
+#[inline(always)]
 pub fn keys_line(
     exptime: Option<i64>,
     with_cas: bool,
@@ -24,10 +25,9 @@ pub fn keys_line(
 ) -> Result<Asked<'_>, Fault>
     ensures { lone_seen result ≡ (if at_least 1 keys.entry then keys_line exptime with_cas keys.entry else Err UnknownCommand) }
 {
-    if keys.again().next().is_none() {
-        return Err(Fault::UnknownCommand);
-    }
-    if !are_plain_keys(keys.again()) {
+    let mut words = keys.again();
+    let first = words.next().ok_or(Fault::UnknownCommand)?;
+    if !is_plain_key(first) || !are_plain_keys(words) {
         return Err(Fault::BadFormat);
     }
     Ok(Asked::Get {
@@ -38,6 +38,7 @@ pub fn keys_line(
 }
 
 /// Whether each word is a plain key.
+#[inline(always)]
 fn are_plain_keys(words: WordIter<'_>) -> bool
     ensures { result ≡ list_all is_plain_key words.entry }
 {

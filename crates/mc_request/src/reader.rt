@@ -3,7 +3,7 @@ ghost use Rattle.std.specs.Prelude.{◌≡◌, ◌<◌, ◌↔◌, ℕ, List, []
 
 use crate::faults::Fault;
 use crate::parts::{ReadError, Request, Taken};
-use crate::peeks::{Front, Peek, REQUEST_LIMIT};
+use crate::peeks::{Front, Peek};
 use crate::unread::Unread;
 use std::alloc::Global;
 use std::marker::Model;
@@ -24,11 +24,12 @@ pub enum Next {
 /// A reader of the requests of one connection. Contracts see what it stands for: the bytes that are not taken, the
 /// block that is dropped while it comes, whether it is closed, and how many bytes it keeps.
 ///
-/// Each byte is looked at a constant number of times, however the text is cut, by a caller that feeds, and takes until
-/// there is no more: a line that has not come whole is not searched from its start again, a line whose block has not come
-/// whole is read once more when it has, and a block that is refused is dropped while it comes. A look behind a `consume`
-/// that no feed followed searches the first line again each time. Where nothing is whole, a reader keeps fewer than
-/// [`REQUEST_LIMIT`] bytes.
+/// Each byte is looked at a constant number of times, however the text is cut: the end of a line is searched for once, a
+/// line whose block has not come whole is read once more when it has, and a block that is refused is dropped while it comes.
+/// No order of calls changes that. Behind a `feed` or a `consume` it is known whether something is whole, and
+/// [`Reader::ready`] looks at no byte; only where a `consume` brought a short line to the front, of at most 512 bytes, each
+/// `ready` until the next feed reads the words of it that may announce a block. [`Reader::peek`] reads the line that it
+/// lends. Where nothing is whole, a reader keeps fewer than [`REQUEST_LIMIT`](crate::REQUEST_LIMIT) bytes.
 #[derive(Drop)]
 pub struct Reader {
     alloc: Global,
@@ -111,7 +112,7 @@ impl Reader {
     }
 
     /// Whether a whole request or fault has come, which [`Reader::next`] would give. It takes no memory, and copies
-    /// nothing; behind a feed no byte is looked at.
+    /// nothing. No byte is looked at, but for the first words of a short line behind a `consume`.
     pub fn ready(&self) -> bool
         ensures ready { IsTrue result ↔ (0 < length (rest_of self.now [])) }
         ensures little { KeepsLittle self.now }
@@ -126,21 +127,21 @@ impl Reader {
         self.unread.is_closed()
     }
 
-    /// Takes what [`Reader::peek`] showed, and lets go of its bytes once they are more than half of all. It takes no
-    /// memory.
+    /// Takes what [`Reader::peek`] showed, and lets go of its bytes once they are more than half of all. What stands
+    /// behind it is looked at as a `feed` does, but for the words of a short line. It takes no memory.
     pub fn consume(&mut self, front: Front)
         requires { front_of self.old ≡ Some front }
         ensures taken { KeepsRest (past front self.old) self.new }
         ensures little { KeepsLittle self.new }
     {
         self.unread.consume(front);
-        if self.unread.held() >= REQUEST_LIMIT {
+        if !self.unread.finds_short_line() {
             self.unread.advance();
         }
     }
 
     /// How many bytes the reader keeps: those that are not taken, and of those taken the ones that are not let go yet,
-    /// which are never more. Where nothing is whole, they are fewer than [`REQUEST_LIMIT`].
+    /// which are never more. Where nothing is whole, they are fewer than [`REQUEST_LIMIT`](crate::REQUEST_LIMIT).
     pub fn held(&self) -> usize
         ensures held { result ≡ self.now.held }
         ensures little { KeepsLittle self.now }

@@ -1,30 +1,31 @@
 //! What the bytes that have come allow.
-ghost use Rattle.std.specs.Prelude.{◌≡◌, ◌≤◌, ◌<◌, ◌+◌, ◌^◌, true, None, is_some};
-ghost use Rattle.mc_text.specs.Lines.{HasNoLineFeed};
+ghost use Rattle.std.specs.Prelude.{◌≡◌, ◌≤◌, ◌<◌, ◌+◌, ◌-◌, ◌^◌, true, None, Some, is_some};
+ghost use Rattle.mc_text.specs.Lines.{line_end};
 ghost use Rattle.mc_text.specs.Words.{words};
 ghost use Rattle.mc_request.specs.Names.{is_storage};
 ghost use Rattle.mc_request.specs.Meanings.{meaning, announced};
 ghost use Rattle.mc_request.specs.Requests.{with_block, next_request};
 ghost use Rattle.mc_request.specs.LinesSeen.{meaning_of, storing_of, asked_of, lent_seen};
-ghost use Rattle.mc_request.specs.Steps.{StandIs, StartsBy, announced_in, is_good_meaning};
+ghost use Rattle.mc_request.specs.Steps.{IsSearched, StandIs, StartsBy, announced_in, is_good_meaning};
 
 use crate::command_lines::command_line;
 use crate::faults::Fault;
 use crate::lines::{Asked, CommandLine, Storing};
 use crate::names::{Name, name_of};
-use mc_text::{LINE_LIMIT, Line, WordIter, next_line_from, read_len, words};
+use crate::searched::Searched;
+use mc_text::{LINE_LIMIT, Line, WordIter, read_len, words};
 
 /// What stands behind a data block.
 const LINE_END: &[u8] = b"\r\n";
 
 /// What stands at the front of the bytes that have come.
 pub enum Stand {
-    /// The first request or fault is whole.
-    Whole,
-    /// It is not whole: the first `scanned` bytes hold no line feed, and nothing is whole before `wanted` bytes. Where
-    /// `sure`, it is whole with these.
+    /// The first request or fault is whole. So far its line was searched.
+    Whole(Searched),
+    /// It is not whole: so far its line was searched, and nothing is whole before `wanted` bytes. Where `sure`, it is
+    /// whole with these.
     Waits {
-        scanned: usize,
+        searched: Searched,
         wanted: usize,
         sure: bool,
     },
@@ -32,21 +33,21 @@ pub enum Stand {
     Drops(Fault, usize),
 }
 
-/// What stands at the front of the bytes. The first `scanned` bytes are not looked at again.
-pub fn stand_of(unread: &[u8], scanned: usize) -> Stand
-    requires { HasNoLineFeed scanned unread.now }
+/// What stands at the front of the bytes, of which so many were searched.
+pub fn stand_of(unread: &[u8], searched: Searched) -> Stand
+    requires { IsSearched searched unread.now }
     ensures { StandIs unread.now result }
 {
-    match next_line_from(unread, scanned) {
+    match searched.line(unread) {
         Line::Partial => Stand::Waits {
-            scanned: unread.len(),
+            searched: Searched::Without(unread.len()),
             wanted: unread.len() + 1,
             sure: false,
         },
-        Line::TooLong => Stand::Whole,
+        Line::TooLong => Stand::Whole(Searched::TooLong),
         Line::Whole { content, taken } => {
             if has_come(unread, content, taken) {
-                Stand::Whole
+                Stand::Whole(Searched::Ends(taken - 1))
             } else {
                 stand_behind(unread, command_line(content), taken)
             }
@@ -57,28 +58,30 @@ pub fn stand_of(unread: &[u8], scanned: usize) -> Stand
 /// The same where the first line is whole, and takes so many bytes, and its data block is not.
 fn stand_behind(unread: &[u8], line: CommandLine<'_>, taken: usize) -> Stand
     requires starts { StartsBy unread.now (meaning_of line) taken }
+    requires line { line_end unread.now ≡ Some (taken - 1) }
     requires waits { next_request unread.now ≡ None }
     requires good { is_good_meaning (meaning_of line) ≡ true }
     ensures { StandIs unread.now result }
 {
+    let searched = Searched::Ends(taken - 1);
     match line {
-        CommandLine::Alone(_) => Stand::Whole,
+        CommandLine::Alone(_) => Stand::Whole(searched),
         CommandLine::Refuses(fault, len) => Stand::Drops(fault, size_with_block(taken, len)),
         CommandLine::Stores(_, len) => Stand::Waits {
-            scanned: 0,
+            searched,
             wanted: size_with_block(taken, len),
             sure: true,
         },
     }
 }
 
-/// Whether the first request or fault of the bytes is whole. The first `scanned` bytes are not looked at again, and of a
-/// line no more is read than says whether a data block follows.
-pub fn is_whole(unread: &[u8], scanned: usize) -> bool
-    requires { HasNoLineFeed scanned unread.now }
+/// Whether the first request or fault of the bytes is whole, of which so many were searched. Of a line no more is read
+/// than says whether a data block follows.
+pub fn is_whole(unread: &[u8], searched: Searched) -> bool
+    requires { IsSearched searched unread.now }
     ensures { result ≡ is_some (next_request unread.now) }
 {
-    match next_line_from(unread, scanned) {
+    match searched.line(unread) {
         Line::Partial => false,
         Line::TooLong => true,
         Line::Whole { content, taken } => has_come(unread, content, taken),
@@ -140,13 +143,13 @@ fn size_with_block(line: usize, len: u32) -> usize
     line + (len as usize + LINE_END.len())
 }
 
-/// The first request or fault of the bytes, where it is whole, and how many bytes it takes. Nothing is copied, and the
-/// first `scanned` bytes are not looked at again.
-pub fn first_asked(unread: &[u8], scanned: usize) -> Option<(Asked<'_>, usize)>
-    requires { HasNoLineFeed scanned unread.now }
+/// The first request or fault of the bytes, of which so many were searched, where it is whole, and how many bytes it
+/// takes. Nothing is copied.
+pub fn first_asked(unread: &[u8], searched: Searched) -> Option<(Asked<'_>, usize)>
+    requires { IsSearched searched unread.now }
     ensures { lent_seen result ≡ next_request unread.now }
 {
-    match next_line_from(unread, scanned) {
+    match searched.line(unread) {
         Line::Partial => None,
         Line::TooLong => Some((Asked::Faulty(Fault::LineTooLong), LINE_LIMIT)),
         Line::Whole { content, taken } => asked_behind(unread, command_line(content), taken),

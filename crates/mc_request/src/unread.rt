@@ -4,11 +4,15 @@ ghost use Rattle.std.specs.Prelude.{◌≡◌, ◌<◌, ◌↔◌, ℕ, List, []
 use crate::faults::Fault;
 use crate::lines::Asked;
 use crate::parts::ReadError;
-use crate::peeks::{Front, Peek};
+use crate::peeks::{Front, Peek, REQUEST_LIMIT};
+use crate::searched::Searched;
 use crate::steps::{Stand, first_asked, is_whole, stand_of};
-use mc_text::{drop_front, let_go};
+use mc_text::{Line, drop_front, let_go};
 use std::alloc::Global;
 use std::marker::Model;
+
+/// The most bytes of a line that is read again by each look behind a `consume`, until more bytes come.
+pub const SHORT_LINE: usize = 512;
 
 /// The bytes that have come and are not taken, as a reader keeps them, with what is known of them.
 #[derive(Drop)]
@@ -16,8 +20,8 @@ pub struct Unread {
     buffer: Vec<u8>,
     /// How many bytes of the buffer are taken.
     start: usize,
-    /// How many of the bytes behind them are known to hold no line feed.
-    scanned: usize,
+    /// How far the bytes behind them were searched for the end of the first line.
+    searched: Searched,
     /// With fewer bytes behind them than this nothing is whole.
     wanted: usize,
     /// Whether the first request or fault is known to be whole with so many.
@@ -51,7 +55,7 @@ impl Unread {
         Unread {
             buffer: Vec::new(alloc),
             start: 0,
-            scanned: 0,
+            searched: Searched::Without(0),
             wanted: 0,
             sure: false,
             dropping: None,
@@ -103,14 +107,17 @@ impl Unread {
         if self.sure {
             return;
         }
-        match stand_of(unread, self.scanned) {
-            Stand::Whole => self.sure = true,
+        match stand_of(unread, self.searched) {
+            Stand::Whole(searched) => {
+                self.searched = searched;
+                self.sure = true;
+            }
             Stand::Waits {
-                scanned,
+                searched,
                 wanted,
                 sure,
             } => {
-                self.scanned = scanned;
+                self.searched = searched;
                 self.wanted = wanted;
                 self.sure = sure;
                 self.move_to_front();
@@ -119,10 +126,24 @@ impl Unread {
                 self.dropping = Some((fault, size - unread.len()));
                 self.buffer.clear();
                 self.start = 0;
-                self.scanned = 0;
+                self.searched = Searched::Without(0);
                 self.wanted = 0;
             }
         }
+    }
+
+    /// Looks for the end of the first line, and says whether it is found and the line is short: then a look reads at most
+    /// `SHORT_LINE` bytes of it before it knows whether the first request or fault is whole.
+    pub fn finds_short_line(&mut self) -> bool
+        ensures same { self.new ≡ self.old }
+        ensures little { result ≡ true → KeepsLittle self.new }
+    {
+        let (_, unread) = self.buffer.split_at(self.start);
+        let Line::Whole { taken, .. } = self.searched.line(unread) else {
+            return false;
+        };
+        self.searched = Searched::Ends(taken - 1);
+        taken <= SHORT_LINE && self.buffer.len() < REQUEST_LIMIT
     }
 
     /// Whether it is known that nothing is whole, and nothing is kept of what was taken.
@@ -172,7 +193,7 @@ impl Unread {
         if unread.len() < self.wanted {
             return Peek::More;
         }
-        match first_asked(unread, self.scanned) {
+        match first_asked(unread, self.searched) {
             Some((asked, size)) => {
                 let closes = asked.ends();
                 Peek::First(asked, Front { size, closes })
@@ -199,7 +220,7 @@ impl Unread {
         ensures { result ≡ is_some (next_request self.now.unread) }
     {
         let (_, unread) = self.buffer.split_at(self.start);
-        unread.len() >= self.wanted && (self.sure || is_whole(unread, self.scanned))
+        unread.len() >= self.wanted && (self.sure || is_whole(unread, self.searched))
     }
 
     /// Takes what a look showed, and lets go of its bytes once they are more than half of all.
@@ -213,7 +234,7 @@ impl Unread {
         } else {
             self.start = let_go(&mut self.buffer, self.start + front.size);
         }
-        self.scanned = 0;
+        self.searched = Searched::Without(0);
         self.wanted = 0;
         self.sure = false;
         self.dropping = None;

@@ -21,7 +21,7 @@ mod word_iter;
 pub use blocks::{Block, VALUE_LIMIT};
 pub use fronts::{drop_front, let_go};
 pub use keys::{KEY_LIMIT, Key, KeyError, is_plain_key};
-pub use lines::{LINE_LIMIT, Line, next_line, next_line_from};
+pub use lines::{LINE_LIMIT, Line, content_to, next_line, next_line_from};
 pub use numbers::{read_flags, read_i64, read_len, read_u64};
 pub use rows::{
     keys_by_their_bytes, lines_by_their_ends, numbers_within_limits, words_between_spaces,

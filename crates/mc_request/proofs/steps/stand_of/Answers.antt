@@ -1,8 +1,9 @@
 use Rattle.std.proofs.Common.{◌∙◌, sym, refl, arith}
 use Rattle.mc_text.specs.Words.{words}
+use Rattle.mc_text.proofs.LineLemmas.{first_line_whole-size}
 use Rattle.mc_request.specs.Meanings.{meaning}
 use Rattle.mc_request.specs.LinesSeen.{meaning_of}
-use Rattle.mc_request.proofs.RequestLemmas.{starts_by, partial_none, too_long_fault, one_wanted, not_come}
+use Rattle.mc_request.proofs.RequestLemmas.{starts_by, line_ends, partial_none, too_long_fault, one_wanted, not_come}
 use Rattle.mc_request.proofs.WellFormedLemmas.{meaning_good}
 use Rattle.mc_request.proofs.steps.stand_of.Goals as goal
 
@@ -13,6 +14,10 @@ has_come-requires c =
 pub stand_behind-requires-clause-starts : goal.stand_behind-requires-clause-starts
 stand_behind-requires-clause-starts c =
     starts_by c.args.unread.now c.in-Whole.content.now c.in-Whole.taken (meaning_of c.command_line.result) (sym c.in-Whole.ensures.line) (sym c.command_line.ensures)
+
+pub stand_behind-requires-clause-line : goal.stand_behind-requires-clause-line
+stand_behind-requires-clause-line c =
+    line_ends c.args.unread.now c.in-Whole.content.now c.in-Whole.taken (sym c.in-Whole.ensures.line)
 
 pub stand_behind-requires-clause-waits : goal.stand_behind-requires-clause-waits
 stand_behind-requires-clause-waits c = not_come _ (sym c.has_come.ensures ∙ c.if-has_come.false)
@@ -32,4 +37,13 @@ returns-in-Partial c =
     }
 
 pub returns-in-TooLong : goal.returns-in-TooLong
-returns-in-TooLong c = rw (too_long_fault c.args.unread.now (sym c.in-TooLong.ensures.line)) refl
+returns-in-TooLong c = (sym c.in-TooLong.ensures.line, rw (too_long_fault c.args.unread.now (sym c.in-TooLong.ensures.line)) refl)
+
+pub overflow_sub-result : goal.overflow_sub-result
+overflow_sub-result c = omega (arith, (first_line_whole-size c.args.unread.now c.in-Whole.content.now c.in-Whole.taken (sym c.in-Whole.ensures.line)).0)
+
+pub returns-then-has_come : goal.returns-then-has_come
+returns-then-has_come c = (
+  line_ends c.args.unread.now c.in-Whole.content.now c.in-Whole.taken (sym c.in-Whole.ensures.line),
+  sym c.has_come.ensures ∙ c.if-has_come.true,
+)

@@ -24,10 +24,10 @@ invariant_of-self c =
     let stands = rw (c.in-Whole.is, unread_is) at c.stand_of.ensures in
     record {
       half = c.self.invariant.half;
-      searched = c.self.invariant.searched;
+      searched = stands.0;
       short = c.self.invariant.short;
       limit = c.self.invariant.limit;
-      whole = λ known. whole_from (drop c.self.inside.start c.self.inside.buffer.items) c.self.inside.wanted stands;
+      whole = λ known. whole_from (drop c.self.inside.start c.self.inside.buffer.items) c.self.inside.wanted stands.1;
       empty = c.self.invariant.empty;
       done = c.self.invariant.done;
     }
@@ -37,7 +37,7 @@ returns-in-Whole-clause-little c =
     let unread_is = c.split_at.ensures.back ∙ ap (λ (xs : List ℕ). drop c.self.inside.start xs) c.deref.ensures.value in
     let stands = rw (c.in-Whole.is, unread_is) at c.stand_of.ensures in
     let kept : c.self.inside.dropping ≡ None = search rules in
-    little_whole _ c.if-self.false kept stands
+    little_whole _ c.if-self.false kept stands.1
 
 -- the block is dropped from here on
 pub returns-in-Drops-clause-rest : goal.returns-in-Drops-clause-rest
