@@ -24,10 +24,21 @@ each() {
     echo $(((served - made) / (many - few)))
 }
 
+# A number as a multiple of another, to the hundredth.
+times() {
+    printf '%d.%02d' $(($1 / $2)) $(($1 * 100 / $2 % 100))
+}
+
+get_of_one=$(each get 65536 1000 5000)
 set_of_one=$(each set 65536 1000 5000)
+meta_get=$(each mg 65536 1000 5000)
+meta_set=$(each ms 65536 1000 5000)
 in_bytes=$(each set 1 1000 5000)
-echo "a get of one held key: $(each get 65536 1000 5000) instructions"
+echo "a get of one held key: $get_of_one instructions"
+echo "an mg of one held key, with its value: $meta_get instructions, $(times "$meta_get" "$get_of_one") times a get"
+echo "a quiet mg of a key that is not held: $(each mq 65536 1000 5000) instructions"
 echo "a set of one held key: $set_of_one instructions"
+echo "an ms of one held key: $meta_set instructions, $(times "$meta_set" "$set_of_one") times a set"
 echo "a set of one of sixteen held keys: $(each sets 65536 1000 5000) instructions"
 echo "an increment of one held number: $(each incr 65536 1000 5000) instructions"
 echo "a piece of one byte, of a small set: $(((in_bytes - set_of_one) / 21)) instructions beside the set's own"

@@ -26,6 +26,16 @@ add() {
     failed=$((failed + fewer))
 }
 
+# One job a check: a further one reads the libraries again. As many checks run side by side as there are processors, and 3 GB
+# of memory for each.
+if [ -z "${RT_JOBS:-}" ]; then
+    held=$(awk '/^MemAvailable/ { print int($2 / 3000000) }' /proc/meminfo)
+    RT_JOBS=$(nproc)
+    [ "$RT_JOBS" -le "$held" ] || RT_JOBS=$held
+    [ "$RT_JOBS" -ge 1 ] || RT_JOBS=1
+    export RT_JOBS
+fi
+
 add rt ci
 add tests/examples.sh
 add tests/random.sh 5 2000

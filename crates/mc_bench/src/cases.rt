@@ -12,16 +12,9 @@ pub struct Case {
     pub size: u64,
     /// The bytes of a piece.
     pub piece: usize,
-    pub caller: Caller,
-}
-
-/// When a caller lets the server take turns.
-#[derive(Clone, Copy)]
-pub enum Caller {
-    /// After each piece, until a turn finds nothing to take.
-    TurnsUntilIdle,
-    /// After each piece, and it asks before each turn: it turns only where the server is ready.
-    AsksFirst,
+    /// Whether the caller asks before each turn, and turns only where the server is ready. Else it lets the server take
+    /// turns after each piece until one finds nothing to take.
+    pub asks_first: bool,
 }
 
 #[derive(Clone, Copy)]
@@ -39,80 +32,104 @@ pub enum Kind {
     Increments,
     /// One get of so many held keys.
     GetOfKeys,
+    /// `mg` of one held key, which shows its value.
+    MetaGets,
+    /// `ms` of one held key.
+    MetaSets,
+    /// Quiet `mg` of a key that is not held.
+    QuietMisses,
 }
 
-pub const CASES: [Case; 12] = [
+pub const CASES: [Case; 15] = [
     Case {
         kind: Kind::SmallSets,
         size: 100_000,
         piece: 1,
-        caller: Caller::TurnsUntilIdle,
+        asks_first: false,
     },
     Case {
         kind: Kind::SmallSets,
         size: 100_000,
         piece: 7,
-        caller: Caller::TurnsUntilIdle,
+        asks_first: false,
     },
     Case {
         kind: Kind::SmallSets,
         size: 100_000,
         piece: 4_096,
-        caller: Caller::TurnsUntilIdle,
+        asks_first: false,
     },
     Case {
         kind: Kind::SmallSets,
         size: 100_000,
         piece: 65_536,
-        caller: Caller::TurnsUntilIdle,
+        asks_first: false,
     },
     Case {
         kind: Kind::Block,
         size: 1_048_576,
         piece: 1,
-        caller: Caller::TurnsUntilIdle,
+        asks_first: false,
     },
     Case {
         kind: Kind::Block,
         size: 1_048_576,
         piece: 65_536,
-        caller: Caller::TurnsUntilIdle,
+        asks_first: false,
     },
     Case {
         kind: Kind::RefusedBlock,
         size: 100_000_000,
         piece: 65_536,
-        caller: Caller::TurnsUntilIdle,
+        asks_first: false,
     },
     Case {
         kind: Kind::Gets,
         size: 100_000,
         piece: 65_536,
-        caller: Caller::TurnsUntilIdle,
+        asks_first: false,
     },
     Case {
         kind: Kind::Increments,
         size: 100_000,
         piece: 65_536,
-        caller: Caller::TurnsUntilIdle,
+        asks_first: false,
     },
     Case {
         kind: Kind::SmallSets,
         size: 100_000,
         piece: 7,
-        caller: Caller::AsksFirst,
+        asks_first: true,
     },
     Case {
         kind: Kind::RefusedBlock,
         size: 100_000_000,
         piece: 65_536,
-        caller: Caller::AsksFirst,
+        asks_first: true,
     },
     Case {
         kind: Kind::GetOfKeys,
         size: 1_000,
         piece: 65_536,
-        caller: Caller::TurnsUntilIdle,
+        asks_first: false,
+    },
+    Case {
+        kind: Kind::MetaGets,
+        size: 100_000,
+        piece: 65_536,
+        asks_first: false,
+    },
+    Case {
+        kind: Kind::MetaSets,
+        size: 100_000,
+        piece: 65_536,
+        asks_first: false,
+    },
+    Case {
+        kind: Kind::QuietMisses,
+        size: 100_000,
+        piece: 65_536,
+        asks_first: false,
     },
 ];
 
@@ -127,32 +144,34 @@ impl Kind {
             "get" => Some(Kind::Gets),
             "incr" => Some(Kind::Increments),
             "keys" => Some(Kind::GetOfKeys),
+            "mg" => Some(Kind::MetaGets),
+            "ms" => Some(Kind::MetaSets),
+            "mq" => Some(Kind::QuietMisses),
             _ => None,
         }
     }
 }
 
-impl Case {
-    /// In which pieces, and whether the caller asks first, in words.
-    pub fn manner(&self, alloc: Global) -> Result<String, AllocError> {
-        match self.caller {
-            Caller::TurnsUntilIdle => format!(in alloc; " in pieces of {}", self.piece),
-            Caller::AsksFirst => format!(in alloc; " in pieces of {}, asked first", self.piece),
-        }
-    }
+/// A set of a value of five bytes.
+const SET: &[u8] = b"set a 0 0 5\r\nhello\r\n";
 
+impl Case {
     /// What the client sends, at one of so many parts of the size. A refused block keeps the least size that is
     /// refused.
     pub fn load(&self, alloc: Global, parts: u64) -> Result<Load, AllocError> {
         let size = self.size / parts.max(1);
-        match self.kind {
-            Kind::SmallSets => Load::small_sets(alloc, size),
-            Kind::SetsOfOneKey => Load::sets_of_one_key(alloc, size),
-            Kind::Block => Load::block(alloc, size),
-            Kind::RefusedBlock => Load::block(alloc, size.max(VALUE_LIMIT as u64 + 1)),
-            Kind::Gets => Load::gets(alloc, size),
-            Kind::Increments => Load::increments(alloc, size),
-            Kind::GetOfKeys => Load::get_of_keys(alloc, size.max(1)),
-        }
+        let (what, first, then): (&str, &[u8], &[u8]) = match self.kind {
+            Kind::SmallSets => return Load::small_sets(alloc, size),
+            Kind::Block => return Load::block(alloc, size),
+            Kind::RefusedBlock => return Load::block(alloc, size.max(VALUE_LIMIT as u64 + 1)),
+            Kind::GetOfKeys => return Load::get_of_keys(alloc, size.max(1)),
+            Kind::SetsOfOneKey => ("sets of one key", SET, SET),
+            Kind::Gets => ("gets", SET, b"get a\r\n"),
+            Kind::Increments => ("increments", b"set a 0 0 1\r\n0\r\n", b"incr a 1\r\n"),
+            Kind::MetaGets => ("meta gets", SET, b"mg a v\r\n"),
+            Kind::MetaSets => ("meta sets", SET, b"ms a 5\r\nhello\r\n"),
+            Kind::QuietMisses => ("quiet misses", SET, b"mg b v q\r\n"),
+        };
+        Load::repeated(alloc, what, first, then, size)
     }
 }

@@ -1,11 +1,11 @@
 //! What a run gave.
+ghost use Rattle.std.specs.Prelude.{◌<◌};
 
 use crate::cases::Case;
 use crate::loads::Load;
 use crate::served::Served;
 use mc_server::ServerError;
-use std::alloc::Global;
-use std::fmt;
+use std::alloc::{AllocError, Global};
 use std::time::Duration;
 
 /// The bytes that were fed and those that were answered.
@@ -13,13 +13,6 @@ use std::time::Duration;
 pub struct Figures {
     fed: u64,
     answered: u64,
-}
-
-/// Bytes in a second, and the nanoseconds that 10,000 bytes take.
-#[derive(Clone, Copy)]
-pub struct Speed {
-    bytes_per_second: u64,
-    nanos_for_10_000: u64,
 }
 
 impl Figures {
@@ -58,50 +51,45 @@ impl Figures {
             self.serve(served, &bytes, case)?;
         }
         let rest = bytes.get(..(fill % size) as usize).unwrap_or(&[]);
-        if !rest.is_empty() {
-            self.serve(served, rest, case)?;
-        }
-        Ok(())
+        self.feed(served, rest, case)
     }
 
     /// Feeds a piece and counts.
     fn serve(&mut self, served: &mut Served, piece: &[u8], case: &Case) -> Result<(), ServerError> {
-        let answered = served.serve(piece, case.caller)?;
+        let answered = served.serve(piece, case.asks_first)?;
         self.fed = self.fed.saturating_add(piece.len() as u64);
         self.answered = self.answered.saturating_add(answered as u64);
         Ok(())
     }
 
-    /// The speed of a run that took this time.
-    pub fn speed(&self, time: Duration) -> Speed {
-        let nanos = time
-            .as_secs()
-            .saturating_mul(1_000_000_000)
-            .saturating_add(u64::from(time.subsec_nanos()))
-            .max(1);
-        Speed {
-            bytes_per_second: self.fed.saturating_mul(1_000_000_000) / nanos,
-            nanos_for_10_000: nanos.saturating_mul(10_000) / self.fed.max(1),
-        }
-    }
-}
-
-impl fmt::Display for Figures {
-    fn fmt<W: fmt::Write>(&self, f: &mut fmt::Formatter<W>) -> fmt::Result {
-        write!(f, "{} bytes fed, {} answered", self.fed, self.answered)
-    }
-}
-
-impl fmt::Display for Speed {
-    fn fmt<W: fmt::Write>(&self, f: &mut fmt::Formatter<W>) -> fmt::Result {
-        let (whole, part) = (
-            self.nanos_for_10_000 / 10_000,
-            self.nanos_for_10_000 % 10_000,
-        );
-        write!(
-            f,
-            "{} bytes per second, {whole}.{part:04} ns per byte",
-            self.bytes_per_second
+    /// What was run, and how many bytes were fed and answered.
+    pub fn line(&self, alloc: Global, load: &Load, case: &Case) -> Result<String, AllocError> {
+        let asked = if case.asks_first { ", asked first" } else { "" };
+        format!(in alloc;
+            "{} in pieces of {}{asked}: {} bytes fed, {} answered",
+            load.name, case.piece, self.fed, self.answered
         )
     }
+
+    /// The speed of a run that took this time: bytes in a second, and how long a byte takes, from what 10,000 do.
+    pub fn speed(&self, alloc: Global, time: Duration) -> Result<String, AllocError> {
+        let nanos = nanos(time);
+        let per_second = self.fed.saturating_mul(1_000_000_000) / nanos;
+        let each = nanos.saturating_mul(10_000) / self.fed.max(1);
+        format!(in alloc;
+            "{per_second} bytes per second, {}.{:04} ns per byte",
+            each / 10_000,
+            each % 10_000
+        )
+    }
+}
+
+/// A time in nanoseconds, at least 1.
+pub fn nanos(time: Duration) -> u64
+    ensures { 0 < result }
+{
+    time.as_secs()
+        .saturating_mul(1_000_000_000)
+        .saturating_add(u64::from(time.subsec_nanos()))
+        .max(1)
 }

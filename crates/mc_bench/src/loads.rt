@@ -7,7 +7,8 @@ use std::alloc::{AllocError, Global};
 /// What a client sends: a head, so many bytes `x`, and a tail. The bytes `x` are made piece by piece.
 #[derive(Drop)]
 pub struct Load {
-    name: String,
+    /// What it is, in words.
+    pub name: String,
     pub head: Vec<u8>,
     pub fill: u64,
     pub tail: Vec<u8>,
@@ -16,73 +17,34 @@ pub struct Load {
 impl Load {
     /// So many sets of five bytes, under sixteen keys.
     pub fn small_sets(alloc: Global, count: u64) -> Result<Load, AllocError> {
-        let mut head = Vec::new(alloc);
-        for number in 0..count {
-            let set = format!(in alloc; "set k{} 0 0 5\r\nhello\r\n", number % 16)?;
-            head.extend_from_slice(set.as_bytes())?;
-        }
         Ok(Load {
             name: format!(in alloc; "{count} small sets")?,
-            head,
+            head: sets(alloc, "k", 16, count)?,
             fill: 0,
             tail: Vec::new(alloc),
         })
-    }
-
-    /// A set of a value of five bytes, and so many more of the same key.
-    pub fn sets_of_one_key(alloc: Global, count: u64) -> Result<Load, AllocError> {
-        let set = b"set a 0 0 5\r\nhello\r\n";
-        let name = format!(in alloc; "{count} sets of one key")?;
-        Load::repeated(alloc, name, set, set, count)
-    }
-
-    /// A set of a value of five bytes, and so many gets of it.
-    pub fn gets(alloc: Global, count: u64) -> Result<Load, AllocError> {
-        Load::repeated(
-            alloc,
-            format!(in alloc; "{count} gets")?,
-            b"set a 0 0 5\r\nhello\r\n",
-            b"get a\r\n",
-            count,
-        )
-    }
-
-    /// A set of a number, and so many increments of it.
-    pub fn increments(alloc: Global, count: u64) -> Result<Load, AllocError> {
-        Load::repeated(
-            alloc,
-            format!(in alloc; "{count} increments")?,
-            b"set a 0 0 1\r\n0\r\n",
-            b"incr a 1\r\n",
-            count,
-        )
     }
 
     /// Sets of so many values of five bytes, and one get of all their keys.
     pub fn get_of_keys(alloc: Global, count: u64) -> Result<Load, AllocError> {
-        let mut head = Vec::new(alloc);
-        for number in 0..count {
-            let set = format!(in alloc; "set key{number} 0 0 5\r\nhello\r\n")?;
-            head.extend_from_slice(set.as_bytes())?;
-        }
-        head.extend_from_slice(b"get")?;
+        let mut tail = Vec::from_slice(alloc, b"get")?;
         for number in 0..count {
             let key = format!(in alloc; " key{number}")?;
-            head.extend_from_slice(key.as_bytes())?;
+            tail.extend_from_slice(key.as_bytes())?;
         }
-        head.extend_from_slice(b"\r\n")?;
+        tail.extend_from_slice(b"\r\n")?;
         Ok(Load {
             name: format!(in alloc; "{count} sets and a get of their keys")?,
-            head,
+            head: sets(alloc, "key", count, count)?,
             fill: 0,
-            tail: Vec::new(alloc),
+            tail,
         })
     }
 
     /// One request, and then so many times another.
-    fn repeated(
+    pub fn repeated(
         alloc: Global,
-        name: String,
+        what: &str,
         first: &[u8],
         then: &[u8],
         count: u64,
@@ -92,7 +54,7 @@ impl Load {
             head.extend_from_slice(then)?;
         }
         Ok(Load {
-            name,
+            name: format!(in alloc; "{count} {what}")?,
             head,
             fill: 0,
             tail: Vec::new(alloc),
@@ -118,9 +80,14 @@ impl Load {
             tail: Vec::from_slice(alloc, b"\r\n")?,
         })
     }
+}
 
-    /// What it is, in words.
-    pub fn name(&self) -> &str {
-        self.name.as_str()
+/// So many sets of five bytes, under so many keys in turn, which are named so.
+fn sets(alloc: Global, name: &str, keys: u64, count: u64) -> Result<Vec<u8>, AllocError> {
+    let mut sets = Vec::new(alloc);
+    for number in 0..count {
+        let set = format!(in alloc; "set {name}{} 0 0 5\r\nhello\r\n", number % keys.max(1))?;
+        sets.extend_from_slice(set.as_bytes())?;
     }
+    Ok(sets)
 }

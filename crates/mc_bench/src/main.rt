@@ -16,7 +16,7 @@ mod rings;
 mod served;
 
 use anyhow::{Context, bail};
-use cases::{CASES, Caller, Case, Kind};
+use cases::{CASES, Case, Kind};
 use figures::Figures;
 use std::env;
 use std::time::Instant;
@@ -28,11 +28,11 @@ fn main(rt: HostRuntime) -> anyhow::Result<()> {
     let mut arguments = env::args(&rt)?;
     let _program = arguments.next();
     let Some(mode) = arguments.next() else {
-        return print_all(&rt);
+        return run_all(&rt, QUICK, false);
     };
     match mode.as_str() {
         "ring" => rings::measure(&rt),
-        "measure" => measure_all(&rt),
+        "measure" => run_all(&rt, 1, true),
         "case" | "load" => {
             let case = Case {
                 kind: arguments
@@ -41,9 +41,13 @@ fn main(rt: HostRuntime) -> anyhow::Result<()> {
                     .context("no kind")?,
                 size: arguments.next().context("no size")?.parse()?,
                 piece: arguments.next().context("no piece")?.parse()?,
-                caller: Caller::TurnsUntilIdle,
+                asks_first: false,
             };
-            run_alone(&rt, &case, mode.as_str() == "case")
+            if mode.as_str() == "case" {
+                return run(&rt, &case, 1, false);
+            }
+            println!(rt; "{}", case.load(rt.alloc(), 1)?.name)?;
+            Ok(())
         }
         _ => bail!(
             "usage: mc_bench [measure | ring | case KIND SIZE PIECE | load KIND SIZE PIECE]"
@@ -51,52 +55,26 @@ fn main(rt: HostRuntime) -> anyhow::Result<()> {
     }
 }
 
-/// Runs each case at a thousandth and at a ten thousandth of its size.
-fn print_all(rt: &HostRuntime) -> anyhow::Result<()> {
-    for case in CASES {
-        print(rt, &case, QUICK)?;
-        print(rt, &case, QUICK * 10)?;
+/// Runs each case at a part of its size and at a tenth of that.
+fn run_all(rt: &HostRuntime, parts: u64, is_timed: bool) -> anyhow::Result<()> {
+    for case in &CASES {
+        run(rt, case, parts, is_timed)?;
+        run(rt, case, parts.saturating_mul(10), is_timed)?;
     }
     Ok(())
 }
 
-/// Runs each case at full size and at a tenth of it.
-fn measure_all(rt: &HostRuntime) -> anyhow::Result<()> {
-    for case in CASES {
-        measure(rt, &case, 1)?;
-        measure(rt, &case, 10)?;
-    }
-    Ok(())
-}
-
-/// Makes what a case's client sends, and lets a server take it where it is to be served.
-fn run_alone(rt: &HostRuntime, case: &Case, is_served: bool) -> anyhow::Result<()> {
-    if is_served {
-        return print(rt, case, 1);
-    }
-    let load = case.load(rt.alloc(), 1)?;
-    println!(rt; "{}", load.name())?;
-    Ok(())
-}
-
-/// Runs a case at a part of its size and prints what was fed and answered.
-fn print(rt: &HostRuntime, case: &Case, parts: u64) -> anyhow::Result<()> {
-    let load = case.load(rt.alloc(), parts)?;
-    let figures = Figures::of_run(rt.alloc(), &load, case)?;
-    println!(rt; "{}{}: {figures}", load.name(), case.manner(rt.alloc())?)?;
-    Ok(())
-}
-
-/// The same, with the speed.
-fn measure(rt: &HostRuntime, case: &Case, parts: u64) -> anyhow::Result<()> {
+/// Runs a case at a part of its size and prints what was fed and answered, and the speed where the run is timed.
+fn run(rt: &HostRuntime, case: &Case, parts: u64, is_timed: bool) -> anyhow::Result<()> {
     let load = case.load(rt.alloc(), parts)?;
     let start = Instant::now(rt)?;
     let figures = Figures::of_run(rt.alloc(), &load, case)?;
-    let speed = figures.speed(start.elapsed(rt)?);
-    println!(rt;
-        "{}{}: {figures}, {speed}",
-        load.name(),
-        case.manner(rt.alloc())?
-    )?;
+    let time = start.elapsed(rt)?;
+    let line = figures.line(rt.alloc(), &load, case)?;
+    if is_timed {
+        println!(rt; "{line}, {}", figures.speed(rt.alloc(), time)?)?;
+    } else {
+        println!(rt; "{line}")?;
+    }
     Ok(())
 }

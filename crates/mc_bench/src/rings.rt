@@ -1,11 +1,11 @@
 //! How fast a ring finds the owners of keys.
-ghost use Rattle.std.specs.Prelude.{◌<◌};
 
+use crate::figures::nanos;
 use mc_ring::{Address, Ring};
 use mc_text::Key;
 use md5::{Digest, Md5};
 use std::alloc::Global;
-use std::time::{Duration, Instant};
+use std::time::Instant;
 
 /// How many keys there are, each of 20 bytes.
 const KEYS: u64 = 1_024;
@@ -79,16 +79,6 @@ fn sum_of_digests(keys: &[Key]) -> u64 {
         }
     }
     sum
-}
-
-/// A time in nanoseconds, at least 1.
-fn nanos(time: Duration) -> u64
-    ensures { 0 < result }
-{
-    time.as_secs()
-        .saturating_mul(1_000_000_000)
-        .saturating_add(u64::from(time.subsec_nanos()))
-        .max(1)
 }
 
 /// What one look-up took, in picoseconds.

@@ -1,6 +1,5 @@
 //! What is measured.
 
-use crate::cases::Caller;
 use mc_cache::Cache;
 use mc_item::CasCounter;
 use mc_server::{Server, ServerError, Turn};
@@ -33,10 +32,10 @@ impl Served {
 
     /// Feeds a piece, and takes turns until nothing is left to take. Then the output is taken out, and this many
     /// bytes it had.
-    pub fn serve(&mut self, piece: &[u8], caller: Caller) -> Result<usize, ServerError> {
+    pub fn serve(&mut self, piece: &[u8], asks_first: bool) -> Result<usize, ServerError> {
         self.server.feed(self.connection, piece)?;
         for _ in 0..u64::MAX {
-            if !self.takes(caller)? {
+            if !self.takes(asks_first)? {
                 break;
             }
         }
@@ -46,15 +45,10 @@ impl Served {
     }
 
     /// Whether something was taken. A caller that asks first has no turn where there is nothing.
-    fn takes(&mut self, caller: Caller) -> Result<bool, ServerError> {
-        if let Caller::AsksFirst = caller
-            && !self.server.ready(self.connection)?
-        {
+    fn takes(&mut self, asks_first: bool) -> Result<bool, ServerError> {
+        if asks_first && !self.server.ready(self.connection)? {
             return Ok(false);
         }
-        match self.server.turn(self.connection, MOMENT)? {
-            Turn::Took => Ok(true),
-            Turn::Idle | Turn::Closing => Ok(false),
-        }
+        Ok(self.server.turn(self.connection, MOMENT)? == Turn::Took)
     }
 }

@@ -4,6 +4,7 @@ ghost use Rattle.std.specs.Option.{option_copied};
 ghost use Rattle.mc_cache.specs.CacheState.{IsWithinBounds, HasRoom};
 
 mod counting;
+mod meta;
 mod putting;
 mod retrieving;
 mod settling;
@@ -11,7 +12,7 @@ mod storing;
 
 use mc_item::{Body, CasCounter, Deadline};
 use mc_reply::Reply;
-use mc_request::{Atom, Update};
+use mc_request::{Atom, MetaCommand, MetaGet, Show, Update};
 use mc_store::Store;
 use mc_text::{Block, Key};
 use std::alloc::{AllocError, Global};
@@ -59,7 +60,9 @@ impl<S: Store + Drop> Model for Cache<S> {
 }
 
 impl<S: Store + Drop> Cache<S> {
-    ghost use Rattle.mc_request.specs.declared.parts.Atom.TheVariants.{Get, Update as AnUpdate};
+    ghost use Rattle.mc_text.specs.Keys.{is_key};
+    ghost use Rattle.mc_request.specs.declared.parts.Atom.TheVariants.{Get, Update as AnUpdate, Meta as AMeta};
+    ghost use Rattle.mc_request.specs.declared.meta.MetaCommand.TheVariants.{Get as AMetaGet, Update as AMetaUpdate};
     ghost use Rattle.mc_request.specs.Parts.{update_seen};
     ghost use Rattle.mc_reply.specs.Replies.{filled};
     ghost use Rattle.mc_cache.specs.CacheState.{opening_cache, held_value, value_at, front_value};
@@ -104,6 +107,7 @@ impl<S: Store + Drop> Cache<S> {
                 with_cas,
             } => self.get(key.as_bytes(), exptime, with_cas, moment),
             Atom::Update(update) => self.update_by_own(update, moment),
+            Atom::Meta(command) => self.meta_by_own(command, moment),
         }
     }
 
@@ -165,18 +169,86 @@ impl<S: Store + Drop> Cache<S> {
                 let lent = Lent {
                     flags: *flags,
                     expiry: Deadline::of(*exptime, moment),
+                    won: false,
                     block,
                 };
                 self.store_lent(*mode, *compare, key, lent, moment)
             }
             Update::Touch { key, exptime } => Ok(self.touch(key, *exptime, moment)),
-            Update::Delete { key } => Ok(self.delete(key, moment)),
-            Update::Count {
-                direction,
+            Update::Delete {
                 key,
-                delta,
-            } => Ok(self.count(*direction, key, *delta, moment)),
+                compare,
+                invalidate,
+            } => Ok(self.delete(key, *compare, *invalidate, moment)),
+            Update::Count { key, counting } => Ok(self.count(key, counting, moment)),
             Update::FlushAll { delay } => Ok(self.flush_all(*delay, moment)),
+        }
+    }
+
+    /// The meta command `Get`, which is `mg`, with the key lent. No value gets longer.
+    ///
+    /// It takes memory only where the key is not held and an item is made: where there is none the reply is
+    /// `Fault::OutOfMemory`, and nothing changes but what the moment brings. The item whose value the reply shows stands
+    /// first: [`Cache::front_value`] is its value.
+    pub fn meta_get(&mut self, key: &[u8], get: &MetaGet, moment: u64) -> Reply<()>
+        requires moment { moment < 2 ^ 63 }
+        requires key { is_key key.now ≡ true }
+        ensures step { step_of self.old (AMeta (AMetaGet key.now get.now)) moment (is_refusal result)
+            ≡ (self.new, filled result (value_after (AMeta (AMetaGet key.now get.now)) self.new)) }
+        ensures front { step_of self.old (AMeta (AMetaGet key.now get.now)) moment (is_refusal result)
+            ≡ (self.new, filled result (front_value self.new.items)) }
+        ensures refusal { is_refusal result ≡ true
+            → may_refuse self.old (AMeta (AMetaGet key.now get.now)) moment ≡ true }
+        ensures shrinks { (other : List ℕ)
+            → length (value_at other self.new.items) ≤ length (value_at other self.old.items) }
+    {
+        self.show(key, get, moment)
+    }
+
+    /// The meta command `Update`, which is `ms`, `md` or `ma`, with the key and the block lent: the same as
+    /// [`Cache::update`], with a reply that shows what was stored.
+    ///
+    /// The item that the reply shows stands first: [`Cache::front_value`] is its value.
+    ///
+    /// # Errors
+    ///
+    /// A whole value is to be stored under a held key, and there is no memory for its block. Nothing has changed.
+    pub fn meta_update(
+        &mut self,
+        update: &Update<&[u8], &[u8]>,
+        show: &Show,
+        moment: u64,
+    ) -> Result<Reply<()>, AllocError>
+        requires moment { moment < 2 ^ 63 }
+        requires key { HasKey (update_seen update.now) }
+        ensures step { IfOk result (λ reply.
+            step_of self.old (AMeta (AMetaUpdate (update_seen update.now) show.now)) moment (is_refusal reply)
+            ≡ (self.new, filled reply (value_after (AMeta (AMetaUpdate (update_seen update.now) show.now)) self.new))) }
+        ensures front { IfOk result (λ reply.
+            step_of self.old (AMeta (AMetaUpdate (update_seen update.now) show.now)) moment (is_refusal reply)
+            ≡ (self.new, filled reply (front_value self.new.items))) }
+        ensures refusal { IfOk result (λ reply. is_refusal reply ≡ true
+            → may_refuse self.old (AMeta (AMetaUpdate (update_seen update.now) show.now)) moment ≡ true) }
+        ensures err { OnErr result (self.new ≡ self.old) }
+        ensures cause { OnErr result (takes_block self.old (update_seen update.now) moment ≡ true) }
+    {
+        let reply = self.update(update, moment)?;
+        Ok(self.tell(reply, show, moment))
+    }
+
+    /// A meta command whose key and block are its own.
+    fn meta_by_own(&mut self, command: MetaCommand<Key, Block>, moment: u64) -> Reply<()>
+        requires { moment < 2 ^ 63 }
+        ensures step { step_of self.old (AMeta command) moment (is_refusal result)
+            ≡ (self.new, filled result (value_after (AMeta command) self.new)) }
+        ensures refusal { is_refusal result ≡ true → may_refuse self.old (AMeta command) moment ≡ true }
+    {
+        match command {
+            MetaCommand::Get { key, get } => self.meta_get(key.as_bytes(), &get, moment),
+            MetaCommand::Update { update, show } => {
+                let reply = self.update_by_own(update, moment);
+                self.tell(reply, &show, moment)
+            }
         }
     }
 
@@ -200,18 +272,20 @@ impl<S: Store + Drop> Cache<S> {
                     flags,
                     expiry: Deadline::of(exptime, moment),
                     cas: 0,
+                    stale: false,
+                    won: false,
                     value: block,
                 };
                 let found = self.settle(key.as_bytes(), moment);
                 self.store_own(mode, compare, key, body, found)
             }
             Update::Touch { key, exptime } => self.touch(key.as_bytes(), exptime, moment),
-            Update::Delete { key } => self.delete(key.as_bytes(), moment),
-            Update::Count {
-                direction,
+            Update::Delete {
                 key,
-                delta,
-            } => self.count(direction, key.as_bytes(), delta, moment),
+                compare,
+                invalidate,
+            } => self.delete(key.as_bytes(), compare, invalidate, moment),
+            Update::Count { key, counting } => self.count(key.as_bytes(), &counting, moment),
             Update::FlushAll { delay } => self.flush_all(delay, moment),
         }
     }

@@ -17,6 +17,10 @@ pub struct Body {
     pub expiry: Deadline,
     /// The item's number, which no other item of the cache has had.
     pub cas: u64,
+    /// Whether the value was said to be out of date.
+    pub stale: bool,
+    /// Whether a client was told that it is the one to fetch the value anew.
+    pub won: bool,
     /// The value.
     pub value: Block,
 }

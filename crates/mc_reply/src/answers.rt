@@ -1,17 +1,23 @@
 //! What is appended to the bytes that a client is sent.
-ghost use Rattle.std.specs.Prelude.{◌≡◌, ◌+◌, ◌^◌, ◌<◌, ◌≤◌, ◌++◌, [], length, vec_len, vec_capacity, IsOk, OnOk, OnErr};
+ghost use Rattle.std.specs.Prelude.{◌≡◌, ◌+◌, ◌-◌, ◌^◌, ◌<◌, ◌≤◌, ◌++◌, [], true, min, max, length, vec_len, vec_capacity, IsOk, OnOk, OnErr};
 ghost use Rattle.std.specs.Option.{ForSome};
 ghost use Rattle.mc_request.specs.Atoms.{atoms_of};
 ghost use Rattle.mc_request.specs.Faults.{fault_line};
-ghost use Rattle.mc_reply.specs.Spelling.{is_shown, reply_line, key_part, end_line, version_line, answer_of};
+ghost use Rattle.mc_request.specs.Parts.{key_bytes};
+ghost use Rattle.mc_text.specs.Keys.{is_key};
+ghost use Rattle.mc_reply.specs.Spelling.{is_shown, reply_line, key_part, end_line, version_line, noop_line, meta_key, answer_of};
+ghost use Rattle.mc_reply.specs.MetaSpelling.{key_word, meta_by, meta_line};
+ghost use Rattle.mc_reply.specs.MetaRooms.{flags_room, part_room};
 ghost use Rattle.mc_reply.specs.Parts.{part_of};
 ghost use Rattle.mc_reply.specs.Seen.{reply_seen, bytes_seen, value_len, shown_len};
 
 pub use crate::appends::LINE_ROOM;
 use crate::appends::{append, append_key_part, append_reply_line, short_line};
+use crate::flag_appends::flags_room;
+use crate::meta_appends::{BESIDE_FLAGS_ROOM, append_meta};
 use crate::replies::Reply;
-use mc_request::{Fault, Request};
-use mc_text::KEY_LIMIT;
+use mc_request::{Fault, FlagWords, MetaCommand, MetaForm, Request, Update};
+use mc_text::{Block, CODED_LIMIT, KEY_LIMIT, Key, WordIter, write_coded};
 use std::alloc::AllocError;
 use thiserror::Error;
 
@@ -19,8 +25,15 @@ use thiserror::Error;
 /// the value, the call takes no memory.
 pub const KEY_ROOM: usize = 384;
 
-/// The most bytes that [`write_part`] appends beside a value's bytes. Where a vector has so much room left, and that of
+/// The most bytes that [`write_meta`] appends beside a value's bytes. Where a vector has so much room left, and that of
 /// the value, the call takes no memory.
+pub const META_ROOM: usize = 512;
+
+/// The most bytes that the flag words of a meta command give back, as a reader takes them.
+pub const FLAGS_ROOM: usize = 480;
+
+/// The most bytes that [`write_part`] appends beside a value's bytes; [`part_room`] says it of a request. Where a vector
+/// has so much room left, and that of the value, the call takes no memory.
 pub const PART_ROOM: usize = 512;
 
 /// Why a call of this crate gave up.
@@ -76,6 +89,65 @@ pub fn write_end(out: &mut Vec<u8>) -> Result<(), ReplyError>
     Ok(())
 }
 
+/// Appends the answer to a meta command, by the word of its key and by its flag words as a client wrote them. A key in
+/// base64 has one word, so none is made anew.
+pub fn write_meta(
+    word: &[u8],
+    form: &MetaForm<WordIter<'_>>,
+    reply: &Reply<&[u8]>,
+    out: &mut Vec<u8>,
+) -> Result<(), ReplyError>
+    requires key { is_key (key_bytes form.now.coded word.now) ≡ true }
+    requires flags { flags_room form.now.flags ≤ FLAGS_ROOM }
+    ensures ok { OnOk result
+        (out.new.items ≡ out.old.items ++ meta_line form.now (key_bytes form.now.coded word.now) (bytes_seen reply.now)) }
+    ensures len { vec_len out.new ≤ vec_len out.old + value_len (bytes_seen reply.now) + META_ROOM }
+    ensures succeeds { vec_len out.old + value_len (bytes_seen reply.now) + META_ROOM ≤ vec_capacity out.old → IsOk result }
+    ensures err { OnErr result (out.new.items ≡ out.old.items) }
+    ensures room { vec_capacity out.old ≤ vec_capacity out.new }
+{
+    write_meta_by(form.coded, word, form.flags.again(), META_ROOM, reply, out)
+}
+
+/// Appends the answer to a meta command, for which so much room is made. An error line is as it is anywhere.
+fn write_meta_by(
+    coded: bool,
+    word: &[u8],
+    flags: WordIter<'_>,
+    room: usize,
+    reply: &Reply<&[u8]>,
+    out: &mut Vec<u8>,
+) -> Result<(), ReplyError>
+    requires word { length word.now ≤ CODED_LIMIT }
+    requires flags { min (flags_room flags + BESIDE_FLAGS_ROOM) (2 ^ 64 - 1) ≤ room }
+    requires line { LINE_ROOM ≤ room }
+    ensures ok { OnOk result (out.new.items ≡ out.old.items ++ meta_by coded word.now flags.entry (bytes_seen reply.now)) }
+    ensures len { vec_len out.new ≤ vec_len out.old + value_len (bytes_seen reply.now) + room }
+    ensures succeeds { vec_len out.old + value_len (bytes_seen reply.now) + room ≤ vec_capacity out.old → IsOk result }
+    ensures err { OnErr result (out.new.items ≡ out.old.items) }
+    ensures room { vec_capacity out.old ≤ vec_capacity out.new }
+{
+    if let Reply::Fault(fault) = reply {
+        return write_fault(*fault, out);
+    }
+    out.reserve(value_len(reply).saturating_add(room))?;
+    append_meta(out, coded, word, flags, reply);
+    Ok(())
+}
+
+/// Appends the answer to `mn`.
+pub fn write_noop(out: &mut Vec<u8>) -> Result<(), ReplyError>
+    ensures ok { OnOk result (out.new.items ≡ out.old.items ++ noop_line) }
+    ensures len { vec_len out.new ≤ vec_len out.old + LINE_ROOM }
+    ensures succeeds { vec_len out.old + LINE_ROOM ≤ vec_capacity out.old → IsOk result }
+    ensures err { OnErr result (out.new.items ≡ out.old.items) }
+    ensures room { vec_capacity out.old ≤ vec_capacity out.new }
+{
+    out.reserve(LINE_ROOM)?;
+    append(out, b"MN\r\n");
+    Ok(())
+}
+
 /// Appends the answer to `version`.
 pub fn write_version(out: &mut Vec<u8>) -> Result<(), ReplyError>
     ensures ok { OnOk result (out.new.items ≡ out.old.items ++ version_line) }
@@ -126,8 +198,8 @@ pub fn write_part(
     requires { ForSome reply (λ _. at < length (atoms_of request.now)) }
     ensures ok { OnOk result
         (out.new.items ≡ out.old.items ++ part_of request.now at (reply_seen reply.entry)) }
-    ensures len { vec_len out.new ≤ vec_len out.old + shown_len (reply_seen reply.entry) + PART_ROOM }
-    ensures succeeds { vec_len out.old + shown_len (reply_seen reply.entry) + PART_ROOM ≤ vec_capacity out.old → IsOk result }
+    ensures len { vec_len out.new ≤ vec_len out.old + shown_len (reply_seen reply.entry) + part_room request.now }
+    ensures succeeds { vec_len out.old + shown_len (reply_seen reply.entry) + part_room request.now ≤ vec_capacity out.old → IsOk result }
     ensures err { OnErr result (out.new.items ≡ out.old.items) }
     ensures room { vec_capacity out.old ≤ vec_capacity out.new }
 {
@@ -148,9 +220,89 @@ pub fn write_part(
                 write_line(reply, out)?;
             }
         }
-        Request::Version | Request::Quit => {}
+        Request::Meta { command, form } => {
+            if shown(request, reply) {
+                write_owned_meta(command, form, reply, out)?;
+            }
+        }
+        Request::MetaNoop | Request::Version | Request::Quit => {}
     }
     Ok(())
+}
+
+/// How many bytes a reply adds to the answer to a request at most, beside the value that it shows: [`PART_ROOM`], for a
+/// request that a reader took; [`usize::MAX`] where it is more.
+pub fn part_room(request: &Request) -> usize
+    ensures { result ≡ min (part_room request.now) (2 ^ 64 - 1) }
+{
+    match request {
+        Request::Meta { form, .. } => meta_room(form),
+        _ => PART_ROOM,
+    }
+}
+
+/// How many bytes the answer to a meta command has at most, beside the value that it shows.
+fn meta_room(form: &MetaForm<FlagWords>) -> usize
+    ensures { result ≡ min (max PART_ROOM (flags_room form.now.flags + BESIDE_FLAGS_ROOM)) (2 ^ 64 - 1) }
+{
+    flags_room(form.flags.words())
+        .saturating_add(BESIDE_FLAGS_ROOM)
+        .max(PART_ROOM)
+}
+
+/// Appends the answer to a meta command that is kept by itself. A key in base64 gets its word again.
+fn write_owned_meta(
+    command: &MetaCommand<Key, Block>,
+    form: &MetaForm<FlagWords>,
+    reply: &Reply<&[u8]>,
+    out: &mut Vec<u8>,
+) -> Result<(), ReplyError>
+    ensures ok { OnOk result
+        (out.new.items ≡ out.old.items ++ meta_line form.now (meta_key command.now) (bytes_seen reply.now)) }
+    ensures len { vec_len out.new ≤ vec_len out.old + value_len (bytes_seen reply.now)
+        + max PART_ROOM (flags_room form.now.flags + BESIDE_FLAGS_ROOM) }
+    ensures succeeds { vec_len out.old + value_len (bytes_seen reply.now)
+        + max PART_ROOM (flags_room form.now.flags + BESIDE_FLAGS_ROOM) ≤ vec_capacity out.old → IsOk result }
+    ensures err { OnErr result (out.new.items ≡ out.old.items) }
+    ensures room { vec_capacity out.old ≤ vec_capacity out.new }
+{
+    let mut room = [0; CODED_LIMIT];
+    let word = word_of(form.coded, key_of(command), &mut room);
+    write_meta_by(
+        form.coded,
+        word,
+        form.flags.words(),
+        meta_room(form),
+        reply,
+        out,
+    )
+}
+
+/// The key of a meta command.
+fn key_of(command: &MetaCommand<Key, Block>) -> &[u8]
+    ensures key { result.now ≡ meta_key command.now }
+    ensures size { length result.now ≤ KEY_LIMIT }
+{
+    let update = match command {
+        MetaCommand::Get { key, .. } => return key.as_bytes(),
+        MetaCommand::Update { update, .. } => update,
+    };
+    match update {
+        Update::Store { key, .. }
+        | Update::Touch { key, .. }
+        | Update::Delete { key, .. }
+        | Update::Count { key, .. } => key.as_bytes(),
+        Update::FlushAll { .. } => b"",
+    }
+}
+
+/// The word of a key: itself, or what is written into the room.
+fn word_of<'a>(coded: bool, key: &'a [u8], room: &'a mut [u8; CODED_LIMIT]) -> &'a [u8]
+    requires { length key.now ≤ KEY_LIMIT }
+    ensures word { result.now ≡ key_word coded key.now }
+    ensures size { length result.now ≤ CODED_LIMIT }
+{
+    if coded { write_coded(key, room) } else { key }
 }
 
 /// Appends what a request is answered where no reply comes.
@@ -164,7 +316,8 @@ fn write_alone(request: &Request, out: &mut Vec<u8>) -> Result<(), ReplyError>
     match request {
         Request::Version => write_version(out),
         Request::Get { .. } => write_end(out),
-        Request::Update { .. } | Request::Quit => Ok(()),
+        Request::MetaNoop => write_noop(out),
+        Request::Update { .. } | Request::Meta { .. } | Request::Quit => Ok(()),
     }
 }
 
@@ -175,6 +328,10 @@ fn value_len(reply: &Reply<&[u8]>) -> usize
 {
     match reply {
         Reply::Hit { value, .. } => value.len(),
+        Reply::Meta {
+            value: Some(value),
+            ..
+        } => value.len(),
         _ => 0,
     }
 }

@@ -47,7 +47,7 @@ pub fn append_reply_line(out: &mut Vec<u8>, reply: &Reply<&[u8]>)
         Reply::Deleted => append(out, b"DELETED\r\n"),
         Reply::Touched => append(out, b"TOUCHED\r\n"),
         Reply::Flushed => append(out, b"OK\r\n"),
-        Reply::Miss | Reply::Hit { .. } => {}
+        Reply::Miss | Reply::Hit { .. } | Reply::Meta { .. } => {}
         Reply::Fault(fault) => append(out, short_line(*fault)),
     }
 }

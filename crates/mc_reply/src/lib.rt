@@ -2,27 +2,35 @@
 //!
 //! A cache answers each command by a [`Reply`]. A retrieval command is answered by what its keys add ([`write_key`]) and
 //! by the end ([`write_end`]); an update by the line of its reply ([`write_line`]), where that is not hidden
-//! ([`Reply::is_hidden`], by what the request hides; [`shown`] says it of a whole request); `version` by a line of its
-//! own ([`write_version`]); and what is no request by the line of its fault ([`write_fault`]). Who keeps the request
-//! beside its replies appends what each adds by [`write_part`]. Each of these appends to bytes that are still to be
-//! sent, or gives up and appends nothing.
+//! ([`Reply::is_hidden`], by what the request hides; [`shown`] says it of a whole request); a meta command by what its
+//! flag words ask to be given back ([`write_meta`]), where that is not hidden; `mn` and `version` by lines of their own
+//! ([`write_noop`], [`write_version`]); and what is no request by the line of its fault ([`write_fault`]). Who keeps the
+//! request beside its replies appends what each adds by [`write_part`], for which [`part_room`] is room enough. Each of
+//! these appends to bytes that are still to be sent, or gives up and appends nothing.
 //!
 //! `specs/Spelling.antt` says how a reply to one command is spelled (`spelling_of`) and what a client is answered
-//! (`answer_of`); `specs/Parts.antt` what one reply adds to it (`part_of`).
+//! (`answer_of`), `specs/MetaSpelling.antt` the same of a meta command by its flag words (`meta_line`), and
+//! `specs/Parts.antt` what one reply adds to an answer (`part_of`).
 #![tactic(auto)]
 
 mod answers;
 mod appends;
+mod flag_appends;
 mod laws;
+mod meta_appends;
+mod meta_rows;
 mod replies;
 mod rows;
 
 pub use answers::{
-    KEY_ROOM, LINE_ROOM, PART_ROOM, ReplyError, shown, write_end, write_fault, write_key,
-    write_line, write_part, write_version,
+    FLAGS_ROOM, KEY_ROOM, LINE_ROOM, META_ROOM, PART_ROOM, ReplyError, part_room, shown, write_end,
+    write_fault, write_key, write_line, write_meta, write_noop, write_part, write_version,
 };
-pub use laws::{faults_are_shown, one_reply_is_spelled, parts_in_order};
-pub use replies::Reply;
+pub use laws::{faults_are_shown, flags_of_requests_fit, one_reply_is_spelled, parts_in_order};
+pub use meta_rows::{
+    flags_as_asked, keys_as_asked, marks_stand_last, noop, quiet_answers, what_was_not_done,
+};
+pub use replies::{Marks, Reply, Shown};
 pub use rows::{
     error_line, flush_of_two_servers, gats_of_a_hit, get_of_a_hit, get_of_a_miss, get_of_many_keys,
     noreply_hides_lines, update_lines, version_and_quit,

@@ -1,20 +1,21 @@
 -- What every line keeps to, part by part.
-use Rattle.std.proofs.Common.{◌≡◌, ℕ, zero, suc, ◌+◌, ◌≤◌, ◌^◌, ◌==◌, ◌&&◌, Bool, true, false, not, cond, nat_lt, nat_le, if◌then◌else◌, ℤ, pos, neg_ℤ, List, [], ◌∷◌, length, take, drop, Option, Some, None, Result, Ok, Err, refl, sym, ap, arith}
+use Rattle.std.proofs.Common.{◌≡◌, ℕ, zero, suc, ◌+◌, ◌≤◌, ◌^◌, ◌&&◌, Bool, true, false, not, cond, nat_lt, nat_le, if◌then◌else◌, ℤ, List, [], ◌∷◌, length, take, drop, Option, Some, None, Result, Ok, Err, refl, ap, arith}
 use Rattle.std.proofs.lemmas.Bool.Decides.{nat_tests}
 use Rattle.std.proofs.lemmas.List.{length-take}
 use Rattle.std.specs.List.{list_all}
-use Rattle.std.specs.Option.{ok_or, option_map}
+use Rattle.std.specs.Option.{ok_or}
 use Rattle.std.specs.Str.{bytes_eq}
-use Rattle.std.specs.Str.Parse.{digits_value}
 use Rattle.std.specs.Prelude.{codes}
 use Rattle.mc_text.specs.Lines as lines
 use Rattle.mc_text.specs.Lines.{FirstLine, first_line}
 use Rattle.mc_text.specs.Words.{words}
-use Rattle.mc_text.specs.Numbers.{has_digits, number, read_u64, read_i64, read_len, read_flags}
+use Rattle.mc_text.specs.Numbers.{number, read_u64, read_i64, read_len, read_flags}
 use Rattle.mc_text.specs.Keys.{is_plain_key}
 use Rattle.mc_request.specs.declared.faults.Fault.{Fault}
 use Rattle.mc_request.specs.declared.faults.Fault.TheVariants as faults
 use Rattle.mc_request.specs.declared.faults.Fault.TheVariants.{UnknownCommand, BadFormat, BadDelta, TooLarge}
+use Rattle.mc_request.specs.declared.meta.MetaCommand.TheVariants as metas
+use Rattle.mc_request.specs.declared.meta.Show.{Show}
 use Rattle.mc_request.specs.declared.names.Name.{Name}
 use Rattle.mc_request.specs.declared.names.Name.TheVariants as names
 use Rattle.mc_request.specs.declared.parts.Direction.{Direction}
@@ -22,46 +23,23 @@ use Rattle.mc_request.specs.declared.parts.Direction.TheVariants.{Up, Down}
 use Rattle.mc_request.specs.declared.parts.StoreMode.{StoreMode}
 use Rattle.mc_request.specs.declared.parts.Update.{Update}
 use Rattle.mc_request.specs.declared.parts.Update.TheVariants.{Store, Touch, Delete, Count, FlushAll}
-use Rattle.mc_request.specs.declared.parts.Request.TheVariants as requests
 use Rattle.mc_request.specs.declared.parts.Taken.{Taken}
 use Rattle.mc_request.specs.declared.parts.Taken.TheVariants.{Whole, Faulty}
 use Rattle.mc_request.specs.Faults.{closes}
 use Rattle.mc_request.specs.Parts as parts
-use Rattle.mc_request.specs.Names.{name_of, has_arity, at_least, is_storage, is_noreply, noreply_of}
-use Rattle.mc_request.specs.Meanings.{Line, Lone, Storage, Storing, Meaning, Alone, Stores, Refuses, ◌>>=◌, key_of, well_formed, update_line, touch_line, without_zero, delete_line, count_line, flush_line, keys_line, gat_line, storage_line, storing_by, store_line, cas_by, cas_line, line_named, line_of, announced, meaning_from, meaning_by, meaning}
-use Rattle.mc_request.specs.Requests.{with_block, taken_by, next_by, next_request, requests_from, requests_within, requests_of, ends}
-use Rattle.mc_request.specs.WellFormed.{is_u64, is_i64, is_where_some, is_good_update, is_good_block, is_good_request, is_well_formed}
-use Rattle.mc_request.specs.Steps.{announced_by, announced_in, is_good_meaning}
+use Rattle.mc_request.specs.Names.{name_of, has_arity, at_least, is_noreply, noreply_of}
+use Rattle.mc_request.specs.Meanings.{Line, Lone, Storage, Storing, Classic, MetaSet, Meaning, plain_counting, Alone, Stores, Refuses, key_of, well_formed, update_line, touch_line, without_zero, delete_line, count_parts, count_line, flush_parts, flush_line, keys_line, gat_line, storage_parts, storing_by, store_line, number_behind, cas_by, cas_line, line_named, line_of, announced, meaning_from, meaning_by, meaning}
+use Rattle.mc_request.specs.Requests.{stored, with_block, taken_by, next_by, next_request, requests_from, requests_within, requests_of, ends}
+use Rattle.mc_request.specs.WellFormed.{is_u64, is_i64, is_where_some, is_good_update, is_meta_key, command_name, has_flags, is_good_block, is_good_request, is_well_formed}
+use Rattle.mc_request.specs.Steps.{announced_by, announced_in, is_good_storing, is_good_meaning}
+use Rattle.mc_request.proofs.PartLemmas.{not_true, Holds, bound, by_test, of_test, holds, any_bool, and_then, either, tested, some_good, number_good, i64_good, block_is, is_good_line, both, length_good, left, right}
+use Rattle.mc_request.proofs.MetaLemmas.{mg_good, md_good, ma_good, ms_good}
 
 abbrev some : ℕ → Option ℕ
 some n = Some n
 
 abbrev some_taken : Taken × ℕ → Option (Taken × ℕ)
 some_taken x = Some x
-
--- what holds of a part that was read; a fault closes nothing
-abbrev holds : {A : Type 0} → (A → Bool) → Result A Fault → Bool
-holds test (Ok part) = test part
-holds test (Err fault) = not (closes fault)
-
-abbrev any_bool : {A : Type 0} → A → Bool
-any_bool part = true
-
--- what is read of a part that holds
-and_then : {A B : Type 0} (p : A → Bool) (q : B → Bool) (r : Result A Fault) (f : A → Result B Fault)
-    → holds p r ≡ true → ((a : A) → p a ≡ true → holds q (f a) ≡ true) → holds q (r >>= f) ≡ true
-and_then p q (Ok a) f h next = next a h
-and_then p q (Err fault) f h next = h
-
--- a choice between two lines
-either : {A : Type 0} (q : A → Bool) (b : Bool) (x y : Result A Fault) → holds q x ≡ true → holds q y ≡ true → holds q (if b then x else y) ≡ true
-either q true x y h k = h
-either q false x y h k = k
-
--- a choice by the test that is asked for
-tested : {A : Type 0} (p : A → Bool) (a : A) (b : Bool) (fault : Fault) → p a ≡ b → closes fault ≡ false → holds p (if b then Ok a else Err fault) ≡ true
-tested p a true fault is ok = is
-tested p a false fault is ok = rw ok refl
 
 key_good : (word : List ℕ) → holds is_plain_key (key_of word) ≡ true
 key_good word = tested is_plain_key word (is_plain_key word) BadFormat refl refl
@@ -71,60 +49,7 @@ noreply_good [] = refl
 noreply_good (word ∷ []) = either any_bool (is_noreply word) (Ok true) (Err BadFormat) refl refl
 noreply_good (word ∷ another ∷ more) = refl
 
--- a part that may be read, and holds where it is
-some_good : {A : Type 0} (p : A → Bool) (o : Option A) (fault : Fault) → closes fault ≡ false → is_where_some p o ≡ true → holds p (ok_or o fault) ≡ true
-some_good p (Some a) fault ok h = h
-some_good p None fault ok h = rw ok refl
-
-below : (b c : Bool) (v bound : ℕ) → c ≡ nat_lt v bound → is_where_some (λ n. nat_lt n bound) (if b && c then Some v else None) ≡ true
-below true true v bound is = sym is
-below true false v bound is = refl
-below false c v bound is = refl
-
-number_good : (most bound : ℕ) (word : List ℕ) → is_where_some (λ n. nat_lt n bound) (number most bound word) ≡ true
-number_good most bound word = below (has_digits most word) (nat_lt (digits_value 10 word) bound) (digits_value 10 word) bound refl
-
-negative : (o : Option ℕ) → is_where_some (λ n. nat_lt n (2 ^ 63 + 1)) o ≡ true → is_where_some is_i64 (option_map (λ n. neg_ℤ (pos n)) o) ≡ true
-negative None h = refl
-negative (Some zero) h = refl
-negative (Some (suc n)) h = grind (arith, nat_tests, h)
-
-positive : (o : Option ℕ) → is_where_some (λ n. nat_lt n (2 ^ 63)) o ≡ true → is_where_some is_i64 (option_map pos o) ≡ true
-positive None h = refl
-positive (Some n) h = h
-
-if_either : (b : Bool) (x y : Option ℤ) → is_where_some is_i64 x ≡ true → is_where_some is_i64 y ≡ true → is_where_some is_i64 (if b then x else y) ≡ true
-if_either true x y h k = h
-if_either false x y h k = k
-
-i64_good : (word : List ℕ) → is_where_some is_i64 (read_i64 word) ≡ true
-i64_good [] = refl
-i64_good (b ∷ bs) =
-    if_either (b == 45) _ _ (negative (number 20 (2 ^ 63 + 1) bs) (number_good 20 (2 ^ 63 + 1) bs))
-    (positive (number 20 (2 ^ 63) (b ∷ bs)) (number_good 20 (2 ^ 63) (b ∷ bs)))
-
--- the block of a line is the one that it announces
-abbrev block_is : Option ℕ → Option ℕ → Bool
-block_is None None = true
-block_is None (Some n) = false
-block_is (Some m) None = false
-block_is (Some m) (Some n) = m == n
-
-same_block : (o : Option ℕ) → block_is o o ≡ true
-same_block None = refl
-same_block (Some n) = grind (arith, nat_tests)
-
--- what a line keeps to that announces this block
-abbrev is_good_line : Option ℕ → Line → Bool
-is_good_line block (Lone request) = is_good_request request && block_is block None
-is_good_line block (Storage storing len) = is_good_update (λ _. true) storing.update && nat_le len 1048576 && block_is block (Some len)
-
-both : (a b : Bool) → a ≡ true → b ≡ true → (a && b) ≡ true
-both true true h k = refl
-both false b h k = absurd cc
-both true false h k = absurd cc
-
-update_good : (update : Update (List ℕ) (List ℕ)) (noreply : Bool) → is_good_update is_good_block update ≡ true → holds (is_good_line None) (Ok (update_line update noreply)) ≡ true
+update_good : (update : Update (List ℕ) (List ℕ)) (noreply : Bool) → is_good_update is_plain_key is_good_block update ≡ true → holds (is_good_line None) (Ok (update_line update noreply)) ≡ true
 update_good update noreply h = rw h refl
 
 touch_good : (words : List (List ℕ)) → holds (is_good_line None) (touch_line words) ≡ true
@@ -140,25 +65,37 @@ delete_good : (words : List (List ℕ)) → holds (is_good_line None) (delete_li
 delete_good [] = refl
 delete_good (key ∷ more) =
     and_then any_bool (is_good_line None) (noreply_of (without_zero more)) _ (noreply_good (without_zero more)) (λ noreply _.
-    and_then is_plain_key (is_good_line None) (key_of key) _ (key_good key) (λ key k. update_good (Delete key) noreply k))
+    and_then is_plain_key (is_good_line None) (key_of key) _ (key_good key) (λ key k. update_good (Delete key None false) noreply (both _ _ k refl)))
+
+count_parts_good : (key delta : List ℕ) (more : List (List ℕ)) (b : Bool) → is_plain_key key ≡ b
+    → holds (λ (parts : ℕ × Bool). is_plain_key key && is_u64 parts.0) (count_parts key delta more) ≡ true
+count_parts_good key delta more true is = rw is
+    (and_then is_u64 (λ (parts : ℕ × Bool). is_u64 parts.0) (ok_or (read_u64 delta) BadDelta) _ (some_good is_u64 (read_u64 delta) BadDelta refl (number_good 20 (2 ^ 64) delta)) (λ delta d.
+    and_then any_bool (λ (parts : ℕ × Bool). is_u64 parts.0) (noreply_of more) _ (noreply_good more) (λ noreply _. d)))
+count_parts_good key delta more false is = rw is refl
 
 count_good : (direction : Direction) (words : List (List ℕ)) → holds (is_good_line None) (count_line direction words) ≡ true
 count_good direction [] = refl
 count_good direction (key ∷ []) = refl
 count_good direction (key ∷ delta ∷ more) =
-    and_then is_plain_key (is_good_line None) (key_of key) _ (key_good key) (λ key k.
-    and_then is_u64 (is_good_line None) (ok_or (read_u64 delta) BadDelta) _ (some_good is_u64 (read_u64 delta) BadDelta refl (number_good 20 (2 ^ 64) delta)) (λ delta d.
-    and_then any_bool (is_good_line None) (noreply_of more) _ (noreply_good more) (λ noreply _.
-    update_good (Count direction key delta) noreply (both _ _ k d))))
+    and_then (λ (parts : ℕ × Bool). is_plain_key key && is_u64 parts.0) (is_good_line None) (count_parts key delta more) _
+    (count_parts_good key delta more (is_plain_key key) refl)
+    (λ parts good. update_good (Count key (plain_counting direction parts.0)) parts.1
+    (both _ _ (left (is_plain_key key) (is_u64 parts.0) good) (rw (right (is_plain_key key) (is_u64 parts.0) good) refl)))
+
+flush_parts_good : (words : List (List ℕ)) → holds (λ (parts : ℤ × Bool). is_i64 parts.0) (flush_parts words) ≡ true
+flush_parts_good [] = refl
+flush_parts_good (word ∷ []) =
+    either (λ (parts : ℤ × Bool). is_i64 parts.0) (is_noreply word) _ _ refl
+    (and_then is_i64 (λ (parts : ℤ × Bool). is_i64 parts.0) (well_formed (read_i64 word)) _ (some_good is_i64 (read_i64 word) BadFormat refl (i64_good word)) (λ delay d. d))
+flush_parts_good (delay ∷ word ∷ more) =
+    and_then is_i64 (λ (parts : ℤ × Bool). is_i64 parts.0) (well_formed (read_i64 delay)) _ (some_good is_i64 (read_i64 delay) BadFormat refl (i64_good delay)) (λ delay d.
+    and_then any_bool (λ (parts : ℤ × Bool). is_i64 parts.0) (noreply_of (word ∷ more)) _ (noreply_good (word ∷ more)) (λ noreply _. d))
 
 flush_good : (words : List (List ℕ)) → holds (is_good_line None) (flush_line words) ≡ true
-flush_good [] = refl
-flush_good (word ∷ []) =
-    either (is_good_line None) (is_noreply word) _ _ refl
-    (and_then is_i64 (is_good_line None) (well_formed (read_i64 word)) _ (some_good is_i64 (read_i64 word) BadFormat refl (i64_good word)) (λ delay d. update_good (FlushAll delay) false d))
-flush_good (delay ∷ word ∷ more) =
-    and_then is_i64 (is_good_line None) (well_formed (read_i64 delay)) _ (some_good is_i64 (read_i64 delay) BadFormat refl (i64_good delay)) (λ delay d.
-    and_then any_bool (is_good_line None) (noreply_of (word ∷ more)) _ (noreply_good (word ∷ more)) (λ noreply _. update_good (FlushAll delay) noreply d))
+flush_good words =
+    and_then (λ (parts : ℤ × Bool). is_i64 parts.0) (is_good_line None) (flush_parts words) _ (flush_parts_good words) (λ parts d.
+    update_good (FlushAll parts.0) parts.1 d)
 
 keys_tested : (exptime : Option ℤ) (with_cas : Bool) (key : List ℕ) (keys : List (List ℕ)) (b : Bool) → is_where_some is_i64 exptime ≡ true → list_all is_plain_key (key ∷ keys) ≡ b
     → holds (is_good_line None) (keys_line exptime with_cas (key ∷ keys)) ≡ true
@@ -178,25 +115,34 @@ gat_good with_cas (exptime ∷ keys) some =
     and_then is_i64 (is_good_line None) (well_formed (read_i64 exptime)) _ (some_good is_i64 (read_i64 exptime) BadFormat refl (i64_good exptime)) (λ exptime e.
     keys_good (Some exptime) with_cas keys e some)
 
--- a length that was read is the one that is announced
-length_good : (len : Option ℕ) → holds (λ n. block_is len (Some n)) (well_formed len) ≡ true
-length_good None = refl
-length_good (Some n) = same_block (Some n)
+-- the parts of a storage command
+abbrev AreParts : List ℕ → Option ℕ → ℕ × ℤ × ℕ → Type 0
+AreParts key len parts =
+    (is_plain_key key ≡ true) × (nat_lt parts.0 (2 ^ 32) ≡ true) × (is_i64 parts.1 ≡ true) × (nat_le parts.2 1048576 ≡ true) × (block_is len (Some parts.2) ≡ true)
 
-storage_tested : (block : Option ℕ) (storing : Storing) (len : ℕ) (b : Bool) → is_good_update (λ _. true) storing.update ≡ true → block_is block (Some len) ≡ true → nat_lt 1048576 len ≡ b
-    → holds (is_good_line block) (storage_line storing len) ≡ true
-storage_tested block storing len true good same is = rw is refl
-storage_tested block storing len false good same is = let small : nat_le len 1048576 ≡ true = grind (arith, nat_tests, is) in rw is (rw (good, small, same) refl)
+plain_key : (key : List ℕ) (b : Bool) → is_plain_key key ≡ b → Holds (λ k. is_plain_key key ≡ true) (if b then Ok key else Err BadFormat)
+plain_key key true is = is
+plain_key key false is = refl
+
+little : (key : List ℕ) (block : Option ℕ) (flags : ℕ) (exptime : ℤ) (len : ℕ) (b : Bool) → is_plain_key key ≡ true → nat_lt flags (2 ^ 32) ≡ true → is_i64 exptime ≡ true → block_is block (Some len) ≡ true
+    → nat_lt 1048576 len ≡ b → Holds (AreParts key block) (if b then Err TooLarge else Ok (flags, exptime, len))
+little key block flags exptime len true k f e same is = refl
+little key block flags exptime len false k f e same is = let small : nat_le len 1048576 ≡ true = grind (arith, nat_tests, is) in (k, f, e, small, same)
+
+parts_good : (key flags exptime : List ℕ) (len : Option ℕ) → Holds (AreParts key len) (storage_parts key flags exptime len)
+parts_good key flags exptime len =
+    bound (λ k. is_plain_key key ≡ true) (AreParts key len) (key_of key) _ (plain_key key (is_plain_key key) refl) (λ _ _ k.
+    bound (λ n. nat_lt n (2 ^ 32) ≡ true) (AreParts key len) (well_formed (read_flags flags)) _ (of_test (λ n. nat_lt n (2 ^ 32)) (well_formed (read_flags flags)) (some_good (λ n. nat_lt n (2 ^ 32)) (read_flags flags) BadFormat refl (number_good 20 (2 ^ 32) flags))) (λ flags _ f.
+    bound (λ e. is_i64 e ≡ true) (AreParts key len) (well_formed (read_i64 exptime)) _ (of_test is_i64 (well_formed (read_i64 exptime)) (some_good is_i64 (read_i64 exptime) BadFormat refl (i64_good exptime))) (λ exptime _ e.
+    bound (λ n. block_is len (Some n) ≡ true) (AreParts key len) (well_formed len) _ (of_test (λ n. block_is len (Some n)) (well_formed len) (length_good len)) (λ n _ same.
+    little key len flags exptime n (nat_lt 1048576 n) k f e same refl))))
 
 storing_good : (mode : StoreMode) (compare : Option ℕ) (key flags exptime : List ℕ) (len : Option ℕ) (noreply : Bool) → is_where_some is_u64 compare ≡ true
     → holds (is_good_line len) (storing_by mode compare key flags exptime len noreply) ≡ true
 storing_good mode compare key flags exptime len noreply c =
-    and_then is_plain_key (is_good_line len) (key_of key) _ (key_good key) (λ key k.
-    and_then (λ n. nat_lt n (2 ^ 32)) (is_good_line len) (well_formed (read_flags flags)) _ (some_good (λ n. nat_lt n (2 ^ 32)) (read_flags flags) BadFormat refl (number_good 20 (2 ^ 32) flags)) (λ flags f.
-    and_then is_i64 (is_good_line len) (well_formed (read_i64 exptime)) _ (some_good is_i64 (read_i64 exptime) BadFormat refl (i64_good exptime)) (λ exptime e.
-    and_then (λ n. block_is len (Some n)) (is_good_line len) (well_formed len) _ (length_good len) (λ n same.
-    storage_tested len (record { update = Store mode compare key flags exptime tt; noreply = noreply }) n (nat_lt 1048576 n)
-    (rw (k, c, f, e) refl) same refl))))
+    by_test (is_good_line len) (storing_by mode compare key flags exptime len noreply)
+    (bound (AreParts key len) (λ line. is_good_line len line ≡ true) (storage_parts key flags exptime len) _ (parts_good key flags exptime len)
+    (λ parts _ h. rw (h.0, c, h.1, h.2, h.3, h.4) refl))
 
 store_good : (mode : StoreMode) (words : List (List ℕ)) → holds (is_good_line (announced names.Set words)) (store_line mode words) ≡ true
 store_good mode [] = refl
@@ -207,12 +153,16 @@ store_good mode (key ∷ flags ∷ exptime ∷ len ∷ more) =
     and_then any_bool (is_good_line (read_len len)) (noreply_of more) _ (noreply_good more) (λ noreply _.
     storing_good mode None key flags exptime (read_len len) noreply refl)
 
+number_behind_good : (more : List (List ℕ)) → holds (λ (behind : ℕ × Bool). is_u64 behind.0) (number_behind more) ≡ true
+number_behind_good [] = refl
+number_behind_good (number ∷ more) =
+    and_then any_bool (λ (behind : ℕ × Bool). is_u64 behind.0) (noreply_of more) _ (noreply_good more) (λ noreply _.
+    and_then is_u64 (λ (behind : ℕ × Bool). is_u64 behind.0) (well_formed (read_u64 number)) _ (some_good is_u64 (read_u64 number) BadFormat refl (number_good 20 (2 ^ 64) number)) (λ number n. n))
+
 cas_behind : (key flags exptime : List ℕ) (len : Option ℕ) (more : List (List ℕ)) → holds (is_good_line len) (cas_by key flags exptime len more) ≡ true
-cas_behind key flags exptime len [] = refl
-cas_behind key flags exptime len (number ∷ more) =
-    and_then any_bool (is_good_line len) (noreply_of more) _ (noreply_good more) (λ noreply _.
-    and_then is_u64 (is_good_line len) (well_formed (read_u64 number)) _ (some_good is_u64 (read_u64 number) BadFormat refl (number_good 20 (2 ^ 64) number)) (λ number n.
-    storing_good _ (Some number) key flags exptime len noreply n))
+cas_behind key flags exptime len more =
+    and_then (λ (behind : ℕ × Bool). is_u64 behind.0) (is_good_line len) (number_behind more) _ (number_behind_good more) (λ behind n.
+    storing_good _ (Some behind.0) key flags exptime len behind.1 n)
 
 cas_good : (words : List (List ℕ)) → holds (is_good_line (announced names.Set words)) (cas_line words) ≡ true
 cas_good [] = refl
@@ -220,17 +170,6 @@ cas_good (key ∷ []) = refl
 cas_good (key ∷ flags ∷ []) = refl
 cas_good (key ∷ flags ∷ exptime ∷ []) = refl
 cas_good (key ∷ flags ∷ exptime ∷ len ∷ more) = cas_behind key flags exptime (read_len len) more
-
--- a command that announces nothing
-none_announced : (name : Name) (words : List (List ℕ)) → is_storage name ≡ false → announced name words ≡ None
-none_announced name [] h = refl
-none_announced name (a ∷ []) h = refl
-none_announced name (a ∷ b ∷ []) h = refl
-none_announced name (a ∷ b ∷ c ∷ []) h = refl
-none_announced name (a ∷ b ∷ c ∷ d ∷ more) h = rw h refl
-
-alone_good : (name : Name) (words : List (List ℕ)) (line : Result Line Fault) → is_storage name ≡ false → holds (is_good_line None) line ≡ true → holds (is_good_line (announced name words)) line ≡ true
-alone_good name words line h k = rw (none_announced name words h) k
 
 -- a line that has so many words as its command has
 named_good : (name : Name) (words : List (List ℕ)) → has_arity name words ≡ true → holds (is_good_line (announced name words)) (line_named name words) ≡ true
@@ -240,17 +179,22 @@ named_good names.Replace words h = store_good _ words
 named_good names.Append words h = store_good _ words
 named_good names.Prepend words h = store_good _ words
 named_good names.Cas words h = cas_good words
-named_good names.Get words h = alone_good names.Get words (line_named names.Get words) refl (keys_good None false words refl h)
-named_good names.Gets words h = alone_good names.Gets words (line_named names.Gets words) refl (keys_good None true words refl h)
-named_good names.Gat words h = alone_good names.Gat words (line_named names.Gat words) refl (gat_good false words h)
-named_good names.Gats words h = alone_good names.Gats words (line_named names.Gats words) refl (gat_good true words h)
-named_good names.Touch words h = alone_good names.Touch words (line_named names.Touch words) refl (touch_good words)
-named_good names.Delete words h = alone_good names.Delete words (line_named names.Delete words) refl (delete_good words)
-named_good names.Incr words h = alone_good names.Incr words (line_named names.Incr words) refl (count_good Up words)
-named_good names.Decr words h = alone_good names.Decr words (line_named names.Decr words) refl (count_good Down words)
-named_good names.FlushAll words h = alone_good names.FlushAll words (line_named names.FlushAll words) refl (flush_good words)
-named_good names.Version words h = alone_good names.Version words (line_named names.Version words) refl refl
-named_good names.Quit words h = alone_good names.Quit words (line_named names.Quit words) refl refl
+named_good names.Get words h = keys_good None false words refl h
+named_good names.Gets words h = keys_good None true words refl h
+named_good names.Gat words h = gat_good false words h
+named_good names.Gats words h = gat_good true words h
+named_good names.Touch words h = touch_good words
+named_good names.Delete words h = delete_good words
+named_good names.Incr words h = count_good Up words
+named_good names.Decr words h = count_good Down words
+named_good names.FlushAll words h = flush_good words
+named_good names.Version words h = refl
+named_good names.Quit words h = refl
+named_good names.MetaGet words h = mg_good words
+named_good names.MetaSet words h = ms_good words
+named_good names.MetaDelete words h = md_good words
+named_good names.MetaArithmetic words h = ma_good words
+named_good names.MetaNoop words h = refl
 
 counted : (name : Name) (words : List (List ℕ)) (b : Bool) → has_arity name words ≡ b → holds (is_good_line (announced name words)) (if b then line_named name words else Err UnknownCommand) ≡ true
 counted name words true h = named_good name words h
@@ -258,19 +202,6 @@ counted name words false h = refl
 
 line_good : (name : Name) (words : List (List ℕ)) → holds (is_good_line (announced name words)) (line_of name words) ≡ true
 line_good name words = counted name words (has_arity name words) refl
-
-not_true : (b : Bool) → not b ≡ true → b ≡ false
-not_true true h = absurd cc
-not_true false h = refl
-
--- the parts of a test that passed
-left : (a b : Bool) → (a && b) ≡ true → a ≡ true
-left true b h = refl
-left false b h = absurd cc
-
-right : (a b : Bool) → (a && b) ≡ true → b ≡ true
-right true b h = h
-right false b h = absurd cc
 
 -- the block that is to come behind a line
 abbrev pub block_in : Meaning → Option ℕ
@@ -290,7 +221,7 @@ meaning_is None (Err fault) h = (refl, refl)
 meaning_is (Some len) (Err fault) h = (h, refl)
 meaning_is block (Ok (Lone request)) h = (left (is_good_request request) _ h, block_found block None (right (is_good_request request) _ h))
 meaning_is block (Ok (Storage storing len)) h =
-    (left (is_good_update (λ _. true) storing.update && nat_le len 1048576) _ h, block_found block (Some len) (right (is_good_update (λ _. true) storing.update && nat_le len 1048576) _ h))
+    (left (is_good_storing storing && nat_le len 1048576) _ h, block_found block (Some len) (right (is_good_storing storing && nat_le len 1048576) _ h))
 
 meaning_good_by : (o : Option Name) (words : List (List ℕ)) → (is_good_meaning (meaning_by o words) ≡ true) × (block_in (meaning_by o words) ≡ announced_by o words)
 meaning_good_by None words = (refl, refl)
@@ -313,22 +244,39 @@ refuses_nothing_closed fault h = not_true (closes fault) h
 
 -- a block that is to come is one that may be stored
 pub stores_little : (s : Storing) (len : ℕ) → is_good_meaning (Stores s len) ≡ true → len ≤ 1048576
-stores_little s len h = let small = right (is_good_update (λ _. true) s.update) (nat_le len 1048576) h in grind (arith, nat_tests, small)
+stores_little s len h = let small = right (is_good_storing s) (nat_le len 1048576) h in grind (arith, nat_tests, small)
 
 -- a block in the place of none
-with_good_block : (update : Update (List ℕ) (Unit {0})) (block : List ℕ) → is_good_update (λ _. true) update ≡ true → length block ≤ 1048576
-    → is_good_update is_good_block (parts.with_block update block) ≡ true
-with_good_block (Store mode compare key flags exptime none) block h small =
+with_good_block : (p : List ℕ → Bool) (update : Update (List ℕ) (Unit {0})) (block : List ℕ) → is_good_update p (λ _. true) update ≡ true → length block ≤ 1048576
+    → is_good_update p is_good_block (parts.with_block update block) ≡ true
+with_good_block p (Store mode compare key flags exptime none) block h small =
     let fits : is_good_block block ≡ true = grind (arith, nat_tests, small) in
-    both (is_plain_key key && is_where_some is_u64 compare && nat_lt flags (2 ^ 32) && is_i64 exptime) (is_good_block block) (left (is_plain_key key && is_where_some is_u64 compare && nat_lt flags (2 ^ 32) && is_i64 exptime) true h) fits
-with_good_block (Touch key exptime) block h small = h
-with_good_block (Delete key) block h small = h
-with_good_block (Count direction key delta) block h small = h
-with_good_block (FlushAll delay) block h small = h
+    both (p key && is_where_some is_u64 compare && nat_lt flags (2 ^ 32) && is_i64 exptime) (is_good_block block) (left (p key && is_where_some is_u64 compare && nat_lt flags (2 ^ 32) && is_i64 exptime) true h) fits
+with_good_block p (Touch key exptime) block h small = h
+with_good_block p (Delete key compare invalidate) block h small = h
+with_good_block p (Count key counting) block h small = h
+with_good_block p (FlushAll delay) block h small = h
 
-block_good_by : (s : Storing) (block : List ℕ) (b : Bool) → is_good_update (λ _. true) s.update ≡ true → length block ≤ 1048576
-    → is_well_formed (if b then Whole (requests.Update (parts.with_block s.update block) s.noreply) else Faulty faults.BadDataChunk) ≡ true
-block_good_by s block true h small = with_good_block s.update block h small
+-- with a block it has the name that it has without
+name_with_block : (update : Update (List ℕ) (Unit {0})) (show : Show) (block : List ℕ)
+    → command_name (metas.Update (parts.with_block update block) show) ≡ command_name (metas.Update update show)
+name_with_block (Store mode compare key flags exptime none) show block = refl
+name_with_block (Touch key exptime) show block = refl
+name_with_block (Delete key compare invalidate) show block = refl
+name_with_block (Count key counting) show block = refl
+name_with_block (FlushAll delay) show block = refl
+
+stored_good : (s : Storing) (block : List ℕ) → is_good_storing s ≡ true → length block ≤ 1048576 → is_good_request (stored s block) ≡ true
+stored_good (Classic update noreply) block h small = with_good_block is_plain_key update block h small
+stored_good (MetaSet update show form) block h small =
+    let good = left (is_good_update (is_meta_key form.coded) (λ _. true) update) (has_flags (command_name (metas.Update update show)) form.flags) h in
+    let has = right (is_good_update (is_meta_key form.coded) (λ _. true) update) (has_flags (command_name (metas.Update update show)) form.flags) h in
+    both (is_good_update (is_meta_key form.coded) is_good_block (parts.with_block update block)) (has_flags (command_name (metas.Update (parts.with_block update block) show)) form.flags)
+    (with_good_block (is_meta_key form.coded) update block good small) (rw (name_with_block update show block) has)
+
+block_good_by : (s : Storing) (block : List ℕ) (b : Bool) → is_good_storing s ≡ true → length block ≤ 1048576
+    → is_well_formed (if b then Whole (stored s block) else Faulty faults.BadDataChunk) ≡ true
+block_good_by s block true h small = stored_good s block h small
 block_good_by s block false h small = refl
 
 taken_when : (b : Bool) (x : Taken × ℕ) (y : Taken × ℕ) → cond b None (some_taken x) ≡ Some y → x ≡ y
@@ -341,9 +289,9 @@ taken_good (Refuses fault len) line rest x h e =
     let same = taken_when (nat_lt (length rest) (len + 2)) (Faulty fault, line + (len + 2)) x e in rw (← same) refl
 taken_good (Stores s len) line rest x h e =
     let same = taken_when (nat_lt (length rest) (len + 2)) (with_block s (take len rest) (take 2 (drop len rest)), line + (len + 2)) x e in
-    let limit = right (is_good_update (λ _. true) s.update) (nat_le len 1048576) h in
+    let limit = right (is_good_storing s) (nat_le len 1048576) h in
     let small : length (take len rest) ≤ 1048576 = grind (arith, nat_tests, length-take len rest, limit) in
-    rw (← same) (block_good_by s (take len rest) (bytes_eq (take 2 (drop len rest)) (codes "\r\n")) (left (is_good_update (λ _. true) s.update) (nat_le len 1048576) h) small)
+    rw (← same) (block_good_by s (take len rest) (bytes_eq (take 2 (drop len rest)) (codes "\r\n")) (left (is_good_storing s) (nat_le len 1048576) h) small)
 
 next_good_by : (l : FirstLine) (text : List ℕ) (x : Taken × ℕ) → next_by l text ≡ Some x → is_well_formed x.0 ≡ true
 next_good_by lines.Partial text x e = absurd cc

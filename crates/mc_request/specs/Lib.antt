@@ -2,6 +2,7 @@ pub mod Faults
 pub mod Parts
 pub mod Atoms
 pub mod Names
+pub mod Flags
 pub mod Meanings
 pub mod Examples
 pub mod Requests

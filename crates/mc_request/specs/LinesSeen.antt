@@ -1,21 +1,24 @@
 -- A line of the code, as definitions see it.
 use Rattle.std.specs.Prelude.{ℕ, Option, Some, None, Result, Ok, Err}
 use Rattle.mc_request.specs.declared.faults.Fault.{Fault}
-use Rattle.mc_request.specs.declared.parts.Request.TheVariants.{Get, Update, Version, Quit}
+use Rattle.mc_request.specs.declared.parts.Request.TheVariants.{Get, Update, Meta, MetaNoop, Version, Quit}
 use Rattle.mc_request.specs.declared.parts.Taken.{Taken}
 use Rattle.mc_request.specs.declared.parts.Taken.TheVariants.{Whole, Faulty}
 use Rattle.mc_request.specs.declared.lines.Storing as lents
+use Rattle.mc_request.specs.declared.lines.Storing.TheVariants as lent_kinds
 use Rattle.mc_request.specs.declared.lines.Asked.{Asked}
 use Rattle.mc_request.specs.declared.lines.Asked.TheVariants as asked
 use Rattle.mc_request.specs.declared.lines.CommandLine.{CommandLine}
 use Rattle.mc_request.specs.declared.lines.CommandLine.TheVariants as lines
-use Rattle.mc_request.specs.Parts.{update_map, update_seen}
-use Rattle.mc_request.specs.Meanings.{Line, Lone, Storage, Meaning, Storing, Alone, Stores, Refuses}
+use Rattle.mc_request.specs.Parts.{update_map, update_seen, meta_said, key_bytes}
+use Rattle.mc_request.specs.Meanings.{Line, Lone, Meaning, Storing, Classic, MetaSet, Alone, Stores, Refuses}
 
 -- what is lent, as the request or fault that it is
 abbrev pub asked_of : Asked → Taken
 asked_of (asked.Get keys exptime with_cas) = Whole (Get keys exptime with_cas)
 asked_of (asked.Update update noreply) = Whole (Update (update_seen update) noreply)
+asked_of (asked.Meta command form) = Whole (Meta (meta_said form.coded command) form)
+asked_of asked.MetaNoop = Whole MetaNoop
 asked_of asked.Version = Whole Version
 asked_of asked.Quit = Whole Quit
 asked_of (asked.Faulty fault) = Faulty fault
@@ -30,19 +33,10 @@ abbrev pub line_of_taken : Taken → Result Line Fault
 line_of_taken (Whole request) = Ok (Lone request)
 line_of_taken (Faulty fault) = Err fault
 
--- a line that no data block follows, or its fault
-abbrev pub lone_seen : Result Asked Fault → Result Line Fault
-lone_seen (Ok asked) = line_of_taken (asked_of asked)
-lone_seen (Err fault) = Err fault
-
 -- a storage command before its data block
 abbrev pub storing_of : lents.Storing → Storing
-storing_of s = record { update = update_map (λ key. key.now) (λ block. block) s.update; noreply = s.noreply }
-
--- the same with the length of its block, or the line's fault
-abbrev pub storage_seen : Result (lents.Storing × ℕ) Fault → Result Line Fault
-storage_seen (Ok storage) = Ok (Storage (storing_of storage.0) storage.1)
-storage_seen (Err fault) = Err fault
+storing_of (lent_kinds.Classic update noreply) = Classic (update_map (λ key. key.now) (λ block. block) update) noreply
+storing_of (lent_kinds.Meta update show form) = MetaSet (update_map (λ word. key_bytes form.coded word.now) (λ block. block) update) show form
 
 -- what a line asks for
 abbrev pub meaning_of : CommandLine → Meaning

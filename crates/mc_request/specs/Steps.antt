@@ -1,8 +1,10 @@
 -- What the bytes that have come allow.
 use Rattle.std.specs.Prelude.{ℕ, ◌≡◌, ◌<◌, ◌≤◌, ◌&&◌, Bool, not, nat_le, true, false, nat_lt, List, [], ◌∷◌, ◌++◌, length, drop, Option, Some, None, is_some, if◌then◌else◌}
+use Rattle.mc_text.specs.Keys.{is_plain_key}
 use Rattle.mc_text.specs.Lines.{HasNoLineFeed, TooLong, first_line, line_end}
 use Rattle.mc_text.specs.declared.blocks.TheConstants.{VALUE_LIMIT}
 use Rattle.mc_text.specs.declared.lines.TheConstants.{LINE_LIMIT}
+use Rattle.mc_request.specs.declared.meta.MetaCommand.TheVariants as metas
 use Rattle.mc_request.specs.declared.names.Name.{Name}
 use Rattle.mc_request.specs.declared.parts.Taken.TheVariants as takens
 use Rattle.mc_request.specs.declared.peeks.TheConstants.{REQUEST_LIMIT}
@@ -11,9 +13,9 @@ use Rattle.mc_request.specs.declared.searched.Searched.TheVariants as searches
 use Rattle.mc_request.specs.declared.steps.Stand.{Stand}
 use Rattle.mc_request.specs.declared.steps.Stand.TheVariants.{Whole, Waits, Drops}
 use Rattle.mc_request.specs.Faults.{closes}
-use Rattle.mc_request.specs.WellFormed.{is_well_formed, is_good_update}
+use Rattle.mc_request.specs.WellFormed.{is_well_formed, is_good_update, is_meta_key, command_name, has_flags}
 use Rattle.mc_request.specs.Names.{name_of}
-use Rattle.mc_request.specs.Meanings.{Meaning, Alone, Stores, Refuses, announced}
+use Rattle.mc_request.specs.Meanings.{Meaning, Storing, Classic, MetaSet, Alone, Stores, Refuses, announced}
 use Rattle.mc_request.specs.Requests.{next_request, taken_by}
 
 -- no text that begins so has a whole request before it has so many bytes
@@ -60,8 +62,14 @@ abbrev pub announced_in : List (List ℕ) → Option ℕ
 announced_in [] = None
 announced_in (name ∷ words) = announced_by (name_of name) words
 
+-- what a storage command keeps to before its data block has come
+abbrev pub is_good_storing : Storing → Bool
+is_good_storing (Classic update noreply) = is_good_update is_plain_key (λ _. true) update
+is_good_storing (MetaSet update show form) =
+    is_good_update (is_meta_key form.coded) (λ _. true) update && has_flags (command_name (metas.Update update show)) form.flags
+
 -- what every line asks for keeps to: what is taken is well formed, and what swallows a block closes nothing
 abbrev pub is_good_meaning : Meaning → Bool
 is_good_meaning (Alone taken) = is_well_formed taken
-is_good_meaning (Stores storing len) = is_good_update (λ _. true) storing.update && nat_le len VALUE_LIMIT
+is_good_meaning (Stores storing len) = is_good_storing storing && nat_le len VALUE_LIMIT
 is_good_meaning (Refuses fault len) = not (closes fault)

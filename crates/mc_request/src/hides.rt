@@ -1,8 +1,9 @@
 //! What a request hides of its answer.
 ghost use Rattle.std.specs.Prelude.{◌≡◌};
-ghost use Rattle.mc_request.specs.Hides.{hides_of};
+ghost use Rattle.mc_request.specs.Hides.{hides_of, hidden_by};
 
-use crate::parts::Request;
+use crate::meta::MetaCommand;
+use crate::parts::{Request, Update};
 
 /// What a request hides of its answer. It is known before the request is taken apart, and before there is a reply.
 #[derive(Clone, Copy, Debug, PartialEq, Eq)]
@@ -11,6 +12,12 @@ pub enum Hides {
     Nothing,
     /// The line of a reply, as `noreply` asks. An error line is shown.
     ReplyLine,
+    /// That a key is not held, as `q` asks of `mg`.
+    Misses,
+    /// That it was done, as `q` asks of `ms`.
+    Success,
+    /// That it was done or that the key is not held, as `q` asks of `md` and `ma`.
+    SuccessAndMisses,
 }
 
 impl Request {
@@ -20,10 +27,29 @@ impl Request {
     {
         match self {
             Request::Update { noreply: true, .. } => Hides::ReplyLine,
+            Request::Meta { command, form } => quiet_hides(command, form.quiet),
             Request::Update { noreply: false, .. }
             | Request::Get { .. }
+            | Request::MetaNoop
             | Request::Version
             | Request::Quit => Hides::Nothing,
         }
+    }
+}
+
+/// What a meta command hides of its answer where it is quiet. An error line is shown.
+pub fn quiet_hides<K: Drop, B: Drop>(command: &MetaCommand<K, B>, quiet: bool) -> Hides
+    ensures { result ≡ hidden_by command.now quiet }
+{
+    if !quiet {
+        return Hides::Nothing;
+    }
+    match command {
+        MetaCommand::Get { .. } => Hides::Misses,
+        MetaCommand::Update { update, .. } => match update {
+            Update::Store { .. } => Hides::Success,
+            Update::Delete { .. } | Update::Count { .. } => Hides::SuccessAndMisses,
+            Update::Touch { .. } | Update::FlushAll { .. } => Hides::Nothing,
+        },
     }
 }

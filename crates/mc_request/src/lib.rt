@@ -4,6 +4,8 @@
 //! requests and faults of them in order ([`Reader::next`]). [`Reader::peek`] and [`Reader::consume`] are the two
 //! halves of `next`: the one lends what stands first, its keys and its block being bytes of the reader, and the other
 //! takes it. [`Reader::ready`] says whether there is one, and [`Reader::held`] how many bytes are kept.
+//! A meta command that is lent has its key as a word, plain or in base64 ([`key_bytes`], [`Update::said`]),
+//! and its flag words as they stand in the line ([`MetaForm`]). [`flag_of`] names the flag of a letter.
 //! [`Request::atoms`] gives the commands of a request, [`Request::hides`] what it hides of its answer, and
 //! [`Fault::line`] the error line of a fault.
 //!
@@ -17,11 +19,15 @@
 
 mod command_lines;
 mod faults;
+mod flags;
 mod hides;
 mod keys;
 mod laws;
 mod lines;
 mod lone_lines;
+mod meta;
+mod meta_lines;
+mod meta_rows;
 mod names;
 mod owned;
 mod parts;
@@ -34,10 +40,16 @@ mod storage_lines;
 mod unread;
 
 pub use faults::Fault;
+pub use flags::{Flag, OPAQUE_LIMIT, flag_of};
 pub use hides::Hides;
 pub use keys::Keys;
 pub use laws::{requests_are_well_formed, requests_begin, requests_go_on};
 pub use lines::Asked;
+pub use meta::{Counting, Creation, FlagWords, MetaCommand, MetaForm, MetaGet, Show, key_bytes};
+pub use meta_rows::{
+    coded_keys, faults_in_order, flags_of_each_command, flags_stand_once, meta_block_is_swallowed,
+    meta_commands, meta_sets, modes, opaques, tokens_of_each_flag,
+};
 pub use parts::{Atom, Direction, ReadError, Request, StoreMode, Taken, Update};
 pub use peeks::{Front, Peek, REQUEST_LIMIT};
 pub use reader::{Next, Reader};

@@ -1,5 +1,11 @@
 //! What a command line asks for. Its words are lent.
+ghost use Rattle.std.specs.Prelude.{◌≡◌};
+ghost use Rattle.mc_request.specs.Requests.{stored};
+ghost use Rattle.mc_request.specs.LinesSeen.{asked_of, storing_of};
+ghost use Rattle.mc_request.specs.declared.parts.Taken.TheVariants.{Whole};
+
 use crate::faults::Fault;
+use crate::meta::{MetaCommand, MetaForm, Show};
 use crate::parts::Update;
 use mc_text::WordIter;
 
@@ -17,6 +23,13 @@ pub enum Asked<'a> {
         update: Update<&'a [u8], &'a [u8]>,
         noreply: bool,
     },
+    /// `mg`, `ms`, `md` and `ma`, by the word of its key: the form says whether it is base64.
+    Meta {
+        command: MetaCommand<&'a [u8], &'a [u8]>,
+        form: MetaForm<WordIter<'a>>,
+    },
+    /// `mn`.
+    MetaNoop,
     /// `version`.
     Version,
     /// `quit`.
@@ -27,9 +40,18 @@ pub enum Asked<'a> {
 
 /// A storage command before its data block.
 #[derive(Drop)]
-pub struct Storing<'a> {
-    pub update: Update<&'a [u8], ()>,
-    pub noreply: bool,
+pub enum Storing<'a> {
+    /// `set`, `add`, `replace`, `append`, `prepend` and `cas`.
+    Classic {
+        update: Update<&'a [u8], ()>,
+        noreply: bool,
+    },
+    /// `ms`, by the word of its key.
+    Meta {
+        update: Update<&'a [u8], ()>,
+        show: Show,
+        form: MetaForm<WordIter<'a>>,
+    },
 }
 
 /// What a command line asks for.
@@ -41,4 +63,25 @@ pub enum CommandLine<'a> {
     Stores(Storing<'a>, u32),
     /// A faulty line whose data block of so many bytes is swallowed.
     Refuses(Fault, u32),
+}
+
+impl<'a> Storing<'a> {
+    /// The storage command with its data block.
+    pub fn with_block(self, block: &'a [u8]) -> Asked<'a>
+        ensures { asked_of result ≡ Whole (stored (storing_of self.entry) block.now) }
+    {
+        match self {
+            Storing::Classic { update, noreply } => Asked::Update {
+                update: update.with_block(block),
+                noreply,
+            },
+            Storing::Meta { update, show, form } => Asked::Meta {
+                command: MetaCommand::Update {
+                    update: update.with_block(block),
+                    show,
+                },
+                form,
+            },
+        }
+    }
 }

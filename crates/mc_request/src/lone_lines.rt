@@ -1,36 +1,33 @@
 //! Command lines that no data block follows.
-ghost use Rattle.std.specs.Prelude.{◌≡◌, true, Err, if◌then◌else◌};
+ghost use Rattle.std.specs.Prelude.{◌≡◌, true, None, Ok, Err, if◌then◌else◌};
 ghost use Rattle.std.specs.List.{list_all};
 ghost use Rattle.mc_text.specs.Keys.{is_plain_key};
 ghost use Rattle.mc_request.specs.Names.{at_most, at_least, between, noreply_of};
-ghost use Rattle.mc_request.specs.Meanings.{keys_line, gat_line, touch_line, delete_line, without_zero, count_line, flush_line};
-ghost use Rattle.mc_request.specs.LinesSeen.{lone_seen, asked_of, line_of_taken};
+ghost use Rattle.mc_request.specs.Meanings.{Lone, meaning_from, keys_line, gat_line, touch_line, delete_line, without_zero, count_parts, count_line, flush_parts, flush_line};
+ghost use Rattle.mc_request.specs.LinesSeen.{meaning_of};
 ghost use Rattle.mc_request.specs.declared.faults.Fault.TheVariants.{UnknownCommand};
-ghost use Rattle.mc_request.specs.declared.parts.Request.TheVariants.{Update as AnUpdate};
-ghost use Rattle.mc_request.specs.declared.parts.Update.TheVariants.{FlushAll};
-ghost use Rattle.mc_request.specs.declared.parts.Taken.TheVariants.{Whole};
+ghost use Rattle.mc_request.specs.declared.parts.Request.TheVariants.{Version, Quit, MetaNoop};
 
 use crate::faults::Fault;
-use crate::lines::Asked;
+use crate::lines::{Asked, CommandLine};
+use crate::meta::Counting;
 use crate::names::{is_noreply, noreply_of, noreply_word};
 use crate::parts::{Direction, Update};
 use mc_text::{WordIter, is_plain_key, read_i64, read_u64};
 
 /// `get`, and behind its exptime `gat`, by the keys. One that is none refuses the line.
 #[inline(always)]
-pub fn keys_line(
-    exptime: Option<i64>,
-    with_cas: bool,
-    keys: WordIter<'_>,
-) -> Result<Asked<'_>, Fault>
-    ensures { lone_seen result ≡ (if at_least 1 keys.entry then keys_line exptime with_cas keys.entry else Err UnknownCommand) }
+pub fn keys_line(exptime: Option<i64>, with_cas: bool, keys: WordIter<'_>) -> CommandLine<'_>
+    ensures { meaning_of result ≡ meaning_from None (if at_least 1 keys.entry then keys_line exptime with_cas keys.entry else Err UnknownCommand) }
 {
     let mut words = keys.again();
-    let first = words.next().ok_or(Fault::UnknownCommand)?;
+    let Some(first) = words.next() else {
+        return CommandLine::Alone(Asked::Faulty(Fault::UnknownCommand));
+    };
     if !is_plain_key(first) || !are_plain_keys(words) {
-        return Err(Fault::BadFormat);
+        return CommandLine::Alone(Asked::Faulty(Fault::BadFormat));
     }
-    Ok(Asked::Get {
+    CommandLine::Alone(Asked::Get {
         keys,
         exptime,
         with_cas,
@@ -38,7 +35,6 @@ pub fn keys_line(
 }
 
 /// Whether each word is a plain key.
-#[inline(always)]
 fn are_plain_keys(words: WordIter<'_>) -> bool
     ensures { result ≡ list_all is_plain_key words.entry }
 {
@@ -51,46 +47,67 @@ fn are_plain_keys(words: WordIter<'_>) -> bool
 }
 
 /// `gat <exptime> <key>*`.
-pub fn gat_line(with_cas: bool, mut words: WordIter<'_>) -> Result<Asked<'_>, Fault>
-    ensures { lone_seen result ≡ (if at_least 2 words.entry then gat_line with_cas words.entry else Err UnknownCommand) }
+#[inline(never)]
+pub fn gat_line(with_cas: bool, mut words: WordIter<'_>) -> CommandLine<'_>
+    ensures { meaning_of result ≡ meaning_from None (if at_least 2 words.entry then gat_line with_cas words.entry else Err UnknownCommand) }
 {
-    let exptime = words.next().ok_or(Fault::UnknownCommand)?;
+    let Some(exptime) = words.next() else {
+        return CommandLine::Alone(Asked::Faulty(Fault::UnknownCommand));
+    };
     if words.again().next().is_none() {
-        return Err(Fault::UnknownCommand);
+        return CommandLine::Alone(Asked::Faulty(Fault::UnknownCommand));
     }
-    let exptime = read_i64(exptime).ok_or(Fault::BadFormat)?;
-    keys_line(Some(exptime), with_cas, words)
+    match read_i64(exptime) {
+        Some(exptime) => keys_line(Some(exptime), with_cas, words),
+        None => CommandLine::Alone(Asked::Faulty(Fault::BadFormat)),
+    }
 }
 
 /// `touch <key> <exptime> [noreply]`.
-pub fn touch_line(mut words: WordIter<'_>) -> Result<Asked<'_>, Fault>
-    ensures { lone_seen result ≡ (if between 2 3 words.entry then touch_line words.entry else Err UnknownCommand) }
+#[inline(never)]
+pub fn touch_line(mut words: WordIter<'_>) -> CommandLine<'_>
+    ensures { meaning_of result ≡ meaning_from None (if between 2 3 words.entry then touch_line words.entry else Err UnknownCommand) }
 {
     let (Some(key), Some(exptime)) = (words.next(), words.next()) else {
-        return Err(Fault::UnknownCommand);
+        return CommandLine::Alone(Asked::Faulty(Fault::UnknownCommand));
     };
-    let noreply = noreply_of(words)?;
+    let noreply = match noreply_of(words) {
+        Ok(noreply) => noreply,
+        Err(fault) => return CommandLine::Alone(Asked::Faulty(fault)),
+    };
     if !is_plain_key(key) {
-        return Err(Fault::BadFormat);
+        return CommandLine::Alone(Asked::Faulty(Fault::BadFormat));
     }
-    let exptime = read_i64(exptime).ok_or(Fault::BadFormat)?;
-    Ok(Asked::Update {
+    let Some(exptime) = read_i64(exptime) else {
+        return CommandLine::Alone(Asked::Faulty(Fault::BadFormat));
+    };
+    CommandLine::Alone(Asked::Update {
         update: Update::Touch { key, exptime },
         noreply,
     })
 }
 
 /// `delete <key> [0] [noreply]`.
-pub fn delete_line(mut words: WordIter<'_>) -> Result<Asked<'_>, Fault>
-    ensures { lone_seen result ≡ (if between 1 3 words.entry then delete_line words.entry else Err UnknownCommand) }
+#[inline(never)]
+pub fn delete_line(mut words: WordIter<'_>) -> CommandLine<'_>
+    ensures { meaning_of result ≡ meaning_from None (if between 1 3 words.entry then delete_line words.entry else Err UnknownCommand) }
 {
-    let key = words.next().ok_or(Fault::UnknownCommand)?;
-    let noreply = noreply_behind_zero(words)?;
+    let Some(key) = words.next() else {
+        return CommandLine::Alone(Asked::Faulty(Fault::UnknownCommand));
+    };
+    let noreply = match noreply_behind_zero(words) {
+        Ok(noreply) => noreply,
+        Err(fault) => return CommandLine::Alone(Asked::Faulty(fault)),
+    };
     if !is_plain_key(key) {
-        return Err(Fault::BadFormat);
+        return CommandLine::Alone(Asked::Faulty(Fault::BadFormat));
     }
-    Ok(Asked::Update {
-        update: Update::Delete { key },
+    CommandLine::Alone(Asked::Update {
+        update: Update::Delete {
+            key,
+            compare: None,
+            invalidate: false,
+        },
         noreply,
     })
 }
@@ -116,13 +133,37 @@ fn noreply_behind_zero(mut words: WordIter<'_>) -> Result<bool, Fault>
 }
 
 /// `incr <key> <delta> [noreply]`, and `decr` likewise.
-pub fn count_line(direction: Direction, mut words: WordIter<'_>) -> Result<Asked<'_>, Fault>
-    ensures { lone_seen result ≡ (if between 2 3 words.entry then count_line direction words.entry else Err UnknownCommand) }
+#[inline(never)]
+pub fn count_line(direction: Direction, mut words: WordIter<'_>) -> CommandLine<'_>
+    ensures { meaning_of result ≡ meaning_from None (if between 2 3 words.entry then count_line direction words.entry else Err UnknownCommand) }
 {
     let (Some(key), Some(delta)) = (words.next(), words.next()) else {
-        return Err(Fault::UnknownCommand);
+        return CommandLine::Alone(Asked::Faulty(Fault::UnknownCommand));
     };
-    let noreply = noreply_of(words);
+    let (delta, noreply) = match count_parts(key, delta, words) {
+        Ok(parts) => parts,
+        Err(fault) => return CommandLine::Alone(Asked::Faulty(fault)),
+    };
+    CommandLine::Alone(Asked::Update {
+        update: Update::Count {
+            key,
+            counting: Counting {
+                direction,
+                delta,
+                compare: None,
+                create: None,
+                exptime: None,
+            },
+        },
+        noreply,
+    })
+}
+
+/// The amount of a count, and whether its reply is hidden.
+fn count_parts(key: &[u8], delta: &[u8], behind: WordIter<'_>) -> Result<(u64, bool), Fault>
+    ensures { result ≡ (if at_most 1 behind.entry then count_parts key.now delta.now behind.entry else Err UnknownCommand) }
+{
+    let noreply = noreply_of(behind);
     if let Err(Fault::UnknownCommand) = noreply {
         return Err(Fault::UnknownCommand);
     }
@@ -130,56 +171,76 @@ pub fn count_line(direction: Direction, mut words: WordIter<'_>) -> Result<Asked
         return Err(Fault::BadFormat);
     }
     let delta = read_u64(delta).ok_or(Fault::BadDelta)?;
-    let noreply = noreply?;
-    Ok(Asked::Update {
-        update: Update::Count {
-            direction,
-            key,
-            delta,
-        },
-        noreply,
-    })
+    Ok((delta, noreply?))
 }
 
 /// `flush_all [delay] [noreply]`.
-pub fn flush_line<'a>(mut words: WordIter<'a>) -> Result<Asked<'a>, Fault>
-    ensures { lone_seen result ≡ (if at_most 2 words.entry then flush_line words.entry else Err UnknownCommand) }
+#[inline(never)]
+pub fn flush_line(words: WordIter<'_>) -> CommandLine<'_>
+    ensures { meaning_of result ≡ meaning_from None (if at_most 2 words.entry then flush_line words.entry else Err UnknownCommand) }
+{
+    match flush_parts(words) {
+        Ok((delay, noreply)) => CommandLine::Alone(Asked::Update {
+            update: Update::FlushAll { delay },
+            noreply,
+        }),
+        Err(fault) => CommandLine::Alone(Asked::Faulty(fault)),
+    }
+}
+
+/// The delay of a flush, and whether its reply is hidden.
+fn flush_parts(mut words: WordIter<'_>) -> Result<(i64, bool), Fault>
+    ensures { result ≡ (if at_most 2 words.entry then flush_parts words.entry else Err UnknownCommand) }
 {
     let Some(first) = words.next() else {
-        return Ok(flush(0, false));
+        return Ok((0, false));
     };
     let Some(second) = words.next() else {
         if is_noreply(first) {
-            return Ok(flush(0, true));
+            return Ok((0, true));
         }
-        let delay = read_i64(first).ok_or(Fault::BadFormat)?;
-        return Ok(flush(delay, false));
+        return Ok((read_i64(first).ok_or(Fault::BadFormat)?, false));
     };
     if words.next().is_some() {
         return Err(Fault::UnknownCommand);
     }
     let delay = read_i64(first).ok_or(Fault::BadFormat)?;
     let noreply = noreply_word(second)?;
-    Ok(flush(delay, noreply))
+    Ok((delay, noreply))
 }
 
-/// A flush after a delay.
-fn flush<'a>(delay: i64, noreply: bool) -> Asked<'a>
-    ensures { asked_of result ≡ Whole (AnUpdate (FlushAll delay) noreply) }
+/// `version`: no word stands behind it.
+#[inline(never)]
+pub fn version_line(mut words: WordIter<'_>) -> CommandLine<'_>
+    ensures { meaning_of result ≡ meaning_from None (if at_most 0 words.entry then Ok (Lone Version) else Err UnknownCommand) }
 {
-    Asked::Update {
-        update: Update::FlushAll { delay },
-        noreply,
+    if words.next().is_some() {
+        CommandLine::Alone(Asked::Faulty(Fault::UnknownCommand))
+    } else {
+        CommandLine::Alone(Asked::Version)
     }
 }
 
-/// A command of one word: none stands behind its name.
-pub fn word_line<'a>(asked: Asked<'a>, mut words: WordIter<'_>) -> Result<Asked<'a>, Fault>
-    ensures { lone_seen result ≡ (if at_most 0 words.entry then line_of_taken (asked_of asked.entry) else Err UnknownCommand) }
+/// `quit`, likewise.
+#[inline(never)]
+pub fn quit_line(mut words: WordIter<'_>) -> CommandLine<'_>
+    ensures { meaning_of result ≡ meaning_from None (if at_most 0 words.entry then Ok (Lone Quit) else Err UnknownCommand) }
 {
     if words.next().is_some() {
-        Err(Fault::UnknownCommand)
+        CommandLine::Alone(Asked::Faulty(Fault::UnknownCommand))
     } else {
-        Ok(asked)
+        CommandLine::Alone(Asked::Quit)
+    }
+}
+
+/// `mn`, likewise.
+#[inline(never)]
+pub fn noop_line(mut words: WordIter<'_>) -> CommandLine<'_>
+    ensures { meaning_of result ≡ meaning_from None (if at_most 0 words.entry then Ok (Lone MetaNoop) else Err UnknownCommand) }
+{
+    if words.next().is_some() {
+        CommandLine::Alone(Asked::Faulty(Fault::UnknownCommand))
+    } else {
+        CommandLine::Alone(Asked::MetaNoop)
     }
 }

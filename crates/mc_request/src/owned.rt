@@ -3,16 +3,17 @@ ghost use Rattle.std.specs.Prelude.{◌≡◌, ◌∷◌, ◌<◌, true, length,
 ghost use Rattle.std.specs.List.{list_all};
 ghost use Rattle.mc_text.specs.Keys.{is_plain_key};
 ghost use Rattle.mc_request.specs.Requests.{ends};
-ghost use Rattle.mc_request.specs.WellFormed.{is_well_formed, is_good_update, is_good_block};
-ghost use Rattle.mc_request.specs.Parts.{update_seen};
+ghost use Rattle.mc_request.specs.WellFormed.{is_well_formed, has_key, has_meta_key};
+ghost use Rattle.mc_request.specs.Parts.{update_seen, meta_said};
 ghost use Rattle.mc_request.specs.LinesSeen.{asked_of};
 
 use crate::faults::Fault;
-use crate::hides::Hides;
+use crate::hides::{Hides, quiet_hides};
 use crate::keys::Keys;
 use crate::lines::Asked;
+use crate::meta::{FlagWords, MetaCommand, MetaForm, key_bytes};
 use crate::parts::{ReadError, Request, Taken, Update};
-use mc_text::{Block, Key, WordIter};
+use mc_text::{Block, CODED_ROOM, Key, WordIter};
 use std::alloc::Global;
 
 impl Asked<'_> {
@@ -25,7 +26,11 @@ impl Asked<'_> {
         match self {
             Asked::Quit => true,
             Asked::Faulty(fault) => fault.closes(),
-            Asked::Get { .. } | Asked::Update { .. } | Asked::Version => false,
+            Asked::Get { .. }
+            | Asked::Update { .. }
+            | Asked::Meta { .. }
+            | Asked::MetaNoop
+            | Asked::Version => false,
         }
     }
 
@@ -35,8 +40,10 @@ impl Asked<'_> {
     {
         match self {
             Asked::Update { noreply: true, .. } => Hides::ReplyLine,
+            Asked::Meta { command, form } => quiet_hides(command, form.quiet),
             Asked::Update { noreply: false, .. }
             | Asked::Get { .. }
+            | Asked::MetaNoop
             | Asked::Version
             | Asked::Quit
             | Asked::Faulty(_) => Hides::Nothing,
@@ -63,6 +70,11 @@ impl Asked<'_> {
                 update: update.owned(alloc)?,
                 noreply,
             },
+            Asked::Meta { command, form } => Request::Meta {
+                command: command.owned(alloc, form.coded)?,
+                form: form.owned(alloc)?,
+            },
+            Asked::MetaNoop => Request::MetaNoop,
             Asked::Version => Request::Version,
             Asked::Quit => Request::Quit,
         }))
@@ -72,7 +84,7 @@ impl Asked<'_> {
 impl Update<&[u8], &[u8]> {
     /// The update by itself: its key and its block are copied.
     pub fn owned(&self, alloc: Global) -> Result<Update<Key, Block>, ReadError>
-        requires { is_good_update is_good_block (update_seen self.now) ≡ true }
+        requires { has_key (update_seen self.now) ≡ true }
         ensures { IfOk result (λ update. update ≡ update_seen self.now) }
     {
         Ok(match *self {
@@ -95,19 +107,53 @@ impl Update<&[u8], &[u8]> {
                 key: Key::of_bytes(alloc, key)?,
                 exptime,
             },
-            Update::Delete { key } => Update::Delete {
-                key: Key::of_bytes(alloc, key)?,
-            },
-            Update::Count {
-                direction,
+            Update::Delete {
                 key,
-                delta,
-            } => Update::Count {
-                direction,
+                compare,
+                invalidate,
+            } => Update::Delete {
                 key: Key::of_bytes(alloc, key)?,
-                delta,
+                compare,
+                invalidate,
+            },
+            Update::Count { key, counting } => Update::Count {
+                key: Key::of_bytes(alloc, key)?,
+                counting,
             },
             Update::FlushAll { delay } => Update::FlushAll { delay },
+        })
+    }
+}
+
+impl MetaCommand<&[u8], &[u8]> {
+    /// The meta command by itself: the bytes of the key that its word says and its block are copied.
+    pub fn owned(&self, alloc: Global, coded: bool) -> Result<MetaCommand<Key, Block>, ReadError>
+        requires { has_meta_key (meta_said coded self.now) ≡ true }
+        ensures { IfOk result (λ command. command ≡ meta_said coded self.now) }
+    {
+        let mut room = [0; CODED_ROOM];
+        Ok(match self {
+            MetaCommand::Get { key, get } => MetaCommand::Get {
+                key: Key::of_bytes(alloc, key_bytes(coded, key, &mut room))?,
+                get: *get,
+            },
+            MetaCommand::Update { update, show } => MetaCommand::Update {
+                update: update.said(coded, &mut room).owned(alloc)?,
+                show: *show,
+            },
+        })
+    }
+}
+
+impl MetaForm<WordIter<'_>> {
+    /// The same by itself: its flag words are copied.
+    pub fn owned(&self, alloc: Global) -> Result<MetaForm<FlagWords>, ReadError>
+        ensures { IfOk result (λ form. form ≡ self.now) }
+    {
+        Ok(MetaForm {
+            coded: self.coded,
+            quiet: self.quiet,
+            flags: FlagWords::of_words(alloc, self.flags.again())?,
         })
     }
 }

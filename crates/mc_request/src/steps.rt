@@ -2,8 +2,7 @@
 ghost use Rattle.std.specs.Prelude.{◌≡◌, ◌≤◌, ◌<◌, ◌+◌, ◌-◌, ◌^◌, true, None, Some, is_some};
 ghost use Rattle.mc_text.specs.Lines.{line_end};
 ghost use Rattle.mc_text.specs.Words.{words};
-ghost use Rattle.mc_request.specs.Names.{is_storage};
-ghost use Rattle.mc_request.specs.Meanings.{meaning, announced};
+ghost use Rattle.mc_request.specs.Meanings.{meaning, announced, second_len, fourth_len};
 ghost use Rattle.mc_request.specs.Requests.{with_block, next_request};
 ghost use Rattle.mc_request.specs.LinesSeen.{meaning_of, storing_of, asked_of, lent_seen};
 ghost use Rattle.mc_request.specs.Steps.{IsSearched, StandIs, StartsBy, announced_in, is_good_meaning};
@@ -108,12 +107,22 @@ fn announced_in(content: &[u8]) -> Option<u32>
 }
 
 /// The same by the name of its command and the words behind that.
-fn announced(name: Name, mut words: WordIter<'_>) -> Option<u32>
+fn announced(name: Name, words: WordIter<'_>) -> Option<u32>
     ensures { result ≡ announced name words.entry }
 {
-    if !is_storage(name) {
-        return None;
+    match name {
+        Name::Set | Name::Add | Name::Replace | Name::Append | Name::Prepend | Name::Cas => {
+            fourth_len(words)
+        }
+        Name::MetaSet => second_len(words),
+        _ => None,
     }
+}
+
+/// The length that the fourth word of a storage command says.
+fn fourth_len(mut words: WordIter<'_>) -> Option<u32>
+    ensures { result ≡ fourth_len words.entry }
+{
     let (Some(_), Some(_), Some(_), Some(len)) = (
         words.next(),
         words.next(),
@@ -125,14 +134,14 @@ fn announced(name: Name, mut words: WordIter<'_>) -> Option<u32>
     read_len(len)
 }
 
-/// Whether a data block follows the line of a command.
-fn is_storage(name: Name) -> bool
-    ensures { result ≡ is_storage name }
+/// The length that the second word of an `ms` says.
+fn second_len(mut words: WordIter<'_>) -> Option<u32>
+    ensures { result ≡ second_len words.entry }
 {
-    matches!(
-        name,
-        Name::Set | Name::Add | Name::Replace | Name::Append | Name::Prepend | Name::Cas
-    )
+    let (Some(_), Some(len)) = (words.next(), words.next()) else {
+        return None;
+    };
+    read_len(len)
 }
 
 /// How many bytes a line takes with its data block and the line end behind that.
@@ -193,10 +202,7 @@ fn with_block<'a>(storing: Storing<'a>, block: &'a [u8], end: &[u8]) -> Asked<'a
     ensures { asked_of result ≡ with_block (storing_of storing.entry) block.now end.now }
 {
     if end == LINE_END {
-        Asked::Update {
-            update: storing.update.with_block(block),
-            noreply: storing.noreply,
-        }
+        storing.with_block(block)
     } else {
         Asked::Faulty(Fault::BadDataChunk)
     }

@@ -1,29 +1,49 @@
-//! What a client is answered where a server has no number or no memory left.
+//! What a client is answered where a server has no number or no memory left, and an output that is taken out in parts.
 
 use crate::clients::{MOMENT, Setup, WIDE, new_server};
+use crate::meagre::MeagreStore;
+use mc_server::Turn::{self, Closing, Idle, Took};
+use mc_server::{Server, ServerError};
 use std::test::Fail;
 
 /// What a client of a new server, which is set up so, sends, and what it is answered.
 struct Dialogue {
     name: &'static str,
     server: Setup,
-    said: &'static [(&'static [u8], &'static [u8])],
+    said: &'static [Said],
 }
 
-/// More turns than a piece of any dialogue has requests.
-const TURNS: u8 = 4;
+/// A piece: whether a turn would then do anything, what each turn then does, the output, and how many bytes of it are
+/// taken out before the next.
+struct Said {
+    sent: &'static [u8],
+    is_ready: bool,
+    turns: &'static [Turn],
+    output: &'static [u8],
+    part: usize,
+}
 
-const DIALOGUES: [Dialogue; 4] = [
+/// A piece of two requests, whose answers are taken out.
+const WHOLE: Said = Said {
+    sent: b"",
+    is_ready: true,
+    turns: &[Took, Took, Idle],
+    output: b"",
+    part: usize::MAX,
+};
+
+const DIALOGUES: [Dialogue; 6] = [
     Dialogue {
         name: "numbers_used_up",
         server: Setup {
             last: u64::MAX,
             ..WIDE
         },
-        said: &[(
-            b"set a 0 0 1\r\nx\r\nget a\r\n",
-            b"SERVER_ERROR cas numbers used up\r\nEND\r\n",
-        )],
+        said: &[Said {
+            sent: b"set a 0 0 1\r\nx\r\nget a\r\n",
+            output: b"SERVER_ERROR cas numbers used up\r\nEND\r\n",
+            ..WHOLE
+        }],
     },
     Dialogue {
         name: "the_last_number",
@@ -31,18 +51,28 @@ const DIALOGUES: [Dialogue; 4] = [
             last: u64::MAX - 1,
             ..WIDE
         },
-        said: &[(
-            b"set a 0 0 1\r\nx\r\ngets a\r\nset b 0 0 1\r\ny\r\n",
-            b"STORED\r\nVALUE a 0 1 18446744073709551615\r\nx\r\nEND\r\nSERVER_ERROR cas numbers used up\r\n",
-        )],
+        said: &[
+            Said {
+                sent: b"set a 0 0 1\r\nx\r\ngets a\r\n",
+                output: b"STORED\r\nVALUE a 0 1 18446744073709551615\r\nx\r\nEND\r\n",
+                ..WHOLE
+            },
+            Said {
+                sent: b"set b 0 0 1\r\ny\r\n",
+                turns: &[Took, Idle],
+                output: b"SERVER_ERROR cas numbers used up\r\n",
+                ..WHOLE
+            },
+        ],
     },
     Dialogue {
         name: "no_memory_for_a_key",
         server: Setup { keys: 0, ..WIDE },
-        said: &[(
-            b"set a 0 0 1\r\nx\r\nget a\r\n",
-            b"SERVER_ERROR out of memory storing object\r\nEND\r\n",
-        )],
+        said: &[Said {
+            sent: b"set a 0 0 1\r\nx\r\nget a\r\n",
+            output: b"SERVER_ERROR out of memory storing object\r\nEND\r\n",
+            ..WHOLE
+        }],
     },
     // An item of a key and a value of one byte each costs 66 bytes, so there is room for two. A refused key leaves the
     // items, their order and the counter. A held key is stored all the same.
@@ -54,34 +84,89 @@ const DIALOGUES: [Dialogue; 4] = [
             ..WIDE
         },
         said: &[
-            (
-                b"set a 0 0 1\r\nx\r\nset b 0 0 1\r\ny\r\n",
-                b"STORED\r\nSTORED\r\n",
-            ),
-            (
-                b"set c 0 0 1\r\nz\r\nadd c 0 0 1 noreply\r\nz\r\n",
-                b"SERVER_ERROR out of memory storing object\r\nSERVER_ERROR out of memory storing object\r\n",
-            ),
-            (
-                b"set b 0 0 1\r\nz\r\ngets a b c\r\n",
-                b"STORED\r\nVALUE a 0 1 1\r\nx\r\nVALUE b 0 1 3\r\nz\r\nEND\r\n",
-            ),
+            Said {
+                sent: b"set a 0 0 1\r\nx\r\nset b 0 0 1\r\ny\r\n",
+                output: b"STORED\r\nSTORED\r\n",
+                ..WHOLE
+            },
+            Said {
+                sent: b"set c 0 0 1\r\nz\r\nadd c 0 0 1 noreply\r\nz\r\n",
+                output: b"SERVER_ERROR out of memory storing object\r\nSERVER_ERROR out of memory storing object\r\n",
+                ..WHOLE
+            },
+            Said {
+                sent: b"set b 0 0 1\r\nz\r\ngets a b c\r\n",
+                output: b"STORED\r\nVALUE a 0 1 1\r\nx\r\nVALUE b 0 1 3\r\nz\r\nEND\r\n",
+                ..WHOLE
+            },
+        ],
+    },
+    Dialogue {
+        name: "half_a_request",
+        server: WIDE,
+        said: &[Said {
+            sent: b"version\r",
+            is_ready: false,
+            turns: &[Idle],
+            ..WHOLE
+        }],
+    },
+    Dialogue {
+        name: "an_output_in_parts",
+        server: WIDE,
+        said: &[
+            Said {
+                sent: b"get a\r\nquit\r\n",
+                turns: &[Took],
+                output: b"END\r\n",
+                part: 2,
+                ..WHOLE
+            },
+            Said {
+                turns: &[Took, Closing],
+                output: b"D\r\n",
+                ..WHOLE
+            },
+            Said {
+                is_ready: false,
+                turns: &[Closing],
+                ..WHOLE
+            },
         ],
     },
 ];
 
+/// Feeds a piece and takes its turns, and says whether they do what they are to.
+fn takes_turns(
+    server: &mut Server<MeagreStore>,
+    number: u64,
+    said: &'static Said,
+) -> Result<bool, ServerError> {
+    server.feed(number, said.sent)?;
+    if server.ready(number)? != said.is_ready {
+        return Ok(false);
+    }
+    for turn in said.turns {
+        if server.turn(number, MOMENT)? != *turn {
+            return Ok(false);
+        }
+    }
+    Ok(true)
+}
+
 #[test]
-fn answers_at_the_bounds(rt: HostRuntime) -> Result<(), Fail> {
+fn dialogues_are_so(rt: HostRuntime) -> Result<(), Fail> {
     for dialogue in &DIALOGUES {
         let mut server = new_server(rt.alloc(), dialogue.server)?;
         let number = server.admit()?;
-        for (sent, answered) in dialogue.said {
-            server.feed(number, sent)?;
-            for _ in 0..TURNS {
-                server.turn(number, MOMENT)?;
-            }
-            assert_eq!(rt; server.output(number), *answered, "{}", dialogue.name);
-            server.taken_out(number, server.output(number).len());
+        for said in dialogue.said {
+            assert!(rt;
+                takes_turns(&mut server, number, said)?,
+                "{}",
+                dialogue.name
+            );
+            assert_eq!(rt; server.output(number), said.output, "{}", dialogue.name);
+            server.taken_out(number, server.output(number).len().min(said.part));
         }
     }
     Ok(())

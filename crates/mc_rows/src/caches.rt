@@ -1,51 +1,20 @@
-//! A cache with ample memory.
+//! A cache with ample memory, whose caller hands it keys and blocks of its own, or lends them to its meta commands.
+ghost use Rattle.std.specs.Prelude.{◌≡◌, pos, None};
+ghost use Rattle.mc_request.specs.declared.parts.Update.TheVariants.{Store};
 
 use mc_cache::Cache;
 use mc_item::CasCounter;
-use mc_reply::Reply;
-use mc_request::{Atom, Direction, StoreMode, Update};
+use mc_reply::{Marks, Reply, Shown};
+use mc_request::{
+    Atom, Counting, Creation, Direction, MetaCommand, MetaGet, Show, StoreMode, Update,
+};
 use mc_store::ListStore;
 use mc_text::{Block, Key};
+use std::alloc::{AllocError, Global};
 use std::test::Fail;
 
-/// What is stored under one key, one after another, and the value that is then held.
-const STORES: [(StoreMode, &[u8], &[u8]); 6] = [
-    (StoreMode::Add, b"7", b"7"),
-    (StoreMode::Set, b"99", b"99"),
-    (StoreMode::Replace, b"8", b"8"),
-    (StoreMode::Append, b"9", b"89"),
-    (StoreMode::Prepend, b"1", b"189"),
-    (StoreMode::Append, b"", b"189"),
-];
-
-/// Numbers by which the value is then counted up, and the value that is then held.
-const COUNTS: [(u64, &[u8]); 2] = [(1, b"190"), (810, b"1000")];
-
 #[test]
-fn values_are_stored_where_there_is_memory(rt: HostRuntime) -> Result<(), Fail> {
-    let store = ListStore::new(rt.alloc());
-    let mut cache = Cache::new(rt.alloc(), store, 1_000, 10, CasCounter::starting_at(0));
-    for (mode, block, value) in STORES {
-        let store: Update<&[u8], &[u8]> = Update::Store {
-            mode,
-            compare: None,
-            key: b"a",
-            flags: 5,
-            exptime: 0,
-            block,
-        };
-        assert!(rt; matches!(cache.update(&store, 0)?, Reply::Stored));
-        assert!(rt; cache.value(b"a") == Some(value));
-    }
-    for (delta, value) in COUNTS {
-        let count: Update<&[u8], &[u8]> = Update::Count {
-            direction: Direction::Up,
-            key: b"a",
-            delta,
-        };
-        assert!(rt; matches!(cache.update(&count, 0)?, Reply::Number(_)));
-        assert!(rt; cache.value(b"a") == Some(value));
-    }
+fn an_own_value_is_stored(rt: HostRuntime) -> Result<(), Fail> {
     let own = Atom::Update(Update::Store {
         mode: StoreMode::Set,
         compare: None,
@@ -54,9 +23,138 @@ fn values_are_stored_where_there_is_memory(rt: HostRuntime) -> Result<(), Fail> 
         exptime: 0,
         block: Block::from_slice(rt.alloc(), b"xyz")?,
     });
-    assert!(rt; matches!(cache.step(own, 0), Reply::Stored));
-    assert!(rt; matches!(cache.get(b"b", None, false, 0), Reply::Hit { .. }));
-    assert!(rt; cache.front_value() == b"xyz".as_slice());
-    assert_eq!(rt; cache.room(b"a"), 4);
+    let mut cache = new_cache(rt.alloc());
+    let is_stored = matches!(cache.step(own, 0), Reply::Stored);
+    let is_shown = matches!(cache.get(b"b", None, false, 0), Reply::Hit { .. });
+    assert!(rt;
+        is_stored
+            && is_shown
+            && cache.value(b"b") == Some(b"xyz".as_slice())
+            && cache.front_value() == b"xyz".as_slice()
+            && cache.room(b"b") == 3
+    );
+    Ok(())
+}
+
+/// A cache that holds nothing.
+fn new_cache(alloc: Global) -> Cache<ListStore> {
+    let store = ListStore::new(alloc);
+    Cache::new(alloc, store, 1_000, 10, CasCounter::starting_at(0))
+}
+
+/// A meta command that asks for all that may be shown.
+#[derive(Clone, Copy)]
+enum Asking {
+    /// `mg` of a key that is not held, of which an item is made.
+    Made,
+    /// `ms` of the same key, which stores, and then puts a block in front.
+    Stored,
+    Prepended,
+    /// `ms` whose key and block are its own.
+    OwnStored,
+    /// `ma` of a key that is not held, of which an item is made, and once more.
+    Started,
+    Counted,
+    /// `mg` of a held key, which is its own.
+    OwnGot,
+}
+
+/// Each, in order on one cache, with the item that is then shown: its number, its flags, the seconds that it has left, its
+/// marks, and its value.
+const ASKED: [(Asking, u64, u32, Option<u64>, Marks, &'static [u8]); 7] = [
+    (Asking::Made, 1, 0, Some(60), Marks::Won, b""),
+    (Asking::Stored, 2, 5, None, Marks::Plain, b"xyz"),
+    (Asking::Prepended, 3, 5, None, Marks::Plain, b"uvwxyz"),
+    (Asking::OwnStored, 4, 5, None, Marks::Plain, b"xyz"),
+    (Asking::Started, 5, 0, Some(30), Marks::Plain, b"9"),
+    (Asking::Counted, 6, 0, Some(30), Marks::Plain, b"10"),
+    (Asking::OwnGot, 4, 5, None, Marks::Plain, b"xyz"),
+];
+
+const SHOW: Show = Show {
+    cas: true,
+    flags: true,
+    size: true,
+    left: true,
+    value: true,
+};
+
+const GET: MetaGet = MetaGet {
+    show: SHOW,
+    exptime: None,
+    create: Some(60),
+    recache: None,
+};
+
+const COUNTING: Counting = Counting {
+    direction: Direction::Up,
+    delta: 1,
+    compare: None,
+    create: Some(Creation {
+        exptime: 30,
+        initial: 9,
+    }),
+    exptime: None,
+};
+
+/// A store with flags of 5.
+fn store<K: Drop, B: Drop>(mode: StoreMode, key: K, block: B) -> Update<K, B>
+    ensures { result ≡ Store mode None key 5 (pos 0) block }
+{
+    Update::Store {
+        mode,
+        compare: None,
+        key,
+        flags: 5,
+        exptime: 0,
+        block,
+    }
+}
+
+/// What a cache answers to it.
+fn ask(
+    cache: &mut Cache<ListStore>,
+    alloc: Global,
+    asking: Asking,
+) -> Result<Reply<()>, AllocError> {
+    let lent = match asking {
+        Asking::Made => return Ok(cache.meta_get(b"a", &GET, 0)),
+        Asking::OwnGot => {
+            let key = Key::of_bytes(alloc, b"b")?;
+            let command = MetaCommand::Get { key, get: GET };
+            return Ok(cache.step(Atom::Meta(command), 0));
+        }
+        Asking::OwnStored => {
+            let key = Key::of_bytes(alloc, b"b")?;
+            let block = Block::from_slice(alloc, b"xyz")?;
+            let update = store(StoreMode::Set, key, block);
+            let command = MetaCommand::Update { update, show: SHOW };
+            return Ok(cache.step(Atom::Meta(command), 0));
+        }
+        Asking::Stored => store(StoreMode::Set, b"a".as_slice(), b"xyz".as_slice()),
+        Asking::Prepended => store(StoreMode::Prepend, b"a".as_slice(), b"uvw".as_slice()),
+        Asking::Started | Asking::Counted => Update::Count {
+            key: b"c".as_slice(),
+            counting: COUNTING,
+        },
+    };
+    cache.meta_update(&lent, &SHOW, 0)
+}
+
+#[test]
+fn meta_commands_find_memory(rt: HostRuntime) -> Result<(), Fail> {
+    let mut cache = new_cache(rt.alloc());
+    for (asking, cas, flags, left, marks, value) in &ASKED {
+        let reply = ask(&mut cache, rt.alloc(), *asking)?;
+        let wanted = Shown {
+            cas: Some(*cas),
+            flags: Some(*flags),
+            size: Some(value.len()),
+            left: Some(*left),
+            marks: *marks,
+        };
+        let is_so = matches!(reply, Reply::Meta { shown, value: Some(()) } if shown == wanted);
+        assert!(rt; is_so && cache.front_value() == *value);
+    }
     Ok(())
 }

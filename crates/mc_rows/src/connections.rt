@@ -1,11 +1,22 @@
-//! Connections that are admitted, read from and closed.
+//! Connections that are admitted and closed.
 
 use crate::clients::{MOMENT, WIDE, new_server};
-use mc_server::{ServerError, Turn};
+use crate::meagre::MeagreStore;
+use mc_server::Server;
+use mc_server::ServerError::{NoConnection, TooMany};
 use std::test::Fail;
 
 /// How many connections a server has open at most.
 const CONNECTIONS: u64 = 1_024;
+
+/// Whether every call says that no connection has the number.
+fn is_gone(server: &mut Server<MeagreStore>, number: u64) -> bool {
+    matches!(server.close(number), Err(NoConnection))
+        && matches!(server.turn(number, MOMENT), Err(NoConnection))
+        && matches!(server.feed(number, b"x"), Err(NoConnection))
+        && matches!(server.ready(number), Err(NoConnection))
+        && server.output(number).is_empty()
+}
 
 /// A closed connection's number is never used again.
 #[test]
@@ -14,34 +25,10 @@ fn so_many_connections_and_no_more(rt: HostRuntime) -> Result<(), Fail> {
     for number in 0..CONNECTIONS {
         assert_eq!(rt; server.admit()?, number);
     }
-    assert!(rt; matches!(server.admit(), Err(ServerError::TooMany)));
+    let is_full = matches!(server.admit(), Err(TooMany));
     server.feed(7, b"set a 0 0 1\r\nx\r\n")?;
     server.close(7)?;
-    assert!(rt; matches!(server.close(7), Err(ServerError::NoConnection)));
-    assert!(rt; matches!(server.turn(7, MOMENT), Err(ServerError::NoConnection)));
-    assert!(rt; matches!(server.feed(7, b"x"), Err(ServerError::NoConnection)));
-    assert!(rt; matches!(server.ready(7), Err(ServerError::NoConnection)));
-    assert!(rt; server.output(7).is_empty());
+    assert!(rt; is_full && is_gone(&mut server, 7));
     assert_eq!(rt; server.admit()?, CONNECTIONS);
-    Ok(())
-}
-
-/// What a turn did, whether another would do anything, and an output that is taken out in parts.
-#[test]
-fn turns_and_parts_of_the_output(rt: HostRuntime) -> Result<(), Fail> {
-    let mut server = new_server(rt.alloc(), WIDE)?;
-    let (first, second) = (server.admit()?, server.admit()?);
-    server.feed(first, b"get a\r\nquit\r\n")?;
-    server.feed(second, b"version\r")?;
-    assert!(rt; server.ready(first)? && !server.ready(second)?);
-    assert_eq!(rt; server.turn(second, MOMENT)?, Turn::Idle);
-    assert_eq!(rt; server.turn(first, MOMENT)?, Turn::Took);
-    server.taken_out(first, server.output(first).len().min(2));
-    assert_eq!(rt; server.output(first), b"D\r\n".as_slice());
-    assert_eq!(rt; server.turn(first, MOMENT)?, Turn::Took);
-    assert_eq!(rt; server.turn(first, MOMENT)?, Turn::Closing);
-    assert_eq!(rt; server.output(first), b"D\r\n".as_slice());
-    server.taken_out(first, server.output(first).len());
-    assert!(rt; server.output(first).is_empty() && !server.ready(first)?);
     Ok(())
 }

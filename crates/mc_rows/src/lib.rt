@@ -18,10 +18,10 @@ mod meagre;
 #[cfg(test)]
 mod replies;
 #[cfg(test)]
+mod requests;
+#[cfg(test)]
 mod rings;
 #[cfg(test)]
 mod scripts;
-#[cfg(test)]
-mod stores;
 #[cfg(test)]
 mod texts;

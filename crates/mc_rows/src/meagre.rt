@@ -53,6 +53,10 @@ impl Store for MeagreStore {
         self.list.expire(key, expiry)
     }
 
+    fn mark(&mut self, key: &[u8], stale: bool, won: bool, cas: u64) -> bool {
+        self.list.mark(key, stale, won, cas)
+    }
+
     fn take(&mut self, key: &[u8]) -> Option<Body> {
         self.list.take(key)
     }

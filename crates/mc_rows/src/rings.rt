@@ -51,9 +51,9 @@ const KNOWN: [Known; 4] = [
     },
 ];
 
-fn server(alloc: Global, number: usize) -> Result<Address, Fail> {
+fn server(alloc: Global, number: usize) -> Result<Address, RingError> {
     let text = format!(in alloc; "127.0.0.1:{}", number.saturating_add(11_211))?;
-    Ok(Address::new(alloc, text.as_bytes())?)
+    Address::new(alloc, text.as_bytes())
 }
 
 /// A ring grows by one server after another; one with its points given is the same.
@@ -111,29 +111,19 @@ const ADDRESSES: [(&[u8], bool); 19] = [
     (b"a\xc3\xa4:1", false),
 ];
 
-#[test]
-fn addresses_keep_their_text(rt: HostRuntime) -> Result<(), Fail> {
-    for (text, is_address) in &ADDRESSES {
-        match Address::new(rt.alloc(), text) {
-            Ok(address) => assert!(rt; *is_address && address.as_bytes() == *text),
-            Err(RingError::BadAddress) => assert!(rt; !*is_address),
-            Err(error) => return Err(Fail::from(error)),
-        }
+/// Whether a text is taken as an address and kept, or refused for what it is, as is wanted.
+fn is_told(alloc: Global, text: &[u8], is_address: bool) -> bool {
+    match Address::new(alloc, text) {
+        Ok(address) => is_address && address.as_bytes() == text,
+        Err(RingError::BadAddress) => !is_address,
+        Err(_) => false,
     }
-    Ok(())
 }
 
 #[test]
-fn errors_of_rings_have_texts(rt: HostRuntime) -> Result<(), Fail> {
-    let texts = [
-        (RingError::NoServer, "no server"),
-        (RingError::TooMany, "more than 64 servers"),
-        (RingError::Doubled, "server given twice"),
-        (RingError::BadAddress, "bad server address"),
-        (RingError::Memory, "out of memory"),
-    ];
-    for (error, text) in texts {
-        assert_eq!(rt; error.to_string(rt.alloc())?.as_str(), text);
+fn addresses_keep_their_text(rt: HostRuntime) -> Result<(), Fail> {
+    for (text, is_address) in &ADDRESSES {
+        assert!(rt; is_told(rt.alloc(), text, *is_address));
     }
     Ok(())
 }

@@ -1,7 +1,6 @@
-//! What no clause says of a script's run: that it succeeds, that a stream which fails is told, and the errors' texts.
+//! What no clause of a script's run says: that it succeeds, and that a stream which fails is told; and each error's status.
 
 use mc_script::{Side, SimError, run};
-use std::alloc::Global;
 use std::io::{self, Read, Write};
 use std::test::Fail;
 
@@ -42,14 +41,6 @@ impl Write for Filling {
     }
 }
 
-/// What is said of a run's outcome.
-fn told(alloc: Global, outcome: Result<(), SimError>) -> Result<String, Fail> {
-    match outcome {
-        Ok(()) => Ok(format!(in alloc; "done")?),
-        Err(error) => Ok(format!(in alloc; "{error}, status {}", error.status())?),
-    }
-}
-
 const SCRIPT: &[u8] = b"server 1 64 2\nbytes 0 get a\\r\\n\nturn 0 1\n";
 
 #[test]
@@ -65,13 +56,7 @@ fn runs_end_so(rt: HostRuntime) -> Result<(), Fail> {
     let filled = run(rt.alloc(), &mut { SCRIPT }, &mut Filling { left: 7 });
     assert!(rt; matches!(filled, Err(SimError::Stream(Side::Output))));
 
-    let rows = [
-        (filled, "input or output failed, status 3"),
-        (Err(SimError::BadLine(4)), "line 4: bad line, status 2"),
-        (Err(SimError::Memory), "out of memory, status 4"),
-    ];
-    for (outcome, text) in rows {
-        assert_eq!(rt; told(rt.alloc(), outcome)?.as_str(), text);
-    }
+    let (bad, failed) = (SimError::BadLine(4), SimError::Stream(Side::Output));
+    assert!(rt; bad.status() == 2 && failed.status() == 3 && SimError::Memory.status() == 4);
     Ok(())
 }

@@ -1,46 +1,91 @@
-//! What no clause of keys and blocks says: that they find memory where there is some, and how errors read.
+//! What no clause of keys, blocks and errors says: that they find memory where there is some, and how errors read.
 
+use mc_reply::ReplyError;
 use mc_request::{Keys, ReadError};
+use mc_ring::RingError;
+use mc_script::{Side, SimError};
 use mc_server::ServerError;
 use mc_text::{Block, Key, KeyError};
+use std::alloc::{AllocError, Global};
+use std::fmt::Display;
 use std::test::Fail;
 
-#[test]
-fn keys_and_blocks_are_made(rt: HostRuntime) -> Result<(), Fail> {
-    let key = Key::plain(rt.alloc(), b"ab")?;
-    assert_eq!(rt; key.as_bytes(), b"ab".as_slice());
-    let mut keys = Keys::one(rt.alloc(), key);
+fn are_keys_made(alloc: Global) -> Result<bool, KeyError> {
+    let mut keys = Keys::one(alloc, Key::plain(alloc, b"ab")?);
     keys.reserve(1)?;
-    keys.push(Key::of_bytes(rt.alloc(), b"c d")?)?;
-    assert_eq!(rt; keys.clone()?.key(1).as_bytes(), b"c d".as_slice());
-    let mut block = Block::joined(rt.alloc(), b"abc", b"de")?;
+    if keys.push(Key::of_bytes(alloc, b"c d")?).is_err() {
+        return Ok(false);
+    }
+    let keys = keys.clone()?;
+    let is_read = Key::coded(alloc, b"YWI=")?.as_bytes() == b"ab".as_slice();
+    Ok(
+        is_read
+            && keys.key(0).as_bytes() == b"ab".as_slice()
+            && keys.key(1).as_bytes() == b"c d".as_slice(),
+    )
+}
+
+fn are_blocks_made(alloc: Global) -> Result<bool, AllocError> {
+    let mut block = Block::joined(alloc, b"abc", b"de")?;
     block.overwrite(b"xyzw");
-    assert_eq!(rt; block.clone()?.as_slice(), b"xyzw".as_slice());
-    Ok(())
+    Ok(block.clone()?.as_slice() == b"xyzw".as_slice())
 }
 
 #[test]
+fn keys_and_blocks_are_made(rt: HostRuntime) -> Result<(), Fail> {
+    assert!(rt; are_keys_made(rt.alloc())? && are_blocks_made(rt.alloc())?);
+    Ok(())
+}
+
+/// Whether each error reads so.
+fn read_so<E: Display>(alloc: Global, texts: &[(E, &str)]) -> bool {
+    for (error, text) in texts {
+        match error.to_string(alloc) {
+            Ok(said) if said.as_str() == *text => {}
+            _ => return false,
+        }
+    }
+    true
+}
+
+const OF_KEYS: [(KeyError, &'static str); 5] = [
+    (KeyError::Empty, "empty key"),
+    (KeyError::TooLong, "key longer than 250 bytes"),
+    (KeyError::BadByte, "control byte or space in key"),
+    (KeyError::BadBase64, "key is no base64"),
+    (KeyError::Memory, "out of memory"),
+];
+
+const OF_SERVERS: [(ServerError, &'static str); 3] = [
+    (ServerError::NoConnection, "no such connection"),
+    (ServerError::TooMany, "too many connections"),
+    (ServerError::Memory, "out of memory"),
+];
+
+const OF_RINGS: [(RingError, &'static str); 5] = [
+    (RingError::NoServer, "no server"),
+    (RingError::TooMany, "more than 64 servers"),
+    (RingError::Doubled, "server given twice"),
+    (RingError::BadAddress, "bad server address"),
+    (RingError::Memory, "out of memory"),
+];
+
+const OF_SCRIPTS: [(SimError, &'static str); 3] = [
+    (SimError::Stream(Side::Output), "input or output failed"),
+    (SimError::BadLine(4), "line 4: bad line"),
+    (SimError::Memory, "out of memory"),
+];
+
+#[test]
 fn errors_have_texts(rt: HostRuntime) -> Result<(), Fail> {
-    let texts = [
-        (KeyError::Empty, "empty key"),
-        (KeyError::TooLong, "key longer than 250 bytes"),
-        (KeyError::BadByte, "control byte or space in key"),
-        (KeyError::Memory, "out of memory"),
-    ];
-    for (error, text) in texts {
-        assert_eq!(rt; error.to_string(rt.alloc())?.as_str(), text);
-    }
-    let texts = [
-        (ServerError::NoConnection, "no such connection"),
-        (ServerError::TooMany, "too many connections"),
-        (ServerError::Memory, "out of memory"),
-    ];
-    for (error, text) in texts {
-        assert_eq!(rt; error.to_string(rt.alloc())?.as_str(), text);
-    }
-    assert_eq!(rt;
-        ReadError::Memory.to_string(rt.alloc())?.as_str(),
-        "out of memory"
+    let alloc = rt.alloc();
+    assert!(rt;
+        read_so(alloc, &OF_KEYS)
+            && read_so(alloc, &OF_SERVERS)
+            && read_so(alloc, &OF_RINGS)
+            && read_so(alloc, &OF_SCRIPTS)
+            && read_so(alloc, &[(ReplyError::Memory, "out of memory")])
+            && read_so(alloc, &[(ReadError::Memory, "out of memory")])
     );
     Ok(())
 }

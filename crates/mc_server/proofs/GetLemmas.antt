@@ -1,5 +1,5 @@
 -- A retrieval command, key by key.
-use Rattle.std.proofs.Common.{◌≡◌, ◌∙◌, ℕ, ℤ, ◌≤◌, Bool, true, false, ◌&&◌, List, [], ◌∷◌, ◌++◌, length, map, Option, refl, sym, ap, append_assoc, arith}
+use Rattle.std.proofs.Common.{◌≡◌, ◌∙◌, ℕ, ℤ, ◌≤◌, Bool, true, false, ◌&&◌, List, [], ◌∷◌, ◌++◌, length, map, Option, Some, None, refl, sym, ap, append_assoc, arith}
 use Rattle.std.specs.Borrow.{Bor}
 use Rattle.std.specs.List.{list_all}
 use Rattle.mc_text.specs.Keys.{is_plain_key}
@@ -10,7 +10,7 @@ use Rattle.mc_request.specs.declared.parts.Request.TheVariants.{Get}
 use Rattle.mc_request.specs.declared.parts.Taken.{Taken}
 use Rattle.mc_request.specs.declared.parts.Taken.TheVariants.{Whole}
 use Rattle.mc_reply.specs.declared.replies.Reply.{Reply}
-use Rattle.mc_reply.specs.declared.replies.Reply.TheVariants.{Stored, NotStored, Exists, NotFound, Deleted, Touched, Flushed, Number, Miss, Hit, Fault}
+use Rattle.mc_reply.specs.declared.replies.Reply.TheVariants.{Stored, NotStored, Exists, NotFound, Deleted, Touched, Flushed, Number, Miss, Hit, Meta, Fault}
 use Rattle.mc_reply.specs.Replies.{filled}
 use Rattle.mc_reply.specs.Seen.{bytes_seen, value_len}
 use Rattle.mc_reply.specs.Spelling.{key_part, blocks_of, end_line, answer}
@@ -32,6 +32,8 @@ bytes_seen-filled Flushed value = refl
 bytes_seen-filled (Number number) value = refl
 bytes_seen-filled Miss value = refl
 bytes_seen-filled (Hit flags cas none) value = refl
+bytes_seen-filled (Meta shown None) value = refl
+bytes_seen-filled (Meta shown (Some none)) value = refl
 bytes_seen-filled (Fault fault) value = refl
 
 -- a reply shows no more of a value than there is
@@ -46,6 +48,8 @@ value_len-filled Flushed value = omega arith
 value_len-filled (Number number) value = omega arith
 value_len-filled Miss value = omega arith
 value_len-filled (Hit flags cas none) value = omega arith
+value_len-filled (Meta shown None) value = omega arith
+value_len-filled (Meta shown (Some none)) value = omega arith
 value_len-filled (Fault fault) value = omega arith
 
 -- the commands of some keys at a moment, none of which was refused memory

@@ -1,7 +1,7 @@
 -- The room of keys, one by one.
 use Rattle.std.proofs.Common.{◌≡◌, ℕ, ◌+◌, ◌<◌, ◌≤◌, ◌&&◌, Bool, true, false, nat_lt, List, [], ◌∷◌, length, arith}
 use Rattle.std.proofs.lemmas.Bool.Decides.{nat_tests}
-use Rattle.mc_request.specs.declared.parts.Request.TheVariants.{Get, Update, Version, Quit}
+use Rattle.mc_request.specs.declared.parts.Request.TheVariants.{Get, Update, Meta, MetaNoop, Version, Quit}
 use Rattle.mc_request.specs.declared.parts.Taken.{Taken}
 use Rattle.mc_request.specs.declared.parts.Taken.TheVariants.{Whole, Faulty}
 use Rattle.mc_request.specs.WellFormed.{is_well_formed}
@@ -34,5 +34,7 @@ room_within (Whole (Get keys exptime with_cas)) s good =
     let some : nat_lt 0 (length keys) ≡ true = some_keys (nat_lt 0 (length keys)) _ (some_keys (nat_lt 0 (length keys) && _) _ good) in
     keys_within keys s (grind (arith, nat_tests, some))
 room_within (Whole (Update update noreply)) s good = omega arith
+room_within (Whole (Meta command form)) s good = omega arith
+room_within (Whole MetaNoop) s good = omega arith
 room_within (Whole Version) s good = omega arith
 room_within (Whole Quit) s good = omega arith

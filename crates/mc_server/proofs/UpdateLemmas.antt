@@ -1,16 +1,16 @@
 -- An update, by what the cache replied.
-use Rattle.std.proofs.Common.{◌≡◌, ◌∙◌, ℕ, ◌||◌, Bool, true, false, List, [], ◌++◌, refl, sym, ap}
+use Rattle.std.proofs.Common.{◌≡◌, ◌∙◌, ℕ, ◌||◌, Bool, true, false, List, [], ◌++◌, Option, Some, None, refl, sym, ap}
 use Rattle.mc_request.specs.Hides.{hides_of}
 use Rattle.mc_request.specs.declared.hides.Hides.{Hides}
-use Rattle.mc_request.specs.declared.hides.Hides.TheVariants.{Nothing, ReplyLine}
+use Rattle.mc_request.specs.declared.hides.Hides.TheVariants.{Nothing, ReplyLine, Misses, Success, SuccessAndMisses}
 use Rattle.mc_request.specs.declared.parts.Atom.TheVariants as atoms
 use Rattle.mc_request.specs.declared.parts.Request.TheVariants as requests
 use Rattle.mc_request.specs.declared.parts.Taken.TheVariants.{Whole}
 use Rattle.mc_request.specs.declared.parts.Update.{Update}
 use Rattle.mc_reply.specs.declared.replies.Reply.{Reply}
-use Rattle.mc_reply.specs.declared.replies.Reply.TheVariants.{Stored, NotStored, Exists, NotFound, Deleted, Touched, Flushed, Number, Miss, Hit, Fault}
+use Rattle.mc_reply.specs.declared.replies.Reply.TheVariants.{Stored, NotStored, Exists, NotFound, Deleted, Touched, Flushed, Number, Miss, Hit, Meta, Fault}
 use Rattle.mc_reply.specs.Replies.{filled}
-use Rattle.mc_reply.specs.Spelling.{is_fault, is_hidden, reply_line, shown_line}
+use Rattle.mc_reply.specs.Spelling.{is_fault, is_miss, is_bare_success, is_not_found, is_hidden, reply_line, shown_line}
 use Rattle.mc_cache.specs.CacheState.{CacheState}
 use Rattle.mc_cache.specs.Refusals.{is_refusal, may_refuse}
 use Rattle.mc_cache.specs.Step.{step_of, Outcome}
@@ -20,7 +20,7 @@ abbrev nothing : List ℕ
 nothing = []
 
 -- a value makes no reply a refusal, nor an error line
-is_refusal-filled : {V W : Type 0} (reply : Reply V) (value : W) → is_refusal (filled reply value) ≡ is_refusal reply
+pub is_refusal-filled : {V W : Type 0} (reply : Reply V) (value : W) → is_refusal (filled reply value) ≡ is_refusal reply
 is_refusal-filled Stored value = refl
 is_refusal-filled NotStored value = refl
 is_refusal-filled Exists value = refl
@@ -31,6 +31,8 @@ is_refusal-filled Flushed value = refl
 is_refusal-filled (Number number) value = refl
 is_refusal-filled Miss value = refl
 is_refusal-filled (Hit flags cas none) value = refl
+is_refusal-filled (Meta shown None) value = refl
+is_refusal-filled (Meta shown (Some none)) value = refl
 is_refusal-filled (Fault fault) value = refl
 
 is_fault-filled : {V W : Type 0} (reply : Reply V) (value : W) → is_fault (filled reply value) ≡ is_fault reply
@@ -44,11 +46,61 @@ is_fault-filled Flushed value = refl
 is_fault-filled (Number number) value = refl
 is_fault-filled Miss value = refl
 is_fault-filled (Hit flags cas none) value = refl
+is_fault-filled (Meta shown None) value = refl
+is_fault-filled (Meta shown (Some none)) value = refl
 is_fault-filled (Fault fault) value = refl
 
-is_hidden-filled : {V W : Type 0} (hides : Hides) (reply : Reply V) (value : W) → is_hidden hides (filled reply value) ≡ is_hidden hides reply
+is_miss-filled : {V W : Type 0} (reply : Reply V) (value : W) → is_miss (filled reply value) ≡ is_miss reply
+is_miss-filled Stored value = refl
+is_miss-filled NotStored value = refl
+is_miss-filled Exists value = refl
+is_miss-filled NotFound value = refl
+is_miss-filled Deleted value = refl
+is_miss-filled Touched value = refl
+is_miss-filled Flushed value = refl
+is_miss-filled (Number number) value = refl
+is_miss-filled Miss value = refl
+is_miss-filled (Hit flags cas none) value = refl
+is_miss-filled (Meta shown None) value = refl
+is_miss-filled (Meta shown (Some none)) value = refl
+is_miss-filled (Fault fault) value = refl
+
+is_bare_success-filled : {V W : Type 0} (reply : Reply V) (value : W) → is_bare_success (filled reply value) ≡ is_bare_success reply
+is_bare_success-filled Stored value = refl
+is_bare_success-filled NotStored value = refl
+is_bare_success-filled Exists value = refl
+is_bare_success-filled NotFound value = refl
+is_bare_success-filled Deleted value = refl
+is_bare_success-filled Touched value = refl
+is_bare_success-filled Flushed value = refl
+is_bare_success-filled (Number number) value = refl
+is_bare_success-filled Miss value = refl
+is_bare_success-filled (Hit flags cas none) value = refl
+is_bare_success-filled (Meta shown None) value = refl
+is_bare_success-filled (Meta shown (Some none)) value = refl
+is_bare_success-filled (Fault fault) value = refl
+
+is_not_found-filled : {V W : Type 0} (reply : Reply V) (value : W) → is_not_found (filled reply value) ≡ is_not_found reply
+is_not_found-filled Stored value = refl
+is_not_found-filled NotStored value = refl
+is_not_found-filled Exists value = refl
+is_not_found-filled NotFound value = refl
+is_not_found-filled Deleted value = refl
+is_not_found-filled Touched value = refl
+is_not_found-filled Flushed value = refl
+is_not_found-filled (Number number) value = refl
+is_not_found-filled Miss value = refl
+is_not_found-filled (Hit flags cas none) value = refl
+is_not_found-filled (Meta shown None) value = refl
+is_not_found-filled (Meta shown (Some none)) value = refl
+is_not_found-filled (Fault fault) value = refl
+
+pub is_hidden-filled : {V W : Type 0} (hides : Hides) (reply : Reply V) (value : W) → is_hidden hides (filled reply value) ≡ is_hidden hides reply
 is_hidden-filled Nothing reply value = refl
 is_hidden-filled ReplyLine reply value = rw (is_fault-filled reply value) refl
+is_hidden-filled Misses reply value = is_miss-filled reply value
+is_hidden-filled Success reply value = is_bare_success-filled reply value
+is_hidden-filled SuccessAndMisses reply value = rw (is_bare_success-filled reply value, is_not_found-filled reply value) refl
 
 -- what is shown of a reply
 pub line_shown : {V : Type 0} (hides : Hides) (reply : Reply V) → is_hidden hides reply ≡ false → shown_line hides (filled reply []) ≡ reply_line (filled reply [])
@@ -57,7 +109,7 @@ line_shown hides reply shown = rw (is_hidden-filled hides reply (nothing), shown
 pub line_hidden : {V : Type 0} (hides : Hides) (reply : Reply V) → is_hidden hides reply ≡ true → shown_line hides (filled reply []) ≡ []
 line_hidden hides reply hidden = rw (is_hidden-filled hides reply (nothing), hidden) refl
 
-or_nothing : (test : Bool) → (test || false) ≡ test
+pub or_nothing : (test : Bool) → (test || false) ≡ test
 or_nothing true = refl
 or_nothing false = refl
 

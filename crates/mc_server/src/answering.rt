@@ -1,50 +1,91 @@
 //! Serving what stands first in a reader: the cache makes its commands, and the answer goes behind the output.
-ghost use Rattle.std.specs.Prelude.{◌≡◌, ◌+◌, ◌≤◌, ◌<◌, ◌^◌, ◌-◌, ◌++◌, min, Bool, true, false, ℕ, List, length, vec_len, vec_capacity, OnOk, OnErr};
+ghost use Rattle.std.specs.Prelude.{◌≡◌, ◌+◌, ◌≤◌, ◌<◌, ◌^◌, ◌-◌, ◌++◌, min, Bool, true, false, ℕ, List, length, vec_len, vec_capacity, IfOk, OnOk, OnErr};
 ghost use Rattle.std.specs.List.{list_all};
 ghost use Rattle.mc_text.specs.Keys.{is_key, is_plain_key};
 ghost use Rattle.mc_request.specs.Hides.{hides_of};
 ghost use Rattle.mc_request.specs.LinesSeen.{asked_of};
-ghost use Rattle.mc_request.specs.Parts.{update_seen};
-ghost use Rattle.mc_request.specs.WellFormed.{is_well_formed};
-ghost use Rattle.mc_request.specs.declared.parts.Atom.TheVariants.{Get as GetOne};
-ghost use Rattle.mc_request.specs.declared.parts.Request.TheVariants.{Get, Update as AnUpdate};
+ghost use Rattle.mc_request.specs.Parts.{update_seen, meta_said};
+ghost use Rattle.mc_request.specs.WellFormed.{is_well_formed, is_good_request, is_good_meta, is_good_block, is_meta_key, has_meta_key};
+ghost use Rattle.mc_request.specs.declared.parts.Atom.TheVariants.{Get as GetOne, Meta as MetaAtom};
+ghost use Rattle.mc_request.specs.declared.parts.Request.TheVariants.{Get, Meta, Update as AnUpdate};
 ghost use Rattle.mc_request.specs.declared.parts.Taken.TheVariants.{Whole};
+ghost use Rattle.mc_reply.specs.Replies.{filled};
+ghost use Rattle.mc_reply.specs.Seen.{value_len};
 ghost use Rattle.mc_reply.specs.Spelling.{key_part};
-ghost use Rattle.mc_cache.specs.CacheState.{value_at};
-ghost use Rattle.mc_cache.specs.Refusals.{HasKey};
+ghost use Rattle.mc_cache.specs.CacheState.{value_at, front_value};
+ghost use Rattle.mc_cache.specs.Refusals.{HasKey, is_refusal, may_refuse};
 ghost use Rattle.mc_cache.specs.Step.{step_of};
 ghost use Rattle.mc_server.specs.Served.{IsServed};
-ghost use Rattle.mc_server.specs.Rooms.{keys_room, room_of, taken_bound};
+ghost use Rattle.mc_server.specs.Rooms.{keys_room, room_of, taken_bound, meta_value_room};
 
 use mc_cache::Cache;
-use mc_reply::{KEY_ROOM, LINE_ROOM, write_end, write_fault, write_key, write_line, write_version};
-use mc_request::{Asked, Hides, Update};
+use mc_reply::{
+    KEY_ROOM, LINE_ROOM, META_ROOM, Reply, write_end, write_fault, write_key, write_line,
+    write_meta, write_noop, write_version,
+};
+use mc_request::{Asked, Hides, MetaCommand, MetaForm, Update, key_bytes};
 use mc_store::Store;
-use mc_text::WordIter;
+use mc_text::{CODED_ROOM, VALUE_LIMIT, WordIter};
 use std::alloc::AllocError;
 
 /// The most bytes that a command adds to an answer beside the value that it shows, as a caller is told.
 pub const COMMAND_BOUND: usize = 1024;
 
+/// The most digits of a number of 64 bits.
+pub const NUMBER_ROOM: usize = 20;
+
 /// How many bytes of room the answer to what is asked may need; [`usize::MAX`] where it is that or more.
 pub fn room_for<S: Store + Drop>(asked: &Asked<'_>, cache: &Cache<S>) -> usize
+    requires { is_well_formed (asked_of asked.now) ≡ true }
     ensures { result ≡ min (room_of (asked_of asked.now) cache.now) (2 ^ 64 - 1) }
 {
     match asked {
         Asked::Get { keys, .. } => {
             LINE_ROOM.saturating_add(room_for_keys(KEY_ROOM, keys.again(), cache))
         }
-        Asked::Update { .. } | Asked::Version | Asked::Quit | Asked::Faulty(_) => LINE_ROOM,
+        Asked::Meta { command, form } => {
+            META_ROOM.saturating_add(room_for_value(command, form.coded, cache))
+        }
+        Asked::Update { .. } | Asked::MetaNoop | Asked::Version | Asked::Quit | Asked::Faulty(_) =>
+            LINE_ROOM,
     }
 }
 
 /// A bound on the answer to what is asked, as a caller is told it; [`usize::MAX`] where it is that or more.
 pub fn bound_for<S: Store + Drop>(asked: &Asked<'_>, cache: &Cache<S>) -> usize
+    requires { is_well_formed (asked_of asked.now) ≡ true }
     ensures { result ≡ min (taken_bound (asked_of asked.now) cache.now) (2 ^ 64 - 1) }
 {
     match asked {
         Asked::Get { keys, .. } => room_for_keys(COMMAND_BOUND, keys.again(), cache),
-        Asked::Update { .. } | Asked::Version | Asked::Quit | Asked::Faulty(_) => COMMAND_BOUND,
+        Asked::Meta { command, form } => {
+            COMMAND_BOUND.saturating_add(room_for_value(command, form.coded, cache))
+        }
+        Asked::Update { .. } | Asked::MetaNoop | Asked::Version | Asked::Quit | Asked::Faulty(_) =>
+            COMMAND_BOUND,
+    }
+}
+
+/// The most bytes of a value that a meta command shows, by the word of its key.
+fn room_for_value<S: Store + Drop>(
+    command: &MetaCommand<&[u8], &[u8]>,
+    coded: bool,
+    cache: &Cache<S>,
+) -> usize
+    requires { has_meta_key (meta_said coded command.now) ≡ true }
+    ensures room { result ≡ meta_value_room (meta_said coded command.now) cache.now }
+{
+    let mut room = [0; CODED_ROOM];
+    match command {
+        MetaCommand::Get { key, get } if get.show.value => {
+            cache.room(key_bytes(coded, key, &mut room))
+        }
+        MetaCommand::Update { update, show } if show.value => match update {
+            Update::Store { .. } => VALUE_LIMIT,
+            Update::Count { .. } => NUMBER_ROOM,
+            Update::Touch { .. } | Update::Delete { .. } | Update::FlushAll { .. } => 0,
+        },
+        _ => 0,
     }
 }
 
@@ -85,6 +126,10 @@ pub fn serve<S: Store + Drop>(
             with_cas,
         } => serve_keys(keys, exptime, with_cas, cache, moment, output),
         Asked::Update { update, .. } => serve_update(&update, hides, cache, moment, output)?,
+        Asked::Meta { command, form } => {
+            serve_meta(&command, &form, hides, cache, moment, output)?;
+        }
+        Asked::MetaNoop => write_noop(output).unwrap(),
         Asked::Version => write_version(output).unwrap(),
         Asked::Quit => {}
         Asked::Faulty(fault) => write_fault(fault, output).unwrap(),
@@ -115,6 +160,68 @@ fn serve_update<S: Store + Drop>(
         write_line(&reply.with(b"".as_slice()), output).unwrap();
     }
     Ok(())
+}
+
+/// Serves a meta command by the word of its key. The value that it shows is read from the front of the cache.
+fn serve_meta<S: Store + Drop>(
+    command: &MetaCommand<&[u8], &[u8]>,
+    form: &MetaForm<WordIter<'_>>,
+    hides: Hides,
+    cache: &mut Cache<S>,
+    moment: u64,
+    output: &mut Vec<u8>,
+) -> Result<(), AllocError>
+    requires moment { moment < 2 ^ 63 }
+    requires well_formed { is_good_request (Meta (meta_said form.now.coded command.now) form.now) ≡ true }
+    requires room { vec_len output.old + (META_ROOM + meta_value_room (meta_said form.now.coded command.now) cache.old) ≤ vec_capacity output.old }
+    ensures served { OnOk result ((number : ℕ)
+        → hides_of (Meta (meta_said form.now.coded command.now) form.now) ≡ hides
+        → IsServed number cache.old (Whole (Meta (meta_said form.now.coded command.now) form.now)) moment cache.new output.old.items output.new.items) }
+    ensures len { OnOk result (vec_len output.new
+        ≤ vec_len output.old + (META_ROOM + meta_value_room (meta_said form.now.coded command.now) cache.old)) }
+    ensures cache_kept { OnErr result (cache.new ≡ cache.old) }
+    ensures output_kept { OnErr result (output.new.items ≡ output.old.items) }
+{
+    let reply = meta_reply(command, form.coded, cache, moment)?;
+    if !reply.is_hidden(hides) {
+        write_meta(
+            command.word(),
+            form,
+            &reply.with(cache.front_value()),
+            output,
+        )
+        .unwrap();
+    }
+    Ok(())
+}
+
+/// What the cache answers to a meta command by the word of its key. The value that it shows stands first.
+fn meta_reply<S: Store + Drop>(
+    command: &MetaCommand<&[u8], &[u8]>,
+    coded: bool,
+    cache: &mut Cache<S>,
+    moment: u64,
+) -> Result<Reply<()>, AllocError>
+    requires moment { moment < 2 ^ 63 }
+    requires key { has_meta_key (meta_said coded command.now) ≡ true }
+    requires good { is_good_meta (is_meta_key coded) is_good_block (meta_said coded command.now) ≡ true }
+    ensures step { IfOk result (λ reply. step_of cache.old (MetaAtom (meta_said coded command.now)) moment (is_refusal reply)
+        ≡ (cache.new, filled reply (front_value cache.new.items))) }
+    ensures refusal { IfOk result (λ reply. is_refusal reply ≡ true
+        → may_refuse cache.old (MetaAtom (meta_said coded command.now)) moment ≡ true) }
+    ensures fits { IfOk result (λ reply. value_len (filled reply (front_value cache.new.items))
+        ≤ meta_value_room (meta_said coded command.now) cache.old) }
+    ensures err { OnErr result (cache.new ≡ cache.old) }
+{
+    let mut room = [0; CODED_ROOM];
+    match command {
+        MetaCommand::Get { key, get } => {
+            Ok(cache.meta_get(key_bytes(coded, key, &mut room), get, moment))
+        }
+        MetaCommand::Update { update, show } => {
+            cache.meta_update(&update.said(coded, &mut room), show, moment)
+        }
+    }
 }
 
 /// Serves a retrieval command, key by key: each value is copied once, from the cache into the output.

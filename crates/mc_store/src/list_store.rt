@@ -84,6 +84,17 @@ impl Store for ListStore {
         true
     }
 
+    fn mark(&mut self, key: &[u8], stale: bool, won: bool, cas: u64) -> bool {
+        if !brought(&mut self.entries, key) {
+            return false;
+        }
+        let body = &mut self.entries[0].1;
+        body.stale = stale;
+        body.won = won;
+        body.cas = cas;
+        true
+    }
+
     fn take(&mut self, key: &[u8]) -> Option<Body> {
         match taken_out(&mut self.entries, key) {
             Some((own, body)) => {

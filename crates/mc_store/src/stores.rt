@@ -2,7 +2,7 @@
 ghost use Rattle.std.specs.Prelude.{ℕ, Option, ◌≡◌, ◌∷◌, ◌++◌, ◌+◌, ◌<◌, ◌^◌, [], length, is_some, None, Some, IfOk, OnOk, IfErr, OnErr, IfSome, IfNone};
 ghost use Rattle.std.specs.Option.{option_copied};
 ghost use Rattle.mc_item.specs.Costs.{cost_of};
-ghost use Rattle.mc_store.specs.Items.{Items, body_at, front_body, without, brought, expiring, cost_sum};
+ghost use Rattle.mc_store.specs.Items.{Items, body_at, front_body, without, brought, expiring, marking, cost_sum};
 
 use mc_item::{Body, Deadline};
 use mc_text::Key;
@@ -44,6 +44,13 @@ pub trait Store {
         ensures held { result ≡ is_some (body_at key.now (items self.old)) }
         ensures items { items self.new
             ≡ brought key.now (expiring expiry (body_at key.now (items self.old))) (items self.old) }
+        ensures most { most self.new ≡ most self.old };
+
+    /// Sets the two marks and the number of the key's item, moves it to the front, and says whether there is one.
+    fn mark(&mut self, key: &[u8], stale: bool, won: bool, cas: u64) -> bool
+        ensures held { result ≡ is_some (body_at key.now (items self.old)) }
+        ensures items { items self.new
+            ≡ brought key.now (marking stale won cas (body_at key.now (items self.old))) (items self.old) }
         ensures most { most self.new ≡ most self.old };
 
     /// Takes the key's item out, and gives its body.

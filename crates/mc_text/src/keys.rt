@@ -1,14 +1,17 @@
 //! Keys.
-ghost use Rattle.std.specs.Prelude.{◌≡◌, ◌≤◌, ◌<◌, ◌↔◌, ◌≢◌, ℕ, [], true, false, List, length, IfOk, IsErrOf, OnOk, IsTrue};
+ghost use Rattle.std.specs.Prelude.{◌≡◌, ◌≤◌, ◌<◌, ◌↔◌, ◌≢◌, ℕ, [], true, false, Some, None, List, length, IfOk, IsErrOf, OnOk, IsTrue};
 ghost use Rattle.std.specs.List.{list_all};
 ghost use Rattle.std.specs.Str.{bytes_eq};
 ghost use Rattle.std.specs.Cmp.Rules.{comparing};
 ghost use Rattle.std.proofs.Common.{rules};
 ghost use Rattle.std.proofs.lemmas.Cmp.{nat_list_eq_equiv};
 ghost use Rattle.mc_text.specs.Keys.{is_key, is_key_byte, is_plain_key};
+ghost use Rattle.mc_text.specs.CodedKeys.{bytes_of_base64, coded_key, is_coded_too_long};
 ghost use Rattle.mc_text.specs.declared.keys.TheConstants.{KEY_LIMIT};
+ghost use Rattle.mc_text.specs.declared.coded_keys.TheConstants.{CODED_LIMIT};
 ghost use Rattle.mc_text.specs.declared.keys.KeyError.TheVariants.{Memory};
 
+use crate::coded_keys::{CODED_ROOM, decode_key};
 use std::alloc::{AllocError, Global};
 use std::marker::Model;
 use thiserror::Error;
@@ -22,13 +25,16 @@ pub enum KeyError {
     /// 1: the word has no byte.
     #[error("empty key")]
     Empty,
-    /// 2: the word has more than 250 bytes.
+    /// 2: the word has more than 250 bytes; in base64, it has more than 336, or says more than 250.
     #[error("key longer than 250 bytes")]
     TooLong,
-    /// 3: a byte of the word is a control byte, a space or 127.
+    /// 3, of a plain key alone: a byte of the word is a control byte, a space or 127.
     #[error("control byte or space in key")]
     BadByte,
-    /// 5: no memory for the key's bytes. (4 is kept for keys in base64.)
+    /// 4, of a key in base64 alone: the word is no base64.
+    #[error("key is no base64")]
+    BadBase64,
+    /// 5: no memory for the key's bytes.
     #[error("out of memory")]
     Memory,
 }
@@ -77,6 +83,7 @@ impl Key {
         ensures too_long { IsErrOf result KeyError.TooLong ↔ (KEY_LIMIT < length word.now) }
         ensures bad_byte { IsErrOf result KeyError.BadByte
             ↔ ((word.now ≢ []) × (length word.now ≤ KEY_LIMIT) × (list_all is_key_byte word.now ≡ false)) }
+        ensures plain { IsErrOf result KeyError.BadBase64 → ⊥ }
     {
         if word.is_empty() {
             return Err(KeyError::Empty);
@@ -88,6 +95,20 @@ impl Key {
             return Err(KeyError::BadByte);
         }
         Ok(Key::of_bytes(alloc, word)?)
+    }
+
+    /// The key that a word says in base64.
+    pub fn coded(alloc: Global, word: &[u8]) -> Result<Key, KeyError>
+        ensures key { IfOk result (λ key. coded_key word.now ≡ Some key) }
+        ensures empty { IsErrOf result KeyError.Empty ↔ (word.now ≡ []) }
+        ensures too_long { IsErrOf result KeyError.TooLong ↔ (is_coded_too_long word.now ≡ true) }
+        ensures bad_base64 { IsErrOf result KeyError.BadBase64
+            ↔ ((length word.now ≤ CODED_LIMIT) × (bytes_of_base64 word.now ≡ None)) }
+        ensures coded { IsErrOf result KeyError.BadByte → ⊥ }
+    {
+        let mut room = [0; CODED_ROOM];
+        let bytes = decode_key(word, &mut room)?;
+        Ok(Key::of_bytes(alloc, bytes)?)
     }
 
     /// The key of bytes that are known to be one: they are copied, and not tested again.

@@ -3,27 +3,35 @@
 //! A caller meets the calls in this order: [`next_line`] cuts a line from the bytes that have come,
 //! [`words`] gives its words, [`read_u64`], [`read_i64`], [`read_len`] and [`read_flags`] read a word as a
 //! number, and [`Key::plain`] makes a key of one ([`Key::of_bytes`] where the bytes are known to be one).
+//! [`Key::coded`] makes one of a word in base64, [`read_coded`] writes its bytes into the caller's room and lends them,
+//! [`is_coded_key`] only says whether there is one, and [`write_coded`] gives the word of a key.
 //! [`Block`] is the bytes of a data block.
 //! [`let_go`] and [`drop_front`] serve whoever keeps bytes that are taken from the front.
 //!
 //! Each call gives exactly what the definition of its name in `specs/` says of the bytes. Only what makes a
-//! key or a block takes memory. The other functions are worked examples: they do nothing.
+//! key or a block takes memory. [`coded_keys_have_one_word`] is a law, and the other functions are worked examples: they
+//! do nothing.
 #![tactic(auto)]
 
 mod blocks;
+mod coded_keys;
 mod fronts;
 mod keys;
+mod laws;
 mod lines;
 mod numbers;
 mod rows;
 mod word_iter;
 
 pub use blocks::{Block, VALUE_LIMIT};
+pub use coded_keys::{CODED_LIMIT, CODED_ROOM, is_coded_key, read_coded, write_coded};
 pub use fronts::{drop_front, let_go};
 pub use keys::{KEY_LIMIT, Key, KeyError, is_plain_key};
+pub use laws::coded_keys_have_one_word;
 pub use lines::{LINE_LIMIT, Line, content_to, next_line, next_line_from};
 pub use numbers::{read_flags, read_i64, read_len, read_u64};
 pub use rows::{
-    keys_by_their_bytes, lines_by_their_ends, numbers_within_limits, words_between_spaces,
+    coded_keys_by_their_words, keys_by_their_bytes, lines_by_their_ends, numbers_within_limits,
+    words_between_spaces,
 };
 pub use word_iter::{WordIter, words};

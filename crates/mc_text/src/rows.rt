@@ -1,11 +1,12 @@
 //! Worked examples, computed from the definitions alone.
-#![tactic(auto, unfolding(crate::specs::Words::words, crate::specs::Lines::line_end, crate::specs::Lines::first_line))]
+#![tactic(auto, unfolding(crate::specs::Words::words, crate::specs::Lines::line_end, crate::specs::Lines::first_line, crate::proofs::OnLiterals::coded_on_literals))]
 
 ghost use Rattle.std.specs.Prelude.{◌≡◌, pos, negsuc, [], ◌∷◌, Some, None, true, false, codes};
 ghost use Rattle.mc_text.specs.Lines.{Whole, Partial, first_line};
 ghost use Rattle.mc_text.specs.Words.{words};
 ghost use Rattle.mc_text.specs.Numbers.{read_u64, read_i64, read_len, read_flags};
 ghost use Rattle.mc_text.specs.Keys.{is_plain_key};
+ghost use Rattle.mc_text.specs.CodedKeys.{coded_key, coded_of};
 
 /// A line ends at its line feed, and one carriage return before that belongs to the end.
 pub fn lines_by_their_ends()
@@ -42,4 +43,15 @@ pub fn keys_by_their_bytes()
     ensures empty { is_plain_key [] ≡ false }
     ensures space { is_plain_key (codes "a b") ≡ false }
     ensures tab { is_plain_key (codes "a\tb") ≡ false }
+{}
+
+/// A key in base64 has its padding, and no bit set behind its last byte. It may be of any bytes.
+pub fn coded_keys_by_their_words()
+    ensures three { coded_key (codes "YWJj") ≡ Some (codes "abc") }
+    ensures two { coded_key (codes "YWI=") ≡ Some (codes "ab") }
+    ensures spelled { coded_of (codes "ab") ≡ codes "YWI=" }
+    ensures space { coded_key (codes "YSBi") ≡ Some (codes "a b") }
+    ensures trailing_bits { coded_key (codes "YWJ=") ≡ None }
+    ensures no_padding { coded_key (codes "YWI") ≡ None }
+    ensures empty { coded_key [] ≡ None }
 {}

@@ -1,75 +1,103 @@
-//! Counting: what `incr` and `decr` do.
-ghost use Rattle.std.specs.Prelude.{◌≡◌, ◌<◌, ℕ, List, length, Some, true};
+//! Counting: what `incr`, `decr` and `ma` do.
+ghost use Rattle.std.specs.Prelude.{◌≡◌, ◌<◌, ◌^◌, ℕ, List, length, Some, None, true, is_some};
 ghost use Rattle.std.specs.Fmt.{decimal};
+ghost use Rattle.mc_text.specs.Keys.{is_key};
 ghost use Rattle.mc_request.specs.declared.parts.Atom.TheVariants.{Update as AnUpdate};
 ghost use Rattle.mc_request.specs.declared.parts.Update.TheVariants.{Count};
 ghost use Rattle.mc_reply.specs.declared.replies.Reply.{Reply as AReply};
+ghost use Rattle.mc_reply.specs.declared.replies.Reply.TheVariants.{Number};
 ghost use Rattle.mc_reply.specs.Replies.{filled};
 ghost use Rattle.mc_store.specs.Items.{body_at};
 ghost use Rattle.mc_cache.specs.CacheState.{value_at};
-ghost use Rattle.mc_cache.specs.Step.{stored, step_of, count_step, counted};
+ghost use Rattle.mc_cache.specs.Step.{stored, step_of, count_none, count_step, counted};
 ghost use Rattle.mc_cache.specs.Refusals.{is_refusal, count_may_refuse, may_refuse};
 ghost use Rattle.mc_cache.specs.Found.{found_body};
 ghost use Rattle.mc_cache.specs.Admissions.{is_refused, reply_or_fault, renewed};
 
 use super::Cache;
 use super::settling::Found;
+use super::storing::{Lent, compared};
 use itoa::Buffer;
+use mc_item::Deadline;
 use mc_reply::Reply;
-use mc_request::{Direction, Fault};
+use mc_request::{Counting, Direction, Fault};
 use mc_store::Store;
 use mc_text::{Block, read_u64};
 
 impl<S: Store + Drop> Cache<S> {
-    /// The commands `incr` and `decr`.
-    pub(super) fn count(
-        &mut self,
-        direction: Direction,
-        key: &[u8],
-        delta: u64,
-        moment: u64,
-    ) -> Reply<()>
+    /// The commands `incr`, `decr` and `ma`.
+    pub(super) fn count(&mut self, key: &[u8], counting: &Counting, moment: u64) -> Reply<()>
+        requires moment { moment < 2 ^ 63 }
+        requires key { is_key key.now ≡ true }
         ensures step { (value : List ℕ)
-            → step_of self.old (AnUpdate (Count direction key.now delta)) moment (is_refusal result)
+            → step_of self.old (AnUpdate (Count key.now counting.now)) moment (is_refusal result)
             ≡ (self.new, filled result value) }
         ensures refusal { is_refusal result ≡ true
-            → may_refuse self.old (AnUpdate (Count direction key.now delta)) moment ≡ true }
+            → may_refuse self.old (AnUpdate (Count key.now counting.now)) moment ≡ true }
     {
         match self.settle(key, moment) {
-            Some(found) => self.count_held(direction, key, delta, found),
-            None => Reply::NotFound,
+            Some(found) => self.count_held(key, counting, found, moment),
+            None => self.count_none(key, counting, moment),
         }
     }
 
     /// The same on a settled cache, where this was found under the key.
     fn count_held(
         &mut self,
-        direction: Direction,
         key: &[u8],
-        delta: u64,
+        counting: &Counting,
         found: Found,
+        moment: u64,
     ) -> Reply<()>
+        requires moment { moment < 2 ^ 63 }
         requires found { body_at key.now self.old.items ≡ found_body (Some found) (value_at key.now self.old.items) }
         ensures step { (value : List ℕ)
-            → count_step self.old key.now (body_at key.now self.old.items) direction delta (is_refusal result)
+            → count_step self.old key.now (body_at key.now self.old.items) counting.now moment (is_refusal result)
             ≡ (self.new, filled result value) }
         ensures refusal { is_refusal result ≡ true
-            → count_may_refuse direction delta (body_at key.now self.old.items) ≡ true }
+            → count_may_refuse counting.now (body_at key.now self.old.items) ≡ true }
     {
+        if let Some(reply) = compared(counting.compare, Some(found)) {
+            let _ = self.bring(key);
+            return reply;
+        }
         let before = self.store.peek(key).unwrap().value.as_slice();
         let Some(number) = read_u64(before) else {
             return Reply::Fault(Fault::NonNumeric);
         };
-        let number = counted(direction, delta, number);
-        match self.write_number(key, number, found) {
-            Ok(()) => Reply::Number(number),
-            Err(fault) => Reply::Fault(fault),
-        }
+        let number = counted(counting.direction, counting.delta, number);
+        number_or_fault(
+            self.write_number(key, number, found.touched(counting.exptime, moment)),
+            number,
+        )
     }
 
-    /// Stores a number's text in place of a held value. It takes memory only where the text is longer.
+    /// The same on a settled cache where nothing is held under the key: an item is made, or not.
+    fn count_none(&mut self, key: &[u8], counting: &Counting, moment: u64) -> Reply<()>
+        requires moment { moment < 2 ^ 63 }
+        requires key { is_key key.now ≡ true }
+        requires absent { body_at key.now self.old.items ≡ None }
+        ensures step { (value : List ℕ) → count_none self.old key.now counting.now.create moment (is_refusal result)
+            ≡ (self.new, filled result value) }
+        ensures refusal { is_refusal result ≡ true → is_some counting.now.create ≡ true }
+    {
+        let Some(creation) = counting.create else {
+            return Reply::NotFound;
+        };
+        let mut digits = Buffer::new();
+        let lent = Lent {
+            flags: 0,
+            expiry: Deadline::of(creation.exptime, moment),
+            won: false,
+            block: digits.format(creation.initial).as_bytes(),
+        };
+        number_or_fault(self.make(key, lent), creation.initial)
+    }
+
+    /// Stores a number's text in place of a held value, with the flags and the expiry of what is told as found. It takes
+    /// memory only where the text is longer.
     fn write_number(&mut self, key: &[u8], number: u64, found: Found) -> Result<(), Fault>
-        requires found { body_at key.now self.old.items ≡ found_body (Some found) (value_at key.now self.old.items) }
+        requires held { is_some (body_at key.now self.old.items) ≡ true }
         ensures step { (reply : AReply (List ℕ))
             → stored self.old key.now (renewed found (decimal number)) (is_refused result) reply
             ≡ (self.new, reply_or_fault result reply) }
@@ -100,5 +128,16 @@ fn counted(direction: Direction, delta: u64, number: u64) -> u64
     match direction {
         Direction::Up => number.wrapping_add(delta),
         Direction::Down => number.saturating_sub(delta),
+    }
+}
+
+/// The reply to a command that stored a number, or why it did not.
+fn number_or_fault(stored: Result<(), Fault>, number: u64) -> Reply<()>
+    ensures reply { (value : List ℕ) → filled result value ≡ reply_or_fault stored (Number number) }
+    ensures refusal { is_refusal result ≡ is_refused stored }
+{
+    match stored {
+        Ok(()) => Reply::Number(number),
+        Err(fault) => Reply::Fault(fault),
     }
 }

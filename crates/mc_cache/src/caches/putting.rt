@@ -31,7 +31,8 @@ impl<S: Store + Drop> Cache<S> {
             ≡ (self.new, reply_or_fault result reply) }
         ensures refusal { is_refused result ≡ true → is_held ≡ false }
     {
-        body.cas = self.admit(key.as_bytes(), body.value.len())?;
+        let cas = self.admit(key.as_bytes(), body.value.len())?;
+        number_anew(&mut body, cas);
         if is_held {
             self.put_held(key.as_bytes(), body);
             return Ok(());
@@ -57,17 +58,31 @@ impl<S: Store + Drop> Cache<S> {
         ensures held { OnErr result (is_held ≡ true) }
         ensures admitted { OnErr result (is_ok (admission self.old key.now (length (lent_content lent.entry).value)) ≡ true) }
     {
+        if !is_held {
+            return Ok(stored_or_fault(self.make(key, lent)));
+        }
         match self.admit(key, lent.block.len()) {
-            Ok(cas) if is_held => {
+            Ok(cas) => {
                 let value = Block::from_slice(self.alloc, lent.block)?;
                 self.put_held(key, lent.with(value, cas));
                 Ok(Reply::Stored)
             }
-            Ok(cas) => match Block::from_slice(self.alloc, lent.block) {
-                Ok(value) => Ok(stored_or_fault(self.put_copied(key, lent.with(value, cas)))),
-                Err(_) => Ok(Reply::Fault(Fault::OutOfMemory)),
-            },
             Err(fault) => Ok(Reply::Fault(fault)),
+        }
+    }
+
+    /// Stores what is lent under a key that is not held, with a number of its own: then its item stands first.
+    pub(super) fn make(&mut self, key: &[u8], lent: Lent<'_>) -> Result<(), Fault>
+        requires key { is_key key.now ≡ true }
+        requires absent { body_at key.now self.old.items ≡ None }
+        ensures step { (reply : AReply (List ℕ))
+            → stored self.old key.now (lent_content lent.entry) (is_refused result) reply
+            ≡ (self.new, reply_or_fault result reply) }
+    {
+        let cas = self.admit(key, lent.block.len())?;
+        match Block::from_slice(self.alloc, lent.block) {
+            Ok(value) => self.put_copied(key, lent.with(value, cas)),
+            Err(_) => Err(Fault::OutOfMemory),
         }
     }
 
@@ -170,21 +185,21 @@ impl<S: Store + Drop> Cache<S> {
             ≡ with_item self.old key.now (numbered (renewed found (value_at key.now self.old.items)) cas) }
     {
         let mut body = self.lift(key);
-        body.cas = cas;
+        number_anew(&mut body, cas);
         self.put_held(key, body);
     }
 
-    /// Stores a text that is no longer than the held value, in its bytes. It takes no memory.
+    /// Stores a text that is no longer than the held value, in its bytes, with the flags and the expiry of what is told as
+    /// found. It takes no memory.
     pub(super) fn overwrite(&mut self, key: &[u8], text: &[u8], found: Found, cas: u64)
-        requires found { body_at key.now self.old.items ≡ found_body (Some found) (value_at key.now self.old.items) }
+        requires held { is_some (body_at key.now self.old.items) ≡ true }
         requires fits { length text.now ≤ length (value_at key.now self.old.items) }
         requires admitted { admission self.old key.now (length text.now) ≡ Ok cas }
         ensures { self.new ≡ with_item self.old key.now (numbered (renewed found text.now) cas) }
     {
-        let mut body = self.lift(key);
-        body.value.overwrite(text);
-        body.cas = cas;
-        self.put_held(key, body);
+        let mut value = self.lift(key).value;
+        value.overwrite(text);
+        self.put_held(key, found.with(value, cas));
     }
 
     /// Takes the body from under a held key, which stays held with no bytes.
@@ -197,6 +212,8 @@ impl<S: Store + Drop> Cache<S> {
             flags: 0,
             expiry: Deadline::Never,
             cas: 0,
+            stale: false,
+            won: false,
             value: Block::new(self.alloc),
         };
         self.store.replace(key, bare).unwrap()
@@ -215,6 +232,15 @@ impl<S: Store + Drop> Cache<S> {
             None => Err(Fault::CasUsedUp),
         }
     }
+}
+
+/// Gives a body that is stored anew its number, and takes its marks away.
+fn number_anew(body: &mut Body, cas: u64)
+    ensures { body.new ≡ numbered (content_of body.old) cas }
+{
+    body.cas = cas;
+    body.stale = false;
+    body.won = false;
 }
 
 /// The reply to a storage command that stored, or why it did not.

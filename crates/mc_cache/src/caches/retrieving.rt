@@ -1,16 +1,20 @@
-//! Commands that store no value, on a settled cache: retrieval, `touch` and `delete`.
-ghost use Rattle.std.specs.Prelude.{◌≡◌, ◌<◌, ◌^◌, ℕ, List, None, is_some, false};
+//! Commands that store no value: retrieval, `touch`, `delete` and `md`.
+ghost use Rattle.std.specs.Prelude.{◌≡◌, ◌<◌, ◌^◌, ℕ, List, Some, None, is_some, true, false};
 ghost use Rattle.mc_reply.specs.Replies.{filled};
-ghost use Rattle.mc_store.specs.Items.{body_at, without, brought, expiring};
+ghost use Rattle.mc_store.specs.Items.{body_at, without, brought, expiring, marking};
 ghost use Rattle.mc_request.specs.declared.parts.Atom.TheVariants.{Get, Update as AnUpdate};
 ghost use Rattle.mc_request.specs.declared.parts.Update.TheVariants.{Touch, Delete};
-ghost use Rattle.mc_cache.specs.CacheState.{front_value};
-ghost use Rattle.mc_cache.specs.Step.{step_of, fronted};
+ghost use Rattle.mc_cache.specs.CacheState.{value_at, front_value};
+ghost use Rattle.mc_cache.specs.Step.{step_of, fronted, invalidated};
 ghost use Rattle.mc_cache.specs.Refusals.{is_refusal, value_after};
+ghost use Rattle.mc_cache.specs.Found.{found_body, body_of};
 
 use super::Cache;
+use super::settling::Found;
+use super::storing::compared;
 use mc_item::Deadline;
 use mc_reply::Reply;
+use mc_request::Fault;
 use mc_store::Store;
 
 impl<S: Store + Drop> Cache<S> {
@@ -30,14 +34,9 @@ impl<S: Store + Drop> Cache<S> {
         ensures refusal { is_refusal result ≡ false }
         ensures distinct { (key : List ℕ) → body_at key (without key self.old.items) ≡ None }
     {
-        self.flush_due(moment);
-        let Some(found) = self.find(key) else {
+        let Some(found) = self.settle_in_front(key, moment) else {
             return Reply::Miss;
         };
-        if found.expiry.is_dead(moment) {
-            let _ = self.take(key);
-            return Reply::Miss;
-        }
         if let Some(exptime) = exptime {
             let _ = self.expire(key, Deadline::of(exptime, moment));
         }
@@ -64,19 +63,47 @@ impl<S: Store + Drop> Cache<S> {
         }
     }
 
-    /// The command `delete`.
-    #[tactic(auto, using(mc_store::proofs::ItemLemmas::absent))]
-    pub(super) fn delete(&mut self, key: &[u8], moment: u64) -> Reply<()>
-        ensures step { (value : List ℕ) → step_of self.old (AnUpdate (Delete key.now)) moment (is_refusal result)
+    /// The commands `delete` and `md`.
+    pub(super) fn delete(
+        &mut self,
+        key: &[u8],
+        compare: Option<u64>,
+        invalidate: bool,
+        moment: u64,
+    ) -> Reply<()>
+        ensures step { (value : List ℕ)
+            → step_of self.old (AnUpdate (Delete key.now compare invalidate)) moment (is_refusal result)
             ≡ (self.new, filled result value) }
         ensures refusal { is_refusal result ≡ false }
     {
-        let _ = self.settle(key, moment);
-        if self.take(key) {
-            Reply::Deleted
-        } else {
-            Reply::NotFound
+        let Some(found) = self.settle(key, moment) else {
+            return Reply::NotFound;
+        };
+        if let Some(reply) = compared(compare, Some(found)) {
+            let _ = self.bring(key);
+            return reply;
         }
+        if invalidate {
+            return self.invalidate(key, found);
+        }
+        let _ = self.take(key);
+        Reply::Deleted
+    }
+
+    /// Makes the item of a held key stale, with a number of its own.
+    fn invalidate(&mut self, key: &[u8], found: Found) -> Reply<()>
+        requires { body_at key.now self.old.items ≡ found_body (Some found) (value_at key.now self.old.items) }
+        ensures step { (value : List ℕ) → invalidated self.old key.now (body_of found (value_at key.now self.old.items))
+            ≡ (self.new, filled result value) }
+        ensures refusal { is_refusal result ≡ false }
+    {
+        let mut counter = self.counter;
+        let Some(cas) = counter.next() else {
+            return Reply::Fault(Fault::CasUsedUp);
+        };
+        let _ = self.mark(key, true, false, cas);
+        self.counter = counter;
+        Reply::Deleted
     }
 
     /// Takes the key's item out, and says whether there was one.
@@ -103,5 +130,14 @@ impl<S: Store + Drop> Cache<S> {
             ≡ record self.old { items = brought key.now (expiring expiry (body_at key.now self.old.items)) self.old.items } }
     {
         self.store.expire(key, expiry)
+    }
+
+    /// Sets the marks and the number of the key's item, moves it to the front, and says whether there is one.
+    pub(super) fn mark(&mut self, key: &[u8], stale: bool, won: bool, cas: u64) -> bool
+        ensures held { result ≡ is_some (body_at key.now self.old.items) }
+        ensures items { self.new
+            ≡ record self.old { items = brought key.now (marking stale won cas (body_at key.now self.old.items)) self.old.items } }
+    {
+        self.store.mark(key, stale, won, cas)
     }
 }

@@ -25,13 +25,17 @@ pub struct Found {
     pub expiry: Deadline,
     /// The item's number.
     pub cas: u64,
+    /// Whether the value was said to be out of date.
+    pub stale: bool,
+    /// Whether a client was told that it is the one to fetch the value anew.
+    pub won: bool,
 }
 
 impl Found {
-    ghost use Rattle.mc_cache.specs.Step.{numbered};
+    ghost use Rattle.mc_cache.specs.Step.{numbered, expiry_by};
     ghost use Rattle.mc_cache.specs.Admissions.{renewed};
 
-    /// The body as it was found, with another value and another number.
+    /// The body as it was found, with another value, another number and no mark.
     pub fn with(self, value: Block, cas: u64) -> Body
         ensures { result ≡ numbered (renewed self value) cas }
     {
@@ -39,7 +43,23 @@ impl Found {
             flags: self.flags,
             expiry: self.expiry,
             cas,
+            stale: false,
+            won: false,
             value,
+        }
+    }
+
+    /// The same with another expiry, where one is given.
+    pub fn touched(self, exptime: Option<i64>, moment: u64) -> Found
+        requires { moment < 2 ^ 63 }
+        ensures { result ≡ record self { expiry = expiry_by exptime moment self.expiry } }
+    {
+        match exptime {
+            Some(exptime) => Found {
+                expiry: Deadline::of(exptime, moment),
+                ..self
+            },
+            None => self,
         }
     }
 }
@@ -113,7 +133,25 @@ impl<S: Store + Drop> Cache<S> {
             flags: body.flags,
             expiry: body.expiry,
             cas: body.cas,
+            stale: body.stale,
+            won: body.won,
         })
+    }
+
+    /// Brings the cache to a moment for a command on a key, moves the key's item to the front, and looks at it.
+    pub(super) fn settle_in_front(&mut self, key: &[u8], moment: u64) -> Option<Found>
+        ensures settled { self.new ≡ fronted (settled self.old (Some key.now) moment) key.now }
+        ensures found { body_at key.now (settled self.old (Some key.now) moment).items
+            ≡ found_body result (front_value self.new.items) }
+        ensures distinct { (key : List ℕ) → body_at key (without key self.old.items) ≡ None }
+    {
+        self.flush_due(moment);
+        let found = self.find(key)?;
+        if found.expiry.is_dead(moment) {
+            let _ = self.take(key);
+            return None;
+        }
+        Some(found)
     }
 
     fn drop_all(&mut self)
@@ -131,6 +169,8 @@ impl<S: Store + Drop> Cache<S> {
             flags: body.flags,
             expiry: body.expiry,
             cas: body.cas,
+            stale: body.stale,
+            won: body.won,
         })
     }
 }

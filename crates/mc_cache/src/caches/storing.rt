@@ -1,5 +1,5 @@
 //! Storing: what a storage command does on a settled cache.
-ghost use Rattle.std.specs.Prelude.{◌≡◌, ◌<◌, ℕ, List, length, Some, None, true, IfOk, OnErr, IfSome, IfNone, false};
+ghost use Rattle.std.specs.Prelude.{◌≡◌, ◌<◌, ℕ, Bool, List, length, Some, None, true, IfOk, OnErr, IfSome, IfNone, false};
 ghost use Rattle.std.specs.Option.{option_map};
 ghost use Rattle.mc_text.specs.Keys.{is_key};
 ghost use Rattle.mc_item.specs.declared.deadlines.Deadline.{Deadline as ADeadline};
@@ -30,6 +30,8 @@ pub struct Lent<'a> {
     pub flags: u32,
     /// When the item is dead.
     pub expiry: Deadline,
+    /// Whether a client is told to fetch the value.
+    pub won: bool,
     /// The value.
     pub block: &'a [u8],
 }
@@ -44,6 +46,8 @@ impl Lent<'_> {
             flags: self.flags,
             expiry: self.expiry,
             cas,
+            stale: false,
+            won: self.won,
             value,
         }
     }
@@ -151,9 +155,9 @@ impl<S: Store + Drop> Cache<S> {
         found: Option<Found>,
     ) -> Option<Reply<()>>
         requires found { body_at key.now self.old.items ≡ found_body found (value_at key.now self.old.items) }
-        ensures step { IfSome result (λ reply. (flags : ℕ) → (expiry : ADeadline) → (value : List ℕ)
+        ensures step { IfSome result (λ reply. (flags : ℕ) → (expiry : ADeadline) → (won : Bool) → (value : List ℕ)
             → store_step self.old compare mode key.now (body_at key.now self.old.items)
-            (record { flags = flags; expiry = expiry; value = block.now }) (is_refusal reply)
+            (record { flags = flags; expiry = expiry; won = won; value = block.now }) (is_refusal reply)
             ≡ (self.new, filled reply value)) }
         ensures refusal { IfSome result (λ reply. is_refusal reply ≡ true
             → store_may_refuse compare mode (body_at key.now self.old.items) block.now ≡ true) }
@@ -214,7 +218,7 @@ fn unstored(compare: Option<u64>, mode: StoreMode, found: Option<Found>) -> Opti
 }
 
 /// What a command answers that compares what was found with a number, and goes no further.
-fn compared(compare: Option<u64>, found: Option<Found>) -> Option<Reply<()>>
+pub(super) fn compared(compare: Option<u64>, found: Option<Found>) -> Option<Reply<()>>
     ensures reply { (before value : List ℕ)
         → option_map (λ reply. filled reply value) result ≡ compared compare (found_body found before) }
     ensures refusal { IfSome result (λ reply. is_refusal reply ≡ false) }

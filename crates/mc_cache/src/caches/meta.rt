@@ -1,0 +1,148 @@
+//! Meta commands: what `mg` does, and how an update's reply is told to a meta command.
+ghost use Rattle.std.specs.Prelude.{◌≡◌, ◌<◌, ◌^◌, ◌||◌, ℕ, List, Some, None, is_some, true, false};
+ghost use Rattle.mc_text.specs.Keys.{is_key};
+ghost use Rattle.mc_item.specs.Deadlines.{left_of};
+ghost use Rattle.mc_request.specs.declared.parts.Atom.TheVariants.{Meta as AMeta};
+ghost use Rattle.mc_request.specs.declared.meta.MetaCommand.TheVariants.{Get as AGet};
+ghost use Rattle.mc_reply.specs.Replies.{filled};
+ghost use Rattle.mc_store.specs.Items.{body_at, front_body, without, brought};
+ghost use Rattle.mc_cache.specs.CacheState.{value_at, front_value};
+ghost use Rattle.mc_cache.specs.Showing.{is_low, marks_by, item_shown};
+ghost use Rattle.mc_cache.specs.Step.{step_of, touched, meta_get_none, meta_get_step};
+ghost use Rattle.mc_cache.specs.Refusals.{is_refusal, may_refuse, get_may_refuse};
+ghost use Rattle.mc_cache.specs.Found.{found_body, body_of};
+ghost use Rattle.mc_cache.specs.Admissions.{IsTold};
+
+use super::Cache;
+use super::settling::Found;
+use super::storing::Lent;
+use mc_item::Deadline;
+use mc_reply::{Marks, Reply, Shown};
+use mc_request::{MetaGet, Show};
+use mc_store::Store;
+
+impl<S: Store + Drop> Cache<S> {
+    /// The command `mg`. The key is looked up once, and once more for each change of its item.
+    pub(super) fn show(&mut self, key: &[u8], get: &MetaGet, moment: u64) -> Reply<()>
+        requires moment { moment < 2 ^ 63 }
+        requires key { is_key key.now ≡ true }
+        ensures step { step_of self.old (AMeta (AGet key.now get.now)) moment (is_refusal result)
+            ≡ (self.new, filled result (front_value self.new.items)) }
+        ensures same { filled result (value_at key.now self.new.items) ≡ filled result (front_value self.new.items) }
+        ensures refusal { is_refusal result ≡ true
+            → may_refuse self.old (AMeta (AGet key.now get.now)) moment ≡ true }
+        ensures distinct { (key : List ℕ) → body_at key (without key self.old.items) ≡ None }
+    {
+        match self.settle_in_front(key, moment) {
+            Some(found) => self.show_found(key, get, found, moment),
+            None => self.show_made(key, get, moment),
+        }
+    }
+
+    /// The same on a settled cache, where this was found under the key and stands first.
+    fn show_found(&mut self, key: &[u8], get: &MetaGet, found: Found, moment: u64) -> Reply<()>
+        requires moment { moment < 2 ^ 63 }
+        requires found { body_at key.now self.old.items ≡ found_body (Some found) (front_value self.old.items) }
+        requires first { self.old.items ≡ brought key.now (body_at key.now self.old.items) self.old.items }
+        ensures step { meta_get_step self.old key.now (body_at key.now self.old.items) get.now moment false
+            ≡ (self.new, filled result (front_value self.new.items)) }
+        ensures same { filled result (value_at key.now self.new.items) ≡ filled result (front_value self.new.items) }
+        ensures refusal { is_refusal result ≡ false }
+    {
+        let needs = found.stale || is_low(get.recache, found.expiry.left(moment));
+        if needs && !found.won {
+            let _ = self.mark(key, found.stale, true, found.cas);
+        }
+        if let Some(exptime) = get.exptime {
+            let _ = self.expire(key, Deadline::of(exptime, moment));
+        }
+        self.show_front(&get.show, marks_by(found.stale, found.won, needs), moment)
+    }
+
+    /// The same on a settled cache where nothing is held under the key: an item is made, or not.
+    fn show_made(&mut self, key: &[u8], get: &MetaGet, moment: u64) -> Reply<()>
+        requires moment { moment < 2 ^ 63 }
+        requires key { is_key key.now ≡ true }
+        requires absent { body_at key.now self.old.items ≡ None }
+        ensures step { meta_get_none self.old key.now get.now get.now.create moment (is_refusal result)
+            ≡ (self.new, filled result (front_value self.new.items)) }
+        ensures same { filled result (value_at key.now self.new.items) ≡ filled result (front_value self.new.items) }
+        ensures refusal { is_refusal result ≡ true → is_some get.now.create ≡ true }
+    {
+        let Some(create) = get.create else {
+            return Reply::Miss;
+        };
+        let lent = Lent {
+            flags: 0,
+            expiry: Deadline::of(get.exptime.unwrap_or(create), moment),
+            won: true,
+            block: &[],
+        };
+        match self.make(key, lent) {
+            Ok(()) => self.show_front(&get.show, Marks::Won, moment),
+            Err(fault) => Reply::Fault(fault),
+        }
+    }
+
+    /// The reply to an update, told to a meta command. What was stored stands first.
+    pub(super) fn tell(&self, reply: Reply<()>, show: &Show, moment: u64) -> Reply<()>
+        ensures told { IsTold show.now moment self.now reply result }
+        ensures refusal { is_refusal result ≡ is_refusal reply }
+    {
+        match reply {
+            Reply::Stored | Reply::Number(_) => self.show_front(show, Marks::Plain, moment),
+            Reply::Deleted => Reply::Meta {
+                shown: Shown::nothing(),
+                value: None,
+            },
+            _ => reply,
+        }
+    }
+
+    /// A reply that shows the first item at a moment, with these marks.
+    fn show_front(&self, show: &Show, marks: Marks, moment: u64) -> Reply<()>
+        ensures shown { filled result (front_value self.now.items)
+            ≡ item_shown show.now moment marks (front_body self.now.items) }
+        ensures refusal { is_refusal result ≡ false }
+    {
+        let Some(body) = self.store.front() else {
+            return Reply::Meta {
+                shown: Shown::nothing(),
+                value: None,
+            };
+        };
+        Reply::Meta {
+            shown: Shown {
+                cas: show.cas.then_some(body.cas),
+                flags: show.flags.then_some(body.flags),
+                size: show.size.then_some(body.value.len()),
+                left: show.left.then_some(body.expiry.left(moment)),
+                marks,
+            },
+            value: show.value.then_some(()),
+        }
+    }
+}
+
+/// Whether the seconds left are below those of a command, if it names any. What never ends has more than any.
+fn is_low(recache: Option<u64>, left: Option<u64>) -> bool
+    ensures { result ≡ is_low recache left }
+{
+    match (recache, left) {
+        (Some(recache), Some(left)) => left < recache,
+        _ => false,
+    }
+}
+
+/// The marks of an item that is stale or not, where a client was told to fill it or not, and where it is to be filled.
+fn marks_by(stale: bool, won: bool, needs: bool) -> Marks
+    ensures { result ≡ marks_by stale won needs }
+{
+    match (stale, won, needs) {
+        (false, true, _) => Marks::Sent,
+        (true, true, _) => Marks::StaleSent,
+        (false, false, true) => Marks::Won,
+        (true, false, true) => Marks::WonStale,
+        (_, false, false) => Marks::Plain,
+    }
+}

@@ -1,0 +1,119 @@
+//! Worked examples of meta commands, computed from the definitions alone.
+#![tactic(auto, unfolding(mc_text::specs::Words::words, mc_text::specs::Lines::line_end, mc_text::specs::Lines::first_line, mc_text::proofs::OnLiterals::coded_on_literals, crate::specs::Names::name_of, crate::specs::Requests::next_request, crate::specs::Requests::requests_within, crate::specs::Requests::requests_of))]
+
+ghost use Rattle.std.specs.Prelude.{◌≡◌, ℕ, pos, negsuc, List, [], ◌∷◌, Some, None, true, false, map, codes};
+ghost use Rattle.mc_text.specs.Words.{words};
+ghost use Rattle.mc_request.specs.declared.names.Name.{Name};
+ghost use Rattle.mc_request.specs.declared.parts.Direction.{Direction};
+ghost use Rattle.mc_request.specs.declared.parts.StoreMode.{StoreMode};
+ghost use Rattle.mc_request.specs.Requests.{requests_of};
+ghost use Rattle.mc_request.specs.Flags.{mode_of, direction_of};
+ghost use Rattle.mc_request.specs.Meanings.{Alone, Stores, Refuses, meaning, plain_counting};
+ghost use Rattle.mc_request.specs.Examples.{refused, meta, setting, nothing_shown, taken_alone, bad_alone, invalid_alone, once_each};
+
+use crate::faults::Fault;
+use crate::meta::MetaCommand;
+use crate::names::Name;
+use crate::parts::{Direction, Request, StoreMode, Taken, Update};
+
+/// Each flag with each command: it is taken, or is none of the command's flags. The modes of `ms` and `ma` are others.
+pub fn flags_of_each_command()
+    ensures mg_takes { taken_alone Name.MetaGet (codes "b c f k O1 q s t v T1 C1 F1 MS MI N1 J1 D1 I R1") ≡ words (codes "b c f k O1 q s t v T1 N1 R1") }
+    ensures mg_refuses { invalid_alone Name.MetaGet (codes "b c f k O1 q s t v T1 C1 F1 MS MI N1 J1 D1 I R1") ≡ words (codes "C1 F1 MS MI J1 D1 I") }
+    ensures ms_takes { taken_alone Name.MetaSet (codes "b c f k O1 q s t v T1 C1 F1 MS MI N1 J1 D1 I R1") ≡ words (codes "b c k O1 q s T1 C1 F1 MS") }
+    ensures ms_bad { bad_alone Name.MetaSet (codes "b c f k O1 q s t v T1 C1 F1 MS MI N1 J1 D1 I R1") ≡ words (codes "MI") }
+    ensures ms_refuses { invalid_alone Name.MetaSet (codes "b c f k O1 q s t v T1 C1 F1 MS MI N1 J1 D1 I R1") ≡ words (codes "f t v N1 J1 D1 I R1") }
+    ensures md_takes { taken_alone Name.MetaDelete (codes "b c f k O1 q s t v T1 C1 F1 MS MI N1 J1 D1 I R1") ≡ words (codes "b k O1 q C1 I") }
+    ensures md_refuses { invalid_alone Name.MetaDelete (codes "b c f k O1 q s t v T1 C1 F1 MS MI N1 J1 D1 I R1") ≡ words (codes "c f s t v T1 F1 MS MI N1 J1 D1 R1") }
+    ensures ma_takes { taken_alone Name.MetaArithmetic (codes "b c f k O1 q s t v T1 C1 F1 MS MI N1 J1 D1 I R1") ≡ words (codes "b c k O1 q t v T1 C1 MI N1 J1 D1") }
+    ensures ma_bad { bad_alone Name.MetaArithmetic (codes "b c f k O1 q s t v T1 C1 F1 MS MI N1 J1 D1 I R1") ≡ words (codes "MS") }
+    ensures ma_refuses { invalid_alone Name.MetaArithmetic (codes "b c f k O1 q s t v T1 C1 F1 MS MI N1 J1 D1 I R1") ≡ words (codes "f s F1 I R1") }
+{}
+
+/// A flag that wants a token and has none has a bad one; one that has none and has more bytes is no flag.
+pub fn tokens_of_each_flag()
+    ensures mg_bad { bad_alone Name.MetaGet (codes "T C F M N J D R") ≡ words (codes "T N R") }
+    ensures mg_refuses { invalid_alone Name.MetaGet (codes "T C F M N J D R") ≡ words (codes "C F M J D") }
+    ensures mg_longer { invalid_alone Name.MetaGet (codes "bx cx fx kx qx sx tx vx Ix") ≡ words (codes "bx cx fx kx qx sx tx vx Ix") }
+    ensures ms_bad { bad_alone Name.MetaSet (codes "T C F M N J D R") ≡ words (codes "T C F M") }
+    ensures ms_refuses { invalid_alone Name.MetaSet (codes "T C F M N J D R") ≡ words (codes "N J D R") }
+    ensures ms_longer { invalid_alone Name.MetaSet (codes "bx cx fx kx qx sx tx vx Ix") ≡ words (codes "bx cx fx kx qx sx tx vx Ix") }
+    ensures md_bad { bad_alone Name.MetaDelete (codes "T C F M N J D R") ≡ words (codes "C") }
+    ensures md_refuses { invalid_alone Name.MetaDelete (codes "T C F M N J D R") ≡ words (codes "T F M N J D R") }
+    ensures md_longer { invalid_alone Name.MetaDelete (codes "bx cx fx kx qx sx tx vx Ix") ≡ words (codes "bx cx fx kx qx sx tx vx Ix") }
+    ensures ma_bad { bad_alone Name.MetaArithmetic (codes "T C F M N J D R") ≡ words (codes "T C M N J D") }
+    ensures ma_refuses { invalid_alone Name.MetaArithmetic (codes "T C F M N J D R") ≡ words (codes "F R") }
+    ensures ma_longer { invalid_alone Name.MetaArithmetic (codes "bx cx fx kx qx sx tx vx Ix") ≡ words (codes "bx cx fx kx qx sx tx vx Ix") }
+{}
+
+/// No flag stands twice, whatever it says the second time.
+pub fn flags_stand_once()
+    ensures mg { once_each Name.MetaGet (codes "b c f k O1 q s t v T1 C1 F1 MS MI N1 J1 D1 I R1") ≡ true }
+    ensures ms { once_each Name.MetaSet (codes "b c f k O1 q s t v T1 C1 F1 MS MI N1 J1 D1 I R1") ≡ true }
+    ensures md { once_each Name.MetaDelete (codes "b c f k O1 q s t v T1 C1 F1 MS MI N1 J1 D1 I R1") ≡ true }
+    ensures ma { once_each Name.MetaArithmetic (codes "b c f k O1 q s t v T1 C1 F1 MS MI N1 J1 D1 I R1") ≡ true }
+{}
+
+/// An opaque has at most 32 bytes, and may have none.
+pub fn opaques()
+    ensures none { taken_alone Name.MetaGet (codes "O") ≡ words (codes "O") }
+    ensures longest { taken_alone Name.MetaDelete (codes "O12345678901234567890123456789012") ≡ words (codes "O12345678901234567890123456789012") }
+    ensures too_long { bad_alone Name.MetaDelete (codes "O123456789012345678901234567890123") ≡ words (codes "O123456789012345678901234567890123") }
+{}
+
+/// Modes are letters, capital or small.
+pub fn modes()
+    ensures ms { map mode_of (words (codes "E A P R S")) ≡ Some StoreMode.Add ∷ Some StoreMode.Append ∷ Some StoreMode.Prepend ∷ Some StoreMode.Replace ∷ Some StoreMode.Set ∷ [] }
+    ensures ms_small { map mode_of (words (codes "e a p r s")) ≡ map mode_of (words (codes "E A P R S")) }
+    ensures ma { map direction_of (words (codes "I i + D d -")) ≡ Some Direction.Up ∷ Some Direction.Up ∷ Some Direction.Up ∷ Some Direction.Down ∷ Some Direction.Down ∷ Some Direction.Down ∷ [] }
+    ensures unknown { map mode_of (words (codes "I X SS")) ≡ None ∷ None ∷ None ∷ [] }
+{}
+
+/// The first fault counts: the number of words, the length of `ms`, the flags from left to right, the key, the value's limit.
+pub fn faults_in_order()
+    ensures few { meaning (words (codes "mg")) ≡ refused Fault.UnknownCommand }
+    ensures few_set { meaning (words (codes "ms a")) ≡ refused Fault.UnknownCommand }
+    ensures doubled { meaning (words (codes "mg a v v")) ≡ refused Fault.InvalidFlag }
+    ensures unknown { meaning (words (codes "mg a z")) ≡ refused Fault.InvalidFlag }
+    ensures token { meaning (words (codes "mg a Tx")) ≡ refused Fault.BadToken }
+    ensures token_first { meaning (words (codes "mg a Tx z")) ≡ refused Fault.BadToken }
+    ensures flag_first { meaning (words (codes "mg a z Tx")) ≡ refused Fault.InvalidFlag }
+    ensures flag_before_key { meaning (words (codes "md a\tb v")) ≡ refused Fault.InvalidFlag }
+    ensures key { meaning (words (codes "ma a\tb v")) ≡ refused Fault.BadFormat }
+    ensures len { meaning (words (codes "ms a x z")) ≡ refused Fault.BadFormat }
+    ensures set_flag { meaning (words (codes "ms a 1048577 v")) ≡ Refuses Fault.InvalidFlag 1048577 }
+    ensures set_key { meaning (words (codes "ms a\tb 1048577 q")) ≡ Refuses Fault.BadFormat 1048577 }
+    ensures set_size { meaning (words (codes "ms a 1048577 q")) ≡ Refuses Fault.TooLarge 1048577 }
+    ensures noop { meaning (words (codes "mn x")) ≡ refused Fault.UnknownCommand }
+{}
+
+/// What meta commands without a block ask for.
+pub fn meta_commands()
+    ensures bare { meaning (words (codes "mg a")) ≡ meta (MetaCommand.Get (codes "a") (record { show = nothing_shown; exptime = None; create = None; recache = None })) false false [] }
+    ensures value { meaning (words (codes "mg a v q")) ≡ meta (MetaCommand.Get (codes "a") (record { show = (record nothing_shown { value = true }); exptime = None; create = None; recache = None })) false true (codes "v q") }
+    ensures all { meaning (words (codes "mg a T9 N30 R60 O7 k")) ≡ meta (MetaCommand.Get (codes "a") (record { show = nothing_shown; exptime = Some (pos 9); create = Some (pos 30); recache = Some 60 })) false false (codes "T9 N30 R60 O7 k") }
+    ensures delete { meaning (words (codes "md a")) ≡ meta (MetaCommand.Update (Update.Delete (codes "a") None false) nothing_shown) false false [] }
+    ensures stale { meaning (words (codes "md a I C5")) ≡ meta (MetaCommand.Update (Update.Delete (codes "a") (Some 5) true) nothing_shown) false false (codes "I C5") }
+    ensures count { meaning (words (codes "ma a")) ≡ meta (MetaCommand.Update (Update.Count (codes "a") (plain_counting Direction.Up 1)) nothing_shown) false false [] }
+    ensures made { meaning (words (codes "ma a N-1 J7 D5 MD T9 C3")) ≡ meta (MetaCommand.Update (Update.Count (codes "a") (record { direction = Direction.Down; delta = 5; compare = Some 3; create = Some (record { exptime = negsuc 0; initial = 7 }); exptime = Some (pos 9) })) nothing_shown) false false (codes "N-1 J7 D5 MD T9 C3") }
+    ensures initial_alone { meaning (words (codes "ma a J7")) ≡ meta (MetaCommand.Update (Update.Count (codes "a") (plain_counting Direction.Up 1)) nothing_shown) false false (codes "J7") }
+    ensures noop { meaning (words (codes "mn")) ≡ Alone (Taken.Whole Request.MetaNoop) }
+{}
+
+/// What an `ms` asks for: it sets, with client flags of 0 and an exptime of 0, where nothing else is said.
+pub fn meta_sets()
+    ensures bare { meaning (words (codes "ms a 2")) ≡ Stores (setting StoreMode.Set None 0 (pos 0) nothing_shown []) 2 }
+    ensures all { meaning (words (codes "ms a 2 MA C5 F7 T-1 s")) ≡ Stores (setting StoreMode.Append (Some 5) 7 (negsuc 0) (record nothing_shown { size = true }) (codes "MA C5 F7 T-1 s")) 2 }
+{}
+
+/// A key in base64 may be of any bytes. One that is no base64, or has a bit set behind its last byte, refuses the line.
+pub fn coded_keys()
+    ensures space { meaning (words (codes "mg YSBi b")) ≡ meta (MetaCommand.Get (codes "a b") (record { show = nothing_shown; exptime = None; create = None; recache = None })) true false (codes "b") }
+    ensures bits { meaning (words (codes "mg YWJ= b")) ≡ refused Fault.BadFormat }
+    ensures bare { meaning (words (codes "mg a b")) ≡ refused Fault.BadFormat }
+{}
+
+/// A faulty `ms` line takes its block wherever its third word is a readable length; here the block would be a command.
+pub fn meta_block_is_swallowed()
+    ensures text { requests_of (codes "ms a 5 z\r\nget a\r\nmn\r\n") ≡ Taken.Faulty Fault.InvalidFlag ∷ Taken.Whole Request.MetaNoop ∷ [] }
+{}
