@@ -1,6 +1,6 @@
 #!/usr/bin/env bash
 # The merge gate: every proof from nothing, the must-fail edits, tests and programs (`rt ci`), and then the scripts of
-# tests/ with the program that was just built. The last line is 'N passed, M failed', the sum of all parts.
+# tests/ with the programs that were just built. The last line is 'N passed, M failed', the sum of all parts.
 set -u
 shopt -s lastpipe
 cd "$(dirname "$0")/.."
@@ -39,5 +39,6 @@ fi
 add rt ci
 add tests/examples.sh
 add tests/random.sh 5 2000
+add tests/serverd.py crates/mc_serverd/out/mc_serverd
 echo "$passed passed, $failed failed"
 [ "$failed" -eq 0 ]

@@ -3,10 +3,11 @@
 //! With no argument each case runs at a thousandth of its size, and its line tells how many bytes were fed and how
 //! many answered. With the argument `measure` each case runs at full size, and its line tells the speed too. Behind
 //! each case stands the same at a tenth of the size: the time for a byte is to be the same. With the argument `ring`
-//! it is measured how fast a ring finds the owners of keys.
+//! it is measured how fast a ring finds the owners of keys, and with `store` how fast a cache answers over each store.
 //!
 //! `case KIND SIZE PIECE` runs one case alone, and `load KIND SIZE PIECE` only makes what its client would send. So a tool
 //! that counts instructions tells what a request costs: the difference of two sizes of the one, less that of the other.
+//! `hold ITEMS` makes a cache that holds so many items and no more: the memory that two such runs took tells what an item takes.
 #![tactic(auto)]
 
 mod cases;
@@ -14,6 +15,7 @@ mod figures;
 mod loads;
 mod rings;
 mod served;
+mod stores;
 
 use anyhow::{Context, bail};
 use cases::{CASES, Case, Kind};
@@ -32,6 +34,8 @@ fn main(rt: HostRuntime) -> anyhow::Result<()> {
     };
     match mode.as_str() {
         "ring" => rings::measure(&rt),
+        "store" => stores::measure(&rt),
+        "hold" => stores::hold(&rt, arguments.next().context("no items")?.parse()?),
         "measure" => run_all(&rt, 1, true),
         "case" | "load" => {
             let case = Case {
@@ -50,7 +54,7 @@ fn main(rt: HostRuntime) -> anyhow::Result<()> {
             Ok(())
         }
         _ => bail!(
-            "usage: mc_bench [measure | ring | case KIND SIZE PIECE | load KIND SIZE PIECE]"
+            "usage: mc_bench [measure | ring | store | hold ITEMS | case KIND SIZE PIECE | load KIND SIZE PIECE]"
         ),
     }
 }

@@ -9,7 +9,7 @@ ghost use Rattle.mc_request.specs.declared.parts.StoreMode.{StoreMode};
 ghost use Rattle.mc_request.specs.Requests.{requests_of};
 ghost use Rattle.mc_request.specs.Flags.{mode_of, direction_of};
 ghost use Rattle.mc_request.specs.Meanings.{Alone, Stores, Refuses, meaning, plain_counting};
-ghost use Rattle.mc_request.specs.Examples.{refused, meta, setting, nothing_shown, taken_alone, bad_alone, invalid_alone, once_each};
+ghost use Rattle.mc_request.specs.Examples.{refused, meta, setting, nothing_shown, every_flag, without_tokens, longer_flags, taken_alone, bad_alone, invalid_alone, once_each};
 
 use crate::faults::Fault;
 use crate::meta::MetaCommand;
@@ -18,40 +18,40 @@ use crate::parts::{Direction, Request, StoreMode, Taken, Update};
 
 /// Each flag with each command: it is taken, or is none of the command's flags. The modes of `ms` and `ma` are others.
 pub fn flags_of_each_command()
-    ensures mg_takes { taken_alone Name.MetaGet (codes "b c f k O1 q s t v T1 C1 F1 MS MI N1 J1 D1 I R1") ≡ words (codes "b c f k O1 q s t v T1 N1 R1") }
-    ensures mg_refuses { invalid_alone Name.MetaGet (codes "b c f k O1 q s t v T1 C1 F1 MS MI N1 J1 D1 I R1") ≡ words (codes "C1 F1 MS MI J1 D1 I") }
-    ensures ms_takes { taken_alone Name.MetaSet (codes "b c f k O1 q s t v T1 C1 F1 MS MI N1 J1 D1 I R1") ≡ words (codes "b c k O1 q s T1 C1 F1 MS") }
-    ensures ms_bad { bad_alone Name.MetaSet (codes "b c f k O1 q s t v T1 C1 F1 MS MI N1 J1 D1 I R1") ≡ words (codes "MI") }
-    ensures ms_refuses { invalid_alone Name.MetaSet (codes "b c f k O1 q s t v T1 C1 F1 MS MI N1 J1 D1 I R1") ≡ words (codes "f t v N1 J1 D1 I R1") }
-    ensures md_takes { taken_alone Name.MetaDelete (codes "b c f k O1 q s t v T1 C1 F1 MS MI N1 J1 D1 I R1") ≡ words (codes "b k O1 q C1 I") }
-    ensures md_refuses { invalid_alone Name.MetaDelete (codes "b c f k O1 q s t v T1 C1 F1 MS MI N1 J1 D1 I R1") ≡ words (codes "c f s t v T1 F1 MS MI N1 J1 D1 R1") }
-    ensures ma_takes { taken_alone Name.MetaArithmetic (codes "b c f k O1 q s t v T1 C1 F1 MS MI N1 J1 D1 I R1") ≡ words (codes "b c k O1 q t v T1 C1 MI N1 J1 D1") }
-    ensures ma_bad { bad_alone Name.MetaArithmetic (codes "b c f k O1 q s t v T1 C1 F1 MS MI N1 J1 D1 I R1") ≡ words (codes "MS") }
-    ensures ma_refuses { invalid_alone Name.MetaArithmetic (codes "b c f k O1 q s t v T1 C1 F1 MS MI N1 J1 D1 I R1") ≡ words (codes "f s F1 I R1") }
+    ensures mg_takes { taken_alone Name.MetaGet every_flag ≡ words (codes "b c f k Oid q s t v T300 N300 R300") }
+    ensures mg_refuses { invalid_alone Name.MetaGet every_flag ≡ words (codes "C300 F300 MS MI J300 D300 I") }
+    ensures ms_takes { taken_alone Name.MetaSet every_flag ≡ words (codes "b c k Oid q s T300 C300 F300 MS") }
+    ensures ms_bad { bad_alone Name.MetaSet every_flag ≡ words (codes "MI") }
+    ensures ms_refuses { invalid_alone Name.MetaSet every_flag ≡ words (codes "f t v N300 J300 D300 I R300") }
+    ensures md_takes { taken_alone Name.MetaDelete every_flag ≡ words (codes "b k Oid q C300 I") }
+    ensures md_refuses { invalid_alone Name.MetaDelete every_flag ≡ words (codes "c f s t v T300 F300 MS MI N300 J300 D300 R300") }
+    ensures ma_takes { taken_alone Name.MetaArithmetic every_flag ≡ words (codes "b c k Oid q t v T300 C300 MI N300 J300 D300") }
+    ensures ma_bad { bad_alone Name.MetaArithmetic every_flag ≡ words (codes "MS") }
+    ensures ma_refuses { invalid_alone Name.MetaArithmetic every_flag ≡ words (codes "f s F300 I R300") }
 {}
 
 /// A flag that wants a token and has none has a bad one; one that has none and has more bytes is no flag.
 pub fn tokens_of_each_flag()
-    ensures mg_bad { bad_alone Name.MetaGet (codes "T C F M N J D R") ≡ words (codes "T N R") }
-    ensures mg_refuses { invalid_alone Name.MetaGet (codes "T C F M N J D R") ≡ words (codes "C F M J D") }
-    ensures mg_longer { invalid_alone Name.MetaGet (codes "bx cx fx kx qx sx tx vx Ix") ≡ words (codes "bx cx fx kx qx sx tx vx Ix") }
-    ensures ms_bad { bad_alone Name.MetaSet (codes "T C F M N J D R") ≡ words (codes "T C F M") }
-    ensures ms_refuses { invalid_alone Name.MetaSet (codes "T C F M N J D R") ≡ words (codes "N J D R") }
-    ensures ms_longer { invalid_alone Name.MetaSet (codes "bx cx fx kx qx sx tx vx Ix") ≡ words (codes "bx cx fx kx qx sx tx vx Ix") }
-    ensures md_bad { bad_alone Name.MetaDelete (codes "T C F M N J D R") ≡ words (codes "C") }
-    ensures md_refuses { invalid_alone Name.MetaDelete (codes "T C F M N J D R") ≡ words (codes "T F M N J D R") }
-    ensures md_longer { invalid_alone Name.MetaDelete (codes "bx cx fx kx qx sx tx vx Ix") ≡ words (codes "bx cx fx kx qx sx tx vx Ix") }
-    ensures ma_bad { bad_alone Name.MetaArithmetic (codes "T C F M N J D R") ≡ words (codes "T C M N J D") }
-    ensures ma_refuses { invalid_alone Name.MetaArithmetic (codes "T C F M N J D R") ≡ words (codes "F R") }
-    ensures ma_longer { invalid_alone Name.MetaArithmetic (codes "bx cx fx kx qx sx tx vx Ix") ≡ words (codes "bx cx fx kx qx sx tx vx Ix") }
+    ensures mg_bad { bad_alone Name.MetaGet without_tokens ≡ words (codes "T N R") }
+    ensures mg_refuses { invalid_alone Name.MetaGet without_tokens ≡ words (codes "C F M J D") }
+    ensures mg_longer { invalid_alone Name.MetaGet longer_flags ≡ words longer_flags }
+    ensures ms_bad { bad_alone Name.MetaSet without_tokens ≡ words (codes "T C F M") }
+    ensures ms_refuses { invalid_alone Name.MetaSet without_tokens ≡ words (codes "N J D R") }
+    ensures ms_longer { invalid_alone Name.MetaSet longer_flags ≡ words longer_flags }
+    ensures md_bad { bad_alone Name.MetaDelete without_tokens ≡ words (codes "C") }
+    ensures md_refuses { invalid_alone Name.MetaDelete without_tokens ≡ words (codes "T F M N J D R") }
+    ensures md_longer { invalid_alone Name.MetaDelete longer_flags ≡ words longer_flags }
+    ensures ma_bad { bad_alone Name.MetaArithmetic without_tokens ≡ words (codes "T C M N J D") }
+    ensures ma_refuses { invalid_alone Name.MetaArithmetic without_tokens ≡ words (codes "F R") }
+    ensures ma_longer { invalid_alone Name.MetaArithmetic longer_flags ≡ words longer_flags }
 {}
 
 /// No flag stands twice, whatever it says the second time.
 pub fn flags_stand_once()
-    ensures mg { once_each Name.MetaGet (codes "b c f k O1 q s t v T1 C1 F1 MS MI N1 J1 D1 I R1") ≡ true }
-    ensures ms { once_each Name.MetaSet (codes "b c f k O1 q s t v T1 C1 F1 MS MI N1 J1 D1 I R1") ≡ true }
-    ensures md { once_each Name.MetaDelete (codes "b c f k O1 q s t v T1 C1 F1 MS MI N1 J1 D1 I R1") ≡ true }
-    ensures ma { once_each Name.MetaArithmetic (codes "b c f k O1 q s t v T1 C1 F1 MS MI N1 J1 D1 I R1") ≡ true }
+    ensures mg { once_each Name.MetaGet every_flag ≡ true }
+    ensures ms { once_each Name.MetaSet every_flag ≡ true }
+    ensures md { once_each Name.MetaDelete every_flag ≡ true }
+    ensures ma { once_each Name.MetaArithmetic every_flag ≡ true }
 {}
 
 /// An opaque has at most 32 bytes, and may have none.
@@ -95,7 +95,7 @@ pub fn meta_commands()
     ensures delete { meaning (words (codes "md a")) ≡ meta (MetaCommand.Update (Update.Delete (codes "a") None false) nothing_shown) false false [] }
     ensures stale { meaning (words (codes "md a I C5")) ≡ meta (MetaCommand.Update (Update.Delete (codes "a") (Some 5) true) nothing_shown) false false (codes "I C5") }
     ensures count { meaning (words (codes "ma a")) ≡ meta (MetaCommand.Update (Update.Count (codes "a") (plain_counting Direction.Up 1)) nothing_shown) false false [] }
-    ensures made { meaning (words (codes "ma a N-1 J7 D5 MD T9 C3")) ≡ meta (MetaCommand.Update (Update.Count (codes "a") (record { direction = Direction.Down; delta = 5; compare = Some 3; create = Some (record { exptime = negsuc 0; initial = 7 }); exptime = Some (pos 9) })) nothing_shown) false false (codes "N-1 J7 D5 MD T9 C3") }
+    ensures made { meaning (words (codes "ma a N-1 J700 D500 MD T900 C300")) ≡ meta (MetaCommand.Update (Update.Count (codes "a") (record { direction = Direction.Down; delta = 500; compare = Some 300; create = Some (record { exptime = negsuc 0; initial = 700 }); exptime = Some (pos 900) })) nothing_shown) false false (codes "N-1 J700 D500 MD T900 C300") }
     ensures initial_alone { meaning (words (codes "ma a J7")) ≡ meta (MetaCommand.Update (Update.Count (codes "a") (plain_counting Direction.Up 1)) nothing_shown) false false (codes "J7") }
     ensures noop { meaning (words (codes "mn")) ≡ Alone (Taken.Whole Request.MetaNoop) }
 {}

@@ -140,6 +140,15 @@ impl Reader {
         }
     }
 
+    /// Gives back the memory that is reserved and holds no byte, where more than `kept` bytes are reserved. It is for a
+    /// reader that will be idle for a while: the next feeds reserve anew.
+    pub fn give_back(&mut self, kept: usize)
+        ensures same { self.new ≡ self.old }
+        ensures little { KeepsLittle self.new }
+    {
+        self.unread.give_back(kept);
+    }
+
     /// How many bytes the reader keeps: those that are not taken, and of those taken the ones that are not let go yet,
     /// which are never more. Where nothing is whole, they are fewer than [`REQUEST_LIMIT`](crate::REQUEST_LIMIT).
     pub fn held(&self) -> usize

@@ -132,18 +132,27 @@ impl Unread {
         }
     }
 
-    /// Looks for the end of the first line, and says whether it is found and the line is short: then a look reads at most
-    /// `SHORT_LINE` bytes of it before it knows whether the first request or fault is whole.
+    /// Looks for the end of the first line, notes how far it was searched, and says whether it is found and the line is
+    /// short: then a look reads at most `SHORT_LINE` bytes of it before it knows whether the first request or fault is whole.
     pub fn finds_short_line(&mut self) -> bool
         ensures same { self.new ≡ self.old }
         ensures little { result ≡ true → KeepsLittle self.new }
     {
         let (_, unread) = self.buffer.split_at(self.start);
-        let Line::Whole { taken, .. } = self.searched.line(unread) else {
-            return false;
-        };
-        self.searched = Searched::Ends(taken - 1);
-        taken <= SHORT_LINE && self.buffer.len() < REQUEST_LIMIT
+        match self.searched.line(unread) {
+            Line::Whole { taken, .. } => {
+                self.searched = Searched::Ends(taken - 1);
+                taken <= SHORT_LINE && self.buffer.len() < REQUEST_LIMIT
+            }
+            Line::Partial => {
+                self.searched = Searched::Without(unread.len());
+                false
+            }
+            Line::TooLong => {
+                self.searched = Searched::TooLong;
+                false
+            }
+        }
     }
 
     /// Whether it is known that nothing is whole, and nothing is kept of what was taken.
@@ -246,6 +255,15 @@ impl Unread {
         ensures { result ≡ self.now.closed }
     {
         self.closed
+    }
+
+    /// Gives back the room that is reserved and not used, where more than so many bytes are reserved.
+    pub fn give_back(&mut self, kept: usize)
+        ensures { self.new ≡ self.old }
+    {
+        if self.buffer.capacity() > kept {
+            self.buffer.shrink_to_fit();
+        }
     }
 
     /// How many bytes are kept.

@@ -1,6 +1,7 @@
-//! A cache with ample memory, whose caller hands it keys and blocks of its own, or lends them to its meta commands.
+//! A cache with ample memory, whose caller hands it keys and blocks of its own, or lends them to its meta commands: over
+//! a list, and over a store that finds its items by a hash, of a fixed seed or not.
 ghost use Rattle.std.specs.Prelude.{◌≡◌, pos, None};
-ghost use Rattle.mc_request.specs.declared.parts.Update.TheVariants.{Store};
+ghost use Rattle.mc_request.specs.declared.parts.Update.TheVariants.{Store as AStore};
 
 use mc_cache::Cache;
 use mc_item::CasCounter;
@@ -8,9 +9,10 @@ use mc_reply::{Marks, Reply, Shown};
 use mc_request::{
     Atom, Counting, Creation, Direction, MetaCommand, MetaGet, Show, StoreMode, Update,
 };
-use mc_store::ListStore;
+use mc_store::{ListStore, LruStore, Store, StoreError};
 use mc_text::{Block, Key};
 use std::alloc::{AllocError, Global};
+use std::hash::RandomState;
 use std::test::Fail;
 
 #[test]
@@ -99,7 +101,7 @@ const COUNTING: Counting = Counting {
 
 /// A store with flags of 5.
 fn store<K: Drop, B: Drop>(mode: StoreMode, key: K, block: B) -> Update<K, B>
-    ensures { result ≡ Store mode None key 5 (pos 0) block }
+    ensures { result ≡ AStore mode None key 5 (pos 0) block }
 {
     Update::Store {
         mode,
@@ -112,8 +114,8 @@ fn store<K: Drop, B: Drop>(mode: StoreMode, key: K, block: B) -> Update<K, B>
 }
 
 /// What a cache answers to it.
-fn ask(
-    cache: &mut Cache<ListStore>,
+fn ask<S: Store + Drop>(
+    cache: &mut Cache<S>,
     alloc: Global,
     asking: Asking,
 ) -> Result<Reply<()>, AllocError> {
@@ -141,11 +143,14 @@ fn ask(
     cache.meta_update(&lent, &SHOW, 0)
 }
 
-#[test]
-fn meta_commands_find_memory(rt: HostRuntime) -> Result<(), Fail> {
-    let mut cache = new_cache(rt.alloc());
-    for (asking, cas, flags, left, marks, value) in &ASKED {
-        let reply = ask(&mut cache, rt.alloc(), *asking)?;
+/// Whether a cache that holds nothing answers all of these, in order.
+fn answers_all<S: Store + Drop>(
+    mut cache: Cache<S>,
+    alloc: Global,
+    asked: &[(Asking, u64, u32, Option<u64>, Marks, &[u8])],
+) -> Result<bool, AllocError> {
+    for (asking, cas, flags, left, marks, value) in asked {
+        let reply = ask(&mut cache, alloc, *asking)?;
         let wanted = Shown {
             cas: Some(*cas),
             flags: Some(*flags),
@@ -154,7 +159,38 @@ fn meta_commands_find_memory(rt: HostRuntime) -> Result<(), Fail> {
             marks: *marks,
         };
         let is_so = matches!(reply, Reply::Meta { shown, value: Some(()) } if shown == wanted);
-        assert!(rt; is_so && cache.front_value() == *value);
+        if !is_so || cache.front_value() != *value {
+            return Ok(false);
+        }
     }
+    Ok(true)
+}
+
+#[test]
+fn meta_commands_find_memory(rt: HostRuntime) -> Result<(), Fail> {
+    let alloc = rt.alloc();
+    let none = CasCounter::starting_at(0);
+    let hashed = Cache::new(alloc, LruStore::new(alloc, 10)?, 1_000, 10, none);
+    let secret = LruStore::with_hasher(alloc, 10, RandomState::new(&rt)?)?;
+    let secret = Cache::new(alloc, secret, 1_000, 10, none);
+    assert!(rt;
+        answers_all(new_cache(alloc), alloc, &ASKED)?
+            && answers_all(hashed, alloc, &ASKED)?
+            && answers_all(secret, alloc, &ASKED)?
+    );
+    Ok(())
+}
+
+#[test]
+fn stores_without_end_are_refused(rt: HostRuntime) -> Result<(), Fail> {
+    let has_no_number = matches!(
+        LruStore::new(rt.alloc(), usize::MAX),
+        Err(StoreError::TooMany)
+    );
+    let has_no_memory = matches!(
+        LruStore::new(rt.alloc(), usize::MAX - 1),
+        Err(StoreError::Memory)
+    );
+    assert!(rt; has_no_number && has_no_memory);
     Ok(())
 }

@@ -1,8 +1,8 @@
 //! Tests over all crates of what no clause says and no script can bring about.
 //!
 //! A script of `tests/examples/` plays bytes to a server. Here is what is left: numbers used up, memory refused, output
-//! taken out in parts, and connections that are admitted and closed. What is expected is worked out by hand from the
-//! protocol's rules, and is never taken from what the program wrote.
+//! taken out in parts, connections that are admitted and closed, streams that move little or fail, and sockets. What is
+//! expected is worked out by hand from the protocol's rules, and is never taken from what the program wrote.
 #![tactic(auto)]
 
 #[cfg(test)]
@@ -14,7 +14,11 @@ mod clients;
 #[cfg(test)]
 mod connections;
 #[cfg(test)]
+mod loopback;
+#[cfg(test)]
 mod meagre;
+#[cfg(test)]
+mod pumps;
 #[cfg(test)]
 mod replies;
 #[cfg(test)]

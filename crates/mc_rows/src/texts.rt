@@ -5,6 +5,7 @@ use mc_request::{Keys, ReadError};
 use mc_ring::RingError;
 use mc_script::{Side, SimError};
 use mc_server::ServerError;
+use mc_store::StoreError;
 use mc_text::{Block, Key, KeyError};
 use std::alloc::{AllocError, Global};
 use std::fmt::Display;
@@ -56,6 +57,11 @@ const OF_KEYS: [(KeyError, &'static str); 5] = [
     (KeyError::Memory, "out of memory"),
 ];
 
+const OF_STORES: [(StoreError, &'static str); 2] = [
+    (StoreError::Memory, "out of memory"),
+    (StoreError::TooMany, "too many items"),
+];
+
 const OF_SERVERS: [(ServerError, &'static str); 3] = [
     (ServerError::NoConnection, "no such connection"),
     (ServerError::TooMany, "too many connections"),
@@ -81,6 +87,7 @@ fn errors_have_texts(rt: HostRuntime) -> Result<(), Fail> {
     let alloc = rt.alloc();
     assert!(rt;
         read_so(alloc, &OF_KEYS)
+            && read_so(alloc, &OF_STORES)
             && read_so(alloc, &OF_SERVERS)
             && read_so(alloc, &OF_RINGS)
             && read_so(alloc, &OF_SCRIPTS)

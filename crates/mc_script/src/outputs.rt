@@ -13,15 +13,18 @@ use crate::events::{Event, Script};
 use mc_cache::Cache;
 use mc_item::CasCounter;
 use mc_server::{Server, ServerError};
-use mc_store::ListStore;
+use mc_store::{FixedHasher, LruStore};
 use std::alloc::{AllocError, Global};
+
+/// The server that plays a script. Its store's hasher has a fixed seed, so a script takes the same steps each time.
+pub type ScriptServer = Server<LruStore<FixedHasher>>;
 
 /// A server that has played a script: its outputs are what it sends to the clients.
 ///
 /// The outputs are the answers of one legal history: each turn takes the next request or fault of its connection's
 /// text, if it has come whole, and no other. Once it is said which stores were refused memory, no other outputs are
 /// right.
-pub fn played_server(alloc: Global, script: &Script) -> Result<Server<ListStore>, SimError>
+pub fn played_server(alloc: Global, script: &Script) -> Result<ScriptServer, SimError>
     ensures outputs { IfOk result (λ server. Answers (script_seen script.now) (outputs_of script.now.connections server)) }
     ensures only_memory { IsOkUnless result SimError.Memory }
 {
@@ -34,7 +37,7 @@ pub fn played_server(alloc: Global, script: &Script) -> Result<Server<ListStore>
 
 /// Puts the lines at the end of a text that say what the clients of the first connections were sent.
 pub fn push_output_lines(
-    server: &Server<ListStore>,
+    server: &ScriptServer,
     connections: u64,
     out: &mut Vec<u8>,
 ) -> Result<(), AllocError>
@@ -47,11 +50,13 @@ pub fn push_output_lines(
 }
 
 /// A server with an empty cache and fresh connections, as the script wants them.
-fn opened_server(alloc: Global, script: &Script) -> Result<Server<ListStore>, SimError>
+fn opened_server(alloc: Global, script: &Script) -> Result<ScriptServer, SimError>
     ensures server { IfOk result (λ server. server ≡ opened (cache_of (script_seen script.now)) script.now.connections) }
     ensures only_memory { IsOkUnless result SimError.Memory }
 {
-    let store = ListStore::new(alloc);
+    let Ok(store) = LruStore::new(alloc, script.items) else {
+        return Err(SimError::Memory);
+    };
     let cache = Cache::new(
         alloc,
         store,
@@ -67,7 +72,7 @@ fn opened_server(alloc: Global, script: &Script) -> Result<Server<ListStore>, Si
 }
 
 /// Opens one connection more.
-fn admit(server: &mut Server<ListStore>) -> Result<(), SimError>
+fn admit(server: &mut ScriptServer) -> Result<(), SimError>
     requires room { length server.old.connections < 1024 }
     requires number { server.old.admitted < 2 ^ 64 - 1 }
     ensures admitted { OnOk result (server.new ≡ with_fresh server.old) }
@@ -77,7 +82,7 @@ fn admit(server: &mut Server<ListStore>) -> Result<(), SimError>
 }
 
 /// One event.
-fn play(server: &mut Server<ListStore>, event: &Event) -> Result<(), SimError>
+fn play(server: &mut ScriptServer, event: &Event) -> Result<(), SimError>
     requires connection { IsSome (connection_at server.old (number_of event.now)) }
     requires moment { moment_of event.now < 2 ^ 63 }
     ensures played { OnOk result (Plays event.now server.old server.new) }

@@ -1,6 +1,5 @@
 -- A meta command, by what the cache replied.
-use Rattle.std.proofs.Common.{◌≡◌, ◌∙◌, ℕ, ◌+◌, ◌^◌, ◌<◌, ◌≤◌, ◌||◌, ◌&&◌, ◌==◌, nat_le, nat_lt, if◌then◌else◌, Bool, true, false, List, [], ◌∷◌, ◌++◌, length, Option, Some, None, Result, Ok, Err, refl, sym, ap, arith}
-use Rattle.std.proofs.lemmas.Bool.{cases_lt}
+use Rattle.std.proofs.Common.{◌≡◌, ◌∙◌, ℕ, ◌&&◌, Bool, true, false, List, [], ◌++◌, refl, sym, ap}
 use Rattle.std.specs.Borrow.{Bor}
 use Rattle.mc_request.specs.Parts.{key_bytes, meta_said, word_in_meta}
 use Rattle.mc_request.specs.Hides.{hides_of}

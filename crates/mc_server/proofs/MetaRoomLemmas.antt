@@ -1,9 +1,8 @@
 -- How many bytes of a value a meta command shows.
-use Rattle.std.proofs.Common.{◌≡◌, ◌∙◌, ◌||◌, ℕ, ℤ, ◌+◌, ◌-◌, ◌%◌, ◌^◌, ◌<◌, ◌≤◌, ◌==◌, ◌&&◌, nat_le, nat_lt, if◌then◌else◌, cond, Bool, true, false, List, [], ◌∷◌, ◌++◌, length, Option, Some, None, Result, Ok, Err, refl, sym, ap, arith}
+use Rattle.std.proofs.Common.{◌≡◌, ◌∙◌, ◌||◌, ℕ, ℤ, ◌+◌, ◌^◌, ◌<◌, ◌≤◌, ◌==◌, ◌&&◌, nat_le, nat_lt, if◌then◌else◌, cond, Bool, true, false, List, [], ◌∷◌, length, Option, Some, None, Result, Ok, Err, refl, sym, ap, arith}
 use Rattle.std.proofs.lemmas.Bool.Decides.{nat_tests}
-use Rattle.std.specs.Prelude.{IfSome, IfOk, unwrap_or}
-use Rattle.std.specs.Fmt.{decimal}
-use Rattle.std.specs.Option.{option_map, option_or}
+use Rattle.std.specs.Prelude.{IfSome, IfOk}
+use Rattle.std.specs.Option.{option_or}
 use Rattle.mc_text.specs.Numbers.{read_u64}
 use Rattle.mc_item.specs.declared.bodies.Body.{Body}
 use Rattle.mc_request.specs.WellFormed.{is_u64, is_i64, is_where_some, is_good_creation, is_good_counting, is_good_update, is_good_block, is_meta_key}

@@ -32,11 +32,11 @@ grown-nothing number other count bytes =
     ])
 
 -- what a history says of a number
-abbrev SameFor : CacheState → ℕ → List Entry → List Entry → Type 0
+abbrev pub SameFor : CacheState → ℕ → List Entry → List Entry → Type 0
 SameFor opening number history longer = (taken_of number longer ≡ taken_of number history) × (answers_to number opening longer ≡ answers_to number opening history)
 
 -- an entry of another number says nothing of this one
-same_for_other : (opening : CacheState) (number : ℕ) (history : List Entry) (e : Entry) → e.connection ≢ number → SameFor opening number history (history ++ e ∷ [])
+pub same_for_other : (opening : CacheState) (number : ℕ) (history : List Entry) (e : Entry) → e.connection ≢ number → SameFor opening number history (history ++ e ∷ [])
 same_for_other opening number history e differ =
     let other = other_number e.connection number differ in (
       taken-push number history e ∙ rw other (append-nil (taken_of number history)),
@@ -114,7 +114,7 @@ ServerStands-same opening texts texts' sent sent' history server text_is sent_is
 }
 
 -- a connection takes a step, and what is said of all others stays
-stepped : (opening : CacheState) (texts texts' sent sent' : ℕ → List ℕ) (history longer : List Entry) (number : ℕ) (before after : ConnectionState) (old new : ServerState)
+pub stepped : (opening : CacheState) (texts texts' sent sent' : ℕ → List ℕ) (history longer : List Entry) (number : ℕ) (before after : ConnectionState) (old new : ServerState)
     → connection_at old number ≡ Some before → new.connections ≡ updated number after old.connections → new.admitted ≡ old.admitted
     → IsReplayed opening longer new.cache → Stands opening number (texts' number) longer (sent' number) after
     → ((m : ℕ) → number ≢ m → texts' m ≡ texts m) → ((m : ℕ) → number ≢ m → sent' m ≡ sent m) → ((m : ℕ) → number ≢ m → SameFor opening m history longer)

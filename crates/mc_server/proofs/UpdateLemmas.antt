@@ -1,5 +1,5 @@
 -- An update, by what the cache replied.
-use Rattle.std.proofs.Common.{◌≡◌, ◌∙◌, ℕ, ◌||◌, Bool, true, false, List, [], ◌++◌, Option, Some, None, refl, sym, ap}
+use Rattle.std.proofs.Common.{◌≡◌, ◌∙◌, ℕ, ◌||◌, Bool, true, false, List, [], ◌++◌, Some, None, refl, sym, ap}
 use Rattle.mc_request.specs.Hides.{hides_of}
 use Rattle.mc_request.specs.declared.hides.Hides.{Hides}
 use Rattle.mc_request.specs.declared.hides.Hides.TheVariants.{Nothing, ReplyLine, Misses, Success, SuccessAndMisses}

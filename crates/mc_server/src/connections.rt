@@ -127,4 +127,15 @@ impl Connection {
     {
         self.sent = let_go(&mut self.output, self.sent + count);
     }
+
+    /// Gives back the memory that is reserved and holds no byte, in each buffer of which more than `kept` bytes are
+    /// reserved.
+    pub fn give_back(&mut self, kept: usize)
+        ensures { self.new ≡ self.old }
+    {
+        self.reader.give_back(kept);
+        if self.output.capacity() > kept {
+            self.output.shrink_to_fit();
+        }
+    }
 }

@@ -1,8 +1,8 @@
 //! Keys.
-ghost use Rattle.std.specs.Prelude.{◌≡◌, ◌≤◌, ◌<◌, ◌↔◌, ◌≢◌, ℕ, [], true, false, Some, None, List, length, IfOk, IsErrOf, OnOk, IsTrue};
+ghost use Rattle.std.specs.Prelude.{◌≡◌, ◌∷◌, ◌≤◌, ◌<◌, ◌↔◌, ◌≢◌, ℕ, [], true, false, Some, None, List, length, IfOk, IsErrOf, OnOk, IsTrue};
 ghost use Rattle.std.specs.List.{list_all};
 ghost use Rattle.std.specs.Str.{bytes_eq};
-ghost use Rattle.std.specs.Cmp.Rules.{comparing};
+ghost use Rattle.std.specs.Cmp.Rules.{comparing, hashing};
 ghost use Rattle.std.proofs.Common.{rules};
 ghost use Rattle.std.proofs.lemmas.Cmp.{nat_list_eq_equiv};
 ghost use Rattle.mc_text.specs.Keys.{is_key, is_key_byte, is_plain_key};
@@ -13,6 +13,7 @@ ghost use Rattle.mc_text.specs.declared.keys.KeyError.TheVariants.{Memory};
 
 use crate::coded_keys::{CODED_ROOM, decode_key};
 use std::alloc::{AllocError, Global};
+use std::hash::{Hash, Hasher};
 use std::marker::Model;
 use thiserror::Error;
 
@@ -73,6 +74,16 @@ impl PartialEq for Key {
 
 impl Eq for Key {
     ghost laws = { nat_list_eq_equiv };
+}
+
+impl Hash for Key {
+    ghost hash_input = { λ k. k ∷ [] };
+
+    ghost respects_eq = { Prim.search (hashing, rules) };
+
+    fn hash<H: Hasher>(&self, state: &mut H) {
+        state.write(self.as_bytes());
+    }
 }
 
 impl Key {

@@ -5,6 +5,7 @@
 //! number, and [`Key::plain`] makes a key of one ([`Key::of_bytes`] where the bytes are known to be one).
 //! [`Key::coded`] makes one of a word in base64, [`read_coded`] writes its bytes into the caller's room and lends them,
 //! [`is_coded_key`] only says whether there is one, and [`write_coded`] gives the word of a key.
+//! [`KeyBytes`] asks a map of keys for some bytes: no key has to be made for a look-up.
 //! [`Block`] is the bytes of a data block.
 //! [`let_go`] and [`drop_front`] serve whoever keeps bytes that are taken from the front.
 //!
@@ -16,6 +17,7 @@
 mod blocks;
 mod coded_keys;
 mod fronts;
+mod key_bytes;
 mod keys;
 mod laws;
 mod lines;
@@ -26,6 +28,7 @@ mod word_iter;
 pub use blocks::{Block, VALUE_LIMIT};
 pub use coded_keys::{CODED_LIMIT, CODED_ROOM, is_coded_key, read_coded, write_coded};
 pub use fronts::{drop_front, let_go};
+pub use key_bytes::KeyBytes;
 pub use keys::{KEY_LIMIT, Key, KeyError, is_plain_key};
 pub use laws::coded_keys_have_one_word;
 pub use lines::{LINE_LIMIT, Line, content_to, next_line, next_line_from};

@@ -62,12 +62,13 @@ impl<S: Store + Drop> Cache<S> {
             return reply;
         }
         let before = self.store.peek(key).unwrap().value.as_slice();
+        let room = before.len();
         let Some(number) = read_u64(before) else {
             return Reply::Fault(Fault::NonNumeric);
         };
         let number = counted(counting.direction, counting.delta, number);
         number_or_fault(
-            self.write_number(key, number, found.touched(counting.exptime, moment)),
+            self.write_number(key, number, room, found.touched(counting.exptime, moment)),
             number,
         )
     }
@@ -94,10 +95,17 @@ impl<S: Store + Drop> Cache<S> {
         number_or_fault(self.make(key, lent), creation.initial)
     }
 
-    /// Stores a number's text in place of a held value, with the flags and the expiry of what is told as found. It takes
-    /// memory only where the text is longer.
-    fn write_number(&mut self, key: &[u8], number: u64, found: Found) -> Result<(), Fault>
+    /// Stores a number's text in place of a held value of so many bytes, with the flags and the expiry of what is told as
+    /// found. It takes memory only where the text is longer.
+    fn write_number(
+        &mut self,
+        key: &[u8],
+        number: u64,
+        room: usize,
+        found: Found,
+    ) -> Result<(), Fault>
         requires held { is_some (body_at key.now self.old.items) ≡ true }
+        requires room { room ≡ length (value_at key.now self.old.items) }
         ensures step { (reply : AReply (List ℕ))
             → stored self.old key.now (renewed found (decimal number)) (is_refused result) reply
             ≡ (self.new, reply_or_fault result reply) }
@@ -107,7 +115,7 @@ impl<S: Store + Drop> Cache<S> {
         let mut digits = Buffer::new();
         let text = digits.format(number).as_bytes();
         let cas = self.admit(key, text.len())?;
-        if text.len() <= self.room(key) {
+        if text.len() <= room {
             self.overwrite(key, text, found, cas);
             return Ok(());
         }

@@ -1,4 +1,4 @@
-use Rattle.std.proofs.Common.{◌∙◌, [], ap, sym, List, ℕ, ◌++◌, append-nil}
+use Rattle.std.proofs.Common.{◌∙◌, ap, sym, List, ℕ, ◌++◌}
 use Rattle.mc_request.specs.Parts.{key_bytes, meta_said}
 use Rattle.mc_reply.specs.declared.replies.Reply.{Reply}
 use Rattle.mc_reply.specs.Replies.{filled}
@@ -7,7 +7,7 @@ use Rattle.mc_reply.specs.Spelling.{meta_key}
 use Rattle.mc_reply.proofs.RoomLemmas.{flags_room-good}
 use Rattle.mc_cache.specs.CacheState.{front_value}
 use Rattle.mc_server.proofs.GetLemmas.{filled_is_seen}
-use Rattle.mc_server.proofs.MetaLemmas.{word_is_key, meta_served, meta_shown, meta_hidden}
+use Rattle.mc_server.proofs.MetaLemmas.{word_is_key, meta_served, meta_shown}
 use Rattle.mc_server.proofs.answering.serve_meta.Goals as goal
 
 pub write_meta-requires-clause-key : goal.write_meta-requires-clause-key

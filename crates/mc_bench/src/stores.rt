@@ -1,0 +1,133 @@
+//! How fast a cache answers over each store, and a cache that only holds items.
+ghost use Rattle.std.specs.Prelude.{◌<◌, ◌^◌};
+
+use crate::figures::nanos;
+use anyhow::ensure;
+use mc_cache::{Cache, is_within_bounds};
+use mc_item::CasCounter;
+use mc_reply::Reply;
+use mc_request::{StoreMode, Update};
+use mc_store::{FixedHasher, ListStore, LruStore, Store};
+use mc_text::Key;
+use std::alloc::Global;
+use std::time::Instant;
+
+/// The budget of each cache in bytes: none of them evicts by it.
+const BUDGET: u64 = 1_099_511_627_776;
+
+/// A value of 100 bytes.
+const VALUE: [u8; 100] = [b'x'; 100];
+
+/// Prints how long gets, sets of held keys and sets of other keys take, each over as many items as the cache's limit: a
+/// list of 1,000, and a hashed store of 1,000 and of 1,000,000.
+pub fn measure(rt: &HostRuntime) -> anyhow::Result<()> {
+    let alloc = rt.alloc();
+    let counter = CasCounter::starting_at(0);
+    let list = Cache::new(alloc, ListStore::new(alloc), BUDGET, 1_000, counter);
+    measure_cache(rt, "list", list, 1_000)?;
+    for items in [1_000, 1_000_000] {
+        measure_cache(rt, "hashed", hashed(alloc, items)?, items as u64)?;
+    }
+    Ok(())
+}
+
+/// Sets so many items of a key of 20 bytes and a value of 100 bytes, and prints what they cost. A tool that tells how much
+/// memory a process took tells by two such runs how much an item takes.
+pub fn hold(rt: &HostRuntime, items: u64) -> anyhow::Result<()> {
+    let mut cache = hashed(rt.alloc(), items.max(1) as usize)?;
+    let mut stored = 0u64;
+    for number in 0..items {
+        stored = stored.saturating_add(u64::from(is_set(&mut cache, &key(rt.alloc(), number)?)?));
+    }
+    println!(rt; "{stored} items are held")?;
+    Ok(())
+}
+
+/// A cache of this limit over a hashed store, which holds nothing.
+fn hashed(alloc: Global, items: usize) -> anyhow::Result<Cache<LruStore<FixedHasher>>> {
+    ensure!(is_within_bounds(BUDGET, items), "no limit of items");
+    let store = LruStore::new(alloc, items)?;
+    Ok(Cache::new(alloc, store, BUDGET, items, CasCounter::starting_at(0)))
+}
+
+/// Prints how long each command takes on a cache of this limit, which holds nothing. The counts are printed so that no
+/// command can be left out.
+fn measure_cache<S: Store + Drop>(
+    rt: &HostRuntime,
+    name: &str,
+    mut cache: Cache<S>,
+    items: u64,
+) -> anyhow::Result<()> {
+    let held = keys(rt.alloc(), 0, items)?;
+    let others = keys(rt.alloc(), items, items)?;
+    let rounds = 1_000_000 / items.max(1);
+    sets(&mut cache, &held, 1)?;
+    let start = Instant::now(rt)?;
+    let hits = gets(&mut cache, &held, rounds);
+    let get = nanos(start.elapsed(rt)?);
+    let start = Instant::now(rt)?;
+    let stored = sets(&mut cache, &held, rounds)?;
+    let set = nanos(start.elapsed(rt)?);
+    let start = Instant::now(rt)?;
+    let made = sets(&mut cache, &others, 1)?;
+    let other = nanos(start.elapsed(rt)?);
+    println!(rt;
+        "{name} of {items} items: a get {} ns ({hits}), a set of a held key {} ns ({stored}), of another {} ns ({made})",
+        get / hits.max(1),
+        set / stored.max(1),
+        other / made.max(1)
+    )?;
+    Ok(())
+}
+
+/// So many keys of 20 bytes, from this number on, in an order that jumps.
+fn keys(alloc: Global, from: u64, count: u64) -> anyhow::Result<Vec<Key>> {
+    let mut keys = Vec::new(alloc);
+    for number in 0..count {
+        let place = number.wrapping_mul(7_919) % count.max(1);
+        keys.push(key(alloc, from.saturating_add(place))?)?;
+    }
+    Ok(keys)
+}
+
+/// The key of this number.
+fn key(alloc: Global, number: u64) -> anyhow::Result<Key> {
+    let text = format!(in alloc; "key:{number:016}")?;
+    Ok(Key::plain(alloc, text.as_bytes())?)
+}
+
+/// Gets all keys so often, and says how many were held.
+fn gets<S: Store + Drop>(cache: &mut Cache<S>, keys: &[Key], rounds: u64) -> u64 {
+    let mut hits = 0u64;
+    for _ in 0..rounds {
+        for key in keys {
+            let reply = cache.get(key.as_bytes(), None, false, 0);
+            hits = hits.saturating_add(u64::from(matches!(reply, Reply::Hit { .. })));
+        }
+    }
+    hits
+}
+
+/// Sets all keys so often, and says how many were stored.
+fn sets<S: Store + Drop>(cache: &mut Cache<S>, keys: &[Key], rounds: u64) -> anyhow::Result<u64> {
+    let mut stored = 0u64;
+    for _ in 0..rounds {
+        for key in keys {
+            stored = stored.saturating_add(u64::from(is_set(cache, key)?));
+        }
+    }
+    Ok(stored)
+}
+
+/// Sets a key, and says whether it was stored.
+fn is_set<S: Store + Drop>(cache: &mut Cache<S>, key: &Key) -> anyhow::Result<bool> {
+    let update = Update::Store {
+        mode: StoreMode::Set,
+        compare: None,
+        key: key.as_bytes(),
+        flags: 0,
+        exptime: 0,
+        block: VALUE.as_slice(),
+    };
+    Ok(matches!(cache.update(&update, 0)?, Reply::Stored))
+}

@@ -1,0 +1,328 @@
+//! A pump between a server and streams in memory, which move few bytes a call, block, are interrupted and fail.
+
+use crate::clients::{MOMENT, WIDE, new_server};
+use crate::meagre::MeagreStore;
+use crate::pumps::Call::{Blocks, Fails, Interrupts, Moves};
+use mc_serve::{Pump, UNSENT_MARK, pump};
+use mc_server::Server;
+use std::alloc::{AllocError, Global};
+use std::io;
+use std::io::{ErrorKind, Read, Write};
+use std::test::Fail;
+
+/// What a client sends, and what it is answered.
+struct Exchange {
+    sent: &'static [u8],
+    answers: &'static [u8],
+}
+
+const EXCHANGES: [Exchange; 2] = [
+    Exchange {
+        sent: b"set a 0 0 1\r\nx\r\nget a\r\n",
+        answers: b"STORED\r\nVALUE a 0 1\r\nx\r\nEND\r\n",
+    },
+    Exchange {
+        sent: b"add a 0 0 1\r\nx\r\nadd a 0 0 1\r\ny\r\nappend a 9 9 1\r\nz\r\nreplace b 0 0 1\r\ny\r\nget a\r\ndelete a 0\r\ndelete a\r\n",
+        answers: b"STORED\r\nNOT_STORED\r\nSTORED\r\nNOT_STORED\r\nVALUE a 0 2\r\nxz\r\nEND\r\nDELETED\r\nNOT_FOUND\r\n",
+    },
+];
+
+/// What a call of a side of a stream does.
+#[derive(Clone, Copy)]
+enum Call {
+    /// It moves so many bytes, or fewer where there are no more.
+    Moves(usize),
+    Blocks,
+    Interrupts,
+    Fails,
+}
+
+/// What the reads do, over and over, and what the writes do.
+const SCRIPTS: [(&[Call], &[Call]); 8] = [
+    (&[Moves(1)], &[Moves(1)]),
+    (&[Moves(2)], &[Moves(7)]),
+    (&[Moves(7)], &[Moves(2)]),
+    (&[Moves(3)], &[Moves(usize::MAX)]),
+    (&[Moves(usize::MAX)], &[Moves(3)]),
+    (&[Blocks, Moves(5)], &[Interrupts, Moves(3), Blocks]),
+    (&[Interrupts, Moves(2), Blocks], &[Blocks, Moves(5)]),
+    (
+        &[Moves(5), Blocks, Interrupts, Moves(1), Moves(3)],
+        &[Blocks, Blocks, Moves(4), Interrupts],
+    ),
+];
+
+/// The calls of a side of a stream.
+#[derive(Clone, Copy)]
+struct Calls {
+    script: &'static [Call],
+    /// A call that does otherwise, by its number, counted from 0.
+    odd: Option<(usize, Call)>,
+    /// How many calls were made.
+    made: usize,
+}
+
+impl Calls {
+    fn new(script: &'static [Call], odd: Option<(usize, Call)>) -> Self {
+        Calls {
+            script,
+            odd,
+            made: 0,
+        }
+    }
+
+    /// Makes a call, and says how many bytes it may move.
+    fn make(&mut self) -> io::Result<usize> {
+        let number = self.made;
+        self.made = number.wrapping_add(1);
+        let index = number.checked_rem(self.script.len()).unwrap_or(0);
+        let call = match self.odd {
+            Some((odd, call)) if odd == number => call,
+            _ => self.script.get(index).copied().unwrap_or(Fails),
+        };
+        match call {
+            Moves(most) => Ok(most),
+            Blocks => Err(ErrorKind::WouldBlock.into()),
+            Interrupts => Err(ErrorKind::Interrupted.into()),
+            Fails => Err(ErrorKind::ConnectionReset.into()),
+        }
+    }
+}
+
+/// A side that gives bytes, and then the end.
+#[derive(Drop)]
+struct Source {
+    bytes: Vec<u8>,
+    /// How many of them were given.
+    given: usize,
+    calls: Calls,
+}
+
+impl Source {
+    fn new(alloc: Global, bytes: &[u8], calls: Calls) -> Result<Self, AllocError> {
+        Ok(Source {
+            bytes: bytes.to_vec(alloc)?,
+            given: 0,
+            calls,
+        })
+    }
+}
+
+impl Read for Source {
+    fn read(&mut self, piece: &mut [u8]) -> io::Result<usize> {
+        let most = self.calls.make()?;
+        let (_, left) = self.bytes.split_at(self.given.min(self.bytes.len()));
+        let count = most.min(left.len()).min(piece.len());
+        let (next, _) = left.split_at(count);
+        piece[..count].copy_from_slice(next);
+        self.given = self.given.saturating_add(count);
+        Ok(count)
+    }
+}
+
+/// A side that takes bytes.
+#[derive(Drop)]
+struct Sink {
+    taken: Vec<u8>,
+    calls: Calls,
+}
+
+impl Sink {
+    fn new(alloc: Global, calls: Calls) -> Self {
+        Sink {
+            taken: Vec::new(alloc),
+            calls,
+        }
+    }
+}
+
+impl Write for Sink {
+    fn write(&mut self, bytes: &[u8]) -> io::Result<usize> {
+        let count = self.calls.make()?.min(bytes.len());
+        let (piece, _) = bytes.split_at(count);
+        self.taken.extend_from_slice(piece)?;
+        Ok(count)
+    }
+
+    fn flush(&mut self) -> io::Result<()> {
+        Ok(())
+    }
+}
+
+/// More pumps than a connection here needs.
+const MANY: u32 = 10_000;
+
+/// Pumps a connection until it is done or failed, and says which.
+fn pumped(
+    server: &mut Server<MeagreStore>,
+    number: u64,
+    source: &mut Source,
+    sink: &mut Sink,
+) -> Pump {
+    let mut ended = false;
+    let mut piece = [0u8; 16];
+    for _ in 0..MANY {
+        let last = pump(server, number, &mut ended, source, sink, &mut piece, MOMENT);
+        if last == Pump::Done || last == Pump::Failed {
+            return last;
+        }
+    }
+    Pump::Again
+}
+
+/// How the calls of the two sides of a stream go.
+#[derive(Clone, Copy)]
+struct Sides {
+    reads: Calls,
+    writes: Calls,
+}
+
+impl Sides {
+    /// The same, but for one call of one of them.
+    fn with(self, is_write: bool, number: usize, call: Call) -> Self {
+        let odd = Some((number, call));
+        let Sides {
+            mut reads,
+            mut writes,
+        } = self;
+        if is_write {
+            writes.odd = odd;
+        } else {
+            reads.odd = odd;
+        }
+        Sides { reads, writes }
+    }
+}
+
+/// What ends a connection: whether a write does it, and how the call goes.
+const ENDS: [(bool, Call); 3] = [(false, Fails), (true, Fails), (true, Moves(0))];
+
+/// Plays a text on a connection of its own, which is then closed. It gives the last pump, the calls that were made, and
+/// what the client was sent.
+fn play(
+    alloc: Global,
+    server: &mut Server<MeagreStore>,
+    sent: &[u8],
+    sides: Sides,
+) -> Result<(Pump, Sides, Vec<u8>), Fail> {
+    let number = server.admit()?;
+    let mut source = Source::new(alloc, sent, sides.reads)?;
+    let mut sink = Sink::new(alloc, sides.writes);
+    let last = pumped(server, number, &mut source, &mut sink);
+    server.close(number)?;
+    let made = Sides {
+        reads: source.calls,
+        writes: sink.calls,
+    };
+    Ok((last, made, sink.taken))
+}
+
+/// Whether an exchange, played to a new server by calls one of which ends its connection, fails, and what was sent until
+/// then is right; and whether the server's next connection is then served whole.
+fn fails_alone(
+    alloc: Global,
+    exchange: &Exchange,
+    next: &Exchange,
+    calm: Sides,
+    sides: Sides,
+) -> Result<bool, Fail> {
+    let mut server = new_server(alloc, WIDE)?;
+    let (failed, _, before) = play(alloc, &mut server, exchange.sent, sides)?;
+    let (done, _, whole) = play(alloc, &mut server, next.sent, calm)?;
+    Ok(
+        failed == Pump::Failed
+            && exchange.answers.starts_with(before.as_slice())
+            && done == Pump::Done
+            && whole.as_slice() == next.answers,
+    )
+}
+
+/// Each exchange is answered whole under each pair of scripts. Then each single call of such a run ends the connection: the
+/// next one of the same server, which is sent the first exchange, is answered as if nothing had been.
+#[test]
+fn pump_never_works(rt: HostRuntime) -> Result<(), Fail> {
+    let alloc = rt.alloc();
+    let [first, _] = &EXCHANGES;
+    for exchange in &EXCHANGES {
+        for (reads, writes) in &SCRIPTS {
+            let calm = Sides {
+                reads: Calls::new(reads, None),
+                writes: Calls::new(writes, None),
+            };
+            let mut server = new_server(alloc, WIDE)?;
+            let (last, made, taken) = play(alloc, &mut server, exchange.sent, calm)?;
+            assert!(rt; last == Pump::Done && taken.as_slice() == exchange.answers);
+            for (is_write, call) in ENDS {
+                let calls = if is_write { made.writes } else { made.reads };
+                for number in 0..calls.made {
+                    let sides = calm.with(is_write, number, call);
+                    assert!(rt;
+                        fails_alone(alloc, exchange, first, calm, sides)?,
+                        "call {number}"
+                    );
+                }
+            }
+        }
+    }
+    Ok(())
+}
+
+/// As many bytes of a value, with what stands before and behind it.
+fn with_value(alloc: Global, before: &[u8], behind: &[u8]) -> Result<Vec<u8>, AllocError> {
+    let mut text = Vec::new(alloc);
+    text.extend_from_slice(before)?;
+    for _ in 0..50_000 {
+        text.extend_from_slice(b"0123456789")?;
+    }
+    text.extend_from_slice(behind)?;
+    Ok(text)
+}
+
+/// A text so many times.
+fn repeated(alloc: Global, text: &[u8], times: usize) -> Result<Vec<u8>, AllocError> {
+    let mut all = Vec::new(alloc);
+    for _ in 0..times {
+        all.extend_from_slice(text)?;
+    }
+    Ok(all)
+}
+
+/// How many bytes are unsent after a pump.
+fn unsent_after_a_pump(
+    server: &mut Server<MeagreStore>,
+    number: u64,
+    source: &mut Source,
+    sink: &mut Sink,
+) -> usize {
+    let mut piece = [0u8; 16];
+    let _ = pump(server, number, &mut false, source, sink, &mut piece, MOMENT);
+    server.output(number).len()
+}
+
+/// A client that asks for a value of 500,000 bytes twenty times, and at first takes no byte: the ninth answer is beyond the
+/// mark, so that no tenth request is read.
+#[test]
+fn unsent_answers_stop_reads(rt: HostRuntime) -> Result<(), Fail> {
+    let alloc = rt.alloc();
+    let mut server = new_server(alloc, WIDE)?;
+    let stored = with_value(alloc, b"set a 0 0 500000\r\n", b"\r\n")?;
+    let calm = Sides {
+        reads: Calls::new(&[Moves(usize::MAX)], None),
+        writes: Calls::new(&[Moves(usize::MAX)], None),
+    };
+    play(alloc, &mut server, stored.as_slice(), calm)?;
+    let answer = with_value(alloc, b"VALUE a 0 500000\r\n", b"\r\nEND\r\n")?;
+    let asked = repeated(alloc, b"get a\r\n", 20)?;
+    let number = server.admit()?;
+    let mut source = Source::new(alloc, asked.as_slice(), Calls::new(&[Moves(7)], None))?;
+    let mut sink = Sink::new(alloc, Calls::new(&[Blocks], None));
+    let unsent = unsent_after_a_pump(&mut server, number, &mut source, &mut sink);
+    let still = unsent_after_a_pump(&mut server, number, &mut source, &mut sink);
+    let nine = answer.len().saturating_mul(9);
+    assert!(rt; source.calls.made == 9 && unsent == nine && still == nine && nine >= UNSENT_MARK);
+    sink.calls = Calls::new(&[Moves(100_000), Blocks], None);
+    let last = pumped(&mut server, number, &mut source, &mut sink);
+    let all = repeated(alloc, answer.as_slice(), 20)?;
+    assert!(rt; last == Pump::Done && sink.taken.as_slice() == all.as_slice());
+    Ok(())
+}

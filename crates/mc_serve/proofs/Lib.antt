@@ -1,0 +1,4 @@
+pub mod StretchLemmas
+pub mod PumpLemmas
+pub mod RoundLemmas
+pub mod LawLemmas

@@ -1,0 +1,126 @@
+//! A client: its socket, and what is known of it.
+ghost use Rattle.std.specs.Prelude.{◌<◌, ◌^◌, length};
+
+use crate::outcomes::Pump;
+use crate::pumps::pump;
+use mc_server::Server;
+use mc_store::Store;
+use mio::event::Event;
+use mio::net::TcpStream;
+use std::io;
+use std::io::{ErrorKind, Read};
+
+/// A client of a server that listens.
+#[derive(Drop)]
+pub struct Client {
+    stream: TcpStream,
+    /// The number of its connection.
+    number: u64,
+    /// Whether its input has ended.
+    ended: bool,
+    edge: Edge,
+    /// Whether it goes on in the next round, though nothing happens.
+    queued: bool,
+    /// Whether anything has happened since the last rest.
+    busy: bool,
+}
+
+/// What the last event and the reads since say of a socket's input.
+#[derive(Clone, Copy, Debug, PartialEq, Eq)]
+struct Edge {
+    /// Whether all that had come is read: until the next event there is no more.
+    drained: bool,
+    /// Whether the peer has said that it will send no more, so that the end is still to be read.
+    to_the_end: bool,
+}
+
+/// The input of a socket of which events tell. A read that gives fewer bytes than were asked for has emptied it, and the
+/// next one need not ask the system.
+#[derive(Drop)]
+struct Input<'a> {
+    stream: &'a TcpStream,
+    edge: Edge,
+}
+
+impl<'a> Read for Input<'a> {
+    fn read(&mut self, piece: &mut [u8]) -> io::Result<usize> {
+        if self.edge.drained {
+            return Err(io::Error::from(ErrorKind::WouldBlock));
+        }
+        let mut stream = self.stream;
+        let count = stream.read(piece)?;
+        self.edge.drained = count < piece.len() && !self.edge.to_the_end;
+        Ok(count)
+    }
+}
+
+impl Client {
+    /// A client whose connection has this number.
+    pub fn new(stream: TcpStream, number: u64) -> Self {
+        Client {
+            stream,
+            number,
+            ended: false,
+            edge: Edge {
+                drained: true,
+                to_the_end: false,
+            },
+            queued: false,
+            busy: false,
+        }
+    }
+
+    /// The number of its connection.
+    pub fn number(&self) -> u64 {
+        self.number
+    }
+
+    /// Notes what an event says of it.
+    pub fn note(&mut self, event: &Event) {
+        if event.is_readable() || event.is_read_closed() || event.is_error() {
+            self.edge.drained = false;
+        }
+        if event.is_read_closed() || event.is_error() {
+            self.edge.to_the_end = true;
+        }
+    }
+
+    /// Notes whether it waits in the queue of those that go on, and says whether it did.
+    pub fn queue(&mut self, queued: bool) -> bool {
+        std::mem::replace(&mut self.queued, queued)
+    }
+
+    /// Whether anything has happened since the last call.
+    pub fn take_busy(&mut self) -> bool {
+        std::mem::replace(&mut self.busy, false)
+    }
+
+    /// Carries its bytes, and serves what comes whole.
+    pub fn pump<S: Store + Drop>(
+        &mut self,
+        server: &mut Server<S>,
+        piece: &mut [u8],
+        moment: u64,
+    ) -> Pump
+        requires piece { 0 < length piece.old }
+        requires moment { moment < 2 ^ 63 }
+    {
+        self.busy = true;
+        let mut input = Input {
+            stream: &self.stream,
+            edge: self.edge,
+        };
+        let mut output = &self.stream;
+        let pumped = pump(
+            server,
+            self.number,
+            &mut self.ended,
+            &mut input,
+            &mut output,
+            piece,
+            moment,
+        );
+        self.edge = input.edge;
+        pumped
+    }
+}

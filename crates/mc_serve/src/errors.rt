@@ -1,0 +1,48 @@
+//! Why a server cannot start.
+ghost use Rattle.std.specs.Prelude.{◌≡◌};
+ghost use Rattle.mc_serve.specs.Statuses.{status_of};
+ghost use Rattle.mc_serve.specs.declared.errors.ServeError.TheVariants.{Memory};
+
+use mc_store::StoreError;
+use std::alloc::AllocError;
+use thiserror::Error;
+
+/// Why a server cannot start, or cannot go on.
+#[derive(Debug, Drop, Error)]
+pub enum ServeError {
+    /// 1: it cannot listen: the address is none, has no IPv4 address or cannot be bound, or the system refuses the poll
+    /// of its sockets or the seed of its hashes.
+    #[error("cannot listen")]
+    Listen,
+    /// 2: no memory to start with. Once a server listens, want of memory closes a connection, and never ends the server.
+    #[error("out of memory")]
+    Memory,
+}
+
+impl ServeError {
+    /// The exit status of a program that ends by it: 3 where it cannot listen, 4 for want of memory.
+    pub fn status(&self) -> u8
+        ensures { result ≡ status_of self.now }
+    {
+        match self {
+            ServeError::Listen => 3,
+            ServeError::Memory => 4,
+        }
+    }
+}
+
+impl From<AllocError> for ServeError {
+    ghost from_gives = { λ _ e. e ≡ Memory };
+
+    fn from(_e: AllocError) -> ServeError {
+        ServeError::Memory
+    }
+}
+
+impl From<StoreError> for ServeError {
+    ghost from_gives = { λ _ e. e ≡ Memory };
+
+    fn from(_e: StoreError) -> ServeError {
+        ServeError::Memory
+    }
+}

@@ -1,0 +1,15 @@
+//! How a pump ends.
+
+/// How a pump left a connection.
+#[derive(Clone, Copy, Debug, PartialEq, Eq)]
+pub enum Pump {
+    /// Its rounds are used up, or a call of the system was interrupted: it may go on at once.
+    Again,
+    /// Neither side can go on until the stream has more bytes, or takes more.
+    Blocked,
+    /// The input has ended, or is read no further, and all that came whole is answered and sent.
+    Done,
+    /// The stream failed or took nothing, a call was refused memory, or no such connection is open. The caller closes the
+    /// connection.
+    Failed,
+}

@@ -1,0 +1,200 @@
+//! LruStore: the items in lru's cache, which finds them by a hash.
+ghost use Rattle.std.specs.Prelude.{◌≡◌, ◌≤◌, ◌<◌, ◌^◌, ◌↔◌, [], ◌+◌, Some, IfOk, IsErrOf};
+ghost use Rattle.mc_store.specs.Items.{cost_sum};
+
+use crate::stores::Store;
+use lru::LruCache;
+use mc_item::{Body, Deadline, cost};
+use mc_text::{Key, KeyBytes};
+use std::alloc::{AllocError, Global};
+use std::hash::{BuildHasher, BuildHasherDefault, FoldHasher};
+use std::marker::Model;
+use std::mem;
+use std::num::NonZeroUsize;
+use thiserror::Error;
+
+/// Why there is no store.
+#[derive(Debug, Drop, Error)]
+pub enum StoreError {
+    /// 1: no memory for the store.
+    #[error("out of memory")]
+    Memory,
+    /// 2: one item more than the limit is no number of 64 bits.
+    #[error("too many items")]
+    TooMany,
+}
+
+impl From<AllocError> for StoreError {
+    ghost use Rattle.mc_store.specs.declared.lru_store.StoreError.TheVariants.{Memory};
+
+    ghost from_gives = { λ _ e. e ≡ Memory };
+
+    fn from(_e: AllocError) -> StoreError {
+        StoreError::Memory
+    }
+}
+
+/// The hasher of [`LruStore::new`], whose seed is fixed: a script gives the same steps each time.
+pub type FixedHasher = BuildHasherDefault<FoldHasher>;
+
+/// The items in a cache that finds them by a hash, in the order of their last use. What they cost is kept beside them.
+///
+/// Contracts see the items and the greatest number of them that the cache holds. What they cost together stays below 2^63.
+///
+/// # Work
+///
+/// A call with a key hashes it once and searches the table once, but `put_front`, which does both twice and then looks for
+/// a free place. `drop_last` hashes the last key once and searches for it once. `len`, `used` and `front` do neither. So none
+/// of these takes longer where more items stand, as long as the hash spreads the keys, but for what is said of `put_front`
+/// below. `clear` and the end of the store take out one item after the other.
+///
+/// # Memory
+///
+/// The constructor takes the table whole: for 9 * 2^k items, the least such number that is enough. Only `put_front` takes
+/// memory, a block for the item. A key that is taken out of a crowded part of the table leaves its place counted as taken;
+/// where no place is left by that count, as may be after long eviction, `put_front` first lays the table out anew, which
+/// takes time for each item but hashes none. That is done in place where the items, the new one with them, are at most half
+/// of what the table is for. Else the table is doubled, which takes memory too; then they are at most half of it, so this
+/// comes once in a store's life. Where memory is refused, so is the item, and nothing has changed.
+#[derive(Drop)]
+pub struct LruStore<H: BuildHasher> {
+    cache: LruCache<Key, Body, H>,
+    used: u64,
+}
+
+impl<H: BuildHasher> Model for LruStore<H> {
+    ghost use Rattle.std.specs.Prelude.{◌≡◌, ◌<◌, ◌^◌, ℕ, List};
+    ghost use Rattle.lru.specs.LruCache.{LruCache as Entries};
+    ghost use Rattle.mc_item.specs.declared.bodies.Body.{Body as Bodies};
+    ghost use Rattle.mc_store.specs.Items.{cost_sum};
+
+    ghost Value = { Entries (List ℕ) Bodies };
+
+    ghost view = { λ s. s.cache };
+
+    ghost invariant = { λ s. (s.used ≡ cost_sum s.cache.entries) × (s.used < 2 ^ 63) };
+}
+
+impl LruStore<FixedHasher> {
+    /// A store with no item, and room for so many and one more: the one that a caller puts before it drops another. Its
+    /// hasher's seed is fixed, so who chooses the keys can choose such as fall together: strangers' keys want
+    /// [`LruStore::with_hasher`].
+    pub fn new(alloc: Global, items: usize) -> Result<Self, StoreError>
+        ensures empty { IfOk result (λ store. store.entries ≡ []) }
+        ensures room { IfOk result (λ store. store.cap ≡ items + 1) }
+        ensures too_many { IsErrOf result StoreError.TooMany ↔ (2 ^ 64 ≤ items + 1) }
+    {
+        LruStore::with_hasher(alloc, items, BuildHasherDefault::new())
+    }
+}
+
+impl<H: BuildHasher + Drop> LruStore<H> {
+    /// A store with no item, and room for so many and one more, whose keys this hasher hashes.
+    pub fn with_hasher(alloc: Global, items: usize, hasher: H) -> Result<Self, StoreError>
+        ensures empty { IfOk result (λ store. store.entries ≡ []) }
+        ensures room { IfOk result (λ store. store.cap ≡ items + 1) }
+        ensures too_many { IsErrOf result StoreError.TooMany ↔ (2 ^ 64 ≤ items + 1) }
+    {
+        let most = items.checked_add(1).ok_or(StoreError::TooMany)?;
+        let room = NonZeroUsize::new(most).ok_or(StoreError::TooMany)?;
+        let cache = LruCache::with_hasher(alloc, room, hasher)?;
+        Ok(LruStore { cache, used: 0 })
+    }
+}
+
+#[tactic(auto, using(crate::proofs::KeptLemmas::costs, crate::proofs::LruLemmas::lru_words))]
+impl<H: BuildHasher> Store for LruStore<H> {
+    ghost items = { λ s. s.entries };
+
+    ghost most = { λ s. Some s.cap };
+
+    fn len(&self) -> usize {
+        self.cache.len()
+    }
+
+    fn used(&self) -> u64 {
+        self.used
+    }
+
+    fn peek(&self, key: &[u8]) -> Option<&Body> {
+        self.cache.peek(KeyBytes { bytes: key })
+    }
+
+    fn front(&self) -> Option<&Body> {
+        match self.cache.peek_mru() {
+            Some((_, body)) => Some(body),
+            None => None,
+        }
+    }
+
+    fn bring(&mut self, key: &[u8]) -> bool {
+        self.cache.promote(KeyBytes { bytes: key })
+    }
+
+    fn expire(&mut self, key: &[u8], expiry: Deadline) -> bool {
+        let Some(body) = self.cache.get_mut(KeyBytes { bytes: key }) else {
+            return false;
+        };
+        body.expiry = expiry;
+        true
+    }
+
+    fn mark(&mut self, key: &[u8], stale: bool, won: bool, cas: u64) -> bool {
+        let Some(body) = self.cache.get_mut(KeyBytes { bytes: key }) else {
+            return false;
+        };
+        body.stale = stale;
+        body.won = won;
+        body.cas = cas;
+        true
+    }
+
+    fn take(&mut self, key: &[u8]) -> Option<Body> {
+        match self.cache.pop_entry(KeyBytes { bytes: key }) {
+            Some((own, body)) => {
+                self.used -= cost(&own, &body);
+                Some(body)
+            }
+            None => None,
+        }
+    }
+
+    fn replace(&mut self, key: &[u8], body: Body) -> Result<Body, Body> {
+        let more = body.value.len() as u64;
+        match self.cache.get_mut(KeyBytes { bytes: key }) {
+            Some(held) => {
+                let before = mem::replace(held, body);
+                self.used -= before.value.len() as u64;
+                self.used += more;
+                Ok(before)
+            }
+            None => Err(body),
+        }
+    }
+
+    fn put_front(&mut self, key: Key, body: Body) -> Result<(), (Key, Body)> {
+        let price = cost(&key, &body);
+        match self.cache.put(key, body) {
+            Ok(_) => {
+                self.used += price;
+                Ok(())
+            }
+            Err(failed) => Err(failed.value),
+        }
+    }
+
+    fn drop_last(&mut self) -> Option<(Key, Body)> {
+        match self.cache.pop_lru() {
+            Some(last) => {
+                self.used -= cost(&last.0, &last.1);
+                Some(last)
+            }
+            None => None,
+        }
+    }
+
+    fn clear(&mut self) {
+        self.cache.clear();
+        self.used = 0;
+    }
+}
