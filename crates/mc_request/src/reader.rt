@@ -140,8 +140,9 @@ impl Reader {
         }
     }
 
-    /// Gives back the memory that is reserved and holds no byte, where more than `kept` bytes are reserved. It is for a
-    /// reader that will be idle for a while: the next feeds reserve anew.
+    /// Gives back the memory that is reserved, where no byte is held and more than `kept` bytes are reserved. It is for a
+    /// reader that will be idle for a while: the next feeds reserve anew. Where bytes are held nothing is moved, so a request
+    /// that comes in small pieces is not copied for each of them.
     pub fn give_back(&mut self, kept: usize)
         ensures same { self.new ≡ self.old }
         ensures little { KeepsLittle self.new }

@@ -257,11 +257,11 @@ impl Unread {
         self.closed
     }
 
-    /// Gives back the room that is reserved and not used, where more than so many bytes are reserved.
+    /// Gives back the room that is reserved, where nothing is kept and more than so many bytes are reserved.
     pub fn give_back(&mut self, kept: usize)
         ensures { self.new ≡ self.old }
     {
-        if self.buffer.capacity() > kept {
+        if self.buffer.is_empty() && self.buffer.capacity() > kept {
             self.buffer.shrink_to_fit();
         }
     }

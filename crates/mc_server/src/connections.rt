@@ -128,13 +128,12 @@ impl Connection {
         self.sent = let_go(&mut self.output, self.sent + count);
     }
 
-    /// Gives back the memory that is reserved and holds no byte, in each buffer of which more than `kept` bytes are
-    /// reserved.
+    /// Gives back the memory of each buffer that holds no byte, where more than `kept` bytes are reserved for it.
     pub fn give_back(&mut self, kept: usize)
         ensures { self.new ≡ self.old }
     {
         self.reader.give_back(kept);
-        if self.output.capacity() > kept {
+        if self.output.is_empty() && self.output.capacity() > kept {
             self.output.shrink_to_fit();
         }
     }
