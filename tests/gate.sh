@@ -39,6 +39,7 @@ fi
 add rt ci
 add tests/examples.sh
 add tests/random.sh 5 2000
+add tests/spellings.py 5
 add tests/serverd.py crates/mc_serverd/out/mc_serverd
 echo "$passed passed, $failed failed"
 [ "$failed" -eq 0 ]

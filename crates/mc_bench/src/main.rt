@@ -7,11 +7,13 @@
 //!
 //! `case KIND SIZE PIECE` runs one case alone, and `load KIND SIZE PIECE` only makes what its client would send. So a tool
 //! that counts instructions tells what a request costs: the difference of two sizes of the one, less that of the other.
+//! `link GETS SIZE PIECE` carries so many gets over one link, whose values have so many bytes, and hears the server in pieces.
 //! `hold ITEMS` makes a cache that holds so many items and no more: the memory that two such runs took tells what an item takes.
 #![tactic(auto)]
 
 mod cases;
 mod figures;
+mod links;
 mod loads;
 mod rings;
 mod served;
@@ -35,6 +37,12 @@ fn main(rt: HostRuntime) -> anyhow::Result<()> {
     match mode.as_str() {
         "ring" => rings::measure(&rt),
         "store" => stores::measure(&rt),
+        "link" => links::measure(
+            &rt,
+            arguments.next().context("no gets")?.parse()?,
+            arguments.next().context("no size")?.parse()?,
+            arguments.next().context("no piece")?.parse()?,
+        ),
         "hold" => stores::hold(&rt, arguments.next().context("no items")?.parse()?),
         "measure" => run_all(&rt, 1, true),
         "case" | "load" => {
@@ -54,7 +62,7 @@ fn main(rt: HostRuntime) -> anyhow::Result<()> {
             Ok(())
         }
         _ => bail!(
-            "usage: mc_bench [measure | ring | store | hold ITEMS | case KIND SIZE PIECE | load KIND SIZE PIECE]"
+            "usage: mc_bench [measure | ring | store | hold ITEMS | link GETS SIZE PIECE | case KIND SIZE PIECE | load KIND SIZE PIECE]"
         ),
     }
 }

@@ -66,6 +66,7 @@ impl<S: Store + Drop> Cache<S> {
     ghost use Rattle.mc_request.specs.Parts.{update_seen};
     ghost use Rattle.mc_reply.specs.Replies.{filled};
     ghost use Rattle.mc_cache.specs.CacheState.{opening_cache, held_value, value_at, front_value};
+    ghost use Rattle.mc_store.specs.Items.{longest_of};
     ghost use Rattle.mc_cache.specs.Step.{step_of};
     ghost use Rattle.mc_cache.specs.Refusals.{may_refuse, takes_block, HasKey, is_refusal, value_after};
 
@@ -319,5 +320,13 @@ impl<S: Store + Drop> Cache<S> {
             Some(body) => body.value.as_slice().len(),
             None => 0,
         }
+    }
+
+    /// A number of bytes that no held value is longer than, without a look at a key. It may stay larger than that once
+    /// the longest value has gone.
+    pub fn longest(&self) -> usize
+        ensures { longest_of self.now.items ≤ result }
+    {
+        self.store.longest()
     }
 }

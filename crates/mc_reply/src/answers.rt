@@ -12,12 +12,12 @@ ghost use Rattle.mc_reply.specs.Parts.{part_of};
 ghost use Rattle.mc_reply.specs.Seen.{reply_seen, bytes_seen, value_len, shown_len};
 
 pub use crate::appends::LINE_ROOM;
-use crate::appends::{append, append_key_part, append_reply_line, short_line};
+use crate::appends::{append_key_part, append_reply_line, short_line};
 use crate::flag_appends::flags_room;
 use crate::meta_appends::{BESIDE_FLAGS_ROOM, append_meta};
 use crate::replies::Reply;
 use mc_request::{Fault, FlagWords, MetaCommand, MetaForm, Request, Update};
-use mc_text::{Block, CODED_LIMIT, KEY_LIMIT, Key, WordIter, write_coded};
+use mc_text::{Block, CODED_LIMIT, KEY_LIMIT, Key, WordIter, append, write_coded};
 use std::alloc::AllocError;
 use thiserror::Error;
 
@@ -278,8 +278,8 @@ fn write_owned_meta(
     )
 }
 
-/// The key of a meta command.
-fn key_of(command: &MetaCommand<Key, Block>) -> &[u8]
+/// The bytes of a meta command's key. It takes no memory.
+pub fn key_of(command: &MetaCommand<Key, Block>) -> &[u8]
     ensures key { result.now ≡ meta_key command.now }
     ensures size { length result.now ≤ KEY_LIMIT }
 {
@@ -321,8 +321,8 @@ fn write_alone(request: &Request, out: &mut Vec<u8>) -> Result<(), ReplyError>
     }
 }
 
-/// How many bytes of a value a reply shows. No value has 2^63 bytes.
-fn value_len(reply: &Reply<&[u8]>) -> usize
+/// How many bytes of a value a reply shows: fewer than 2^63. It takes no memory.
+pub fn value_len(reply: &Reply<&[u8]>) -> usize
     ensures len { result ≡ value_len (bytes_seen reply.now) }
     ensures bound { result < 2 ^ 63 }
 {

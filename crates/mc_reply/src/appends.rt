@@ -8,6 +8,7 @@ ghost use Rattle.mc_reply.specs.Seen.{bytes_seen, value_len};
 use crate::replies::Reply;
 use itoa::{Buffer, write_digits};
 use mc_request::Fault;
+use mc_text::append;
 
 /// The most bytes that the line of a reply has. The longest has 62.
 pub const LINE_ROOM: usize = 64;
@@ -20,16 +21,6 @@ const NUMBER_LEN: usize = 21;
 
 /// The most bytes of three numbers, each behind a space, and a line end.
 const NUMBERS_LEN: usize = 65;
-
-/// Appends bytes.
-pub fn append(out: &mut Vec<u8>, bytes: &[u8])
-    requires { vec_len out.old + length bytes.now ≤ vec_capacity out.old }
-    ensures items { out.new.items ≡ out.old.items ++ bytes.now }
-    ensures len { vec_len out.new ≡ vec_len out.old + length bytes.now }
-    ensures room { vec_capacity out.old ≤ vec_capacity out.new }
-{
-    out.extend_from_slice(bytes).unwrap();
-}
 
 /// Appends the line of a reply.
 pub fn append_reply_line(out: &mut Vec<u8>, reply: &Reply<&[u8]>)

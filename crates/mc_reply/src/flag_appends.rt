@@ -4,11 +4,10 @@ ghost use Rattle.std.specs.Fmt.{decimal};
 ghost use Rattle.mc_reply.specs.MetaSpelling.{key_flag_onto, number_flag_onto, left_onto, flag_onto, flags_onto};
 ghost use Rattle.mc_reply.specs.MetaRooms.{word_room, flags_room};
 
-use crate::appends::append;
 use crate::replies::Shown;
 use itoa::write_digits;
 use mc_request::{Flag, flag_of};
-use mc_text::{CODED_LIMIT, WordIter};
+use mc_text::{CODED_LIMIT, WordIter, append};
 
 /// The most bytes that a number gives back, with a space and its letter.
 pub const NUMBER_FLAG_ROOM: usize = 22;

@@ -6,7 +6,8 @@
 //! flag words ask to be given back ([`write_meta`]), where that is not hidden; `mn` and `version` by lines of their own
 //! ([`write_noop`], [`write_version`]); and what is no request by the line of its fault ([`write_fault`]). Who keeps the
 //! request beside its replies appends what each adds by [`write_part`], for which [`part_room`] is room enough. Each of
-//! these appends to bytes that are still to be sent, or gives up and appends nothing.
+//! these appends to bytes that are still to be sent, or gives up and appends nothing. [`key_of`] gives the bytes of a
+//! meta command's key, and [`value_len`] how many bytes of a value a reply shows.
 //!
 //! `specs/Spelling.antt` says how a reply to one command is spelled (`spelling_of`) and what a client is answered
 //! (`answer_of`), `specs/MetaSpelling.antt` the same of a meta command by its flag words (`meta_line`), and
@@ -23,8 +24,9 @@ mod replies;
 mod rows;
 
 pub use answers::{
-    FLAGS_ROOM, KEY_ROOM, LINE_ROOM, META_ROOM, PART_ROOM, ReplyError, part_room, shown, write_end,
-    write_fault, write_key, write_line, write_meta, write_noop, write_part, write_version,
+    FLAGS_ROOM, KEY_ROOM, LINE_ROOM, META_ROOM, PART_ROOM, ReplyError, key_of, part_room, shown,
+    value_len, write_end, write_fault, write_key, write_line, write_meta, write_noop, write_part,
+    write_version,
 };
 pub use laws::{faults_are_shown, flags_of_requests_fit, one_reply_is_spelled, parts_in_order};
 pub use meta_rows::{

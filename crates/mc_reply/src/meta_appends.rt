@@ -6,11 +6,10 @@ ghost use Rattle.mc_reply.specs.MetaSpelling.{flags_onto, marks_onto, meta_by};
 ghost use Rattle.mc_reply.specs.MetaRooms.{flags_room};
 ghost use Rattle.mc_reply.specs.Seen.{bytes_seen, value_len};
 
-use crate::appends::append;
 use crate::flag_appends::append_flags;
 use crate::replies::{Marks, Reply, Shown};
 use itoa::write_digits;
-use mc_text::{CODED_LIMIT, WordIter};
+use mc_text::{CODED_LIMIT, WordIter, append};
 
 /// The most bytes that an answer has beside what its flag words give back and its value. It has 31.
 pub const BESIDE_FLAGS_ROOM: usize = 32;

@@ -8,18 +8,21 @@
 //! and its flag words as they stand in the line ([`MetaForm`]). [`flag_of`] names the flag of a letter.
 //! [`Request::atoms`] gives the commands of a request, [`Request::hides`] what it hides of its answer, and
 //! [`Fault::line`] the error line of a fault.
+//! [`write_atom`] writes the canonical spelling of a command, the one text that a proxy sends for it, of
+//! [`Atom::spelled_len`] bytes, and [`Atom::into_head`] keeps of it what a reader of its reply must know.
 //!
 //! A reader stands for a function: from the text still to come to the requests and faults that it will give.
 //! `feed`, `next` and `consume` are proved to keep that function, so how the text is cut never matters: see
 //! `specs/Reader.antt` for the function and `specs/Requests.antt` for the requests of a text.
 //!
-//! Of the calls, `feed`, `next`, `atoms` and those that make a copy of what is lent take memory; all others take none,
+//! Of the calls, `feed`, `next`, `atoms`, `write_atom` and those that make a copy of what is lent take memory; all others take none,
 //! and cannot fail.
 #![tactic(auto)]
 
 mod command_lines;
 mod faults;
 mod flags;
+mod heads;
 mod hides;
 mod keys;
 mod laws;
@@ -41,6 +44,7 @@ mod unread;
 
 pub use faults::Fault;
 pub use flags::{Flag, OPAQUE_LIMIT, flag_of};
+pub use heads::Head;
 pub use hides::Hides;
 pub use keys::Keys;
 pub use laws::{requests_are_well_formed, requests_begin, requests_go_on};

@@ -7,7 +7,6 @@ ghost use Rattle.mc_ring.specs.Rings.{IsRising, Shows};
 
 use crate::addresses::Address;
 use itoa::Buffer;
-use mc_text::Key;
 use md5::{DIGEST_LEN, Digest, Md5};
 use std::alloc::{AllocError, Global};
 
@@ -26,12 +25,12 @@ pub struct Point {
     pub place: usize,
 }
 
-/// The hash of a key, which is where it stands on the ring.
+/// The hash of a key's bytes, which is where the key stands on the ring.
 #[tactic(auto, unfolding(crate::specs::Points::hash_of))]
-pub fn hash_of(key: &Key) -> u32
+pub fn hash_of(key: &[u8]) -> u32
     ensures { result ≡ hash_of key.now }
 {
-    word_at(&Md5::digest(key.as_bytes()), 0)
+    word_at(&Md5::digest(key), 0)
 }
 
 /// Four bytes of a digest as a number, the least first.

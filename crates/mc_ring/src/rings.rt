@@ -89,6 +89,14 @@ impl Ring {
         ensures owner { result ≡ owner_of self.now.points (hash_of key.now) }
         ensures inside { result < length self.now.servers }
     {
+        self.owner_of_bytes(key.as_bytes())
+    }
+
+    /// The same by the key's bytes, whoever has them. It takes no memory.
+    pub fn owner_of_bytes(&self, key: &[u8]) -> usize
+        ensures owner { result ≡ owner_of self.now.points (hash_of key.now) }
+        ensures inside { result < length self.now.servers }
+    {
         holder_of(&self.points, hash_of(key)).place
     }
 

@@ -143,15 +143,11 @@ fn takes_turns(
     said: &'static Said,
 ) -> Result<bool, ServerError> {
     server.feed(number, said.sent)?;
-    if server.ready(number)? != said.is_ready {
-        return Ok(false);
-    }
+    let mut is_so = server.ready(number)? == said.is_ready;
     for turn in said.turns {
-        if server.turn(number, MOMENT)? != *turn {
-            return Ok(false);
-        }
+        is_so &= server.turn(number, MOMENT)? == *turn;
     }
-    Ok(true)
+    Ok(is_so)
 }
 
 #[test]

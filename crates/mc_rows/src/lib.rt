@@ -14,6 +14,8 @@ mod clients;
 #[cfg(test)]
 mod connections;
 #[cfg(test)]
+mod links;
+#[cfg(test)]
 mod loopback;
 #[cfg(test)]
 mod meagre;

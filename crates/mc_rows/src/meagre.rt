@@ -37,6 +37,10 @@ impl Store for MeagreStore {
         self.list.used()
     }
 
+    fn longest(&self) -> usize {
+        self.list.longest()
+    }
+
     fn peek(&self, key: &[u8]) -> Option<&Body> {
         self.list.peek(key)
     }

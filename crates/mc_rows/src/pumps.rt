@@ -3,7 +3,7 @@
 use crate::clients::{MOMENT, WIDE, new_server};
 use crate::meagre::MeagreStore;
 use crate::pumps::Call::{Blocks, Fails, Interrupts, Moves};
-use mc_serve::{Pump, UNSENT_MARK, pump};
+use mc_pump::{Pump, UNSENT_MARK, pump};
 use mc_server::Server;
 use std::alloc::{AllocError, Global};
 use std::io;
@@ -278,13 +278,35 @@ fn with_value(alloc: Global, before: &[u8], behind: &[u8]) -> Result<Vec<u8>, Al
     Ok(text)
 }
 
-/// A text so many times.
-fn repeated(alloc: Global, text: &[u8], times: usize) -> Result<Vec<u8>, AllocError> {
-    let mut all = Vec::new(alloc);
+/// A client that asks so many times for a value.
+fn asking(alloc: Global, times: usize) -> Result<Source, AllocError> {
+    let mut bytes = Vec::new(alloc);
     for _ in 0..times {
-        all.extend_from_slice(text)?;
+        bytes.extend_from_slice(b"get a\r\n")?;
     }
-    Ok(all)
+    Ok(Source {
+        bytes,
+        given: 0,
+        calls: Calls::new(&[Moves(7)], None),
+    })
+}
+
+/// Whether some bytes are a text so many times.
+fn are_repeated(bytes: &[u8], text: &[u8], times: usize) -> bool {
+    bytes.len() == text.len().saturating_mul(times)
+        && bytes.chunks(text.len().max(1)).all(|part| part == text)
+}
+
+/// A server that holds a value of 500,000 bytes.
+fn server_with_value(alloc: Global) -> Result<Server<MeagreStore>, Fail> {
+    let mut server = new_server(alloc, WIDE)?;
+    let stored = with_value(alloc, b"set a 0 0 500000\r\n", b"\r\n")?;
+    let calm = Sides {
+        reads: Calls::new(&[Moves(usize::MAX)], None),
+        writes: Calls::new(&[Moves(usize::MAX)], None),
+    };
+    play(alloc, &mut server, stored.as_slice(), calm)?;
+    Ok(server)
 }
 
 /// How many bytes are unsent after a pump.
@@ -304,25 +326,19 @@ fn unsent_after_a_pump(
 #[test]
 fn unsent_answers_stop_reads(rt: HostRuntime) -> Result<(), Fail> {
     let alloc = rt.alloc();
-    let mut server = new_server(alloc, WIDE)?;
-    let stored = with_value(alloc, b"set a 0 0 500000\r\n", b"\r\n")?;
-    let calm = Sides {
-        reads: Calls::new(&[Moves(usize::MAX)], None),
-        writes: Calls::new(&[Moves(usize::MAX)], None),
-    };
-    play(alloc, &mut server, stored.as_slice(), calm)?;
     let answer = with_value(alloc, b"VALUE a 0 500000\r\n", b"\r\nEND\r\n")?;
-    let asked = repeated(alloc, b"get a\r\n", 20)?;
-    let number = server.admit()?;
-    let mut source = Source::new(alloc, asked.as_slice(), Calls::new(&[Moves(7)], None))?;
+    let mut source = asking(alloc, 20)?;
     let mut sink = Sink::new(alloc, Calls::new(&[Blocks], None));
+    let mut server = server_with_value(alloc)?;
+    let number = server.admit()?;
     let unsent = unsent_after_a_pump(&mut server, number, &mut source, &mut sink);
     let still = unsent_after_a_pump(&mut server, number, &mut source, &mut sink);
     let nine = answer.len().saturating_mul(9);
-    assert!(rt; source.calls.made == 9 && unsent == nine && still == nine && nine >= UNSENT_MARK);
+    let are_unsent = unsent == nine && still == nine && nine >= UNSENT_MARK;
+    let is_stopped = are_unsent && source.calls.made == 9;
     sink.calls = Calls::new(&[Moves(100_000), Blocks], None);
     let last = pumped(&mut server, number, &mut source, &mut sink);
-    let all = repeated(alloc, answer.as_slice(), 20)?;
-    assert!(rt; last == Pump::Done && sink.taken.as_slice() == all.as_slice());
+    let is_done = last == Pump::Done && are_repeated(&sink.taken, &answer, 20);
+    assert!(rt; is_stopped && is_done);
     Ok(())
 }

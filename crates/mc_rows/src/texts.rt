@@ -1,8 +1,10 @@
 //! What no clause of keys, blocks and errors says: that they find memory where there is some, and how errors read.
 
+use mc_link::LinkError;
 use mc_reply::ReplyError;
 use mc_request::{Keys, ReadError};
 use mc_ring::RingError;
+use mc_route::RouteError;
 use mc_script::{Side, SimError};
 use mc_server::ServerError;
 use mc_store::StoreError;
@@ -76,6 +78,11 @@ const OF_RINGS: [(RingError, &'static str); 5] = [
     (RingError::Memory, "out of memory"),
 ];
 
+const OF_LINKS: [(LinkError, &'static str); 2] = [
+    (LinkError::State, "link is in the wrong state"),
+    (LinkError::Memory, "out of memory"),
+];
+
 const OF_SCRIPTS: [(SimError, &'static str); 3] = [
     (SimError::Stream(Side::Output), "input or output failed"),
     (SimError::BadLine(4), "line 4: bad line"),
@@ -91,6 +98,8 @@ fn errors_have_texts(rt: HostRuntime) -> Result<(), Fail> {
             && read_so(alloc, &OF_SERVERS)
             && read_so(alloc, &OF_RINGS)
             && read_so(alloc, &OF_SCRIPTS)
+            && read_so(alloc, &OF_LINKS)
+            && read_so(alloc, &[(RouteError::Memory, "out of memory")])
             && read_so(alloc, &[(ReplyError::Memory, "out of memory")])
             && read_so(alloc, &[(ReadError::Memory, "out of memory")])
     );

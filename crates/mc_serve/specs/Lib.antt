@@ -1,4 +1,1 @@
-pub mod Stretches
-pub mod Pumps
-pub mod Rounds
 pub mod Statuses

@@ -1,8 +1,7 @@
 //! A client: its socket, and what is known of it.
 ghost use Rattle.std.specs.Prelude.{◌<◌, ◌^◌, length};
 
-use crate::outcomes::Pump;
-use crate::pumps::pump;
+use mc_pump::{Pump, pump};
 use mc_server::Server;
 use mc_store::Store;
 use mio::event::Event;

@@ -1,10 +1,4 @@
-//! The limits of a pump.
-
-/// The most rounds of one call of [`pump`](crate::pump).
-pub const MAX_ROUNDS: u32 = 16;
-
-/// As many unsent bytes stop a connection's turns and reads: 4 MiB.
-pub const UNSENT_MARK: usize = 4_194_304;
+//! The limits of serving.
 
 /// As many bytes may stay reserved for the input, and for the output, of a client that waits for something to happen:
 /// 256 KiB. What is larger is given back at once, and all of it when the client rests.

@@ -34,17 +34,19 @@ pub const COMMAND_BOUND: usize = 1024;
 /// The most digits of a number of 64 bits.
 pub const NUMBER_ROOM: usize = 20;
 
-/// How many bytes of room the answer to what is asked may need; [`usize::MAX`] where it is that or more.
+/// The most bytes of room that are made for values by the longest that is held, without a look at each. Where that would be
+/// more, each key is looked up.
+const ROOM_BY_LONGEST: usize = 65_536;
+
+/// Enough bytes of room for the answer to what is asked; [`usize::MAX`] where it may need that or more.
 pub fn room_for<S: Store + Drop>(asked: &Asked<'_>, cache: &Cache<S>) -> usize
     requires { is_well_formed (asked_of asked.now) ≡ true }
-    ensures { result ≡ min (room_of (asked_of asked.now) cache.now) (2 ^ 64 - 1) }
+    ensures { min (room_of (asked_of asked.now) cache.now) (2 ^ 64 - 1) ≤ result }
 {
     match asked {
-        Asked::Get { keys, .. } => {
-            LINE_ROOM.saturating_add(room_for_keys(KEY_ROOM, keys.again(), cache))
-        }
+        Asked::Get { keys, .. } => LINE_ROOM.saturating_add(enough_for_keys(keys, cache)),
         Asked::Meta { command, form } => {
-            META_ROOM.saturating_add(room_for_value(command, form.coded, cache))
+            META_ROOM.saturating_add(enough_for_value(command, form.coded, cache))
         }
         Asked::Update { .. } | Asked::MetaNoop | Asked::Version | Asked::Quit | Asked::Faulty(_) =>
             LINE_ROOM,
@@ -63,6 +65,43 @@ pub fn bound_for<S: Store + Drop>(asked: &Asked<'_>, cache: &Cache<S>) -> usize
         }
         Asked::Update { .. } | Asked::MetaNoop | Asked::Version | Asked::Quit | Asked::Faulty(_) =>
             COMMAND_BOUND,
+    }
+}
+
+/// Enough bytes for the values under some keys and what stands beside them; [`usize::MAX`] where that may be it or more.
+///
+/// Keys are no more than the bytes of their text and one; where that does not tell enough, no more than its spaces and one.
+fn enough_for_keys<S: Store + Drop>(keys: &WordIter<'_>, cache: &Cache<S>) -> usize
+    ensures { min (keys_room KEY_ROOM keys.now cache.now) (2 ^ 64 - 1) ≤ result }
+{
+    let longest = cache.longest();
+    if longest <= ROOM_BY_LONGEST {
+        let each = longest + KEY_ROOM;
+        let by_bytes = each.saturating_mul(keys.text().len() + 1);
+        if by_bytes <= ROOM_BY_LONGEST {
+            return by_bytes;
+        }
+        let by_spaces = each.saturating_mul(keys.most());
+        if by_spaces <= ROOM_BY_LONGEST {
+            return by_spaces;
+        }
+    }
+    room_for_keys(KEY_ROOM, keys.again(), cache)
+}
+
+/// Enough bytes for the value that a meta command shows, by the word of its key.
+fn enough_for_value<S: Store + Drop>(
+    command: &MetaCommand<&[u8], &[u8]>,
+    coded: bool,
+    cache: &Cache<S>,
+) -> usize
+    requires { has_meta_key (meta_said coded command.now) ≡ true }
+    ensures { meta_value_room (meta_said coded command.now) cache.now ≤ result }
+{
+    let longest = cache.longest();
+    match command {
+        MetaCommand::Get { get, .. } if get.show.value && longest <= ROOM_BY_LONGEST => longest,
+        _ => room_for_value(command, coded, cache),
     }
 }
 

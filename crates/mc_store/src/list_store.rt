@@ -2,7 +2,7 @@
 ghost use Rattle.std.specs.Prelude.{◌≡◌, ◌<◌, ◌^◌, [], ◌+◌, position, is_some, IfSome, IfNone, Some, None};
 ghost use Rattle.std.specs.Option.{option_map};
 ghost use Rattle.std.specs.Str.{bytes_eq};
-ghost use Rattle.mc_store.specs.Items.{body_at, without, brought, item_cost, cost_sum};
+ghost use Rattle.mc_store.specs.Items.{body_at, without, brought, item_cost, cost_sum, longest_of};
 ghost use Rattle.mc_store.specs.Places.{HoldsAt};
 
 use crate::stores::Store;
@@ -12,7 +12,8 @@ use std::alloc::Global;
 use std::marker::Model;
 use std::mem;
 
-/// The items in a plain list, and what they cost. Each call with a key looks through the list once, from the front.
+/// The items in a plain list, and what they cost. Each call with a key looks through the list once, from the front, and
+/// `longest` through all of it.
 ///
 /// Contracts see the keys and bodies. What they cost together stays below 2^63.
 #[derive(Drop)]
@@ -56,6 +57,10 @@ impl Store for ListStore {
 
     fn used(&self) -> u64 {
         self.used
+    }
+
+    fn longest(&self) -> usize {
+        longest_in(self.entries.as_slice())
     }
 
     fn peek(&self, key: &[u8]) -> Option<&Body> {
@@ -141,6 +146,18 @@ impl Store for ListStore {
         self.entries.clear();
         self.used = 0;
     }
+}
+
+/// How many bytes the longest value has.
+#[tactic(auto, using(crate::proofs::LongestLemmas::steps))]
+fn longest_in(entries: &[(Key, Body)]) -> usize
+    ensures { result ≡ longest_of entries.now }
+{
+    let mut longest: usize = 0;
+    for entry in entries {
+        longest = longest.max(entry.1.value.len());
+    }
+    longest
 }
 
 /// Moves the key's item to the front, and says whether there is one. One that stands first already stays where it is.

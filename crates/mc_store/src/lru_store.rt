@@ -44,7 +44,7 @@ pub type FixedHasher = BuildHasherDefault<FoldHasher>;
 /// # Work
 ///
 /// A call with a key hashes it once and searches the table once, but `put_front`, which does both twice and then looks for
-/// a free place. `drop_last` hashes the last key once and searches for it once. `len`, `used` and `front` do neither. So none
+/// a free place. `drop_last` hashes the last key once and searches for it once. `len`, `used`, `longest` and `front` do neither. So none
 /// of these takes longer where more items stand, as long as the hash spreads the keys, but for what is said of `put_front`
 /// below. `clear` and the end of the store take out one item after the other.
 ///
@@ -60,19 +60,21 @@ pub type FixedHasher = BuildHasherDefault<FoldHasher>;
 pub struct LruStore<H: BuildHasher> {
     cache: LruCache<Key, Body, H>,
     used: u64,
+    /// No value is longer. It rises with the values that are put in, and falls where all items are taken out.
+    longest: usize,
 }
 
 impl<H: BuildHasher> Model for LruStore<H> {
-    ghost use Rattle.std.specs.Prelude.{◌≡◌, ◌<◌, ◌^◌, ℕ, List};
+    ghost use Rattle.std.specs.Prelude.{◌≡◌, ◌≤◌, ◌<◌, ◌^◌, ℕ, List};
     ghost use Rattle.lru.specs.LruCache.{LruCache as Entries};
     ghost use Rattle.mc_item.specs.declared.bodies.Body.{Body as Bodies};
-    ghost use Rattle.mc_store.specs.Items.{cost_sum};
+    ghost use Rattle.mc_store.specs.Items.{cost_sum, longest_of};
 
     ghost Value = { Entries (List ℕ) Bodies };
 
     ghost view = { λ s. s.cache };
 
-    ghost invariant = { λ s. (s.used ≡ cost_sum s.cache.entries) × (s.used < 2 ^ 63) };
+    ghost invariant = { λ s. (s.used ≡ cost_sum s.cache.entries) × (s.used < 2 ^ 63) × (longest_of s.cache.entries ≤ s.longest) };
 }
 
 impl LruStore<FixedHasher> {
@@ -98,7 +100,11 @@ impl<H: BuildHasher + Drop> LruStore<H> {
         let most = items.checked_add(1).ok_or(StoreError::TooMany)?;
         let room = NonZeroUsize::new(most).ok_or(StoreError::TooMany)?;
         let cache = LruCache::with_hasher(alloc, room, hasher)?;
-        Ok(LruStore { cache, used: 0 })
+        Ok(LruStore {
+            cache,
+            used: 0,
+            longest: 0,
+        })
     }
 }
 
@@ -114,6 +120,10 @@ impl<H: BuildHasher> Store for LruStore<H> {
 
     fn used(&self) -> u64 {
         self.used
+    }
+
+    fn longest(&self) -> usize {
+        self.longest
     }
 
     fn peek(&self, key: &[u8]) -> Option<&Body> {
@@ -160,12 +170,13 @@ impl<H: BuildHasher> Store for LruStore<H> {
     }
 
     fn replace(&mut self, key: &[u8], body: Body) -> Result<Body, Body> {
-        let more = body.value.len() as u64;
+        let length = body.value.len();
         match self.cache.get_mut(KeyBytes { bytes: key }) {
             Some(held) => {
                 let before = mem::replace(held, body);
                 self.used -= before.value.len() as u64;
-                self.used += more;
+                self.used += length as u64;
+                self.longest = self.longest.max(length);
                 Ok(before)
             }
             None => Err(body),
@@ -174,9 +185,11 @@ impl<H: BuildHasher> Store for LruStore<H> {
 
     fn put_front(&mut self, key: Key, body: Body) -> Result<(), (Key, Body)> {
         let price = cost(&key, &body);
+        let length = body.value.len();
         match self.cache.put(key, body) {
             Ok(_) => {
                 self.used += price;
+                self.longest = self.longest.max(length);
                 Ok(())
             }
             Err(failed) => Err(failed.value),
@@ -196,5 +209,6 @@ impl<H: BuildHasher> Store for LruStore<H> {
     fn clear(&mut self) {
         self.cache.clear();
         self.used = 0;
+        self.longest = 0;
     }
 }

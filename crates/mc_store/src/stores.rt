@@ -1,8 +1,8 @@
 //! What a cache stands over.
-ghost use Rattle.std.specs.Prelude.{ℕ, Option, ◌≡◌, ◌∷◌, ◌++◌, ◌+◌, ◌<◌, ◌^◌, [], length, is_some, None, Some, IfOk, OnOk, IfErr, OnErr, IfSome, IfNone};
+ghost use Rattle.std.specs.Prelude.{ℕ, Option, ◌≡◌, ◌∷◌, ◌++◌, ◌+◌, ◌<◌, ◌≤◌, ◌^◌, [], length, is_some, None, Some, IfOk, OnOk, IfErr, OnErr, IfSome, IfNone};
 ghost use Rattle.std.specs.Option.{option_copied};
 ghost use Rattle.mc_item.specs.Costs.{cost_of};
-ghost use Rattle.mc_store.specs.Items.{Items, body_at, front_body, without, brought, expiring, marking, cost_sum};
+ghost use Rattle.mc_store.specs.Items.{Items, body_at, front_body, without, brought, expiring, marking, cost_sum, longest_of};
 
 use mc_item::{Body, Deadline};
 use mc_text::Key;
@@ -24,6 +24,10 @@ pub trait Store {
     /// What the items cost, in bytes.
     fn used(&self) -> u64
         ensures { result ≡ cost_sum (items self.now) };
+
+    /// A number of bytes that no value is longer than. It may stay larger than that once the longest value has gone.
+    fn longest(&self) -> usize
+        ensures { longest_of (items self.now) ≤ result };
 
     /// The body under the key. The order stays.
     fn peek(&self, key: &[u8]) -> Option<&Body>

@@ -5,6 +5,7 @@ use Rattle.lru.specs.LruCache.{promoted}
 use Rattle.mc_item.specs.declared.bodies.Body.{Body}
 use Rattle.mc_item.specs.Costs.{cost_of}
 use Rattle.mc_store.specs.Items.{Items, body_at, without, cost_sum}
+use Rattle.mc_store.proofs.LongestLemmas.{longest_of-written}
 use Rattle.mc_store.proofs.LruLemmas.{writes}
 use Rattle.mc_store.proofs.lru_store.LruStoreStore.mark.Goals as goal
 
@@ -18,7 +19,7 @@ invariant_of-self-2 g c =
     × (cost_of c.args.key.now before.value + cost_sum (without c.args.key.now old) ≡ cost_sum old) =
     writes c.args.key.now old new before after (sym c.in-Some.ensures.value) refl in
     let same : cost_sum new ≡ cost_sum old = ap cost_sum wrote.0 ∙ wrote.2 in
-    (c.self.invariant.0 ∙ sym same, c.self.invariant.1)
+    (c.self.invariant.0 ∙ sym same, c.self.invariant.1, longest_of-written c.args.key.now before after old new c.self.inside.longest wrote.1 refl wrote.0 c.self.invariant.2)
 
 pub returns-clause-items : goal.returns-clause-items
 returns-clause-items g c =

@@ -1,0 +1,5 @@
+pub mod FieldLemmas
+pub mod FormLaws
+pub mod LeadLemmas
+pub mod CoverLaws
+pub mod SeenLemmas

@@ -1,0 +1,3 @@
+pub mod LinkState
+pub mod Turns
+pub mod LinkFields

@@ -1,0 +1,263 @@
+//! A link.
+ghost use Rattle.std.specs.Prelude.{◌≡◌, ◌+◌, ◌-◌, ◌^◌, ◌<◌, ◌≤◌, ◌++◌, ◌↔◌, ◌⊎◌, ℕ, true, false, length, drop, slice_get, option_map, IfOk, IsOk, IsOkUnless, IsErrOf, OnOk, OnErr};
+ghost use Rattle.std.specs.Bool.{OnFalse};
+
+use crate::turns::{LinkError, LinkTurn, LostLink, Tag};
+use mc_reply_reader::{NextReply, ReplyReader};
+use mc_request::{Atom, Head};
+use mc_spelling::write_atom;
+use mc_text::{Block, drop_front, let_go};
+use std::alloc::Global;
+use std::collections::VecDeque;
+use std::marker::Model;
+use std::mem;
+
+/// A link to a server. It is up or down; while it is down it keeps nothing but its generation.
+#[derive(Drop)]
+pub struct Link {
+    up: bool,
+    generation: u64,
+    output: Vec<u8>,
+    /// How many bytes of the output were taken out.
+    sent: usize,
+    /// The commands whose replies have not come, oldest first.
+    waiting: VecDeque<(Head, Tag)>,
+    reader: ReplyReader,
+    /// With fewer unread bytes than this the oldest command's reply has only begun. 0 where nothing is known.
+    wanted: usize,
+}
+
+impl Model for Link {
+    ghost use Rattle.mc_link.specs.LinkState.{RoomyLink};
+
+    ghost Value = { RoomyLink };
+
+    ghost use Rattle.mc_link.specs.LinkFields.{link_of, IsLink};
+
+    ghost view = { link_of };
+
+    ghost invariant = { IsLink };
+}
+
+impl Link {
+    ghost use Rattle.mc_spelling.specs.Spellings.{spelling_of_atom};
+    ghost use Rattle.mc_link.specs.LinkState.{LinkState, KeepsRoom, down_link, up_link, sent, can_come_back};
+    ghost use Rattle.mc_link.specs.Turns.{IsLinkTurn};
+
+    /// A link that is down and has never been up: its generation is 0. It takes no memory.
+    pub fn new(alloc: Global) -> Link
+        ensures { result.state ≡ down_link 0 }
+    {
+        Link {
+            up: false,
+            generation: 0,
+            output: Vec::new(alloc),
+            sent: 0,
+            waiting: VecDeque::new(alloc),
+            reader: ReplyReader::new(alloc),
+            wanted: 0,
+        }
+    }
+
+    /// Whether the link is up. One that is down has no output, no command that waits and no unread byte.
+    pub fn is_up(&self) -> bool
+        ensures up { result ≡ self.now.state.up }
+        ensures down { OnFalse result (self.now.state ≡ down_link self.now.state.generation) }
+    {
+        self.up
+    }
+
+    /// Refuses what only a link that is up can do.
+    fn needs_up(&self) -> Result<(), LinkError>
+        ensures state { IsErrOf result LinkError.State ↔ (self.now.state.up ≡ false) }
+        ensures up { OnOk result (self.now.state.up ≡ true) }
+        ensures only_state { IsOkUnless result LinkError.State }
+    {
+        if self.up {
+            Ok(())
+        } else {
+            Err(LinkError::State)
+        }
+    }
+
+    /// How often the link has come up.
+    pub fn generation(&self) -> u64
+        ensures { result ≡ self.now.state.generation }
+    {
+        self.generation
+    }
+
+    /// How many commands wait for their replies.
+    pub fn waiting(&self) -> usize
+        ensures { result ≡ length self.now.state.waiting }
+    {
+        self.waiting.len()
+    }
+
+    /// The tag of the command number `place` of those that wait, the oldest being number 0.
+    pub fn tag(&self, place: usize) -> Option<Tag>
+        ensures { result ≡ option_map (λ waiting. waiting.1) (slice_get self.now.state.waiting place) }
+    {
+        match self.waiting.get(place) {
+            Some((_, tag)) => Some(*tag),
+            None => None,
+        }
+    }
+
+    /// Comes up, and gives the new generation: one more than before.
+    pub fn back(&mut self) -> Result<u64, LinkError>
+        ensures back { IfOk result (λ generation.
+            (generation ≡ self.old.state.generation + 1) × (self.new.state ≡ up_link generation)) }
+        ensures state { IsErrOf result LinkError.State ↔ (can_come_back self.old.state ≡ false) }
+        ensures only_state { IsOkUnless result LinkError.State }
+        ensures err { OnErr result (self.new.state ≡ self.old.state) }
+        ensures room { KeepsRoom self.old self.new }
+    {
+        if self.up || self.generation == u64::MAX {
+            return Err(LinkError::State);
+        }
+        self.up = true;
+        self.generation += 1;
+        Ok(self.generation)
+    }
+
+    /// Takes the memory for commands to come: behind it, so many sends of commands whose spellings have so many bytes in all
+    /// take none.
+    pub fn make_room(&mut self, bytes: usize, heads: usize) -> Result<(), LinkError>
+        ensures made { OnOk result ((bytes ≤ self.new.bytes) × (heads ≤ self.new.heads)) }
+        ensures state { IsErrOf result LinkError.State ↔ (self.old.state.up ≡ false) }
+        ensures enough { self.old.state.up ≡ true → bytes ≤ self.old.bytes → heads ≤ self.old.heads → IsOk result }
+        ensures unchanged { self.new.state ≡ self.old.state }
+        ensures room { KeepsRoom self.old self.new }
+    {
+        self.needs_up()?;
+        self.output.reserve(bytes)?;
+        self.waiting.reserve(heads)?;
+        Ok(())
+    }
+
+    /// Sends a command: appends its canonical spelling to the output, and its head and tag to what waits.
+    ///
+    /// At an error the command is dropped.
+    pub fn send(&mut self, atom: Atom<Block>, tag: Tag) -> Result<(), LinkError>
+        ensures sent { OnOk result (self.new.state ≡ sent atom tag self.old.state) }
+        ensures state { IsErrOf result LinkError.State ↔ (self.old.state.up ≡ false) }
+        ensures enough { self.old.state.up ≡ true → length (spelling_of_atom atom) ≤ self.old.bytes → 0 < self.old.heads
+            → IsOk result }
+        ensures err { OnErr result (self.new.state ≡ self.old.state) }
+        ensures bytes { self.old.bytes ≤ self.new.bytes + length (spelling_of_atom atom) }
+        ensures heads { self.old.heads ≤ self.new.heads + 1 }
+        ensures room { OnErr result (KeepsRoom self.old self.new) }
+    {
+        self.needs_up()?;
+        self.waiting.reserve(1)?;
+        write_atom(&atom, &mut self.output)?;
+        self.waiting.push_back((atom.into_head(), tag)).unwrap();
+        Ok(())
+    }
+
+    /// The bytes that were not taken out.
+    pub fn output(&self) -> &[u8]
+        ensures { result.now ≡ self.now.state.output }
+    {
+        let (_, output) = self.output.split_at(self.sent);
+        output
+    }
+
+    /// Lets go of the first `count` bytes of the output, which the server was sent. It takes no memory.
+    pub fn taken_out(&mut self, count: usize)
+        requires { count ≤ length self.old.state.output }
+        ensures taken { self.new.state ≡ record self.old.state { output = drop count self.old.state.output } }
+        ensures room { KeepsRoom self.old self.new }
+    {
+        self.sent = let_go(&mut self.output, self.sent + count);
+    }
+
+    /// Takes the bytes that came next from the server.
+    #[tactic(auto, using(crate::proofs::LinkLemmas::short_of_more))]
+    pub fn feed(&mut self, piece: &[u8]) -> Result<(), LinkError>
+        ensures fed { OnOk result (self.new.state ≡ record self.old.state { unread = self.old.state.unread ++ piece.now }) }
+        ensures state { IsErrOf result LinkError.State ↔ (self.old.state.up ≡ false) }
+        ensures err { OnErr result (self.new.state ≡ self.old.state) }
+        ensures room { KeepsRoom self.old self.new }
+    {
+        self.needs_up()?;
+        self.reader.feed(piece)?;
+        Ok(())
+    }
+
+    /// Takes the reply to the command that waits longest, where it has come whole.
+    ///
+    /// It takes memory only for a value, which is copied out once.
+    pub fn turn(&mut self, alloc: Global) -> Result<LinkTurn, LinkError>
+        ensures turn { IfOk result (λ turn. IsLinkTurn self.old.state turn self.new.state) }
+        ensures state { IsErrOf result LinkError.State ↔ (self.old.state.up ≡ false) }
+        ensures cause { IsErrOf result LinkError.Memory → 0 < length self.old.state.waiting }
+        ensures err { OnErr result (self.new.state ≡ self.old.state) }
+        ensures room { KeepsRoom self.old self.new }
+    {
+        self.needs_up()?;
+        let unread = self.reader.unread();
+        let Some((head, tag)) = self.waiting.front() else {
+            return Ok(if unread == 0 {
+                LinkTurn::Idle
+            } else {
+                LinkTurn::Strange
+            });
+        };
+        if unread < self.wanted {
+            return Ok(LinkTurn::Idle);
+        }
+        let tag = *tag;
+        match self.reader.next(alloc, head)? {
+            NextReply::Reply(reply) => {
+                self.waiting.pop_front();
+                self.wanted = 0;
+                Ok(LinkTurn::Took(tag, reply))
+            }
+            NextReply::More(wanted) => {
+                self.wanted = wanted;
+                Ok(LinkTurn::Idle)
+            }
+            NextReply::Strange => Ok(LinkTurn::Strange),
+        }
+    }
+
+    /// Goes down, and hands out the bytes that were not taken out and the commands that wait. The generation stays, and
+    /// all else is empty. It takes no memory.
+    pub fn lose(&mut self, alloc: Global) -> Result<LostLink, LinkError>
+        ensures bytes { IfOk result (λ lost. lost.bytes.items ≡ self.old.state.output) }
+        ensures waiting { IfOk result (λ lost. lost.waiting.items ≡ self.old.state.waiting) }
+        ensures down { OnOk result (self.new.state ≡ down_link self.old.state.generation) }
+        ensures state { IsErrOf result LinkError.State ↔ (self.old.state.up ≡ false) }
+        ensures only_state { IsOkUnless result LinkError.State }
+        ensures err { OnErr result (self.new.state ≡ self.old.state) }
+    {
+        self.needs_up()?;
+        let mut bytes = mem::replace(&mut self.output, Vec::new(alloc));
+        drop_front(&mut bytes, self.sent);
+        let waiting = mem::replace(&mut self.waiting, VecDeque::new(alloc));
+        self.up = false;
+        self.sent = 0;
+        self.reader = ReplyReader::new(alloc);
+        self.wanted = 0;
+        Ok(LostLink {
+            bytes,
+            waiting: waiting.into_vec(),
+        })
+    }
+
+    /// Gives back the memory of what holds nothing, of the output, of the bytes that came and of what waits, where there is
+    /// room for more than `kept` bytes or commands.
+    pub fn give_back(&mut self, kept: usize)
+        ensures { self.new.state ≡ self.old.state }
+    {
+        if self.output.is_empty() && self.output.capacity() > kept {
+            self.output.shrink_to_fit();
+        }
+        if self.waiting.is_empty() && self.waiting.capacity() > kept {
+            self.waiting.shrink_to_fit();
+        }
+        self.reader.give_back(kept);
+    }
+}

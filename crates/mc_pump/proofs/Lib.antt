@@ -1,0 +1,5 @@
+pub mod SideLemmas
+pub mod StretchLemmas
+pub mod PumpLemmas
+pub mod RoundLemmas
+pub mod LawLemmas

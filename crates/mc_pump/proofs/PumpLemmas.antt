@@ -1,0 +1,139 @@
+-- Pumps: one behind another, and what each part of a round adds.
+use Rattle.std.proofs.Common.{◌≡◌, ℕ, Bool, true, false, Ok, Err, List, [], ◌++◌, Option, Some}
+use Rattle.std.specs.Io.KnownBytes.{Appends}
+use Rattle.mc_server.specs.ServerState.{ConnectionState, ServerState, connection_at}
+use Rattle.mc_pump.specs.Sides.{Carries, Brings, IsStopOfSide, UnlessFailed}
+use Rattle.mc_pump.specs.Stretches.{Stretch}
+use Rattle.mc_pump.specs.Pumps.{Leaves, Pumps}
+use Rattle.mc_pump.specs.Rounds.{Receives, Sends}
+use Rattle.mc_pump.specs.declared.outcomes.Pump.{Pump}
+use Rattle.mc_pump.specs.declared.outcomes.Pump.TheVariants.{Again, Blocked, Done, Failed}
+use Rattle.mc_pump.proofs.SideLemmas.{carries_none, carried_then, carried_as, unless_failed, carries_brought, carries_sent}
+use Rattle.mc_pump.proofs.StretchLemmas.{stretch_none, stretch_then}
+
+-- nothing was done yet
+pub pumps_none : (number moment : ℕ) (s : ServerState) (c : ConnectionState) (unread written : Option (List ℕ)) (ended : Bool) → connection_at s number ≡ Some c
+    → Pumps number moment Again s s unread unread written written ended ended
+pumps_none number moment s c unread written ended was = record {
+  came = [];
+  went = [];
+  stretch = stretch_none number moment s c was;
+  carried = carries_none unread written ended;
+  left = tt;
+}
+
+-- a pump that goes on
+pub pumps_then : (number moment : ℕ) (pump : Pump) (a b c : ServerState) (unread middle unread' written between written' : Option (List ℕ)) (ended later ended' : Bool)
+    → Pumps number moment Again a b unread middle written between ended later → Pumps number moment pump b c middle unread' between written' later ended'
+    → Pumps number moment pump a c unread unread' written written' ended ended'
+pumps_then number moment pump a b c unread middle unread' written between written' ended later ended' h k = record {
+  came = h.came ++ k.came;
+  went = h.went ++ k.went;
+  stretch = stretch_then number moment a b c h.came k.came h.went k.went h.stretch k.stretch;
+  carried = carried_then pump unread middle unread' written between written' ended later ended' h.came k.came h.went k.went h.carried k.carried;
+  left = k.left;
+}
+
+-- a stop of a side leaves nothing to say
+left_by_side : (pump : Pump) (ended : Bool) (connection : Option ConnectionState) → IsStopOfSide pump → Leaves pump ended connection
+left_by_side Again ended connection h = tt
+left_by_side Blocked ended connection h = absurd h
+left_by_side Done ended connection h = absurd h
+left_by_side Failed ended connection h = tt
+
+-- turns alone
+pub pumps_turns : (number moment : ℕ) (pump : Pump) (a b : ServerState) (unread written : Option (List ℕ)) (ended : Bool)
+    → Stretch number moment a b [] [] → Leaves pump ended (connection_at b number) → Pumps number moment pump a b unread unread written written ended ended
+pumps_turns number moment pump a b unread written ended h left = record {
+  came = [];
+  went = [];
+  stretch = h;
+  carried = carried_as pump unread unread written written ended ended [] [] (elim pump as (λ p. UnlessFailed p (Carries unread unread written written ended ended [] [])) [
+    | Again ↦ carries_none unread written ended
+    | Blocked ↦ carries_none unread written ended
+    | Done ↦ carries_none unread written ended
+    | Failed ↦ tt
+  ]);
+  left = left;
+}
+
+-- a write that took bytes
+pub pumps_sent : (number moment : ℕ) (moved : Bool) (a b : ServerState) (unread written written' : Option (List ℕ)) (ended : Bool)
+    → Sends number moment (Ok moved) a b written written' → Pumps number moment Again a b unread unread written written' ended ended
+pumps_sent number moment true a b unread written written' ended h =
+    record { came = []; went = h.went; stretch = h.stretch; carried = carries_sent unread written written' ended h.went h.how; left = tt }
+pumps_sent number moment false a b unread written written' ended h =
+    record { came = []; went = h.went; stretch = h.stretch; carried = carries_sent unread written written' ended h.went h.how.0; left = tt }
+
+-- a write that stopped the pump
+pub pumps_unsent : (number moment : ℕ) (pump : Pump) (a b : ServerState) (unread written written' : Option (List ℕ)) (ended : Bool)
+    → Sends number moment (Err pump) a b written written' → Pumps number moment pump a b unread unread written written' ended ended
+pumps_unsent number moment pump a b unread written written' ended h = record {
+  came = [];
+  went = h.went;
+  stretch = h.stretch;
+  carried = carried_as pump unread unread written written' ended ended [] h.went
+      (unless_failed pump (Appends written written' h.went) (Carries unread unread written written' ended ended [] h.went) (carries_sent unread written written' ended h.went) h.how.1);
+  left = left_by_side pump ended (connection_at b number) h.how.0;
+}
+
+-- a read after which the pump goes on
+pub pumps_heard : (number moment : ℕ) (moved : Bool) (pump : Pump) (a b : ServerState) (unread unread' written : Option (List ℕ)) (ended ended' : Bool) → ended ≡ false
+    → Receives number moment (Ok moved) a b unread unread' ended' → Leaves pump ended' (connection_at b number) → Pumps number moment pump a b unread unread' written written ended ended'
+pumps_heard number moment true pump a b unread unread' written ended ended' open_yet h left = record {
+  came = h.came;
+  went = [];
+  stretch = h.stretch;
+  carried = carried_as pump unread unread' written written ended ended' h.came [] (elim pump as (λ p. UnlessFailed p (Carries unread unread' written written ended ended' h.came [])) [
+    | Again ↦ carries_brought unread unread' written ended ended' h.came open_yet h.how
+    | Blocked ↦ carries_brought unread unread' written ended ended' h.came open_yet h.how
+    | Done ↦ carries_brought unread unread' written ended ended' h.came open_yet h.how
+    | Failed ↦ tt
+  ]);
+  left = left;
+}
+pumps_heard number moment false pump a b unread unread' written ended ended' open_yet h left = record {
+  came = h.came;
+  went = [];
+  stretch = h.stretch;
+  carried = carried_as pump unread unread' written written ended ended' h.came [] (elim pump as (λ p. UnlessFailed p (Carries unread unread' written written ended ended' h.came [])) [
+    | Again ↦ carries_brought unread unread' written ended ended' h.came open_yet h.how.0
+    | Blocked ↦ carries_brought unread unread' written ended ended' h.came open_yet h.how.0
+    | Done ↦ carries_brought unread unread' written ended ended' h.came open_yet h.how.0
+    | Failed ↦ tt
+  ]);
+  left = left;
+}
+
+-- a read that stopped the pump
+pub pumps_unheard : (number moment : ℕ) (pump : Pump) (a b : ServerState) (unread unread' written : Option (List ℕ)) (ended ended' : Bool) → ended ≡ false
+    → Receives number moment (Err pump) a b unread unread' ended' → Pumps number moment pump a b unread unread' written written ended ended'
+pumps_unheard number moment pump a b unread unread' written ended ended' open_yet h = record {
+  came = h.came;
+  went = [];
+  stretch = h.stretch;
+  carried = carried_as pump unread unread' written written ended ended' h.came []
+      (unless_failed pump (Brings unread unread' ended' h.came) (Carries unread unread' written written ended ended' h.came []) (carries_brought unread unread' written ended ended' h.came open_yet) h.how.1);
+  left = left_by_side pump ended' (connection_at b number) h.how.0;
+}
+
+-- turns, a write, and then a stop
+pub stopped : (number moment : ℕ) (moved : Bool) (pump : Pump) (a b c : ServerState) (unread written written' : Option (List ℕ)) (ended : Bool)
+    → Stretch number moment a b [] [] → Sends number moment (Ok moved) b c written written' → Leaves pump ended (connection_at c number)
+    → Pumps number moment pump a c unread unread written written' ended ended
+stopped number moment moved pump a b c unread written written' ended turns sent left =
+    let before = pumps_turns number moment Again a b unread written ended turns tt in
+    let then_sent = pumps_sent number moment moved b c unread written written' ended sent in
+    let both = pumps_then number moment Again a b c unread unread unread written written written' ended ended ended before then_sent in
+    record {
+      came = both.came;
+      went = both.went;
+      stretch = both.stretch;
+      carried = carried_as pump unread unread written written' ended ended both.came both.went (elim pump as (λ p. UnlessFailed p (Carries unread unread written written' ended ended both.came both.went)) [
+        | Again ↦ both.carried
+        | Blocked ↦ both.carried
+        | Done ↦ both.carried
+        | Failed ↦ tt
+      ]);
+      left = left;
+    }

@@ -1,0 +1,128 @@
+-- The parts of a round.
+use Rattle.std.proofs.Common.{◌≡◌, ◌∙◌, ◌⊎◌, ◌≤◌, ◌<◌, inl, inr, ℕ, ◌==◌, Bool, true, false, Result, Ok, List, [], ◌∷◌, length, take, drop, Option, Some, None, IsSome, refl, sym, ap, subst, arith, length-drop}
+use Rattle.std.proofs.lemmas.Bool.Decides.{nat_tests}
+use Rattle.std.specs.Io.KnownBytes.{Appends}
+use Rattle.mc_server.specs.ServerState.{ConnectionState, Connections, ServerState, connection_at, connection_in, output_of, updated, sent_by}
+use Rattle.mc_server.specs.Turns.{IsTurn, Steps, waiting_of, is_closed_at}
+use Rattle.mc_server.specs.declared.turns.Turn.TheVariants.{Took, Idle, Closing}
+use Rattle.mc_server.proofs.ConnectionLemmas.{updated_own}
+use Rattle.mc_request.specs.Reader.{rest_of}
+use Rattle.mc_pump.specs.Stretches.{Stretch}
+use Rattle.mc_pump.specs.Sides.{Brings, HowItWent}
+use Rattle.mc_pump.specs.Pumps.{IsOver}
+use Rattle.mc_pump.specs.Rounds.{IsSentOf, Receives, Sends, StopsAt}
+use Rattle.mc_pump.specs.declared.limits.TheConstants.{UNSENT_MARK}
+use Rattle.mc_pump.specs.declared.rounds.Stop.{Stop}
+use Rattle.mc_pump.specs.declared.rounds.Stop.TheVariants as stops
+use Rattle.mc_pump.specs.declared.outcomes.Pump.{Pump}
+use Rattle.mc_pump.proofs.StretchLemmas.{stretch_none, stretch_sent, stretch_open}
+
+-- an open connection
+pub the_open : (o : Option ConnectionState) → IsSome o → (c : ConnectionState) × (o ≡ Some c)
+the_open None h = let clash : false ≡ true = h in absurd cc
+the_open (Some c) h = (c, refl)
+
+pub is_open : (o : Option ConnectionState) (c : ConnectionState) → o ≡ Some c → IsSome o
+is_open None c e = absurd cc
+is_open (Some d) c e = refl
+
+pub not_none : (o : Option ConnectionState) → (o ≡ None → ⊥) → IsSome o
+not_none None h = absurd (h refl)
+not_none (Some c) h = refl
+
+-- behind a stretch the connection is open
+pub stays_open : (number moment : ℕ) (a b : ServerState) (came went : List ℕ) → Stretch number moment a b came went → IsSome (connection_at b number)
+stays_open number moment a b came went h = is_open (connection_at b number) h.after (stretch_open number moment a b came went h)
+
+-- a turn leaves one less to take
+pub took_one : (number moment : ℕ) (old new : ServerState) → Steps number old new (IsTurn number moment Took) → length (waiting_of (connection_at new number)) < length (waiting_of (connection_at old number))
+took_one number moment old new steps =
+    let now : connection_at new number ≡ Some steps.after = ap (λ (cs : Connections). connection_in cs number) steps.is ∙ updated_own number steps.before steps.after old.connections steps.was in
+    let fewer : length (rest_of steps.after.reader []) < length (rest_of steps.before.reader []) = rw (steps.step.1.first.rest []) (omega arith) in
+    let P : Option ConnectionState → Type 0 = λ o. length (waiting_of o) < length (waiting_of (connection_at old number)) in
+    let Q : Option ConnectionState → Type 0 = λ o. length (rest_of steps.after.reader []) < length (waiting_of o) in
+    subst P (sym now) (subst Q (sym steps.was) fewer)
+
+-- a turn that finds none leaves none, and as much unsent
+pub found_none : (number moment : ℕ) (old new : ServerState) → Steps number old new (IsTurn number moment Idle) → length (output_of (connection_at old number)) < UNSENT_MARK
+    → (waiting_of (connection_at new number) ≡ []) × (length (output_of (connection_at new number)) < UNSENT_MARK)
+found_none number moment old new steps below =
+    let now : connection_at new number ≡ Some steps.after = ap (λ (cs : Connections). connection_in cs number) steps.is ∙ updated_own number steps.before steps.after old.connections steps.was in
+    let none : rest_of steps.after.reader [] ≡ [] = steps.step.none.rest [] ∙ steps.step.none.none in
+    let few : length steps.before.output < UNSENT_MARK = subst (λ (c : Option ConnectionState). length (output_of c) < UNSENT_MARK) steps.was below in
+    let same : length steps.after.output < UNSENT_MARK = subst (λ (bytes : List ℕ). length bytes < UNSENT_MARK) (sym steps.step.output) few in
+    let P : Option ConnectionState → Type 0 = λ o. (waiting_of o ≡ []) × (length (output_of o) < UNSENT_MARK) in
+    subst P (sym now) (none, same)
+
+-- a closed reader has nothing
+pub closed_has_none : (number moment : ℕ) (old new : ServerState) → Steps number old new (IsTurn number moment Closing) → (waiting_of (connection_at new number) ≡ []) × (is_closed_at (connection_at new number) ≡ true)
+closed_has_none number moment old new steps =
+    let now : connection_at new number ≡ Some steps.after = ap (λ (cs : Connections). connection_in cs number) steps.is ∙ updated_own number steps.before steps.after old.connections steps.was in
+    let closed : steps.after.reader.closed ≡ true = ap (λ (c : ConnectionState). c.reader.closed) steps.step.2 ∙ steps.step.0 in
+    let none : rest_of steps.after.reader [] ≡ [] = rw closed refl in
+    let P : Option ConnectionState → Type 0 = λ o. (waiting_of o ≡ []) × (is_closed_at o ≡ true) in
+    subst P (sym now) (none, closed)
+
+-- nothing was sent
+pub sends_still : (number moment : ℕ) (side : Result Bool Pump) (s : ServerState) (written written' : Option (List ℕ)) → IsSome (connection_at s number)
+    → HowItWent side (Appends written written' []) (s ≡ s) → Sends number moment side s s written written'
+sends_still number moment side s written written' there how =
+    let c = the_open (connection_at s number) there in
+    record {
+      went = [];
+      stretch = stretch_none number moment s c.0 c.1;
+      how = how;
+      same = record { waits = refl; closed = refl; fewer = omega arith };
+    }
+
+-- the first bytes were sent
+pub sends_some : (number moment count : ℕ) (output : List ℕ) (old new : ServerState) (written written' : Option (List ℕ)) → IsSome (connection_at old number) → output ≡ output_of (connection_at old number)
+    → new ≡ sent_by number count (connection_at old number) old → Appends written written' (take count output) → Sends number moment (Ok true) old new written written'
+sends_some number moment count output old new written written' there unsent is appended =
+    let c = the_open (connection_at old number) there in
+    let own : output ≡ c.0.output = unsent ∙ ap output_of c.1 in
+    let stretch : Stretch number moment old new [] (take count c.0.output) = stretch_sent number moment count c.0 old new c.1 is in
+    let after : ConnectionState = record c.0 { output = drop count c.0.output } in
+    let there : new ≡ record old { connections = updated number after old.connections } = is ∙ ap (λ (o : Option ConnectionState). sent_by number count o old) c.1 in
+    let now : connection_at new number ≡ Some after = ap (λ (s : ServerState). connection_at s number) there ∙ updated_own number c.0 after old.connections c.1 in
+    let fewer : length (drop count c.0.output) ≤ length c.0.output = omega (arith, length-drop count c.0.output) in
+    let P : Option ConnectionState → Type 0 = λ o. IsSentOf (Some c.0) o in
+    let Q : Option ConnectionState → Type 0 = λ o. IsSentOf o (connection_at new number) in
+    record {
+      went = take count c.0.output;
+      stretch = stretch;
+      how = subst (λ (bytes : List ℕ). Appends written written' (take count bytes)) own appended;
+      same = subst Q (sym c.1) (subst P (sym now) (record { waits = refl; closed = refl; fewer = fewer }));
+    }
+
+-- nothing came
+pub receives_still : (number moment : ℕ) (side : Result Bool Pump) (s : ServerState) (unread unread' : Option (List ℕ)) (ended' : Bool) → IsSome (connection_at s number)
+    → HowItWent side (Brings unread unread' ended' []) (s ≡ s) → Receives number moment side s s unread unread' ended'
+receives_still number moment side s unread unread' ended' there how =
+    let c = the_open (connection_at s number) there in
+    record { came = []; stretch = stretch_none number moment s c.0 c.1; how = how }
+
+no_bytes : (bytes : List ℕ) → length bytes ≡ 0 → bytes ≡ []
+no_bytes [] e = refl
+no_bytes (b ∷ bs) e = absurd (omega (arith, e))
+
+-- nothing waits and nothing is unsent
+pub over : (ended : Bool) (a b : Option ConnectionState) (output : List ℕ) → waiting_of a ≡ [] → IsSentOf a b → output ≡ output_of b → length output ≡ 0 → (ended ≡ true) ⊎ (is_closed_at a ≡ true) → IsOver ended b
+over ended a b output none same unsent empty cause = record {
+  none_waits = same.waits ∙ none;
+  all_sent = let nothing : output ≡ [] = no_bytes output empty in sym unsent ∙ nothing;
+  no_more = elim cause [
+    | inl e ↦ inl e
+    | inr e ↦ inr (same.closed ∙ e)
+  ];
+}
+
+-- a test that a length is 0
+pub no_length : (n : ℕ) → true ≡ (n == 0) → n ≡ 0
+no_length n e = grind (arith, nat_tests, e)
+
+-- where turns stopped, none waits or too much is unsent
+pub blocked : (stop : Stop) (o : Option ConnectionState) → StopsAt stop o → (waiting_of o ≡ []) ⊎ (UNSENT_MARK ≤ length (output_of o))
+blocked stops.Idle o h = inl h.0
+blocked stops.Closing o h = inl h.0
+blocked stops.Marked o h = inr h

@@ -1,0 +1,28 @@
+use Rattle.std.proofs.Common.{◌≡◌, inl, rules, sym, subst, Result, Err, []}
+use Rattle.mc_server.specs.ServerState.{connection_at}
+use Rattle.mc_server.specs.Turns.{waiting_of}
+use Rattle.mc_pump.specs.Pumps.{Pumps}
+use Rattle.mc_pump.specs.Sides.{Brings}
+use Rattle.mc_pump.specs.Rounds.{pump_of}
+use Rattle.mc_pump.specs.declared.outcomes.Pump.{Pump}
+use Rattle.mc_pump.specs.declared.outcomes.Pump.TheVariants.{Again, Blocked}
+use Rattle.mc_pump.proofs.PumpLemmas.{pumps_heard, pumps_unheard}
+use Rattle.mc_pump.proofs.SideLemmas.{went_false}
+use Rattle.mc_pump.proofs.rounds.listen.Goals as goal
+
+pub returns-in_err-moved : goal.returns-in_err-moved
+returns-in_err-moved g c = λ moment written.
+    let same : c.from_residual.result ≡ Err c.in_err-moved.field-0.0 = search rules in
+    let P : Result (Unit {0}) Pump → Type 0 = λ r. Pumps c.args.number moment (pump_of r) c.args.server.now c.receive.new.server (g.R.Read.remaining c.args.reader.now) (g.R.Read.remaining c.receive.new.reader) written written c.args.ended.now c.receive.new.ended in
+    subst P (sym same) (pumps_unheard c.args.number moment c.in_err-moved.field-0.0 c.args.server.now c.receive.new.server _ _ written c.args.ended.now c.receive.new.ended c.requires.goes_on (c.in_err-moved.ensures moment))
+
+pub returns-then-moved : goal.returns-then-moved
+returns-then-moved g c = λ moment written.
+    pumps_heard c.args.number moment c.in_ok-moved.moved Again c.args.server.now c.receive.new.server _ _ written c.args.ended.now c.receive.new.ended c.requires.goes_on (c.in_ok-moved.ensures moment) tt
+
+pub returns : goal.returns
+returns g c = λ moment written.
+    let received = c.in_ok-moved.ensures moment in
+    let kept : c.receive.new.server ≡ c.args.server.now = went_false c.in_ok-moved.moved (Brings (g.R.Read.remaining c.args.reader.now) (g.R.Read.remaining c.receive.new.reader) c.receive.new.ended received.came) (c.receive.new.server ≡ c.args.server.now) c.if-moved.false received.how in
+    let none : waiting_of (connection_at c.receive.new.server c.args.number) ≡ [] = rw kept c.requires.none_waits in
+    pumps_heard c.args.number moment c.in_ok-moved.moved Blocked c.args.server.now c.receive.new.server _ _ written c.args.ended.now c.receive.new.ended c.requires.goes_on received (inl none)

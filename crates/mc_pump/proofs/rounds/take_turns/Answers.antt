@@ -1,0 +1,48 @@
+use Rattle.std.proofs.Common.{◌<◌, [], length}
+use Rattle.mc_server.specs.ServerState.{connection_at, output_of}
+use Rattle.mc_server.specs.Turns.{IsTurn, Steps}
+use Rattle.mc_server.specs.declared.turns.Turn.TheVariants.{Took, Idle, Closing}
+use Rattle.mc_pump.specs.declared.limits.TheConstants.{UNSENT_MARK}
+use Rattle.mc_pump.proofs.StretchLemmas.{stretch_none, stretch_took, stretch_idle, stretch_closing, stretch_then}
+use Rattle.mc_pump.proofs.RoundLemmas.{the_open, took_one, found_none, closed_has_none}
+use Rattle.mc_pump.proofs.rounds.take_turns.Goals as goal
+
+pub loop-server-init : goal.loop-server-init
+loop-server-init g c =
+    let own = the_open (connection_at c.args.server.now c.args.number) c.requires.is_open in
+    stretch_none c.args.number c.args.moment c.args.server.now own.0 own.1
+
+pub loop-server-smaller : goal.loop-server-smaller
+loop-server-smaller g c =
+    let steps : Steps c.args.number c.loop-server.server c.turn.new.self (IsTurn c.args.number c.args.moment Took) = rw c.in-Took.is at c.in_ok-turn.ensures.turn in
+    took_one c.args.number c.args.moment c.loop-server.server c.turn.new.self steps
+
+pub loop-server-preserved : goal.loop-server-preserved
+loop-server-preserved g c =
+    let steps : Steps c.args.number c.loop-server.server c.turn.new.self (IsTurn c.args.number c.args.moment Took) = rw c.in-Took.is at c.in_ok-turn.ensures.turn in
+    let below : length (output_of (connection_at c.loop-server.server c.args.number)) < UNSENT_MARK = rw (← c.output.ensures) c.loop-server-test.true in
+    stretch_then c.args.number c.args.moment c.args.server.now c.loop-server.server c.turn.new.self [] [] [] [] c.loop-server.invariant
+    (stretch_took c.args.number c.args.moment c.loop-server.server c.turn.new.self steps below)
+
+pub returns-in-Idle-clause-turns : goal.returns-in-Idle-clause-turns
+returns-in-Idle-clause-turns g c =
+    let steps : Steps c.args.number c.loop-server.server c.turn.new.self (IsTurn c.args.number c.args.moment Idle) = rw c.in-Idle.is at c.in_ok-turn.ensures.turn in
+    stretch_then c.args.number c.args.moment c.args.server.now c.loop-server.server c.turn.new.self [] [] [] [] c.loop-server.invariant
+    (stretch_idle c.args.number c.args.moment c.loop-server.server c.turn.new.self steps)
+
+pub returns-in-Idle-clause-stop : goal.returns-in-Idle-clause-stop
+returns-in-Idle-clause-stop g c =
+    let steps : Steps c.args.number c.loop-server.server c.turn.new.self (IsTurn c.args.number c.args.moment Idle) = rw c.in-Idle.is at c.in_ok-turn.ensures.turn in
+    let below : length (output_of (connection_at c.loop-server.server c.args.number)) < UNSENT_MARK = rw (← c.output.ensures) c.loop-server-test.true in
+    found_none c.args.number c.args.moment c.loop-server.server c.turn.new.self steps below
+
+pub returns-in-Closing-clause-turns : goal.returns-in-Closing-clause-turns
+returns-in-Closing-clause-turns g c =
+    let steps : Steps c.args.number c.loop-server.server c.turn.new.self (IsTurn c.args.number c.args.moment Closing) = rw c.in-Closing.is at c.in_ok-turn.ensures.turn in
+    stretch_then c.args.number c.args.moment c.args.server.now c.loop-server.server c.turn.new.self [] [] [] [] c.loop-server.invariant
+    (stretch_closing c.args.number c.args.moment c.loop-server.server c.turn.new.self steps)
+
+pub returns-in-Closing-clause-stop : goal.returns-in-Closing-clause-stop
+returns-in-Closing-clause-stop g c =
+    let steps : Steps c.args.number c.loop-server.server c.turn.new.self (IsTurn c.args.number c.args.moment Closing) = rw c.in-Closing.is at c.in_ok-turn.ensures.turn in
+    closed_has_none c.args.number c.args.moment c.loop-server.server c.turn.new.self steps

@@ -1,0 +1,13 @@
+use Rattle.std.proofs.Common.{length, []}
+use Rattle.mc_server.specs.ServerState.{connection_at}
+use Rattle.mc_server.specs.Turns.{waiting_of}
+use Rattle.mc_pump.specs.Stretches.{Stretch}
+use Rattle.mc_pump.proofs.rounds.take_turns.Given as goal
+
+-- the turns so far are one stretch
+abbrev pub invariant-loop-server : goal.invariant-loop-server
+invariant-loop-server g l = Stretch l.number l.moment l.fn.server l.server [] []
+
+-- each turn takes one of those that wait
+abbrev pub decreases-loop-server : goal.decreases-loop-server
+decreases-loop-server g l = length (waiting_of (connection_at l.server l.number))

@@ -1,0 +1,4 @@
+pub mod Stretches
+pub mod Sides
+pub mod Pumps
+pub mod Rounds

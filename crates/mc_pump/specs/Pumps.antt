@@ -1,0 +1,30 @@
+-- What a pump does between a server and the two sides of a stream.
+use Rattle.std.specs.Prelude.{◌≡◌, ℕ, ◌≤◌, ◌⊎◌, Bool, true, List, [], length, Option}
+use Rattle.mc_server.specs.ServerState.{ConnectionState, ServerState, connection_at, output_of}
+use Rattle.mc_server.specs.Turns.{waiting_of, is_closed_at}
+use Rattle.mc_pump.specs.Sides.{CarriesUnlessFailed}
+use Rattle.mc_pump.specs.Stretches.{Stretch}
+use Rattle.mc_pump.specs.declared.limits.TheConstants.{UNSENT_MARK}
+use Rattle.mc_pump.specs.declared.outcomes.Pump.{Pump}
+use Rattle.mc_pump.specs.declared.outcomes.Pump.TheVariants.{Again, Blocked, Done, Failed}
+
+-- nothing is left to serve or to send, and nothing more will come: the input has ended, or is read no further
+pub record IsOver (ended : Bool) (connection : Option ConnectionState) : Type 0 where
+  pub none_waits : waiting_of connection ≡ []
+  pub all_sent : output_of connection ≡ []
+  pub no_more : (ended ≡ true) ⊎ (is_closed_at connection ≡ true)
+
+-- how a connection is left: done where it is over; blocked where no whole request waits, or as much is unsent as the mark
+abbrev pub Leaves : Pump → Bool → Option ConnectionState → Type 0
+Leaves Again ended connection = Unit {0}
+Leaves Blocked ended connection = (waiting_of connection ≡ []) ⊎ (UNSENT_MARK ≤ length (output_of connection))
+Leaves Done ended connection = IsOver ended connection
+Leaves Failed ended connection = Unit {0}
+
+-- what a pump of the connection of a number at a moment does
+pub record Pumps (number moment : ℕ) (pump : Pump) (old new : ServerState) (unread unread' written written' : Option (List ℕ)) (ended ended' : Bool) : Type 0 where
+  pub came : List ℕ
+  pub went : List ℕ
+  pub stretch : Stretch number moment old new came went
+  pub carried : CarriesUnlessFailed pump unread unread' written written' ended ended' came went
+  pub left : Leaves pump ended' (connection_at new number)

@@ -1,0 +1,44 @@
+//! The body of a connection: bytes in, turns, bytes out.
+ghost use Rattle.std.specs.Prelude.{◌≡◌, ◌<◌, ◌^◌, None, length, IsSome};
+ghost use Rattle.mc_server.specs.ServerState.{connection_at};
+ghost use Rattle.mc_pump.specs.Pumps.{Pumps};
+
+use crate::limits::MAX_ROUNDS;
+use crate::outcomes::Pump;
+use crate::rounds::round;
+use mc_server::Server;
+use mc_store::Store;
+use std::io::{Read, Write};
+
+/// Carries a connection's bytes between a server and the two sides of a stream that do not wait, and serves what comes
+/// whole, all at a moment, in seconds since 1970.
+///
+/// It does at most [`MAX_ROUNDS`] rounds. A round takes turns until no whole request waits, writes what is unsent in one
+/// call, and reads once into `piece`, whose bytes before and after mean nothing. While [`UNSENT_MARK`](crate::UNSENT_MARK)
+/// bytes or more are unsent, no turn is taken and nothing is read. `ended` says whether the input has ended: the pump
+/// sets it when a read gives no byte, and then reads no more; a caller hands in `false` at first.
+pub fn pump<S: Store + Drop, R: Read, W: Write>(
+    server: &mut Server<S>,
+    number: u64,
+    ended: &mut bool,
+    reader: &mut R,
+    writer: &mut W,
+    piece: &mut [u8],
+    moment: u64,
+) -> Pump
+    requires piece { 0 < length piece.old }
+    requires moment { moment < 2 ^ 63 }
+    ensures pumps { IsSome (connection_at server.old number) → Pumps number moment result server.old server.new
+        (R.remaining reader.old) (R.remaining reader.new) (W.contents writer.old) (W.contents writer.new) ended.old ended.new }
+    ensures not_open { connection_at server.old number ≡ None → (result ≡ Pump.Failed) × (server.new ≡ server.old) }
+{
+    let Ok(_) = server.is_closed(number) else {
+        return Pump::Failed;
+    };
+    for _ in 0..MAX_ROUNDS {
+        if let Err(pump) = round(server, number, ended, reader, writer, piece, moment) {
+            return pump;
+        }
+    }
+    Pump::Again
+}

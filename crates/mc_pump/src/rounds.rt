@@ -1,0 +1,145 @@
+//! A round: turns, a write, a read.
+ghost use Rattle.std.specs.Prelude.{◌≡◌, ◌<◌, ◌^◌, ℕ, List, [], Option, false, length, IfOk, IsSome};
+ghost use Rattle.mc_server.specs.ServerState.{connection_at, output_of};
+ghost use Rattle.mc_server.specs.Turns.{waiting_of};
+ghost use Rattle.mc_pump.specs.Stretches.{Stretch};
+ghost use Rattle.mc_pump.specs.Pumps.{Pumps};
+ghost use Rattle.mc_pump.specs.Rounds.{Receives, Sends, StopsAt, pump_of};
+
+use crate::limits::UNSENT_MARK;
+use crate::outcomes::Pump;
+use crate::sides::{read_once, write_once};
+use mc_server::{Server, ServerError, Turn};
+use mc_store::Store;
+use std::io::{Read, Write};
+
+/// Why the turns of a round stopped.
+#[derive(Clone, Copy, Debug)]
+pub enum Stop {
+    /// No whole request waits.
+    Idle,
+    /// Nothing is read any more.
+    Closing,
+    /// As much is unsent as the mark.
+    Marked,
+}
+
+/// One round: turns until none waits or too much is unsent, one write, one read. The error is how the pump stops.
+pub fn round<S: Store + Drop, R: Read, W: Write>(
+    server: &mut Server<S>,
+    number: u64,
+    ended: &mut bool,
+    reader: &mut R,
+    writer: &mut W,
+    piece: &mut [u8],
+    moment: u64,
+) -> Result<(), Pump>
+    requires is_open { IsSome (connection_at server.old number) }
+    requires piece { 0 < length piece.old }
+    requires moment { moment < 2 ^ 63 }
+    ensures { Pumps number moment (pump_of result) server.old server.new (R.remaining reader.old)
+        (R.remaining reader.new) (W.contents writer.old) (W.contents writer.new) ended.old ended.new }
+{
+    let Ok(stop) = take_turns(server, number, moment) else {
+        return Err(Pump::Failed);
+    };
+    let moved = send(server, number, writer)?;
+    let all_sent = server.output(number).is_empty();
+    match stop {
+        Stop::Closing if all_sent => Err(Pump::Done),
+        Stop::Idle if *ended && all_sent => Err(Pump::Done),
+        Stop::Idle if !*ended => {
+            let can_send = moved && !all_sent;
+            listen(server, number, ended, reader, piece, can_send)
+        }
+        _ if moved => Ok(()),
+        _ => Err(Pump::Blocked),
+    }
+}
+
+/// Takes turns of a connection until none waits, or until as much is unsent as the mark.
+fn take_turns<S: Store + Drop>(
+    server: &mut Server<S>,
+    number: u64,
+    moment: u64,
+) -> Result<Stop, ServerError>
+    requires is_open { IsSome (connection_at server.old number) }
+    requires moment { moment < 2 ^ 63 }
+    ensures turns { Stretch number moment server.old server.new [] [] }
+    ensures stop { IfOk result (λ stop. StopsAt stop (connection_at server.new number)) }
+{
+    while server.output(number).len() < UNSENT_MARK {
+        match server.turn(number, moment)? {
+            Turn::Took => {}
+            Turn::Idle => return Ok(Stop::Idle),
+            Turn::Closing => return Ok(Stop::Closing),
+        }
+    }
+    Ok(Stop::Marked)
+}
+
+/// Writes what is unsent, in one call, lets go of what the writer took, and says whether it took any.
+fn send<S: Store + Drop, W: Write>(
+    server: &mut Server<S>,
+    number: u64,
+    writer: &mut W,
+) -> Result<bool, Pump>
+    requires { IsSome (connection_at server.old number) }
+    ensures { (moment : ℕ) → Sends number moment result server.old server.new (W.contents writer.old) (W.contents writer.new) }
+{
+    let count = write_once(writer, server.output(number))?;
+    if count == 0 {
+        return Ok(false);
+    }
+    server.taken_out(number, count);
+    Ok(true)
+}
+
+/// Reads, and says how the pump stops where nothing came and nothing more can be sent.
+fn listen<S: Store + Drop, R: Read>(
+    server: &mut Server<S>,
+    number: u64,
+    ended: &mut bool,
+    reader: &mut R,
+    piece: &mut [u8],
+    can_send: bool,
+) -> Result<(), Pump>
+    requires is_open { IsSome (connection_at server.old number) }
+    requires none_waits { waiting_of (connection_at server.old number) ≡ [] }
+    requires below { length (output_of (connection_at server.old number)) < UNSENT_MARK }
+    requires goes_on { ended.old ≡ false }
+    requires piece { 0 < length piece.old }
+    ensures { (moment : ℕ) (written : Option (List ℕ)) → Pumps number moment (pump_of result) server.old server.new
+        (R.remaining reader.old) (R.remaining reader.new) written written ended.old ended.new }
+{
+    let moved = receive(server, number, ended, reader, piece)?;
+    if moved || can_send {
+        return Ok(());
+    }
+    Err(Pump::Blocked)
+}
+
+/// Reads once, feeds the connection with what came, and says whether anything came, or the end.
+fn receive<S: Store + Drop, R: Read>(
+    server: &mut Server<S>,
+    number: u64,
+    ended: &mut bool,
+    reader: &mut R,
+    piece: &mut [u8],
+) -> Result<bool, Pump>
+    requires is_open { IsSome (connection_at server.old number) }
+    requires below { length (output_of (connection_at server.old number)) < UNSENT_MARK }
+    requires goes_on { ended.old ≡ false }
+    requires piece { 0 < length piece.old }
+    ensures { (moment : ℕ) → Receives number moment result server.old server.new (R.remaining reader.old) (R.remaining reader.new) ended.new }
+{
+    let count = read_once(reader, piece, ended)?;
+    if count == 0 {
+        return Ok(*ended);
+    }
+    let (came, _) = piece.split_at(count);
+    match server.feed(number, came) {
+        Ok(()) => Ok(true),
+        Err(_) => Err(Pump::Failed),
+    }
+}

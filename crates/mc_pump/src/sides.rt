@@ -1,0 +1,54 @@
+//! The two sides of a stream that does not wait: one write, one read. Nothing here knows what is behind the stream.
+ghost use Rattle.std.specs.Prelude.{◌≡◌, ◌<◌, false, length};
+ghost use Rattle.mc_pump.specs.Sides.{MovesNothing, Reads, Writes};
+
+use crate::outcomes::Pump;
+use std::io::{Error, ErrorKind, Read, Write};
+
+/// Writes an output in one call, and says how many of its first bytes the writer took: 0 where the output is empty, or
+/// where the writer takes none now.
+///
+/// The error is how a pump stops, and nothing was written: `Again` where the call was interrupted, `Failed` where the
+/// writer failed, or took nothing and did not say why.
+pub fn write_once<W: Write>(writer: &mut W, output: &[u8]) -> Result<usize, Pump>
+    ensures { Writes result output.now (W.contents writer.old) (W.contents writer.new) }
+{
+    if output.is_empty() {
+        return Ok(0);
+    }
+    match writer.write(output) {
+        Ok(0) => Err(Pump::Failed),
+        Ok(count) => Ok(count),
+        Err(error) => moved_nothing(&error),
+    }
+}
+
+/// Reads into a piece in one call, and says how many bytes came, which are the first of the piece: 0 where the input has
+/// ended, which `ended` then says, or where the reader gives none now.
+///
+/// The error is how a pump stops, and nothing came: `Again` where the call was interrupted, `Failed` where the reader failed.
+pub fn read_once<R: Read>(reader: &mut R, piece: &mut [u8], ended: &mut bool) -> Result<usize, Pump>
+    requires piece { 0 < length piece.old }
+    requires goes_on { ended.old ≡ false }
+    ensures { Reads result piece.new ended.new (R.remaining reader.old) (R.remaining reader.new) }
+{
+    match reader.read(piece) {
+        Ok(0) => {
+            *ended = true;
+            Ok(0)
+        }
+        Ok(count) => Ok(count),
+        Err(error) => moved_nothing(&error),
+    }
+}
+
+/// What an error of a read or a write says: that nothing moved, or how the pump stops.
+fn moved_nothing(error: &Error) -> Result<usize, Pump>
+    ensures { MovesNothing result }
+{
+    match error.kind() {
+        ErrorKind::WouldBlock => Ok(0),
+        ErrorKind::Interrupted => Err(Pump::Again),
+        _ => Err(Pump::Failed),
+    }
+}

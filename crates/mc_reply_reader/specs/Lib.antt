@@ -1,0 +1,4 @@
+pub mod NextReply
+pub mod ReplyForms
+pub mod MetaForms
+pub mod Examples

@@ -1,0 +1,3 @@
+pub mod RouteLemmas
+pub mod JoinLemmas
+pub mod KeptLemmas

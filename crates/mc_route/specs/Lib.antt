@@ -1,0 +1,5 @@
+pub mod Routes
+pub mod Joins
+pub mod Rooms
+pub mod Kept
+pub mod Examples

@@ -1,0 +1,151 @@
+//! From what became of a request's commands to its answer.
+ghost use Rattle.std.specs.Prelude.{◌≡◌, ◌+◌, ◌-◌, ◌^◌, ◌≤◌, ◌++◌, ◌∷◌, List, min, false, length, vec_len, vec_capacity, IsOk, OnOk, OnErr};
+ghost use Rattle.mc_request.specs.Atoms.{atoms_of};
+ghost use Rattle.mc_reply.specs.Spelling.{answer_of, blocks_of, end_line};
+ghost use Rattle.mc_reply.specs.MetaRooms.{part_room};
+ghost use Rattle.mc_route.specs.declared.outcomes.Outcome.{Outcome};
+ghost use Rattle.mc_route.specs.Joins.{has_lost, replies_in, outcome_part, joined_answer};
+ghost use Rattle.mc_route.specs.Rooms.{outcome_room, outcomes_room, join_room};
+
+use crate::errors::RouteError;
+use crate::outcomes::Outcome;
+use mc_reply::{KEY_ROOM, LINE_ROOM, part_room, value_len, write_end, write_key, write_part};
+use mc_request::{Keys, Request};
+use mc_text::Key;
+
+/// What a client is told where a command of its request was lost.
+const LOST_LINE: &[u8] = b"SERVER_ERROR link lost\r\n";
+
+/// Appends the answer to a request by what became of its commands, in their order. Where one was lost, or is awaited, that it was lost alone is
+/// said, once, also to a client that asked for no answer; else the answer is what one server would give.
+///
+/// It takes memory once, for [`join_room`] bytes, and none where there is that room. Where there is no memory, nothing is
+/// appended.
+pub fn join(request: &Request, outcomes: &[Outcome], out: &mut Vec<u8>) -> Result<(), RouteError>
+    ensures ok { OnOk result (out.new.items ≡ out.old.items ++ joined_answer request.now outcomes.now) }
+    ensures len { vec_len out.new ≤ vec_len out.old + join_room request.now outcomes.now }
+    ensures succeeds { vec_len out.old + join_room request.now outcomes.now ≤ vec_capacity out.old → IsOk result }
+    ensures err { OnErr result (out.new.items ≡ out.old.items) }
+    ensures room { vec_capacity out.old ≤ vec_capacity out.new }
+{
+    out.reserve(join_room(request, outcomes))?;
+    if has_lost(outcomes) {
+        out.extend_from_slice(LOST_LINE)?;
+    } else {
+        append_answer(request, outcomes, out);
+    }
+    Ok(())
+}
+
+/// The most bytes that [`join`] appends; [`usize::MAX`] where it is that or more.
+pub fn join_room(request: &Request, outcomes: &[Outcome]) -> usize
+    ensures { result ≡ min (join_room request.now outcomes.now) (2 ^ 64 - 1) }
+{
+    outcomes_room(outcomes).saturating_add(part_room(request))
+}
+
+/// How many bytes what became of the commands adds to an answer at most; [`usize::MAX`] where it is that or more.
+fn outcomes_room(outcomes: &[Outcome]) -> usize
+    ensures { result ≡ min (outcomes_room outcomes.now) (2 ^ 64 - 1) }
+{
+    let mut room: usize = 0;
+    for outcome in outcomes {
+        room = room.saturating_add(outcome_room(outcome));
+    }
+    room
+}
+
+/// How many bytes what became of a command adds to an answer at most.
+fn outcome_room(outcome: &Outcome) -> usize
+    ensures { result ≡ outcome_room outcome.now }
+{
+    match outcome {
+        Outcome::Lost | Outcome::Awaited => 0,
+        Outcome::Reply(reply) => value_len(&reply.lent()) + KEY_ROOM,
+    }
+}
+
+/// Whether a command was lost.
+fn has_lost(outcomes: &[Outcome]) -> bool
+    ensures { result ≡ has_lost outcomes.now }
+{
+    for outcome in outcomes {
+        if !matches!(outcome, Outcome::Reply(_)) {
+            return true;
+        }
+    }
+    false
+}
+
+/// Appends the answer to a request of which no command was lost.
+fn append_answer(request: &Request, outcomes: &[Outcome], out: &mut Vec<u8>)
+    requires came { has_lost outcomes.now ≡ false }
+    requires room { vec_len out.old + join_room request.now outcomes.now ≤ vec_capacity out.old }
+    ensures items { out.new.items ≡ out.old.items ++ answer_of request.now (replies_in outcomes.now) }
+    ensures len { vec_len out.new ≤ vec_len out.old + join_room request.now outcomes.now }
+    ensures room { vec_capacity out.old ≤ vec_capacity out.new }
+{
+    match request {
+        Request::Get { keys, .. } => append_items(keys, outcomes, out),
+        Request::Update { .. } | Request::Meta { .. } => append_line(request, outcomes, out),
+        Request::MetaNoop | Request::Version | Request::Quit => {
+            write_part(request, 0, None, out).unwrap();
+        }
+    }
+}
+
+/// Appends the answer to a request of one command, by what became of it.
+fn append_line(request: &Request, outcomes: &[Outcome], out: &mut Vec<u8>)
+    requires one { length (atoms_of request.now) ≡ 1 }
+    requires came { has_lost outcomes.now ≡ false }
+    requires room { vec_len out.old + join_room request.now outcomes.now ≤ vec_capacity out.old }
+    ensures items { out.new.items ≡ out.old.items ++ answer_of request.now (replies_in outcomes.now) }
+    ensures len { vec_len out.new ≤ vec_len out.old + join_room request.now outcomes.now }
+    ensures room { vec_capacity out.old ≤ vec_capacity out.new }
+{
+    if let [outcome, ..] = outcomes {
+        append_part(request, outcome, out);
+    } else {
+        write_part(request, 0, None, out).unwrap();
+    }
+}
+
+/// Appends what a command that came adds to the answer to its request, which has no other.
+fn append_part(request: &Request, outcome: &Outcome, out: &mut Vec<u8>)
+    requires one { length (atoms_of request.now) ≡ 1 }
+    requires room { vec_len out.old + outcome_room outcome.now + part_room request.now ≤ vec_capacity out.old }
+    ensures items { (others : List Outcome) → has_lost (outcome.now ∷ others) ≡ false
+        → out.new.items ≡ out.old.items ++ answer_of request.now (replies_in (outcome.now ∷ others)) }
+    ensures len { vec_len out.new ≤ vec_len out.old + outcome_room outcome.now + part_room request.now }
+    ensures room { vec_capacity out.old ≤ vec_capacity out.new }
+{
+    if let Outcome::Reply(reply) = outcome {
+        write_part(request, 0, Some(&reply.lent()), out).unwrap();
+    }
+}
+
+/// Appends the answer to a retrieval command: the items of its keys, and the end.
+fn append_items(keys: &Keys, outcomes: &[Outcome], out: &mut Vec<u8>)
+    requires came { has_lost outcomes.now ≡ false }
+    requires room { vec_len out.old + (outcomes_room outcomes.now + LINE_ROOM) ≤ vec_capacity out.old }
+    ensures items { out.new.items ≡ out.old.items ++ (blocks_of keys.now (replies_in outcomes.now) ++ end_line) }
+    ensures len { vec_len out.new ≤ vec_len out.old + (outcomes_room outcomes.now + LINE_ROOM) }
+    ensures room { vec_capacity out.old ≤ vec_capacity out.new }
+{
+    for at in 0..keys.len().min(outcomes.len()) {
+        append_item(keys.key(at), &outcomes[at], out);
+    }
+    write_end(out).unwrap();
+}
+
+/// Appends what a key of a retrieval command adds by what became of its command.
+fn append_item(key: &Key, outcome: &Outcome, out: &mut Vec<u8>)
+    requires { vec_len out.old + outcome_room outcome.now ≤ vec_capacity out.old }
+    ensures items { out.new.items ≡ out.old.items ++ outcome_part key.now outcome.now }
+    ensures len { vec_len out.new ≤ vec_len out.old + outcome_room outcome.now }
+    ensures room { vec_capacity out.old ≤ vec_capacity out.new }
+{
+    if let Outcome::Reply(reply) = outcome {
+        write_key(key.as_bytes(), &reply.lent(), out).unwrap();
+    }
+}

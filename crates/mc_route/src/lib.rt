@@ -1,0 +1,40 @@
+//! Routes: from a request to its servers, and from what became of its commands to its answer.
+//!
+//! Who has a request and a ring asks which servers it is for: [`atoms`] gives its commands, each with its server
+//! ([`Routed`]), and copies keys and blocks; [`into_atoms`] takes the request apart and copies none. Each key's digest is
+//! computed once, there. What stays for the answer is the request, or what [`without_block`] copies of it. When each
+//! command has its [`Outcome`], its reply or that it was lost, [`join`] appends the answer to bytes that are still to be
+//! sent, for which [`join_room`] is room enough.
+//!
+//! A key's command goes to the owner of the key, a flush to each server; `mn`, `version` and `quit` have no command. The
+//! answer is the one that a single server would give, or, where any command was lost, the line of a lost link alone.
+//!
+//! `specs/Routes.antt` says which server gets which command (`route_of`), `specs/Joins.antt` what the client is answered
+//! (`joined_answer`). The laws say that nothing else depends on how many servers there are
+//! ([`one_server_answers_alike`], [`commands_are_those_of_one_server`], [`answers_are_those_of_one_server`]).
+//!
+//! `atoms`, `into_atoms` and `without_block` take memory, and `join` where there is not room enough; a call that gives up
+//! has changed nothing. `join_room` takes none.
+#![tactic(auto)]
+
+mod errors;
+mod joins;
+mod kept;
+mod laws;
+mod outcomes;
+mod routes;
+mod rows;
+
+pub use errors::RouteError;
+pub use joins::{join, join_room};
+pub use kept::without_block;
+pub use laws::{
+    answers_are_those_of_one_server, blocks_play_no_part, commands_are_those_of_one_server,
+    one_server_answers_alike, routes_stay_inside,
+};
+pub use outcomes::Outcome;
+pub use routes::{Routed, atoms, into_atoms};
+pub use rows::{
+    flush_over_three_servers, get_over_two_servers, items_of_two_servers, one_lost_of_three,
+    quiet_request_that_is_lost, requests_without_commands,
+};

@@ -1,0 +1,214 @@
+//! From a request to its servers.
+ghost use Rattle.std.specs.Prelude.{◌≡◌, ◌+◌, ◌≤◌, ◌++◌, ◌∷◌, [], length, vec_len, vec_capacity, IfOk, IfErr, OnOk};
+ghost use Rattle.mc_request.specs.declared.parts.Atom.TheVariants.{Meta as AMeta, Update as AnUpdate};
+ghost use Rattle.mc_request.specs.declared.parts.Update.TheVariants.{FlushAll};
+ghost use Rattle.mc_reply.specs.Spelling.{meta_key};
+ghost use Rattle.mc_route.specs.Routes.{to_each, to_owner, to_place, route_of_gets, route_of_update, route_of};
+
+use crate::errors::RouteError;
+use mc_reply::key_of;
+use mc_request::{Atom, Keys, MetaCommand, Request, Update};
+use mc_ring::Ring;
+use mc_text::{Block, Key};
+use std::alloc::{AllocError, AllocFailed, Global};
+
+/// A command, and the server that it goes to.
+#[derive(Debug, Drop)]
+pub struct Routed {
+    /// The server's place in the ring's list, counted from 0.
+    pub server: usize,
+    pub atom: Atom<Block>,
+}
+
+/// The commands of a request, each with its server: one for each key, in order, to the key's owner; a flush to each
+/// server, in their order; none for `mn`, `version` and `quit`.
+///
+/// The keys and blocks are copied.
+pub fn atoms(alloc: Global, request: &Request, ring: &Ring) -> Result<Vec<Routed>, RouteError>
+    ensures { IfOk result (λ routed. routed.items ≡ route_of ring.now request.now) }
+{
+    let mut routed = Vec::with_capacity(alloc, command_count(request, ring))?;
+    push_copied(&mut routed, ring, request)?;
+    Ok(routed)
+}
+
+/// The same of a request that is taken apart: no key and no block is copied. Where there is no memory, the request comes
+/// back.
+pub fn into_atoms(
+    alloc: Global,
+    request: Request,
+    ring: &Ring,
+) -> Result<Vec<Routed>, AllocFailed<Request>>
+    ensures ok { IfOk result (λ routed. routed.items ≡ route_of ring.now request) }
+    ensures back { IfErr result (λ refused. refused.value ≡ request) }
+{
+    match Vec::with_capacity(alloc, command_count(&request, ring)) {
+        Ok(mut routed) => {
+            push_moved(&mut routed, ring, request);
+            Ok(routed)
+        }
+        Err(_refused) => Err(AllocFailed { value: request }),
+    }
+}
+
+/// How many commands a request has.
+#[tactic(auto, using(crate::proofs::RouteLemmas::each_steps))]
+fn command_count(request: &Request, ring: &Ring) -> usize
+    ensures { result ≡ length (route_of ring.now request.now) }
+{
+    match request {
+        Request::Get { keys, .. } => keys.len(),
+        Request::Update { update, .. } => match update {
+            Update::FlushAll { .. } => ring.servers().len(),
+            Update::Store { .. }
+            | Update::Touch { .. }
+            | Update::Delete { .. }
+            | Update::Count { .. } => 1,
+        },
+        Request::Meta { .. } => 1,
+        Request::MetaNoop | Request::Version | Request::Quit => 0,
+    }
+}
+
+/// Puts the commands of a request behind others. Its keys and blocks are copied; at an error some commands may stand there.
+fn push_copied(routed: &mut Vec<Routed>, ring: &Ring, request: &Request) -> Result<(), AllocError>
+    requires { vec_len routed.old + length (route_of ring.now request.now) ≤ vec_capacity routed.old }
+    ensures { OnOk result (routed.new.items ≡ routed.old.items ++ route_of ring.now request.now) }
+{
+    match request {
+        Request::Get {
+            keys,
+            exptime,
+            with_cas,
+        } => push_copied_keys(routed, ring, keys, *exptime, *with_cas)?,
+        Request::Update { update, .. } => push_update(routed, ring, update.clone()?),
+        Request::Meta { command, .. } => push_meta(routed, ring, meta_copy_of(command)?),
+        Request::MetaNoop | Request::Version | Request::Quit => {}
+    }
+    Ok(())
+}
+
+/// Puts the commands of a request behind others. Its keys and blocks are moved.
+fn push_moved(routed: &mut Vec<Routed>, ring: &Ring, request: Request)
+    requires { vec_len routed.old + length (route_of ring.now request) ≤ vec_capacity routed.old }
+    ensures { routed.new.items ≡ routed.old.items ++ route_of ring.now request }
+{
+    match request {
+        Request::Get {
+            keys,
+            exptime,
+            with_cas,
+        } => push_moved_keys(routed, ring, keys, exptime, with_cas),
+        Request::Update { update, .. } => push_update(routed, ring, update),
+        Request::Meta { command, .. } => push_meta(routed, ring, command),
+        Request::MetaNoop | Request::Version | Request::Quit => {}
+    }
+}
+
+/// Puts a command behind others, for which there is room.
+fn push(routed: &mut Vec<Routed>, server: usize, atom: Atom<Block>)
+    requires { vec_len routed.old + 1 ≤ vec_capacity routed.old }
+    ensures items { routed.new.items ≡ routed.old.items ++ to_place server atom ∷ [] }
+    ensures len { vec_len routed.new ≡ vec_len routed.old + 1 }
+    ensures room { vec_capacity routed.old ≤ vec_capacity routed.new }
+{
+    routed.push(Routed { server, atom }).unwrap();
+}
+
+/// Puts the command on one key of a retrieval command behind others.
+fn push_get(routed: &mut Vec<Routed>, ring: &Ring, key: Key, exptime: Option<i64>, with_cas: bool)
+    requires { vec_len routed.old + 1 ≤ vec_capacity routed.old }
+    ensures items { routed.new.items ≡ routed.old.items ++ route_of_gets ring.now exptime with_cas (key ∷ []) }
+    ensures len { vec_len routed.new ≡ vec_len routed.old + 1 }
+    ensures room { vec_capacity routed.old ≤ vec_capacity routed.new }
+{
+    let server = ring.owner(&key);
+    let atom = Atom::Get {
+        key,
+        exptime,
+        with_cas,
+    };
+    push(routed, server, atom);
+}
+
+/// Puts the commands of a retrieval command behind others. Its keys are copied; at an error some of them may stand there.
+fn push_copied_keys(
+    routed: &mut Vec<Routed>,
+    ring: &Ring,
+    keys: &Keys,
+    exptime: Option<i64>,
+    with_cas: bool,
+) -> Result<(), AllocError>
+    requires { vec_len routed.old + length keys.now ≤ vec_capacity routed.old }
+    ensures { OnOk result (routed.new.items ≡ routed.old.items ++ route_of_gets ring.now exptime with_cas keys.now) }
+{
+    for at in 0..keys.len() {
+        push_get(routed, ring, key_copy_of(keys.key(at))?, exptime, with_cas);
+    }
+    Ok(())
+}
+
+fn key_copy_of(key: &Key) -> Result<Key, AllocError>
+    ensures { IfOk result (λ copy. copy ≡ key.now) }
+{
+    key.clone()
+}
+
+fn meta_copy_of(command: &MetaCommand<Key, Block>) -> Result<MetaCommand<Key, Block>, AllocError>
+    ensures { IfOk result (λ copy. copy ≡ command.now) }
+{
+    command.clone()
+}
+
+/// Puts the commands of a retrieval command behind others. Its keys are moved.
+fn push_moved_keys(
+    routed: &mut Vec<Routed>,
+    ring: &Ring,
+    keys: Keys,
+    exptime: Option<i64>,
+    with_cas: bool,
+)
+    requires { vec_len routed.old + length keys ≤ vec_capacity routed.old }
+    ensures { routed.new.items ≡ routed.old.items ++ route_of_gets ring.now exptime with_cas keys }
+{
+    let (first, more) = keys.into_parts();
+    push_get(routed, ring, first, exptime, with_cas);
+    for key in more {
+        push_get(routed, ring, key, exptime, with_cas);
+    }
+}
+
+/// Puts the command of an update behind others, to the owner of its key; a flush to each server.
+fn push_update(routed: &mut Vec<Routed>, ring: &Ring, update: Update<Key, Block>)
+    requires { vec_len routed.old + length (route_of_update ring.now update) ≤ vec_capacity routed.old }
+    ensures { routed.new.items ≡ routed.old.items ++ route_of_update ring.now update }
+{
+    let server = match &update {
+        Update::Store { key, .. }
+        | Update::Touch { key, .. }
+        | Update::Delete { key, .. }
+        | Update::Count { key, .. } => ring.owner(key),
+        Update::FlushAll { delay } => return push_flush(routed, ring, *delay),
+    };
+    push(routed, server, Atom::Update(update));
+}
+
+/// Puts a flush for each server behind others, in the servers' order.
+#[tactic(auto, using(crate::proofs::RouteLemmas::each_steps))]
+fn push_flush(routed: &mut Vec<Routed>, ring: &Ring, delay: i64)
+    requires { vec_len routed.old + length (to_each 0 ring.now.servers (AnUpdate (FlushAll delay))) ≤ vec_capacity routed.old }
+    ensures { routed.new.items ≡ routed.old.items ++ to_each 0 ring.now.servers (AnUpdate (FlushAll delay)) }
+{
+    for server in 0..ring.servers().len() {
+        push(routed, server, Atom::Update(Update::FlushAll { delay }));
+    }
+}
+
+/// Puts a meta command behind others, to the owner of its key.
+fn push_meta(routed: &mut Vec<Routed>, ring: &Ring, command: MetaCommand<Key, Block>)
+    requires { vec_len routed.old + 1 ≤ vec_capacity routed.old }
+    ensures { routed.new.items ≡ routed.old.items ++ to_owner ring.now (meta_key command) (AMeta command) ∷ [] }
+{
+    let server = ring.owner_of_bytes(key_of(&command));
+    push(routed, server, Atom::Meta(command));
+}

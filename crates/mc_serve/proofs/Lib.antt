@@ -1,4 +1,0 @@
-pub mod StretchLemmas
-pub mod PumpLemmas
-pub mod RoundLemmas
-pub mod LawLemmas

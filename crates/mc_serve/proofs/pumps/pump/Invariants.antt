@@ -1,8 +1,0 @@
-use Rattle.mc_serve.specs.Pumps.{Pumps}
-use Rattle.mc_serve.specs.declared.outcomes.Pump.TheVariants.{Again}
-use Rattle.mc_serve.proofs.pumps.pump.Given as goal
-
--- the rounds so far are one pump
-abbrev pub invariant-loop : goal.invariant-loop
-invariant-loop g l = Pumps l.number l.moment Again l.fn.server l.server (g.R.Read.remaining l.fn.reader) (g.R.Read.remaining l.reader)
-    (g.W.Write.contents l.fn.writer) (g.W.Write.contents l.writer) l.fn.ended l.ended

@@ -1,0 +1,11 @@
+pub mod PieceLemmas
+pub mod SpacedLemmas
+pub mod SpellingLemmas
+pub mod GoodPartLemmas
+pub mod ClassicLemmas
+pub mod FlagLemmas
+pub mod MetaSpellingLemmas
+pub mod SpelledTextLemmas
+pub mod AskLemmas
+pub mod SayLemmas
+pub mod CanonicalLemmas

@@ -1,0 +1,27 @@
+//! The canonical spelling of a command: the one text that a proxy sends to a server for it.
+//!
+//! [`write_atom`] appends it, and [`spelled_len`] says how many bytes it has. It is a command's line, in words with a space
+//! between any two, and the data block behind it; a meta command's key is sent in base64, and neither its key nor an opaque
+//! is asked back.
+//!
+//! `specs/Spellings.antt` says which text it is (`spelling_of_atom`), which request a server reads it as (`request_of`), and
+//! which commands can be said so (`is_good_atom`): each that a client's request stands for
+//! ([`commands_of_texts_can_be_spelled`]). The laws say that it is read as that command and no other, whatever follows it
+//! ([`spelled_commands_are_read`], [`spelled_command_is_one`], [`quit_behind_commands_is_read`]), that no spelling begins
+//! another ([`spellings_stand_apart`]), and that a server answers it by the canonical spelling of its reply
+//! ([`canonical_answers`]).
+//!
+//! `write_atom` takes memory where there is not room enough, and appends nothing where it gives up.
+#![tactic(auto)]
+
+mod laws;
+mod spelled_lines;
+mod spelled_metas;
+mod spelled_words;
+mod spellings;
+
+pub use laws::{
+    canonical_answers, commands_of_texts_can_be_spelled, quit_behind_commands_is_read,
+    spelled_command_is_one, spelled_commands_are_read, spellings_stand_apart,
+};
+pub use spellings::{spelled_len, write_atom};
