@@ -2,7 +2,8 @@
 
 use anyhow::{Context, bail};
 use mc_link::{Link, LinkTurn, Tag};
-use mc_request::{Next, Reader, Request};
+use mc_request::Request;
+use mc_request_reader::{Next, Reader};
 use mc_ring::{Address, Ring};
 use mc_route::{Outcome, atoms, join};
 use mc_spelling::spelled_len;

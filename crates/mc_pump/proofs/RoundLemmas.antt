@@ -6,7 +6,7 @@ use Rattle.mc_server.specs.ServerState.{ConnectionState, Connections, ServerStat
 use Rattle.mc_server.specs.Turns.{IsTurn, Steps, waiting_of, is_closed_at}
 use Rattle.mc_server.specs.declared.turns.Turn.TheVariants.{Took, Idle, Closing}
 use Rattle.mc_server.proofs.ConnectionLemmas.{updated_own}
-use Rattle.mc_request.specs.Reader.{rest_of}
+use Rattle.mc_request_reader.specs.Reader.{rest_of}
 use Rattle.mc_pump.specs.Stretches.{Stretch}
 use Rattle.mc_pump.specs.Sides.{Brings, HowItWent}
 use Rattle.mc_pump.specs.Pumps.{IsOver}

@@ -1,6 +1,6 @@
 -- A stretch of one connection of a server: what came, what was taken and served, and what went.
 use Rattle.std.specs.Prelude.{◌≡◌, ℕ, ◌≤◌, List, [], ◌∷◌, ◌++◌, length, Some}
-use Rattle.mc_request.specs.Reader.{rest_of}
+use Rattle.mc_request_reader.specs.Reader.{rest_of}
 use Rattle.mc_server.specs.Served.{Entry}
 use Rattle.mc_server.specs.Histories.{answers_to, taken_of}
 use Rattle.mc_server.specs.ServerState.{ConnectionState, ServerState, connection_at, updated}

@@ -3,7 +3,8 @@
 use anyhow::{Context, Result};
 use mc_reply::Reply;
 use mc_reply_reader::{NextReply, ReplyReader};
-use mc_request::{Atom, Head, Next, Reader, Request};
+use mc_request::{Atom, Head, Request};
+use mc_request_reader::{Next, Reader};
 use mc_route::{Outcome, join};
 use mc_spelling::write_atom;
 use mc_text::Block;

@@ -16,8 +16,7 @@ use Rattle.mc_request.specs.declared.parts.Update.TheVariants.{Delete, Count}
 use Rattle.mc_request.specs.Parts.{key_said}
 use Rattle.mc_request.specs.Flags.{letters_of, is_one_of, flag_of, bare, valued, opaque_of, mode_of, direction_of, with_mode, by_flag, by_letter, with_flag, flags_from, fresh_flags, takes_flags, get_by, counting_by}
 use Rattle.mc_request.specs.Meanings.{Line, well_formed, meta_key, meta_line, mg_line, md_line, ma_line, ms_storing, ms_by, ms_line, second_len, storage_line}
-use Rattle.mc_request.specs.Steps.{is_good_storing}
-use Rattle.mc_request.specs.WellFormed.{is_u64, is_i64, is_where_some, is_good_creation, is_good_counting, is_good_get, is_good_meta, is_meta_key, is_good_block, has_flags, command_name}
+use Rattle.mc_request.specs.WellFormed.{is_good_storing, is_u64, is_i64, is_where_some, is_good_creation, is_good_counting, is_good_get, is_good_meta, is_meta_key, is_good_block, has_flags, command_name}
 use Rattle.mc_request.proofs.PartLemmas.{Holds, bound, by_test, of_test, choice, holds, number_good, i64_good, block_is, is_good_line, both, length_good, storage_tested}
 
 -- numbers of flags that were read are within their limits

@@ -7,8 +7,7 @@ use Rattle.mc_text.specs.Numbers.{has_digits, number, read_i64}
 use Rattle.mc_request.specs.declared.faults.Fault.{Fault}
 use Rattle.mc_request.specs.Faults.{closes, ◌>>=◌}
 use Rattle.mc_request.specs.Meanings.{Line, Lone, Storage, Storing, well_formed, storage_line}
-use Rattle.mc_request.specs.WellFormed.{is_i64, is_where_some, is_good_request}
-use Rattle.mc_request.specs.Steps.{is_good_storing}
+use Rattle.mc_request.specs.WellFormed.{is_i64, is_where_some, is_good_request, is_good_storing}
 
 -- what holds of a part that was read; a fault closes nothing
 abbrev pub holds : {A : Type 0} → (A → Bool) → Result A Fault → Bool

@@ -28,10 +28,9 @@ use Rattle.mc_request.specs.declared.parts.Taken.TheVariants.{Whole, Faulty}
 use Rattle.mc_request.specs.Faults.{closes}
 use Rattle.mc_request.specs.Parts as parts
 use Rattle.mc_request.specs.Names.{name_of, has_arity, at_least, is_noreply, noreply_of}
-use Rattle.mc_request.specs.Meanings.{Line, Lone, Storage, Storing, Classic, MetaSet, Meaning, plain_counting, Alone, Stores, Refuses, key_of, well_formed, update_line, touch_line, without_zero, delete_line, count_parts, count_line, flush_parts, flush_line, keys_line, gat_line, storage_parts, storing_by, store_line, number_behind, cas_by, cas_line, line_named, line_of, announced, meaning_from, meaning_by, meaning}
+use Rattle.mc_request.specs.Meanings.{Line, Lone, Storage, Storing, Classic, MetaSet, Meaning, plain_counting, Alone, Stores, Refuses, key_of, well_formed, update_line, touch_line, without_zero, delete_line, count_parts, count_line, flush_parts, flush_line, keys_line, gat_line, storage_parts, storing_by, store_line, number_behind, cas_by, cas_line, line_named, line_of, announced, meaning_from, meaning_by, meaning, announced_by, announced_in}
 use Rattle.mc_request.specs.Requests.{stored, with_block, taken_by, next_by, next_request, requests_from, requests_within, requests_of, ends}
-use Rattle.mc_request.specs.WellFormed.{is_u64, is_i64, is_where_some, is_good_update, is_meta_key, command_name, has_flags, is_good_block, is_good_request, is_well_formed}
-use Rattle.mc_request.specs.Steps.{announced_by, announced_in, is_good_storing, is_good_meaning}
+use Rattle.mc_request.specs.WellFormed.{is_u64, is_i64, is_where_some, is_good_update, is_meta_key, command_name, has_flags, is_good_block, is_good_request, is_well_formed, is_good_storing, is_good_meaning}
 use Rattle.mc_request.proofs.PartLemmas.{not_true, Holds, bound, by_test, of_test, holds, any_bool, and_then, either, tested, some_good, number_good, i64_good, block_is, is_good_line, both, length_good, left, right}
 use Rattle.mc_request.proofs.MetaLemmas.{mg_good, md_good, ma_good, ms_good}
 

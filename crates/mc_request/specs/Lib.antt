@@ -7,9 +7,5 @@ pub mod Meanings
 pub mod Examples
 pub mod Requests
 pub mod WellFormed
-pub mod Reader
 pub mod Hides
 pub mod LinesSeen
-pub mod Peeks
-pub mod Steps
-pub mod UnreadFields

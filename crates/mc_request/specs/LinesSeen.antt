@@ -1,5 +1,5 @@
 -- A line of the code, as definitions see it.
-use Rattle.std.specs.Prelude.{ℕ, Option, Some, None, Result, Ok, Err}
+use Rattle.std.specs.Prelude.{Result, Ok, Err}
 use Rattle.mc_request.specs.declared.faults.Fault.{Fault}
 use Rattle.mc_request.specs.declared.parts.Request.TheVariants.{Get, Update, Meta, MetaNoop, Version, Quit}
 use Rattle.mc_request.specs.declared.parts.Taken.{Taken}
@@ -22,11 +22,6 @@ asked_of asked.MetaNoop = Whole MetaNoop
 asked_of asked.Version = Whole Version
 asked_of asked.Quit = Whole Quit
 asked_of (asked.Faulty fault) = Faulty fault
-
--- the same with the bytes that it takes
-abbrev pub lent_seen : Option (Asked × ℕ) → Option (Taken × ℕ)
-lent_seen None = None
-lent_seen (Some lent) = Some (asked_of lent.0, lent.1)
 
 -- a line that is well formed
 abbrev pub line_of_taken : Taken → Result Line Fault

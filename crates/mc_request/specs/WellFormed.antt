@@ -1,5 +1,5 @@
 -- What every request keeps to, however its bytes came.
-use Rattle.std.specs.Prelude.{ℕ, ◌^◌, ◌&&◌, nat_lt, nat_le, Bool, true, false, ℤ, pos, negsuc, List, length, Option, Some, None}
+use Rattle.std.specs.Prelude.{ℕ, ◌^◌, ◌&&◌, nat_lt, nat_le, Bool, not, true, false, ℤ, pos, negsuc, List, length, Option, Some, None}
 use Rattle.std.specs.List.{list_all}
 use Rattle.std.specs.Option.{option_map_or}
 use Rattle.mc_text.specs.Keys.{is_key, is_plain_key}
@@ -13,7 +13,9 @@ use Rattle.mc_request.specs.declared.parts.Update.{Update}
 use Rattle.mc_request.specs.declared.parts.Update.TheVariants.{Store, Touch, Delete, Count, FlushAll}
 use Rattle.mc_request.specs.declared.names.Name.{Name}
 use Rattle.mc_request.specs.declared.names.Name.TheVariants as names
+use Rattle.mc_request.specs.Faults.{closes}
 use Rattle.mc_request.specs.Flags.{takes_flags}
+use Rattle.mc_request.specs.Meanings.{Meaning, Storing, Classic, MetaSet, Alone, Stores, Refuses}
 use Rattle.mc_request.specs.Parts.{key_in, key_in_meta}
 use Rattle.mc_request.specs.declared.parts.Request.{Request}
 use Rattle.mc_request.specs.declared.parts.Request.TheVariants as requests
@@ -104,3 +106,15 @@ is_good_request requests.Quit = true
 abbrev pub is_well_formed : Taken → Bool
 is_well_formed (Whole request) = is_good_request request
 is_well_formed (Faulty fault) = true
+
+-- what a storage command keeps to before its data block has come
+abbrev pub is_good_storing : Storing → Bool
+is_good_storing (Classic update noreply) = is_good_update is_plain_key (λ _. true) update
+is_good_storing (MetaSet update show form) =
+    is_good_update (is_meta_key form.coded) (λ _. true) update && has_flags (command_name (metas.Update update show)) form.flags
+
+-- what every line asks for keeps to: what is taken is well formed, and what swallows a block closes nothing
+abbrev pub is_good_meaning : Meaning → Bool
+is_good_meaning (Alone taken) = is_well_formed taken
+is_good_meaning (Stores storing len) = is_good_storing storing && nat_le len VALUE_LIMIT
+is_good_meaning (Refuses fault len) = not (closes fault)

@@ -1,31 +1,29 @@
-//! Requests: what a client's bytes ask for.
+//! Requests: what one line of a client asks for, with its data block.
 //!
-//! A [`Reader`] is fed the bytes of a connection in whatever pieces they come ([`Reader::feed`]), and gives the
-//! requests and faults of them in order ([`Reader::next`]). [`Reader::peek`] and [`Reader::consume`] are the two
-//! halves of `next`: the one lends what stands first, its keys and its block being bytes of the reader, and the other
-//! takes it. [`Reader::ready`] says whether there is one, and [`Reader::held`] how many bytes are kept.
+//! [`command_line`] reads a line, whose words it lends: it answers an [`Asked`], a [`Storing`] that a data block follows, or a
+//! fault whose data block is swallowed. [`announced_in`] says of a line only how long its data block is. [`Asked::taken`]
+//! copies what is lent, and so makes a [`Request`] of it.
 //! A meta command that is lent has its key as a word, plain or in base64 ([`key_bytes`], [`Update::said`]),
 //! and its flag words as they stand in the line ([`MetaForm`]). [`flag_of`] names the flag of a letter.
-//! [`Request::atoms`] gives the commands of a request, [`Request::hides`] what it hides of its answer, and
-//! [`Fault::line`] the error line of a fault.
-//! [`write_atom`] writes the canonical spelling of a command, the one text that a proxy sends for it, of
-//! [`Atom::spelled_len`] bytes, and [`Atom::into_head`] keeps of it what a reader of its reply must know.
+//! [`Request::atoms`] gives the commands of a request, each an [`Atom`], which [`Atom::into_head`] makes a [`Head`]: what of it a
+//! reader of its reply must know. [`Request::hides`] is what a request hides of its answer, and [`Fault::line`] the error line
+//! of a fault.
 //!
-//! A reader stands for a function: from the text still to come to the requests and faults that it will give.
-//! `feed`, `next` and `consume` are proved to keep that function, so how the text is cut never matters: see
-//! `specs/Reader.antt` for the function and `specs/Requests.antt` for the requests of a text.
+//! `specs/Meanings.antt` says what a line asks for by its words, and `specs/Requests.antt` what the requests of a text are. The
+//! reader that gives these, however the text comes, stands in the crate `mc_request_reader`; the spelling of a command, the one
+//! text that a proxy sends for it, stands in `mc_spelling`.
 //!
-//! Of the calls, `feed`, `next`, `atoms`, `write_atom` and those that make a copy of what is lent take memory; all others take none,
-//! and cannot fail.
+//! Of the calls, `atoms`, those of `Keys` that make room or put a key behind, and those that make a copy of what is lent take
+//! memory; all others take none, and cannot fail.
 #![tactic(auto)]
 
+mod announced;
 mod command_lines;
 mod faults;
 mod flags;
 mod heads;
 mod hides;
 mod keys;
-mod laws;
 mod lines;
 mod lone_lines;
 mod meta;
@@ -34,31 +32,24 @@ mod meta_rows;
 mod names;
 mod owned;
 mod parts;
-mod peeks;
-mod reader;
 mod rows;
-mod searched;
-mod steps;
 mod storage_lines;
-mod unread;
 
+pub use announced::announced_in;
+pub use command_lines::command_line;
 pub use faults::Fault;
 pub use flags::{Flag, OPAQUE_LIMIT, flag_of};
 pub use heads::Head;
 pub use hides::Hides;
 pub use keys::Keys;
-pub use laws::{requests_are_well_formed, requests_begin, requests_go_on};
-pub use lines::Asked;
+pub use lines::{Asked, CommandLine, Storing};
 pub use meta::{Counting, Creation, FlagWords, MetaCommand, MetaForm, MetaGet, Show, key_bytes};
 pub use meta_rows::{
-    coded_keys, faults_in_order, flags_of_each_command, flags_stand_once, meta_block_is_swallowed,
-    meta_commands, meta_sets, modes, opaques, tokens_of_each_flag,
+    coded_keys, faults_in_order, flags_of_each_command, flags_stand_once, meta_commands, meta_sets,
+    modes, opaques, tokens_of_each_flag,
 };
 pub use parts::{Atom, Direction, ReadError, Request, StoreMode, Taken, Update};
-pub use peeks::{Front, Peek, REQUEST_LIMIT};
-pub use reader::{Next, Reader};
 pub use rows::{
-    block_takes_too_much, counts, deletions, flushes, noreply_at_the_end, quit_ends_the_text,
-    refused_block_is_swallowed, refused_blocks, set_then_get, several_keys, storage_modes,
+    counts, deletions, flushes, noreply_at_the_end, refused_blocks, several_keys, storage_modes,
     unknown_lines,
 };

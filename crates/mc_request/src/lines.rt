@@ -9,7 +9,7 @@ use crate::meta::{MetaCommand, MetaForm, Show};
 use crate::parts::Update;
 use mc_text::WordIter;
 
-/// What stands first in a reader: its keys and its data block are bytes of the reader.
+/// A request or fault that is lent: its keys and its data block are bytes of the text that it was read from.
 #[derive(Drop)]
 pub enum Asked<'a> {
     /// `get` and `gets`, or with an exptime `gat` and `gats`, by the words that are its keys: one at least.

@@ -1,12 +1,11 @@
 //! Worked examples of meta commands, computed from the definitions alone.
-#![tactic(auto, unfolding(mc_text::specs::Words::words, mc_text::specs::Lines::line_end, mc_text::specs::Lines::first_line, mc_text::proofs::OnLiterals::coded_on_literals, crate::specs::Names::name_of, crate::specs::Requests::next_request, crate::specs::Requests::requests_within, crate::specs::Requests::requests_of))]
+#![tactic(auto, unfolding(mc_text::specs::Words::words, mc_text::proofs::OnLiterals::coded_on_literals, crate::specs::Names::name_of))]
 
 ghost use Rattle.std.specs.Prelude.{◌≡◌, ℕ, pos, negsuc, List, [], ◌∷◌, Some, None, true, false, map, codes};
 ghost use Rattle.mc_text.specs.Words.{words};
 ghost use Rattle.mc_request.specs.declared.names.Name.{Name};
 ghost use Rattle.mc_request.specs.declared.parts.Direction.{Direction};
 ghost use Rattle.mc_request.specs.declared.parts.StoreMode.{StoreMode};
-ghost use Rattle.mc_request.specs.Requests.{requests_of};
 ghost use Rattle.mc_request.specs.Flags.{mode_of, direction_of};
 ghost use Rattle.mc_request.specs.Meanings.{Alone, Stores, Refuses, meaning, plain_counting};
 ghost use Rattle.mc_request.specs.Examples.{refused, meta, setting, nothing_shown, every_flag, without_tokens, longer_flags, taken_alone, bad_alone, invalid_alone, once_each};
@@ -111,9 +110,4 @@ pub fn coded_keys()
     ensures space { meaning (words (codes "mg YSBi b")) ≡ meta (MetaCommand.Get (codes "a b") (record { show = nothing_shown; exptime = None; create = None; recache = None })) true false (codes "b") }
     ensures bits { meaning (words (codes "mg YWJ= b")) ≡ refused Fault.BadFormat }
     ensures bare { meaning (words (codes "mg a b")) ≡ refused Fault.BadFormat }
-{}
-
-/// A faulty `ms` line takes its block wherever its third word is a readable length; here the block would be a command.
-pub fn meta_block_is_swallowed()
-    ensures text { requests_of (codes "ms a 5 z\r\nget a\r\nmn\r\n") ≡ Taken.Faulty Fault.InvalidFlag ∷ Taken.Whole Request.MetaNoop ∷ [] }
 {}

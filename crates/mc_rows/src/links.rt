@@ -1,7 +1,8 @@
 //! Requests over one link: sent, answered by a server's bytes, lost.
 
 use mc_link::{Link, LinkError, LinkTurn, Tag};
-use mc_request::{Next, ReadError, Reader, Request};
+use mc_request::{ReadError, Request};
+use mc_request_reader::{Next, Reader};
 use mc_ring::{Address, Ring, RingError};
 use mc_route::{Outcome, RouteError, atoms, join};
 use std::alloc::Global;

@@ -1,7 +1,8 @@
 //! A reader with ample memory, whose caller keeps its requests, and the answers to these.
 
 use mc_reply::{Marks, Reply, Shown, write_part};
-use mc_request::{Atom, MetaCommand, Next, Reader, Request, Update};
+use mc_request::{Atom, MetaCommand, Request, Update};
+use mc_request_reader::{Next, Reader};
 use mc_text::Block;
 use std::alloc::Global;
 use std::test::Fail;

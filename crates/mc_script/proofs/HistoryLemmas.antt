@@ -7,7 +7,7 @@ use Rattle.std.proofs.lemmas.List.Sums.{sum_by-cons}
 use Rattle.std.proofs.lemmas.Grind.{flat_map-append}
 use Rattle.mc_request.specs.declared.parts.Taken.{Taken}
 use Rattle.mc_request.specs.Requests.{requests_of}
-use Rattle.mc_request.specs.Reader.{rest_of}
+use Rattle.mc_request_reader.specs.Reader.{rest_of}
 use Rattle.mc_cache.specs.CacheState.{CacheState}
 use Rattle.mc_server.specs.Served.{Entry}
 use Rattle.mc_server.specs.Histories.{answers_to, taken_of, turns_of}

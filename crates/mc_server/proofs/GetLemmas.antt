@@ -4,7 +4,7 @@ use Rattle.std.specs.Borrow.{Bor}
 use Rattle.std.specs.List.{list_all}
 use Rattle.mc_text.specs.Keys.{is_plain_key}
 use Rattle.std.proofs.lemmas.List.{append-nil}
-use Rattle.mc_request.specs.Atoms.{gets_of}
+use Rattle.mc_request.specs.Atoms.{gets_of, atoms_taken}
 use Rattle.mc_request.specs.declared.parts.Atom.TheVariants as atoms
 use Rattle.mc_request.specs.declared.parts.Request.TheVariants.{Get}
 use Rattle.mc_request.specs.declared.parts.Taken.{Taken}
@@ -17,7 +17,7 @@ use Rattle.mc_reply.specs.Spelling.{key_part, blocks_of, end_line, answer}
 use Rattle.mc_cache.specs.CacheState.{CacheState}
 use Rattle.mc_cache.specs.Replay.{Command, replay, replies, IsLegal}
 use Rattle.mc_cache.specs.Step.{step_of}
-use Rattle.mc_server.specs.Served.{Serves, atoms_taken}
+use Rattle.mc_server.specs.Served.{Serves}
 use Rattle.mc_server.proofs.RefusalLemmas.{gets_tell_none}
 
 -- the bytes of a reply that is filled with a lent value

@@ -2,7 +2,7 @@
 use Rattle.std.proofs.Common.{◌≡◌, ◌∙◌, ℕ, ℤ, ◌+◌, ◌^◌, ◌==◌, ◌||◌, nat_le, Bool, true, false, if◌then◌else◌, List, [], ◌∷◌, length, map, Option, Some, None, Result, Ok, Err, refl, sym, ap, subst}
 use Rattle.mc_item.specs.declared.bodies.Body.{Body}
 use Rattle.mc_text.specs.Numbers.{read_u64}
-use Rattle.mc_request.specs.Atoms.{gets_of}
+use Rattle.mc_request.specs.Atoms.{gets_of, atoms_taken}
 use Rattle.mc_request.specs.Faults.{fault_line}
 use Rattle.mc_request.specs.declared.faults.Fault as faults
 use Rattle.mc_request.specs.declared.faults.Fault.TheVariants.{TooLarge, CasUsedUp, OutOfMemory}
@@ -39,7 +39,7 @@ use Rattle.mc_cache.specs.Replay.{Command, replies, IsLegal}
 use Rattle.mc_cache.specs.Settling.{settled}
 use Rattle.mc_cache.specs.Showing.{item_shown, told}
 use Rattle.mc_cache.specs.Step.{step_of, get_step, update_step, touch_step, delete_step, delete_by, count_step, count_by, count_number, count_none, meta_step, meta_get_step, meta_get_none, made_by, held_under, unmet, unstored, compared, store_by, stored, stored_by, is_too_large, Content, Outcome}
-use Rattle.mc_server.specs.Served.{Entry, answer_after, atoms_taken, tells_refusal, IsLegalAt}
+use Rattle.mc_server.specs.Served.{Entry, answer_after, tells_refusal, IsLegalAt}
 
 -- the commands of some atoms at a moment, refused memory or not
 abbrev commands : ℕ → Bool → List (Atom (List ℕ)) → List Command

@@ -4,7 +4,7 @@ ghost use Rattle.std.specs.Prelude.{◌≡◌, ◌+◌, ◌-◌, ◌≤◌, ◌<
 use crate::answering::{bound_for, room_for, serve};
 use crate::turns::{ServerError, Turn};
 use mc_cache::Cache;
-use mc_request::{Peek, Reader};
+use mc_request_reader::{Peek, Reader};
 use mc_store::Store;
 use mc_text::let_go;
 use std::alloc::Global;
@@ -31,7 +31,7 @@ impl Model for Connection {
 }
 
 impl Connection {
-    ghost use Rattle.mc_request.specs.Reader.{rest_of};
+    ghost use Rattle.mc_request_reader.specs.Reader.{rest_of};
     ghost use Rattle.mc_server.specs.Rooms.{bound_of};
     ghost use Rattle.mc_server.specs.ServerState.{fresh_connection};
     ghost use Rattle.mc_server.specs.Turns.{IsFed, IsTurn};

@@ -5,7 +5,7 @@ use Rattle.std.specs.List.{list_all}
 use Rattle.std.specs.Option.{is_none}
 use Rattle.mc_text.specs.Keys.{is_key, is_plain_key}
 use Rattle.mc_text.specs.CodedKeys.{coded_of}
-use Rattle.mc_request.specs.Atoms.{commands_of_taken}
+use Rattle.mc_request.specs.Atoms.{atoms_taken}
 use Rattle.mc_request.specs.WellFormed.{is_good_block, is_good_meta, is_good_update, is_i64, is_where_some}
 use Rattle.mc_request.specs.declared.meta.Counting.{Counting}
 use Rattle.mc_request.specs.declared.meta.Creation.{Creation}
@@ -219,4 +219,4 @@ is_good_atom (atoms.Meta command) = is_askable command && is_good_meta is_byte_k
 
 -- what was taken asks for nothing but commands that can be spelled; this project's own
 abbrev pub can_be_spelled : Taken → Bool
-can_be_spelled taken = list_all is_good_atom (commands_of_taken taken)
+can_be_spelled taken = list_all is_good_atom (atoms_taken taken)

@@ -1,7 +1,7 @@
 use Rattle.std.proofs.Common.{◌≡◌, ◌≤◌, ℕ, List, length, drop, length-append, length-drop, ap, arith}
 use Rattle.std.proofs.lemmas.List.{drop-append-le}
 use Rattle.mc_request.specs.LinesSeen.{asked_of}
-use Rattle.mc_request.proofs.ReaderLemmas.{shown_is_first, shown_closes, shown_waits}
+use Rattle.mc_request_reader.proofs.ReaderLemmas.{shown_is_first, shown_closes, shown_waits}
 use Rattle.mc_request.specs.declared.parts.Taken.{Taken}
 use Rattle.mc_server.specs.Rooms.{bound_of, taken_bound}
 use Rattle.mc_server.specs.ServerState.{ConnectionState}

@@ -1,0 +1,216 @@
+-- What a reader stands for after a step.
+use Rattle.std.proofs.Common.{◌≡◌, ◌∙◌, ℕ, suc, zero, ◌+◌, ◌-◌, ◌<◌, ◌≤◌, Bool, true, false, List, [], ◌∷◌, ◌++◌, length, drop, Option, Some, None, is_some, IsTrue, nat_lt, min, if◌then◌else◌, refl, sym, ap, arith, append_assoc, length-append, length-drop}
+use Rattle.std.specs.Option.{option_map}
+use Rattle.std.specs.Prelude.{unwrap_or}
+use Rattle.std.proofs.lemmas.List.{get_or_append_left, drop-drop, drop-append-le, append-nil}
+use Rattle.std.proofs.Math.Seq.{drop-append-add}
+use Rattle.mc_text.specs.Lines.{HasNoLineFeed}
+use Rattle.mc_text.proofs.LineLemmas.{line_end-more, first_line_too_long-more}
+use Rattle.mc_request.specs.declared.faults.Fault.{Fault}
+use Rattle.mc_request.specs.declared.parts.Taken.{Taken}
+use Rattle.mc_request.specs.declared.parts.Taken.TheVariants.{Faulty}
+use Rattle.mc_request_reader.specs.declared.peeks.Front.{Front}
+use Rattle.mc_request.specs.Faults.{closes}
+use Rattle.mc_request_reader.specs.declared.searched.Searched.{Searched}
+use Rattle.mc_request_reader.specs.declared.searched.Searched.TheVariants as searches
+use Rattle.mc_request_reader.specs.Steps.{IsSearched, IsShortOf, IsWholeFrom}
+use Rattle.mc_request.specs.Requests.{next_request, requests_from, requests_of, ends}
+use Rattle.mc_request_reader.specs.Reader.{ReaderState, rest_of, rest_from, KeepsRest, KeepsLittle}
+use Rattle.mc_request_reader.specs.Peeks.{HasNone, IsFirst, Shows, front_of, first_by, past}
+use Rattle.mc_request.proofs.RequestLemmas.{given, next_request-size, requests-step, takes, waits}
+use Rattle.mc_request_reader.proofs.StepLemmas.{same_test}
+
+after_taken : (b : Bool) (bytes : List ℕ) → (if b then [] else requests_of bytes) ≡ rest_from b None bytes
+after_taken true bytes = refl
+after_taken false bytes = refl
+
+-- a look at a whole request or fault
+pub shows_whole : (s : ReaderState) (x : Taken) (front : Front) → s.closed ≡ false → s.dropping ≡ None → front.closes ≡ ends x → next_request s.unread ≡ Some (x, front.size) → Shows s x front
+shows_whole s x front unclosed none closes_is e = record {
+  front_is = rw (unclosed, none, e, closes_is) refl;
+  closes = closes_is;
+  first = record { rest = λ text. rw (unclosed, none, closes_is) (takes s.unread (x, front.size) e text ∙ ap (λ (ts : List Taken). x ∷ ts) (after_taken (ends x) (drop front.size s.unread ++ text))) };
+}
+
+-- a look at the fault of a block that has been dropped
+pub shows_dropped : (s : ReaderState) (f : Fault) (left : ℕ) → s.closed ≡ false → s.dropping ≡ Some (f, left) → left ≤ 0 → closes f ≡ false → Shows s (Faulty f) (record { size = 0; closes = false })
+shows_dropped s f zero unclosed is done ok = record {
+  front_is = rw (unclosed, is, ok) refl;
+  closes = sym ok;
+  first = record { rest = λ text. let none : nat_lt (length (s.unread ++ text)) 0 ≡ false = grind arith in rw (unclosed, is, none) refl };
+}
+shows_dropped s f (suc left) unclosed is done ok = absurd (omega arith)
+
+first_size : (dropping : Option (Fault × ℕ)) (unread : List ℕ) (x : Taken × ℕ) → first_by dropping unread ≡ Some x → x.1 ≤ length unread
+first_size None unread x e = (next_request-size unread x e).1
+first_size (Some d) unread x e =
+    let size : 0 ≡ x.1 = ap (λ (y : Taken × ℕ). y.1) (given (nat_lt 0 d.1) (Faulty d.0, 0) x e).1 in
+    omega arith
+
+-- a test that gave an option
+passed : {A : Type 0} (b : Bool) (o : Option A) (y : A) → (if b then None else o) ≡ Some y → o ≡ Some y
+passed true o y e = absurd cc
+passed false o y e = e
+
+abbrev front_at : Taken × ℕ → Front
+front_at x = record { size = x.1; closes = ends x.0 }
+
+front_size_by : (dropping : Option (Fault × ℕ)) (unread : List ℕ) (o : Option (Taken × ℕ)) (front : Front) → first_by dropping unread ≡ o
+    → option_map front_at o ≡ Some front → front.size ≤ length unread
+front_size_by dropping unread None front e is = absurd cc
+front_size_by dropping unread (Some x) front e is =
+    let size : x.1 ≡ front.size = ap (λ (o : Option Front). unwrap_or (option_map (λ (f : Front). f.size) o) 0) is in
+    omega (arith, size, first_size dropping unread x e)
+
+-- what a look showed has come
+pub front_size : (s : ReaderState) (front : Front) → front_of s ≡ Some front → front.size ≤ length s.unread
+front_size s front is =
+    front_size_by s.dropping s.unread (first_by s.dropping s.unread) front refl (passed s.closed (option_map front_at (first_by s.dropping s.unread)) front is)
+
+-- what was looked at stays so when more comes
+scanned_more : (scanned : ℕ) (u more : List ℕ) → HasNoLineFeed scanned u → HasNoLineFeed scanned (u ++ more)
+scanned_more scanned u more h = record {
+  inside = omega (arith, h.inside, length-append u more);
+  none = λ k lt is. h.none k lt (sym (get_or_append_left u more 0 k (omega (arith, lt, h.inside))) ∙ is);
+}
+
+pub searched_more : (known : Searched) (u more : List ℕ) → IsSearched known u → IsSearched known (u ++ more)
+searched_more (searches.Without count) u more h = scanned_more count u more h
+searched_more (searches.Ends end) u more h = line_end-more u more end h
+searched_more searches.TooLong u more h = first_line_too_long-more u more h
+
+pub short_more : (wanted : ℕ) (u more : List ℕ) → IsShortOf wanted u → IsShortOf wanted (u ++ more)
+short_more wanted u more h rest short = rw append_assoc (h (more ++ rest) (rw append_assoc at short))
+
+pub sure_more : (wanted : ℕ) (u more : List ℕ) → IsWholeFrom wanted u → IsWholeFrom wanted (u ++ more)
+sure_more wanted u more h rest enough = rw append_assoc (h (more ++ rest) (rw append_assoc at enough))
+
+not_none : {A : Type 0} {x : A} {xs : List A} → x ∷ xs ≡ [] → ⊥
+not_none e = cc
+
+from_whole : (o : Option (Taken × ℕ)) (text : List ℕ) → is_some o ≡ true → requests_from o text requests_of ≡ [] → ⊥
+from_whole None text some e = cc
+from_whole (Some x) text some e = cc
+
+-- nothing is whole
+pub none_yet : (old new : ReaderState) → new ≡ old → old.closed ≡ false → old.dropping ≡ None → next_request old.unread ≡ None → HasNone old new
+none_yet old new same unclosed none e = record {
+  was_open = unclosed;
+  is_open = ap (λ (s : ReaderState). s.closed) same ∙ unclosed;
+  none = rw (unclosed, none, append-nil) (waits old.unread e);
+  rest = λ text. ap (λ (s : ReaderState). rest_of s text) same;
+}
+
+-- a block that is being dropped
+pub none_dropping : (s : ReaderState) (f : Fault) (left : ℕ) → s.closed ≡ false → s.dropping ≡ Some (f, left) → 0 < left → (0 < left → length s.unread ≡ 0) → HasNone s s
+none_dropping s f left unclosed is more empty =
+    let none : length s.unread ≡ 0 = empty more in
+    let short : nat_lt (length (s.unread ++ [])) left ≡ true = grind (arith, length-append s.unread [], none) in
+    record {
+      was_open = unclosed;
+      is_open = unclosed;
+      none = rw (unclosed, is, short) refl;
+      rest = λ text. refl;
+    }
+
+-- something is whole, so there is a first
+pub whole_is_first : (s : ReaderState) → s.closed ≡ false → s.dropping ≡ None → is_some (next_request s.unread) ≡ true → rest_of s [] ≡ [] → ⊥
+whole_is_first s unclosed none some e =
+    from_whole (next_request s.unread) s.unread some (sym (requests-step s.unread) ∙ rw (unclosed, none, append-nil) at e)
+
+-- where nothing is whole, the bytes that wait are few
+pub little_waits : (s : ReaderState) (wanted : ℕ) → s.held ≡ length s.unread → length s.unread < wanted → wanted ≤ 1114114 → KeepsLittle s
+little_waits s wanted held few limit none = omega (arith, held, few, limit)
+
+-- where something is whole, nothing is promised
+pub little_whole : (s : ReaderState) → s.closed ≡ false → s.dropping ≡ None → is_some (next_request s.unread) ≡ true → KeepsLittle s
+little_whole s unclosed none some e = absurd (whole_is_first s unclosed none some e)
+
+pub little_none : (s : ReaderState) → s.held ≡ 0 → KeepsLittle s
+little_none s held none = omega (arith, held)
+
+-- while a block is dropped
+pub little_dropping : (s : ReaderState) (f : Fault) (left : ℕ) → s.closed ≡ false → s.dropping ≡ Some (f, left) → (0 < left → s.held ≡ 0) → KeepsLittle s
+little_dropping s f zero unclosed is empty e =
+    let none : nat_lt (length (s.unread ++ [])) 0 ≡ false = grind arith in
+    absurd (not_none (rw (unclosed, is, none) at e))
+little_dropping s f (suc left) unclosed is empty e = omega (arith, empty (omega arith))
+
+-- the state behind what closes
+pub rest_closed : (s : ReaderState) (text : List ℕ) → s.closed ≡ true → rest_of s text ≡ []
+rest_closed s text closed = rw closed refl
+
+-- the same by its parts
+pub rest_same : (s t : ReaderState) → t.unread ≡ s.unread → t.dropping ≡ s.dropping → t.closed ≡ s.closed → KeepsRest s t
+rest_same s t unread dropping closed = record { rest = λ text. rw (unread, dropping, closed) refl; closed = closed }
+
+-- the requests of a text whose first block is dropped
+drops : (u : List ℕ) (f : Fault) (size : ℕ) → closes f ≡ false → length u < size
+    → ((more : List ℕ) → next_request (u ++ more) ≡ (if nat_lt (length (u ++ more)) size then None else Some (Faulty f, size)))
+    → (more : List ℕ) → requests_of (u ++ more) ≡ rest_from false (Some (f, size - length u)) more
+drops u f size ok short h more =
+    let test : nat_lt (length more) (size - length u) ≡ nat_lt (length (u ++ more)) size =
+    same_test (length more) (size - length u) (length (u ++ more)) size (λ h. omega (arith, length-append u more)) (λ h. omega (arith, length-append u more)) in
+    let sizes : length u + (size - length u) ≡ size = omega arith in
+    let left : drop size (u ++ more) ≡ drop (size - length u) more = ap (λ n. drop n (u ++ more)) (sym sizes) ∙ drop-append-add u more (size - length u) in
+    requests-step (u ++ more) ∙ rw (h more, test) (elim (nat_lt (length (u ++ more)) size) as
+    (λ v. requests_from (if v then None else Some (Faulty f, size)) (u ++ more) requests_of ≡ (if v then [] else Faulty f ∷ requests_of (drop (size - length u) more))) [
+      | true ↦ refl
+      | false ↦ rw (ok, left) refl
+    ])
+
+-- a block begins to be dropped
+pub rest_drops : (s new : ReaderState) (f : Fault) (size : ℕ) → s.closed ≡ false → s.dropping ≡ None → new.closed ≡ false → new.dropping ≡ Some (f, size - length s.unread) → new.unread ≡ []
+    → closes f ≡ false → length s.unread < size
+    → ((more : List ℕ) → next_request (s.unread ++ more) ≡ (if nat_lt (length (s.unread ++ more)) size then None else Some (Faulty f, size)))
+    → KeepsRest s new
+rest_drops s new f size unclosed none new_unclosed new_dropping new_unread ok short h = record {
+  rest = λ text. rw (unclosed, none, new_unclosed, new_dropping, new_unread) (sym (drops s.unread f size ok short h text));
+  closed = new_unclosed ∙ sym unclosed;
+}
+
+only_zero : (left n : ℕ) → (0 < left → suc n ≡ 0) → left ≡ 0
+only_zero zero n h = refl
+only_zero (suc left) n h = let e : suc n ≡ 0 = h (omega arith) in absurd (omega arith)
+
+-- the rest after a piece, part of which is dropped
+dropped : (f : Fault) (left k : ℕ) (u piece text : List ℕ) → (0 < left → length u ≡ 0) → k ≡ min left (length piece)
+    → rest_from false (Some (f, left - k)) (u ++ drop k piece ++ text) ≡ rest_from false (Some (f, left)) (u ++ (piece ++ text))
+dropped f left k [] piece text empty k_is =
+    let cut : drop k (piece ++ text) ≡ drop k piece ++ text = drop-append-le k piece text (omega arith) in
+    let test : nat_lt (length (drop k piece ++ text)) (left - k) ≡ nat_lt (length (piece ++ text)) left =
+    same_test (length (drop k piece ++ text)) (left - k) (length (piece ++ text)) left (λ h. omega (arith, length-append piece text, length-append (drop k piece) text, length-drop k piece)) (λ h. omega (arith, length-append piece text, length-append (drop k piece) text, length-drop k piece)) in
+    let sizes : k + (left - k) ≡ left = omega arith in
+    let left_is : drop (left - k) (drop k piece ++ text) ≡ drop left (piece ++ text) = rw (← cut) (drop-drop (left - k) k (piece ++ text) ∙ rw sizes refl) in
+    rw (test, left_is) refl
+dropped f left k (b ∷ bs) piece text empty k_is =
+    let none : left ≡ 0 = only_zero left (length bs) empty in
+    let k_none : k ≡ 0 = omega arith in
+    rw (k_none, none) (ap (λ (xs : List ℕ). rest_from false (Some (f, 0)) (b ∷ xs)) (append_assoc bs piece text))
+
+-- a piece comes while a block is dropped
+pub piece_dropped : (u new piece kept : List ℕ) (f : Fault) (left k : ℕ) (text : List ℕ) → (0 < left → length u ≡ 0) → k ≡ min left (length piece) → new ≡ u ++ kept → kept ≡ drop k piece
+    → rest_from false (Some (f, left - k)) (new ++ text) ≡ rest_from false (Some (f, left)) (u ++ (piece ++ text))
+piece_dropped u new piece kept f left k text empty k_is new_is kept_is = rw (new_is, kept_is) (dropped f left k u piece text empty k_is)
+
+ready_from : (o : Option (Taken × ℕ)) (text : List ℕ) (rest : List Taken) (b : Bool) → rest ≡ requests_from o text requests_of → b ≡ is_some o → (IsTrue b → 0 < length rest) × (0 < length rest → IsTrue b)
+ready_from None text rest b e is = (λ t. absurd cc, λ lt. let none : length rest ≡ 0 = rw e refl in absurd (omega (arith, none, lt)))
+ready_from (Some x) text rest b e is =
+    let some : length rest ≡ suc (length (if ends x.0 then [] else requests_of (drop x.1 text))) = rw e refl in
+    (λ t. omega (arith, some), λ lt. is)
+
+-- whether something is whole where no block is dropped
+pub ready_by : (s : ReaderState) (b : Bool) → s.closed ≡ false → s.dropping ≡ None → b ≡ is_some (next_request s.unread) → (IsTrue b → 0 < length (rest_of s [])) × (0 < length (rest_of s []) → IsTrue b)
+ready_by s b unclosed none is =
+    ready_from (next_request s.unread) s.unread (rest_of s []) b (rw (unclosed, none, append-nil) (requests-step s.unread)) is
+
+-- what a look showed is the first, once it is taken
+pub shown_is_first : (old : ReaderState) (what : Taken) (front : Front) (new : ReaderState) → Shows old what front → KeepsRest (past front old) new → IsFirst old what new
+shown_is_first old what front new shows keeps = record { rest = λ text. shows.first.rest text ∙ ap (λ (ts : List Taken). what ∷ ts) (sym (keeps.rest text)) }
+
+pub shown_closes : (old : ReaderState) (what : Taken) (front : Front) (new : ReaderState) → Shows old what front → KeepsRest (past front old) new → new.closed ≡ ends what
+shown_closes old what front new shows keeps = keeps.closed ∙ shows.closes
+
+-- what a look showed waits
+pub shown_waits : (s : ReaderState) (what : Taken) (front : Front) → Shows s what front → rest_of s [] ≡ what ∷ rest_of (past front s) []
+shown_waits s what front shows = shows.first.rest []

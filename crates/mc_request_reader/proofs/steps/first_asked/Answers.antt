@@ -1,0 +1,14 @@
+use Rattle.std.proofs.Common.{sym}
+use Rattle.mc_request.specs.LinesSeen.{meaning_of}
+use Rattle.mc_request_reader.proofs.StepLemmas.{starts_by, partial_none, too_long_fault}
+use Rattle.mc_request_reader.proofs.steps.first_asked.Goals as goal
+
+pub asked_behind-requires : goal.asked_behind-requires
+asked_behind-requires c =
+    starts_by c.args.unread.now c.in-Whole.content.now c.in-Whole.taken (meaning_of c.command_line.result) (sym c.in-Whole.ensures.line) (sym c.command_line.ensures)
+
+pub returns-in-Partial : goal.returns-in-Partial
+returns-in-Partial c = sym (partial_none c.args.unread.now (sym c.in-Partial.ensures.line))
+
+pub returns-in-TooLong : goal.returns-in-TooLong
+returns-in-TooLong c = sym (too_long_fault c.args.unread.now (sym c.in-TooLong.ensures.line))

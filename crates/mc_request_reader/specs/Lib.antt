@@ -1,0 +1,4 @@
+pub mod Reader
+pub mod Peeks
+pub mod Steps
+pub mod UnreadFields

@@ -1,0 +1,41 @@
+-- What a reader stands for: a function of the text still to come.
+use Rattle.std.specs.Prelude.{ℕ, ◌≡◌, ◌<◌, Bool, true, false, nat_lt, List, [], ◌∷◌, ◌++◌, length, drop, Option, Some, None, if◌then◌else◌}
+use Rattle.mc_request.specs.declared.faults.Fault.{Fault}
+use Rattle.mc_request.specs.declared.parts.Taken.{Taken}
+use Rattle.mc_request.specs.declared.parts.Taken.TheVariants.{Faulty}
+use Rattle.mc_request_reader.specs.declared.peeks.TheConstants.{REQUEST_LIMIT}
+use Rattle.mc_request.specs.Requests.{requests_of}
+
+-- a reader, as contracts see it
+pub record ReaderState : Type 0 where
+  -- the bytes that have come and are not taken
+  pub unread : List ℕ
+  -- the fault of a block that is dropped while it comes, and how many bytes of it are to come
+  pub dropping : Option (Fault × ℕ)
+  -- nothing is read any more
+  pub closed : Bool
+  -- how many bytes are kept: those that are not taken, and of those taken the ones that are not let go yet
+  pub held : ℕ
+
+-- a reader to which nothing has come
+abbrev pub fresh_reader : ReaderState
+fresh_reader = record { unread = []; dropping = None; closed = false; held = 0 }
+
+-- the requests and faults of bytes, the first of which may be dropped
+abbrev pub rest_from : Bool → Option (Fault × ℕ) → List ℕ → List Taken
+rest_from true dropping bytes = []
+rest_from false None bytes = requests_of bytes
+rest_from false (Some d) bytes = if nat_lt (length bytes) d.1 then [] else Faulty d.0 ∷ requests_of (drop d.1 bytes)
+
+-- what a reader will give, if this text comes
+abbrev pub rest_of : ReaderState → List ℕ → List Taken
+rest_of s text = rest_from s.closed s.dropping (s.unread ++ text)
+
+-- another reader gives the same
+pub record KeepsRest (old new : ReaderState) : Type 0 where
+  pub rest : (text : List ℕ) → rest_of new text ≡ rest_of old text
+  pub closed : new.closed ≡ old.closed
+
+-- where nothing is whole, no more is kept than a line and a data block may have
+abbrev pub KeepsLittle : ReaderState → Type 0
+KeepsLittle s = rest_of s [] ≡ [] → s.held < REQUEST_LIMIT

@@ -1,0 +1,160 @@
+//! A reader of requests, fed in pieces.
+ghost use Rattle.std.specs.Prelude.{◌≡◌, ◌<◌, ◌↔◌, ℕ, List, [], ◌++◌, length, true, Some, IsTrue, IsOk, IfOk, OnOk, OnErr};
+
+use crate::peeks::{Front, Peek};
+use crate::unread::Unread;
+use mc_request::{Fault, ReadError, Request, Taken};
+use std::alloc::Global;
+use std::marker::Model;
+
+/// What a reader gives.
+#[derive(Debug, Drop)]
+pub enum Next {
+    /// A whole request.
+    Request(Request),
+    /// A fault, whose last byte has come.
+    Fault(Fault),
+    /// There is none until more bytes come.
+    More,
+    /// Nothing is read any more, after `quit` or a line too long.
+    Closed,
+}
+
+/// A reader of the requests of one connection. Contracts see what it stands for: the bytes that are not taken, the
+/// block that is dropped while it comes, whether it is closed, and how many bytes it keeps.
+///
+/// Each byte is looked at a constant number of times, however the text is cut: the end of a line is searched for once, a
+/// line whose block has not come whole is read once more when it has, and a block that is refused is dropped while it comes.
+/// No order of calls changes that. Behind a `feed` or a `consume` it is known whether something is whole, and
+/// [`Reader::ready`] looks at no byte; only where a `consume` brought a short line to the front, of at most 512 bytes, each
+/// `ready` until the next feed reads the words of it that may announce a block. [`Reader::peek`] reads the line that it
+/// lends. Where nothing is whole, a reader keeps fewer than [`REQUEST_LIMIT`](crate::REQUEST_LIMIT) bytes.
+#[derive(Drop)]
+pub struct Reader {
+    alloc: Global,
+    unread: Unread,
+}
+
+impl Model for Reader {
+    ghost use Rattle.mc_request_reader.specs.Reader.{ReaderState, KeepsLittle};
+
+    ghost Value = { ReaderState };
+
+    ghost view = { λ r. r.unread };
+
+    ghost invariant = { λ r. KeepsLittle r.unread };
+}
+
+impl Reader {
+    ghost use Rattle.mc_request_reader.specs.Reader.{fresh_reader, rest_of, KeepsRest, KeepsLittle};
+    ghost use Rattle.mc_request_reader.specs.Peeks.{Peeks, Gives, IsWellFormedPeek, front_of, past};
+
+    /// A reader to which nothing has come. It takes no memory.
+    pub fn new(alloc: Global) -> Self
+        ensures { result ≡ fresh_reader }
+    {
+        Reader {
+            alloc,
+            unread: Unread::new(alloc),
+        }
+    }
+
+    /// Takes the next piece of the text. After `quit` or a line too long it is let go.
+    ///
+    /// At `Memory` no byte is taken.
+    pub fn feed(&mut self, piece: &[u8]) -> Result<(), ReadError>
+        ensures fed { OnOk result ((text : List ℕ) → rest_of self.new text ≡ rest_of self.old (piece.now ++ text)) }
+        ensures closed { self.new.closed ≡ self.old.closed }
+        ensures after_end { self.old.closed ≡ true → self.new ≡ self.old }
+        ensures never_refused { self.old.closed ≡ true → IsOk result }
+        ensures little { KeepsLittle self.new }
+        ensures err { OnErr result (self.new ≡ self.old) }
+    {
+        self.unread.append(piece)?;
+        if !self.unread.waits() {
+            self.unread.advance();
+        }
+        Ok(())
+    }
+
+    /// The first request or fault that has come whole, which is taken: its keys and its block are copied.
+    ///
+    /// At `Memory` it is not taken, and nothing has changed.
+    pub fn next(&mut self) -> Result<Next, ReadError>
+        ensures given { IfOk result (λ next. Gives self.old next self.new) }
+        ensures little { KeepsLittle self.new }
+        ensures err { OnErr result (self.new ≡ self.old) }
+    {
+        match self.peek() {
+            Peek::First(asked, front) => {
+                let taken = asked.taken(self.alloc)?;
+                self.consume(front);
+                Ok(match taken {
+                    Taken::Whole(request) => Next::Request(request),
+                    Taken::Faulty(fault) => Next::Fault(fault),
+                })
+            }
+            Peek::More => Ok(Next::More),
+            Peek::Closed => Ok(Next::Closed),
+        }
+    }
+
+    /// The first request or fault that has come whole. It is lent, and not taken: [`Reader::consume`] takes it.
+    ///
+    /// Its line is read once. It takes no memory, and copies nothing.
+    pub fn peek(&self) -> Peek<'_>
+        ensures seen { Peeks self.now result }
+        ensures well_formed { IsWellFormedPeek result }
+        ensures little { KeepsLittle self.now }
+    {
+        self.unread.peek()
+    }
+
+    /// Whether a whole request or fault has come, which [`Reader::next`] would give. It takes no memory, and copies
+    /// nothing. No byte is looked at, but for the first words of a short line behind a `consume`.
+    pub fn ready(&self) -> bool
+        ensures ready { IsTrue result ↔ (0 < length (rest_of self.now [])) }
+        ensures little { KeepsLittle self.now }
+    {
+        self.unread.ready()
+    }
+
+    /// Whether nothing is read any more, after `quit` or a line too long.
+    pub fn is_closed(&self) -> bool
+        ensures { result ≡ self.now.closed }
+    {
+        self.unread.is_closed()
+    }
+
+    /// Takes what [`Reader::peek`] showed, and lets go of its bytes once they are more than half of all. What stands
+    /// behind it is looked at as a `feed` does, but for the words of a short line. It takes no memory.
+    pub fn consume(&mut self, front: Front)
+        requires { front_of self.old ≡ Some front }
+        ensures taken { KeepsRest (past front self.old) self.new }
+        ensures little { KeepsLittle self.new }
+    {
+        self.unread.consume(front);
+        if !self.unread.finds_short_line() {
+            self.unread.advance();
+        }
+    }
+
+    /// Gives back the memory that is reserved, where no byte is held and more than `kept` bytes are reserved. It is for a
+    /// reader that will be idle for a while: the next feeds reserve anew. Where bytes are held nothing is moved, so a request
+    /// that comes in small pieces is not copied for each of them.
+    pub fn give_back(&mut self, kept: usize)
+        ensures same { self.new ≡ self.old }
+        ensures little { KeepsLittle self.new }
+    {
+        self.unread.give_back(kept);
+    }
+
+    /// How many bytes the reader keeps: those that are not taken, and of those taken the ones that are not let go yet,
+    /// which are never more. Where nothing is whole, they are fewer than [`REQUEST_LIMIT`](crate::REQUEST_LIMIT).
+    pub fn held(&self) -> usize
+        ensures held { result ≡ self.now.held }
+        ensures little { KeepsLittle self.now }
+    {
+        self.unread.held()
+    }
+}

@@ -1,0 +1,161 @@
+//! What the bytes that have come allow.
+ghost use Rattle.std.specs.Prelude.{◌≡◌, ◌≤◌, ◌<◌, ◌+◌, ◌-◌, ◌^◌, true, None, Some, is_some};
+ghost use Rattle.mc_text.specs.Lines.{line_end};
+ghost use Rattle.mc_text.specs.Words.{words};
+ghost use Rattle.mc_request.specs.Meanings.{meaning};
+ghost use Rattle.mc_request.specs.Requests.{with_block, next_request};
+ghost use Rattle.mc_request.specs.LinesSeen.{meaning_of, storing_of, asked_of};
+ghost use Rattle.mc_request_reader.specs.Steps.{IsSearched, StandIs, StartsBy, lent_seen};
+ghost use Rattle.mc_request.specs.WellFormed.{is_good_meaning};
+
+use crate::searched::Searched;
+use mc_request::{Asked, CommandLine, Fault, Storing, announced_in, command_line};
+use mc_text::{LINE_LIMIT, Line};
+
+/// What stands behind a data block.
+const LINE_END: &[u8] = b"\r\n";
+
+/// What stands at the front of the bytes that have come.
+pub enum Stand {
+    /// The first request or fault is whole. So far its line was searched.
+    Whole(Searched),
+    /// It is not whole: so far its line was searched, and nothing is whole before `wanted` bytes. Where `sure`, it is
+    /// whole with these.
+    Waits {
+        searched: Searched,
+        wanted: usize,
+        sure: bool,
+    },
+    /// A block that is swallowed has not come whole: the fault is given once so many bytes have come.
+    Drops(Fault, usize),
+}
+
+/// What stands at the front of the bytes, of which so many were searched.
+pub fn stand_of(unread: &[u8], searched: Searched) -> Stand
+    requires { IsSearched searched unread.now }
+    ensures { StandIs unread.now result }
+{
+    match searched.line(unread) {
+        Line::Partial => Stand::Waits {
+            searched: Searched::Without(unread.len()),
+            wanted: unread.len() + 1,
+            sure: false,
+        },
+        Line::TooLong => Stand::Whole(Searched::TooLong),
+        Line::Whole { content, taken } => {
+            if has_come(unread, content, taken) {
+                Stand::Whole(Searched::Ends(taken - 1))
+            } else {
+                stand_behind(unread, command_line(content), taken)
+            }
+        }
+    }
+}
+
+/// The same where the first line is whole, and takes so many bytes, and its data block is not.
+fn stand_behind(unread: &[u8], line: CommandLine<'_>, taken: usize) -> Stand
+    requires starts { StartsBy unread.now (meaning_of line) taken }
+    requires line { line_end unread.now ≡ Some (taken - 1) }
+    requires waits { next_request unread.now ≡ None }
+    requires good { is_good_meaning (meaning_of line) ≡ true }
+    ensures { StandIs unread.now result }
+{
+    let searched = Searched::Ends(taken - 1);
+    match line {
+        CommandLine::Alone(_) => Stand::Whole(searched),
+        CommandLine::Refuses(fault, len) => Stand::Drops(fault, size_with_block(taken, len)),
+        CommandLine::Stores(_, len) => Stand::Waits {
+            searched,
+            wanted: size_with_block(taken, len),
+            sure: true,
+        },
+    }
+}
+
+/// Whether the first request or fault of the bytes is whole, of which so many were searched. Of a line no more is read
+/// than says whether a data block follows.
+pub fn is_whole(unread: &[u8], searched: Searched) -> bool
+    requires { IsSearched searched unread.now }
+    ensures { result ≡ is_some (next_request unread.now) }
+{
+    match searched.line(unread) {
+        Line::Partial => false,
+        Line::TooLong => true,
+        Line::Whole { content, taken } => has_come(unread, content, taken),
+    }
+}
+
+/// The same where the first line is whole, and takes so many bytes.
+fn has_come(unread: &[u8], content: &[u8], taken: usize) -> bool
+    requires { StartsBy unread.now (meaning (words content.now)) taken }
+    ensures { result ≡ is_some (next_request unread.now) }
+{
+    match announced_in(content) {
+        Some(len) => unread.len() >= size_with_block(taken, len),
+        None => true,
+    }
+}
+
+/// How many bytes a line takes with its data block and the line end behind that.
+fn size_with_block(line: usize, len: u32) -> usize
+    requires { line < 2 ^ 63 }
+    ensures { result ≡ line + (len + 2) }
+{
+    line + (len as usize + LINE_END.len())
+}
+
+/// The first request or fault of the bytes, of which so many were searched, where it is whole, and how many bytes it
+/// takes. Nothing is copied.
+pub fn first_asked(unread: &[u8], searched: Searched) -> Option<(Asked<'_>, usize)>
+    requires { IsSearched searched unread.now }
+    ensures { lent_seen result ≡ next_request unread.now }
+{
+    match searched.line(unread) {
+        Line::Partial => None,
+        Line::TooLong => Some((Asked::Faulty(Fault::LineTooLong), LINE_LIMIT)),
+        Line::Whole { content, taken } => asked_behind(unread, command_line(content), taken),
+    }
+}
+
+/// The same where the first line is whole, and takes so many bytes.
+fn asked_behind<'a>(
+    unread: &'a [u8],
+    line: CommandLine<'a>,
+    taken: usize,
+) -> Option<(Asked<'a>, usize)>
+    requires { StartsBy unread.now (meaning_of line) taken }
+    ensures { lent_seen result ≡ next_request unread.now }
+{
+    match line {
+        CommandLine::Alone(asked) => Some((asked, taken)),
+        CommandLine::Refuses(fault, len) => {
+            let size = size_with_block(taken, len);
+            if unread.len() < size {
+                None
+            } else {
+                Some((Asked::Faulty(fault), size))
+            }
+        }
+        CommandLine::Stores(storing, len) => {
+            let size = size_with_block(taken, len);
+            if unread.len() < size {
+                return None;
+            }
+            let (_, rest) = unread.split_at(taken);
+            let (block, behind) = rest.split_at(len as usize);
+            let (end, _) = behind.split_at(LINE_END.len());
+            Some((with_block(storing, block, end), size))
+        }
+    }
+}
+
+/// A storage command and its data block that has come, by the two bytes behind it.
+fn with_block<'a>(storing: Storing<'a>, block: &'a [u8], end: &[u8]) -> Asked<'a>
+    ensures { asked_of result ≡ with_block (storing_of storing.entry) block.now end.now }
+{
+    if end == LINE_END {
+        storing.with_block(block)
+    } else {
+        Asked::Faulty(Fault::BadDataChunk)
+    }
+}

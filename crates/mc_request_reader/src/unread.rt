@@ -1,0 +1,273 @@
+//! The bytes that have come and are not taken.
+ghost use Rattle.std.specs.Prelude.{◌≡◌, ◌<◌, ◌↔◌, ℕ, List, [], ◌++◌, length, true, false, None, Some, is_some, IsTrue, IsOk, OnOk, OnErr};
+
+use crate::peeks::{Front, Peek, REQUEST_LIMIT};
+use crate::searched::Searched;
+use crate::steps::{Stand, first_asked, is_whole, stand_of};
+use mc_request::{Asked, Fault, ReadError};
+use mc_text::{Line, drop_front, let_go};
+use std::alloc::Global;
+use std::marker::Model;
+
+/// The most bytes of a line that is read again by each look behind a `consume`, until more bytes come.
+pub const SHORT_LINE: usize = 512;
+
+/// The bytes that have come and are not taken, as a reader keeps them, with what is known of them.
+#[derive(Drop)]
+pub struct Unread {
+    buffer: Vec<u8>,
+    /// How many bytes of the buffer are taken.
+    start: usize,
+    /// How far the bytes behind them were searched for the end of the first line.
+    searched: Searched,
+    /// With fewer bytes behind them than this nothing is whole.
+    wanted: usize,
+    /// Whether the first request or fault is known to be whole with so many.
+    sure: bool,
+    /// The fault of a block that is dropped, and how many bytes of it are to come.
+    dropping: Option<(Fault, usize)>,
+    closed: bool,
+}
+
+impl Model for Unread {
+    ghost use Rattle.mc_request_reader.specs.Reader.{ReaderState};
+
+    ghost Value = { ReaderState };
+
+    ghost use Rattle.mc_request_reader.specs.UnreadFields.{state_of, IsUnread};
+
+    ghost view = { state_of };
+
+    ghost invariant = { IsUnread };
+}
+
+impl Unread {
+    ghost use Rattle.mc_request.specs.Requests.{next_request};
+    ghost use Rattle.mc_request_reader.specs.Reader.{fresh_reader, rest_of, KeepsRest, KeepsLittle};
+    ghost use Rattle.mc_request_reader.specs.Peeks.{Peeks, IsWellFormedPeek, front_of, past};
+
+    /// Nothing has come. It takes no memory.
+    pub fn new(alloc: Global) -> Self
+        ensures { result ≡ fresh_reader }
+    {
+        Unread {
+            buffer: Vec::new(alloc),
+            start: 0,
+            searched: Searched::Without(0),
+            wanted: 0,
+            sure: false,
+            dropping: None,
+            closed: false,
+        }
+    }
+
+    /// Puts a piece behind what has come, without what is dropped of it.
+    ///
+    /// At `Memory` no byte is taken.
+    pub fn append(&mut self, piece: &[u8]) -> Result<(), ReadError>
+        ensures fed { OnOk result ((text : List ℕ) → rest_of self.new text ≡ rest_of self.old (piece.now ++ text)) }
+        ensures closed { self.new.closed ≡ self.old.closed }
+        ensures after_end { self.old.closed ≡ true → self.new ≡ self.old }
+        ensures never_refused { self.old.closed ≡ true → IsOk result }
+        ensures err { OnErr result (self.new ≡ self.old) }
+    {
+        if self.closed {
+            return Ok(());
+        }
+        match self.dropping {
+            None => self.buffer.extend_from_slice(piece)?,
+            Some((fault, left)) => {
+                let (dropped, kept) = piece.split_at(left.min(piece.len()));
+                self.buffer.extend_from_slice(kept)?;
+                self.dropping = Some((fault, left - dropped.len()));
+            }
+        }
+        Ok(())
+    }
+
+    /// Notes how far what has come was looked at, and begins to drop a block that is refused. Where nothing is whole,
+    /// what was taken is let go.
+    ///
+    /// What was looked at is not looked at again, and what stays behind is moved once.
+    pub fn advance(&mut self)
+        ensures rest { KeepsRest self.old self.new }
+        ensures little { KeepsLittle self.new }
+        ensures after_end { self.old.closed ≡ true → self.new ≡ self.old }
+    {
+        if self.closed || self.dropping.is_some() {
+            return;
+        }
+        let (_, unread) = self.buffer.split_at(self.start);
+        if unread.len() < self.wanted {
+            self.move_to_front();
+            return;
+        }
+        if self.sure {
+            return;
+        }
+        match stand_of(unread, self.searched) {
+            Stand::Whole(searched) => {
+                self.searched = searched;
+                self.sure = true;
+            }
+            Stand::Waits {
+                searched,
+                wanted,
+                sure,
+            } => {
+                self.searched = searched;
+                self.wanted = wanted;
+                self.sure = sure;
+                self.move_to_front();
+            }
+            Stand::Drops(fault, size) => {
+                self.dropping = Some((fault, size - unread.len()));
+                self.buffer.clear();
+                self.start = 0;
+                self.searched = Searched::Without(0);
+                self.wanted = 0;
+            }
+        }
+    }
+
+    /// Looks for the end of the first line, notes how far it was searched, and says whether it is found and the line is
+    /// short: then a look reads at most `SHORT_LINE` bytes of it before it knows whether the first request or fault is whole.
+    pub fn finds_short_line(&mut self) -> bool
+        ensures same { self.new ≡ self.old }
+        ensures little { result ≡ true → KeepsLittle self.new }
+    {
+        let (_, unread) = self.buffer.split_at(self.start);
+        match self.searched.line(unread) {
+            Line::Whole { taken, .. } => {
+                self.searched = Searched::Ends(taken - 1);
+                taken <= SHORT_LINE && self.buffer.len() < REQUEST_LIMIT
+            }
+            Line::Partial => {
+                self.searched = Searched::Without(unread.len());
+                false
+            }
+            Line::TooLong => {
+                self.searched = Searched::TooLong;
+                false
+            }
+        }
+    }
+
+    /// Whether it is known that nothing is whole, and nothing is kept of what was taken.
+    pub fn waits(&self) -> bool
+        ensures { result ≡ true → KeepsLittle self.now }
+    {
+        self.start == 0 && self.buffer.len() < self.wanted
+    }
+
+    /// Lets go of what was taken.
+    fn move_to_front(&mut self)
+        ensures { self.new ≡ record self.old { held = length self.old.unread } }
+    {
+        drop_front(&mut self.buffer, self.start);
+        self.start = 0;
+    }
+
+    /// The first request or fault that has come whole. It is lent, and its line is read once.
+    pub fn peek(&self) -> Peek<'_>
+        ensures seen { Peeks self.now result }
+        ensures well_formed { IsWellFormedPeek result }
+    {
+        if self.closed {
+            return Peek::Closed;
+        }
+        match self.dropping {
+            None => self.peek_unread(),
+            Some((_, left)) if left > 0 => Peek::More,
+            Some((fault, _)) => Peek::First(
+                Asked::Faulty(fault),
+                Front {
+                    size: 0,
+                    closes: false,
+                },
+            ),
+        }
+    }
+
+    /// The same where no block is dropped.
+    fn peek_unread(&self) -> Peek<'_>
+        requires open { self.now.closed ≡ false }
+        requires whole { self.now.dropping ≡ None }
+        ensures seen { Peeks self.now result }
+        ensures well_formed { IsWellFormedPeek result }
+    {
+        let (_, unread) = self.buffer.split_at(self.start);
+        if unread.len() < self.wanted {
+            return Peek::More;
+        }
+        match first_asked(unread, self.searched) {
+            Some((asked, size)) => {
+                let closes = asked.ends();
+                Peek::First(asked, Front { size, closes })
+            }
+            None => Peek::More,
+        }
+    }
+
+    /// Whether a whole request or fault has come. Where the last call was `advance`, no byte is looked at.
+    pub fn ready(&self) -> bool
+        ensures { IsTrue result ↔ (0 < length (rest_of self.now [])) }
+    {
+        if self.closed {
+            return false;
+        }
+        match self.dropping {
+            None => self.has_whole(),
+            Some((_, left)) => left == 0,
+        }
+    }
+
+    /// The same where no block is dropped.
+    fn has_whole(&self) -> bool
+        ensures { result ≡ is_some (next_request self.now.unread) }
+    {
+        let (_, unread) = self.buffer.split_at(self.start);
+        unread.len() >= self.wanted && (self.sure || is_whole(unread, self.searched))
+    }
+
+    /// Takes what a look showed, and lets go of its bytes once they are more than half of all.
+    pub fn consume(&mut self, front: Front)
+        requires { front_of self.old ≡ Some front }
+        ensures { KeepsRest (past front self.old) self.new }
+    {
+        if front.closes {
+            self.buffer.clear();
+            self.start = 0;
+        } else {
+            self.start = let_go(&mut self.buffer, self.start + front.size);
+        }
+        self.searched = Searched::Without(0);
+        self.wanted = 0;
+        self.sure = false;
+        self.dropping = None;
+        self.closed = front.closes;
+    }
+
+    /// Whether nothing is read any more.
+    pub fn is_closed(&self) -> bool
+        ensures { result ≡ self.now.closed }
+    {
+        self.closed
+    }
+
+    /// Gives back the room that is reserved, where nothing is kept and more than so many bytes are reserved.
+    pub fn give_back(&mut self, kept: usize)
+        ensures { self.new ≡ self.old }
+    {
+        if self.buffer.is_empty() && self.buffer.capacity() > kept {
+            self.buffer.shrink_to_fit();
+        }
+    }
+
+    /// How many bytes are kept.
+    pub fn held(&self) -> usize
+        ensures { result ≡ self.now.held }
+    {
+        self.buffer.len()
+    }
+}
