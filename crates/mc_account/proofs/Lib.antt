@@ -1,0 +1,9 @@
+pub mod OpenSessions
+pub mod OrderLemmas
+pub mod TagLemmas
+pub mod NotingLemmas
+pub mod LaneLemmas
+pub mod HandingLemmas
+pub mod SessionLemmas
+pub mod StandsLemmas
+pub mod LinkLemmas

@@ -1,0 +1,66 @@
+-- What passed over a link since it came up.
+use Rattle.std.specs.Prelude.{ℕ, ◌≡◌, ◌≢◌, ◌≤◌, true, List, [], ◌∷◌, ◌++◌, length, map, take, drop}
+use Rattle.std.specs.List.{list_all}
+use Rattle.mc_request.specs.Atoms.{head_of}
+use Rattle.mc_reply.specs.CanHave.{can_have}
+use Rattle.mc_reply.specs.Spelling.{spelling_of}
+use Rattle.mc_reply.specs.declared.replies.Reply.{Reply as AReply}
+use Rattle.mc_route.specs.declared.outcomes.Outcome.TheVariants.{Awaited, Reply}
+use Rattle.mc_spelling.specs.Spellings.{spelling_of_atom}
+use Rattle.mc_link.specs.LinkState.{LinkState, Waiting, down_link}
+use Rattle.mc_session.specs.Emits.{is_told}
+use Rattle.mc_account.specs.Orders.{Order, Tagged, commands_to, outcomes_to}
+
+-- since a link came up: how many requests had been taken then, the replies that were taken, the bytes that were taken out for its
+-- server, and the bytes that came from it
+pub record Lane : Type 0 where
+  pub since : ℕ
+  pub replies : List (AReply (List ℕ))
+  pub out : List ℕ
+  pub came : List ℕ
+
+-- a lane of a link that came up when so many requests had been taken
+abbrev pub fresh_lane : ℕ → Lane
+fresh_lane since = record { since = since; replies = []; out = []; came = [] }
+
+-- the spellings of commands, joined
+abbrev pub spelled : List Tagged → List ℕ
+spelled [] = []
+spelled (command ∷ commands) = spelling_of_atom command.0 ++ spelled commands
+
+-- the spellings of replies to the first of these commands, joined
+abbrev pub told : List Tagged → List (AReply (List ℕ)) → List ℕ
+told commands [] = []
+told [] (reply ∷ replies) = []
+told (command ∷ commands) (reply ∷ replies) = spelling_of (head_of command.0) reply ++ told commands replies
+
+-- each is a reply that its command can have
+abbrev pub CanHave : List Tagged → List (AReply (List ℕ)) → Type 0
+CanHave commands [] = Unit {0}
+CanHave [] (reply ∷ replies) = ⊥
+CanHave (command ∷ commands) (reply ∷ replies) = (can_have (head_of command.0) reply ≡ true) × CanHave commands replies
+
+-- commands as they wait for their replies
+abbrev pub as_waiting : List Tagged → List Waiting
+as_waiting commands = map (λ command. (head_of command.0, command.1)) commands
+
+-- Over a link that is up went the commands to its server of all that was taken since it came up, in that order: what was put on
+-- it is their joined spellings, what came is the joined spellings of the replies taken and the unread bytes, and those without
+-- a reply wait. Nothing is awaited of it that was taken before.
+pub record LaneStands (place : ℕ) (order : Order) (lane : Lane) (link : LinkState) : Type 0 where
+  pub since : lane.since ≤ length order
+  pub put : lane.out ++ link.output ≡ spelled (commands_to place (drop lane.since order))
+  pub came : lane.came ≡ told (commands_to place (drop lane.since order)) lane.replies ++ link.unread
+  pub can : CanHave (commands_to place (drop lane.since order)) lane.replies
+  pub waiting : link.waiting ≡ as_waiting (drop (length lane.replies) (commands_to place (drop lane.since order)))
+  pub outcomes : outcomes_to place (drop lane.since order) ≡ map (λ reply. Reply reply) lane.replies ++ map (λ _. Awaited) link.waiting
+  pub before : list_all is_told (outcomes_to place (take lane.since order)) ≡ true
+
+-- nothing is awaited of a link that is down
+pub record IsDown (place : ℕ) (order : Order) (link : LinkState) : Type 0 where
+  pub nothing : link ≡ down_link link.generation
+  pub outcomes : list_all is_told (outcomes_to place order) ≡ true
+
+-- where the link of a place stands
+abbrev pub LinkStands : ℕ → Order → Lane → LinkState → Type 0
+LinkStands place order lane link = (link.up ≡ true → LaneStands place order lane link) × (link.up ≢ true → IsDown place order link)

@@ -1,0 +1,19 @@
+//! The account of a proxy: what was put on its links, what came back and what its clients were answered, as one relation.
+//!
+//! `specs/Orders.antt` has what was taken as one order of requests, each with what became of its commands; `specs/Lanes.antt`
+//! says what passed over a link since it came up, `specs/Stands.antt` where all of it leaves a proxy (`ProxyStands`): what was
+//! put on each link is the joined spellings of that order's commands to its server, what came is the joined spellings of the
+//! replies taken and the unread bytes, and each client's output is the answers to its first requests. No server and no socket
+//! stands in it.
+//!
+//! Each function is a law that says how a call of [`mc_proxy::Proxy`] keeps it, by what the call's contract says; all of them do nothing.
+#![tactic(auto)]
+
+mod laws;
+
+pub use laws::{
+    a_proxy_opens, admitted_sessions_stand, answers_put_out_stand, bytes_sent_to_clients_stand,
+    bytes_sent_to_servers_stand, idle_calls_stand, joined_servers_stand, lost_links_stand,
+    nothing_awaited_is_settled, pieces_stand, replies_stand, returned_links_stand,
+    server_bytes_stand, sessions_gone_stand, taken_requests_stand,
+};

@@ -1,0 +1,4 @@
+pub mod PlaceLemmas
+pub mod SessionLemmas
+pub mod LinkLemmas
+pub mod NotingLemmas

@@ -1,0 +1,8 @@
+use Rattle.std.proofs.Common.{◌≡◌, replicate}
+use Rattle.mc_link.specs.LinkState.{down_link}
+use Rattle.mc_session.specs.SessionState.{states}
+use Rattle.mc_proxy.proofs.proxies.Proxy.new.Given as goal
+
+-- so many links are there, all of them down, and none was ever up
+abbrev pub invariant-loop : goal.invariant-loop
+invariant-loop l = states l.links.items ≡ replicate l.counter (down_link 0)

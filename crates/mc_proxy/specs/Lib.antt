@@ -1,0 +1,8 @@
+pub mod ProxyState
+pub mod Places
+pub mod ProxyFields
+pub mod Noting
+pub mod Turns
+pub mod LinkTurns
+pub mod Joins
+pub mod Causes

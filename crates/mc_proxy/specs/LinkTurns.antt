@@ -1,0 +1,35 @@
+-- What a turn of a link does, and its loss.
+use Rattle.std.specs.Prelude.{ℕ, ◌≡◌, List}
+use Rattle.mc_reply.specs.declared.replies.Reply.{Reply as AReply}
+use Rattle.mc_route.specs.declared.outcomes.Outcome.TheVariants.{Reply}
+use Rattle.mc_link.specs.LinkState.{LinkState, down_link}
+use Rattle.mc_link.specs.Turns.{Takes, IsIdle, HasStrange}
+use Rattle.mc_link.specs.declared.turns.Tag.{Tag}
+use Rattle.mc_session.specs.SessionState.{link_at, with_link}
+use Rattle.mc_proxy.specs.ProxyState.{ProxyState}
+use Rattle.mc_proxy.specs.Noting.{noted, all_lost}
+use Rattle.mc_proxy.specs.declared.turns.LinkTurn.{LinkTurn}
+use Rattle.mc_proxy.specs.declared.turns.LinkTurn.TheVariants.{Took, Idle, Strange}
+
+-- the link of a place is lost: each command that waited is, and what it kept is forgotten
+abbrev pub lost_at : ℕ → ProxyState → ProxyState
+lost_at place p =
+    let link = link_at p.links place in
+    record p { sessions = all_lost link.waiting p.sessions; links = with_link place (down_link link.generation) p.links }
+
+-- the oldest command that waits on the link of a place gets its reply
+pub record Answers (place : ℕ) (old new : ProxyState) : Type 0 where
+  pub tag : Tag
+  pub reply : AReply (List ℕ)
+  pub link : LinkState
+  pub takes : Takes (link_at old.links place) tag reply link
+  pub links : new.links ≡ with_link place link old.links
+  pub sessions : new.sessions ≡ noted tag (Reply reply) old.sessions
+  pub ring : new.ring ≡ old.ring
+  pub admitted : new.admitted ≡ old.admitted
+
+-- what a turn of the link of a place does
+abbrev pub IsLinkTurn : ℕ → LinkTurn → ProxyState → ProxyState → Type 0
+IsLinkTurn place Took old new = Answers place old new
+IsLinkTurn place Idle old new = IsIdle (link_at old.links place).waiting (link_at old.links place).unread × (new ≡ old)
+IsLinkTurn place Strange old new = HasStrange (link_at old.links place).waiting (link_at old.links place).unread × (new ≡ lost_at place old)

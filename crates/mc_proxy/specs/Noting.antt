@@ -1,0 +1,19 @@
+-- What becomes of a command is noted in its session.
+use Rattle.std.specs.Prelude.{◌==◌, List, [], ◌∷◌, if◌then◌else◌}
+use Rattle.mc_route.specs.declared.outcomes.Outcome.{Outcome}
+use Rattle.mc_route.specs.declared.outcomes.Outcome.TheVariants.{Lost}
+use Rattle.mc_link.specs.declared.turns.Tag.{Tag}
+use Rattle.mc_link.specs.LinkState.{Waiting}
+use Rattle.mc_session.specs.Noting.{noted_in}
+use Rattle.mc_proxy.specs.ProxyState.{Sessions}
+
+-- what became of a command, noted in its session; for one that is gone it is dropped
+abbrev pub noted : Tag → Outcome → Sessions → Sessions
+noted tag outcome [] = []
+noted tag outcome (open_one ∷ others) =
+    if open_one.0 == tag.session then (open_one.0, noted_in tag outcome open_one.1) ∷ others else open_one ∷ noted tag outcome others
+
+-- each of these commands is lost
+abbrev pub all_lost : List Waiting → Sessions → Sessions
+all_lost [] sessions = sessions
+all_lost (waiting ∷ others) sessions = all_lost others (noted waiting.1 Lost sessions)

@@ -1,0 +1,61 @@
+-- A proxy, as contracts see it.
+use Rattle.std.specs.Prelude.{ℕ, ◌+◌, ◌==◌, ◌&&◌, Bool, false, List, [], ◌∷◌, ◌++◌, length, drop, Option, Some, None, if◌then◌else◌}
+use Rattle.mc_ring.specs.Rings.{RingState}
+use Rattle.mc_link.specs.LinkState.{LinkState}
+use Rattle.mc_session.specs.SessionState.{SessionState, fresh_session}
+
+-- the open sessions, by their numbers
+abbrev pub Sessions : Type 0
+Sessions = List (ℕ × SessionState)
+
+-- a proxy: its ring, its open sessions, how many it has admitted, which is the number of the next one, and its links by the
+-- places of their servers
+pub record ProxyState : Type 0 where
+  pub ring : RingState
+  pub sessions : Sessions
+  pub admitted : ℕ
+  pub links : List LinkState
+
+-- the session of a number, if it is open
+abbrev pub session_in : Sessions → ℕ → Option SessionState
+session_in [] number = None
+session_in (open_one ∷ others) number = if open_one.0 == number then Some open_one.1 else session_in others number
+
+abbrev pub session_at : ProxyState → ℕ → Option SessionState
+session_at p number = session_in p.sessions number
+
+-- the same sessions, where the one of a number is this
+abbrev pub updated : ℕ → SessionState → Sessions → Sessions
+updated number session [] = []
+updated number session (open_one ∷ others) =
+    if open_one.0 == number then (open_one.0, session) ∷ others else open_one ∷ updated number session others
+
+-- the sessions without the one of a number
+abbrev pub without : ℕ → Sessions → Sessions
+without number [] = []
+without number (open_one ∷ others) = if open_one.0 == number then others else open_one ∷ without number others
+
+-- a proxy that has admitted one session more
+abbrev pub with_fresh : ProxyState → ProxyState
+with_fresh p = record p { sessions = p.sessions ++ (p.admitted, fresh_session) ∷ []; admitted = p.admitted + 1 }
+
+-- the output of a session: none where it is not open
+abbrev pub output_of : Option SessionState → List ℕ
+output_of None = []
+output_of (Some session) = session.output
+
+-- how many requests of a session are not answered: none where it is not open
+abbrev pub unanswered_of : Option SessionState → ℕ
+unanswered_of None = 0
+unanswered_of (Some session) = length session.unanswered
+
+-- whether nothing is read of a session any more, and all that was taken of it is answered; not so where it is not open
+abbrev pub is_finished : Option SessionState → Bool
+is_finished None = false
+is_finished (Some session) = session.reader.closed && (length session.unanswered == 0)
+
+-- a proxy whose session of a number, if it is open, was sent so many bytes of its output
+abbrev pub sent_by : ℕ → ℕ → Option SessionState → ProxyState → ProxyState
+sent_by number count None p = p
+sent_by number count (Some session) p =
+    record p { sessions = updated number (record session { output = drop count session.output }) p.sessions }

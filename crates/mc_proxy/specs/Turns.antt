@@ -1,0 +1,26 @@
+-- What a call of a session does to the proxy.
+use Rattle.std.specs.Prelude.{ℕ, ◌≡◌, List, [], Option, Some, None}
+use Rattle.mc_request.specs.declared.parts.Taken.{Taken}
+use Rattle.mc_request_reader.specs.Reader.{rest_of}
+use Rattle.mc_link.specs.LinkState.{LinkState}
+use Rattle.mc_session.specs.SessionState.{SessionState}
+use Rattle.mc_proxy.specs.ProxyState.{ProxyState, session_at, updated}
+
+-- what a session has for its turns to take, if nothing more comes: nothing where it is not open
+abbrev pub waiting_of : Option SessionState → List Taken
+waiting_of None = []
+waiting_of (Some session) = rest_of session.reader []
+
+-- the session of a number takes a step, with the links; all else of the proxy is as it was
+pub record Steps (number : ℕ) (old new : ProxyState) (Step : List LinkState → List LinkState → SessionState → SessionState → Type 0) : Type 0 where
+  pub before : SessionState
+  pub after : SessionState
+  pub was : session_at old number ≡ Some before
+  pub is : new.sessions ≡ updated number after old.sessions
+  pub ring : new.ring ≡ old.ring
+  pub admitted : new.admitted ≡ old.admitted
+  pub step : Step old.links new.links before after
+
+-- a step that the links have no part in
+abbrev pub Alone : (SessionState → SessionState → Type 0) → List LinkState → List LinkState → SessionState → SessionState → Type 0
+Alone Step links now before after = (now ≡ links) × Step before after

@@ -1,0 +1,193 @@
+//! The proxy's links.
+ghost use Rattle.std.specs.Prelude.{◌≡◌, ◌+◌, ◌-◌, ◌^◌, ◌<◌, ◌≤◌, ◌↔◌, ◌⊎◌, ◌++◌, true, false, length, drop, option_map, slice_get, IsErrOf, IsOkUnless, IfOk, IfErr, OnOk, OnErr};
+
+use crate::errors::ProxyError;
+use crate::proxies::Proxy;
+use crate::table::place_of;
+use crate::turns::LinkTurn;
+use mc_link::{Link, Tag};
+use mc_ring::Address;
+use mc_route::Outcome;
+
+impl Proxy {
+    ghost use Rattle.mc_link.specs.LinkState.{can_come_back, up_link};
+    ghost use Rattle.mc_ring.specs.Rings.{RingState};
+    ghost use Rattle.mc_session.specs.SessionState.{link_at, with_link};
+    ghost use Rattle.mc_proxy.specs.Joins.{JoinsServer, has_server};
+    ghost use Rattle.mc_proxy.specs.LinkTurns.{IsLinkTurn, lost_at};
+    ghost use Rattle.mc_proxy.specs.Noting.{noted};
+
+    /// Whether the link to the server of a place is up: it is not where the ring has none there.
+    pub fn is_up(&self, server: usize) -> bool
+        ensures { result ≡ (link_at self.now.links server).up }
+    {
+        match self.links.get(server) {
+            Some(link) => link.is_up(),
+            None => false,
+        }
+    }
+
+    /// The bytes that a link is to send and that were not taken out: none where the link is down or not there.
+    pub fn link_output(&self, server: usize) -> &[u8]
+        ensures { result.now ≡ (link_at self.now.links server).output }
+    {
+        match self.links.get(server) {
+            Some(link) => link.output(),
+            None => &[],
+        }
+    }
+
+    /// Lets go of the first `count` bytes of a link's output, which its server was sent. It takes no memory.
+    pub fn link_taken_out(&mut self, server: usize, count: usize)
+        requires { count ≤ length (link_at self.old.links server).output }
+        ensures { self.new ≡ record self.old {
+          links = with_link server
+              (record (link_at self.old.links server) { output = drop count (link_at self.old.links server).output }) self.old.links;
+        } }
+    {
+        let Some(link) = self.links.get_mut(server) else {
+            return;
+        };
+        link.taken_out(count);
+    }
+
+    /// Takes the bytes that came next from a server.
+    pub fn link_feed(&mut self, server: usize, piece: &[u8]) -> Result<(), ProxyError>
+        ensures fed { OnOk result (self.new ≡ record self.old {
+          links = with_link server
+              (record (link_at self.old.links server) { unread = (link_at self.old.links server).unread ++ piece.now }) self.old.links;
+        }) }
+        ensures no_link { IsErrOf result ProxyError.NoLink ↔ (length self.old.links ≤ server) }
+        ensures state { IsErrOf result ProxyError.LinkState ↔ ((server < length self.old.links) × ((link_at self.old.links server).up ≡ false)) }
+        ensures only { IfErr result (λ e. (e ≡ ProxyError.NoLink) ⊎ (e ≡ ProxyError.LinkState) ⊎ (e ≡ ProxyError.Memory)) }
+        ensures err { OnErr result (self.new ≡ self.old) }
+    {
+        let Some(link) = self.links.get_mut(server) else {
+            return Err(ProxyError::NoLink);
+        };
+        Ok(link.feed(piece)?)
+    }
+
+    /// Gives the oldest command that waits on a link its reply, where that has come whole. Where what came is no reply to
+    /// it, or no command waits, the link is lost as by [`Proxy::lost`].
+    ///
+    /// It takes memory only for a value, which is copied out once.
+    pub fn link_turn(&mut self, server: usize) -> Result<LinkTurn, ProxyError>
+        ensures turn { IfOk result (λ turn. IsLinkTurn server turn self.old self.new) }
+        ensures memory { IsErrOf result ProxyError.Memory → 0 < length (link_at self.old.links server).waiting }
+        ensures no_link { IsErrOf result ProxyError.NoLink ↔ (length self.old.links ≤ server) }
+        ensures state { IsErrOf result ProxyError.LinkState ↔ ((server < length self.old.links) × ((link_at self.old.links server).up ≡ false)) }
+        ensures only { IfErr result (λ e. (e ≡ ProxyError.NoLink) ⊎ (e ≡ ProxyError.LinkState) ⊎ (e ≡ ProxyError.Memory)) }
+        ensures err { OnErr result (self.new ≡ self.old) }
+    {
+        let Some(link) = self.links.get_mut(server) else {
+            return Err(ProxyError::NoLink);
+        };
+        match link.turn(self.alloc)? {
+            mc_link::LinkTurn::Took(tag, reply) => {
+                self.note(tag, Outcome::Reply(reply));
+                Ok(LinkTurn::Took)
+            }
+            mc_link::LinkTurn::Idle => Ok(LinkTurn::Idle),
+            mc_link::LinkTurn::Strange => {
+                self.lost(server)?;
+                Ok(LinkTurn::Strange)
+            }
+        }
+    }
+
+    /// Loses a link that is up: each command that waits on it is lost, and what came of no reply is forgotten. It gives the
+    /// bytes that were not taken out, and takes no memory.
+    pub fn lost(&mut self, server: usize) -> Result<Vec<u8>, ProxyError>
+        ensures bytes { IfOk result (λ bytes. bytes.items ≡ (link_at self.old.links server).output) }
+        ensures lost { OnOk result (self.new ≡ lost_at server self.old) }
+        ensures no_link { IsErrOf result ProxyError.NoLink ↔ (length self.old.links ≤ server) }
+        ensures state { IsErrOf result ProxyError.LinkState ↔ ((server < length self.old.links) × ((link_at self.old.links server).up ≡ false)) }
+        ensures only { IfErr result (λ e. (e ≡ ProxyError.NoLink) ⊎ (e ≡ ProxyError.LinkState)) }
+        ensures err { OnErr result (self.new ≡ self.old) }
+    {
+        let Some(link) = self.links.get_mut(server) else {
+            return Err(ProxyError::NoLink);
+        };
+        let lost = link.lose(self.alloc)?;
+        for (_, tag) in lost.waiting {
+            self.note(tag, Outcome::Lost);
+        }
+        Ok(lost.bytes)
+    }
+
+    /// Notes what became of a command. Where its session is gone it is dropped.
+    fn note(&mut self, tag: Tag, outcome: Outcome)
+        ensures { self.new ≡ record self.old { sessions = noted tag outcome self.old.sessions } }
+    {
+        if let Some(place) = place_of(self.sessions.as_slice(), self.recent, tag.session) {
+            self.recent = place;
+            self.sessions[place].1.note(tag, outcome);
+        }
+    }
+
+    /// A link that is down comes up, and its new generation is given: one more than the last.
+    pub fn back(&mut self, server: usize) -> Result<u64, ProxyError>
+        ensures generation { IfOk result (λ generation. generation ≡ (link_at self.old.links server).generation + 1) }
+        ensures back { IfOk result (λ generation. self.new ≡ record self.old { links = with_link server (up_link generation) self.old.links }) }
+        ensures no_link { IsErrOf result ProxyError.NoLink ↔ (length self.old.links ≤ server) }
+        ensures state { IsErrOf result ProxyError.LinkState
+            ↔ ((server < length self.old.links) × (can_come_back (link_at self.old.links server) ≡ false)) }
+        ensures only { IfErr result (λ e. (e ≡ ProxyError.NoLink) ⊎ (e ≡ ProxyError.LinkState)) }
+        ensures err { OnErr result (self.new ≡ self.old) }
+    {
+        let Some(link) = self.links.get_mut(server) else {
+            return Err(ProxyError::NoLink);
+        };
+        Ok(link.back()?)
+    }
+
+    /// How many commands wait on a link for their replies: none where it is down or not there.
+    pub fn waiting(&self, server: usize) -> usize
+        ensures { result ≡ length (link_at self.now.links server).waiting }
+    {
+        match self.links.get(server) {
+            Some(link) => link.waiting(),
+            None => 0,
+        }
+    }
+
+    /// The tag of the command number `place` of those that wait on a link, the oldest being number 0.
+    pub fn tag(&self, server: usize, place: usize) -> Option<Tag>
+        ensures { result ≡ option_map (λ waiting. waiting.1) (slice_get (link_at self.now.links server).waiting place) }
+    {
+        self.links.get(server)?.tag(place)
+    }
+
+    /// Gives back the memory that a link has reserved and that holds nothing, where there is room for more than `kept` bytes
+    /// or commands. It is for a link that is idle.
+    pub fn link_give_back(&mut self, server: usize, kept: usize)
+        ensures { self.new ≡ self.old }
+    {
+        let Some(link) = self.links.get_mut(server) else {
+            return;
+        };
+        link.give_back(kept);
+    }
+
+    /// A server joins at the last place, which is given; its link is up, of the first generation, or down. What was taken
+    /// before keeps the owners that it had, and no item moves.
+    pub fn join_server(&mut self, address: Address, up: bool) -> Result<usize, ProxyError>
+        ensures joined { IfOk result (λ place. JoinsServer address up place self.old self.new) }
+        ensures full { IsErrOf result ProxyError.RingFull ↔ (64 ≤ length self.old.ring.servers) }
+        ensures there { IsErrOf result ProxyError.AlreadyThere
+            ↔ ((length self.old.ring.servers < 64) × (has_server self.old.ring.servers address ≡ true)) }
+        ensures only { IfErr result (λ e. (e ≡ ProxyError.RingFull) ⊎ (e ≡ ProxyError.AlreadyThere) ⊎ (e ≡ ProxyError.Memory)) }
+        ensures err { OnErr result (self.new ≡ self.old) }
+    {
+        let ring = self.ring.with_server(self.alloc, address)?;
+        let mut link = Link::new(self.alloc);
+        if up {
+            link.back()?;
+        }
+        let place = self.links.len();
+        self.links.push(link)?;
+        self.ring = ring;
+        Ok(place)
+    }
+}

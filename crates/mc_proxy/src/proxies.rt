@@ -1,0 +1,223 @@
+//! The proxy: sessions over links.
+ghost use Rattle.std.specs.Prelude.{◌≡◌, ◌≢◌, ◌+◌, ◌-◌, ◌^◌, ◌<◌, ◌≤◌, ◌↔◌, ◌⊎◌, [], None, Some, length, replicate, IsErrOf, IsOkUnless, IfOk, IfErr, IfSome, OnOk, OnErr};
+
+use crate::errors::ProxyError;
+use crate::limits::MAX_SESSIONS;
+use crate::table::place_of;
+use mc_link::Link;
+use mc_ring::Ring;
+use mc_session::{Emit, Session, Turn};
+use std::alloc::Global;
+use std::marker::Model;
+
+/// A proxy over the servers of a ring. Contracts see the ring, the open sessions by their numbers, how many it has admitted,
+/// and the links by the places of their servers.
+#[derive(Drop)]
+pub struct Proxy {
+    pub(crate) alloc: Global,
+    pub(crate) ring: Ring,
+    /// The open sessions with their numbers, which rise.
+    pub(crate) sessions: Vec<(u64, Session)>,
+    /// The number of the next session.
+    admitted: u64,
+    /// Where the session stood that a call was for last: the next call is most often for the same one.
+    pub(crate) recent: usize,
+    /// The links, by the places of their servers.
+    pub(crate) links: Vec<Link>,
+}
+
+impl Model for Proxy {
+    ghost use Rattle.mc_session.specs.SessionState.{states};
+    ghost use Rattle.mc_proxy.specs.ProxyState.{ProxyState};
+    ghost use Rattle.mc_proxy.specs.ProxyFields.{IsProxy};
+
+    ghost Value = { ProxyState };
+
+    ghost view = { λ p. record { ring = p.ring; sessions = p.sessions.items; admitted = p.admitted; links = states p.links.items } };
+
+    ghost invariant = { IsProxy };
+}
+
+impl Proxy {
+    ghost use Rattle.mc_link.specs.LinkState.{down_link};
+    ghost use Rattle.mc_session.specs.Emits.{IsEmit, emitted};
+    ghost use Rattle.mc_session.specs.SessionState.{fresh_session};
+    ghost use Rattle.mc_session.specs.Turns.{IsFed, IsTurn};
+    ghost use Rattle.mc_proxy.specs.ProxyState.{is_finished, output_of, sent_by, session_at, unanswered_of, with_fresh, without};
+    ghost use Rattle.mc_proxy.specs.Turns.{Alone, Steps, waiting_of};
+
+    /// A proxy with no session, whose links are down and have never been up.
+    pub fn new(alloc: Global, ring: Ring) -> Result<Proxy, ProxyError>
+        ensures new { IfOk result (λ p. p ≡ record { ring = ring; sessions = []; admitted = 0; links = replicate (length ring.servers) (down_link 0) }) }
+        ensures only_memory { IsOkUnless result ProxyError.Memory }
+    {
+        let mut links = Vec::with_capacity(alloc, ring.servers().len())?;
+        for _ in 0..ring.servers().len() {
+            links.push(Link::new(alloc))?;
+        }
+        Ok(Proxy {
+            alloc,
+            ring,
+            sessions: Vec::new(alloc),
+            admitted: 0,
+            recent: 0,
+            links,
+        })
+    }
+
+    /// The ring by which requests are routed. There is a link for each of its servers.
+    pub fn ring(&self) -> &Ring
+        ensures ring { result.now ≡ self.now.ring }
+        ensures linked { length self.now.links ≡ length self.now.ring.servers }
+    {
+        &self.ring
+    }
+
+    /// Opens a session and gives its number. Numbers are given from 0 on, and none is given twice.
+    pub fn admit(&mut self) -> Result<u64, ProxyError>
+        ensures number { IfOk result (λ number. number ≡ self.old.admitted) }
+        ensures admitted { OnOk result (self.new ≡ with_fresh self.old) }
+        ensures was_closed { IfOk result (λ number. session_at self.old number ≡ None) }
+        ensures is_fresh { IfOk result (λ number. session_at self.new number ≡ Some fresh_session) }
+        ensures too_many { IsErrOf result ProxyError.TooManySessions
+            ↔ ((MAX_SESSIONS ≤ length self.old.sessions) ⊎ (self.old.admitted ≡ 2 ^ 64 - 1)) }
+        ensures only { IfErr result (λ e. (e ≡ ProxyError.TooManySessions) ⊎ (e ≡ ProxyError.Memory)) }
+        ensures err { OnErr result (self.new ≡ self.old) }
+    {
+        if self.sessions.len() >= MAX_SESSIONS || self.admitted == u64::MAX {
+            return Err(ProxyError::TooManySessions);
+        }
+        let number = self.admitted;
+        self.sessions.push((number, Session::new(self.alloc)))?;
+        self.admitted += 1;
+        Ok(number)
+    }
+
+    /// Takes the next piece of a session's text.
+    pub fn feed(&mut self, number: u64, piece: &[u8]) -> Result<(), ProxyError>
+        ensures fed { OnOk result (Steps number self.old self.new (Alone (IsFed piece.now))) }
+        ensures no_session { IsErrOf result ProxyError.NoSession ↔ (session_at self.old number ≡ None) }
+        ensures only { IfErr result (λ e. (e ≡ ProxyError.NoSession) ⊎ (e ≡ ProxyError.Memory)) }
+        ensures err { OnErr result (self.new ≡ self.old) }
+    {
+        match place_of(self.sessions.as_slice(), self.recent, number) {
+            Some(place) => {
+                self.recent = place;
+                self.sessions[place].1.feed(piece)?;
+                Ok(())
+            }
+            None => Err(ProxyError::NoSession),
+        }
+    }
+
+    /// Takes the first request or fault of a session that has come whole, and sends its commands, each to the link of its
+    /// key's owner: where that is down the command is lost.
+    ///
+    /// At an error the request is not taken, and no command was sent. Where none waits no memory is taken.
+    pub fn turn(&mut self, number: u64) -> Result<Turn, ProxyError>
+        ensures turn { IfOk result (λ turn. Steps number self.old self.new (IsTurn number turn self.old.ring)) }
+        ensures memory { IsErrOf result ProxyError.Memory → 0 < length (waiting_of (session_at self.old number)) }
+        ensures no_session { IsErrOf result ProxyError.NoSession ↔ (session_at self.old number ≡ None) }
+        ensures only { IfErr result (λ e. (e ≡ ProxyError.NoSession) ⊎ (e ≡ ProxyError.Memory)) }
+        ensures err { OnErr result (self.new ≡ self.old) }
+    {
+        match place_of(self.sessions.as_slice(), self.recent, number) {
+            Some(place) => {
+                self.recent = place;
+                let session = &mut self.sessions[place].1;
+                Ok(session.turn(self.alloc, number, &self.ring, self.links.as_mut_slice())?)
+            }
+            None => Err(ProxyError::NoSession),
+        }
+    }
+
+    /// Puts the answer to the oldest unanswered request of a session out, where it is known of each of its commands what
+    /// became of it.
+    ///
+    /// At an error nothing was put out. Where no answer is known no memory is taken.
+    pub fn emit(&mut self, number: u64) -> Result<Emit, ProxyError>
+        ensures emit { IfOk result (λ emit. Steps number self.old self.new (Alone (IsEmit emit))) }
+        ensures memory { IsErrOf result ProxyError.Memory → IfSome (session_at self.old number) (λ session. emitted session ≢ None) }
+        ensures no_session { IsErrOf result ProxyError.NoSession ↔ (session_at self.old number ≡ None) }
+        ensures only { IfErr result (λ e. (e ≡ ProxyError.NoSession) ⊎ (e ≡ ProxyError.Memory)) }
+        ensures err { OnErr result (self.new ≡ self.old) }
+    {
+        match place_of(self.sessions.as_slice(), self.recent, number) {
+            Some(place) => {
+                self.recent = place;
+                Ok(self.sessions[place].1.emit()?)
+            }
+            None => Err(ProxyError::NoSession),
+        }
+    }
+
+    /// The answers of a session that were not taken out: none where it is not open.
+    pub fn output(&self, number: u64) -> &[u8]
+        ensures { result.now ≡ output_of (session_at self.now number) }
+    {
+        match place_of(self.sessions.as_slice(), self.recent, number) {
+            Some(place) => self.sessions[place].1.output(),
+            None => &[],
+        }
+    }
+
+    /// Lets go of the first `count` bytes of a session's output, which its client was sent. It takes no memory.
+    pub fn taken_out(&mut self, number: u64, count: usize)
+        requires { count ≤ length (output_of (session_at self.old number)) }
+        ensures { self.new ≡ sent_by number count (session_at self.old number) self.old }
+    {
+        match place_of(self.sessions.as_slice(), self.recent, number) {
+            Some(place) => self.sessions[place].1.taken_out(count),
+            None => {}
+        }
+    }
+
+    /// How many requests and faults of a session were taken and are not answered: none where it is not open.
+    pub fn unanswered(&self, number: u64) -> usize
+        ensures { result ≡ unanswered_of (session_at self.now number) }
+    {
+        match place_of(self.sessions.as_slice(), self.recent, number) {
+            Some(place) => self.sessions[place].1.unanswered(),
+            None => 0,
+        }
+    }
+
+    /// Whether nothing is read of a session any more, after `quit` or a line too long, and all that was taken of it is
+    /// answered. It is false where the session is not open.
+    pub fn finished(&self, number: u64) -> bool
+        ensures { result ≡ is_finished (session_at self.now number) }
+    {
+        match place_of(self.sessions.as_slice(), self.recent, number) {
+            Some(place) => self.sessions[place].1.is_finished(),
+            None => false,
+        }
+    }
+
+    /// Gives back the memory that a session has reserved and that holds nothing, where there is room for more than `kept`
+    /// bytes or requests. It is for a session that is idle. Where none of the number is open it does nothing.
+    pub fn give_back(&mut self, number: u64, kept: usize)
+        ensures { self.new ≡ self.old }
+    {
+        if let Some(place) = place_of(self.sessions.as_slice(), self.recent, number) {
+            self.sessions[place].1.give_back(kept);
+        }
+    }
+
+    /// Ends a session: its text, its answers and its unanswered requests are let go. What its commands are still answered
+    /// by their servers is dropped when it comes. It takes no memory.
+    pub fn gone(&mut self, number: u64) -> Result<(), ProxyError>
+        ensures gone { OnOk result (self.new ≡ record self.old { sessions = without number self.old.sessions }) }
+        ensures not_open { OnOk result (session_at self.new number ≡ None) }
+        ensures no_session { IsErrOf result ProxyError.NoSession ↔ (session_at self.old number ≡ None) }
+        ensures only_no_session { IsOkUnless result ProxyError.NoSession }
+        ensures err { OnErr result (self.new ≡ self.old) }
+    {
+        match place_of(self.sessions.as_slice(), self.recent, number) {
+            Some(place) => {
+                self.sessions.remove(place);
+                Ok(())
+            }
+            None => Err(ProxyError::NoSession),
+        }
+    }
+}

@@ -1,0 +1,4 @@
+pub mod AwaitedLemmas
+pub mod LinkLemmas
+pub mod NotingLemmas
+pub mod TurnLemmas

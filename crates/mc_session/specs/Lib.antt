@@ -1,0 +1,5 @@
+pub mod SessionState
+pub mod Sending
+pub mod Noting
+pub mod Emits
+pub mod Turns

@@ -1,0 +1,26 @@
+//! A session of a proxy: one client's requests, over links to servers.
+//!
+//! A [`Session`] is fed the bytes that its client sends in whatever pieces they come ([`Session::feed`]), and takes a request
+//! a turn ([`Session::turn`]): each of the request's commands goes to the link of its key's owner, under a tag that says whose
+//! it is, or is lost at once where that link is down. What became of a command is noted under its tag ([`Session::note`]). Once
+//! it is known of each command of the oldest unanswered request, its answer is put out ([`Session::emit`]), and the caller takes
+//! it out ([`Session::output`], [`Session::taken_out`]). So answers stand in the order of the requests, in whatever order
+//! replies come. [`Session::unanswered`] and [`Session::is_finished`] say how it stands, and [`Session::give_back`] gives large
+//! empty buffers back.
+//!
+//! A turn waits where a mark is reached: [`MAX_UNANSWERED`], [`UNSENT_MARK`] or [`LINK_MARK`]. `specs/SessionState.antt` says
+//! what a session is, `specs/Turns.antt` what a turn does, `specs/Sending.antt` how commands are sent, `specs/Noting.antt` and
+//! `specs/Emits.antt` how they are answered. At an error nothing has changed.
+#![tactic(auto)]
+
+mod errors;
+mod limits;
+mod sending;
+mod sessions;
+mod turns;
+mod unanswered;
+
+pub use errors::SessionError;
+pub use limits::{LINK_MARK, MAX_UNANSWERED, UNSENT_MARK};
+pub use sessions::Session;
+pub use turns::{Emit, Turn};

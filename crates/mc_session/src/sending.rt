@@ -1,0 +1,154 @@
+//! The commands of a request, to their links.
+ghost use Rattle.std.specs.Prelude.{◌≡◌, ◌+◌, ◌-◌, ◌<◌, ◌≤◌, ◌^◌, ℕ, true, length, map, IfOk, IfSome, OnOk};
+ghost use Rattle.std.specs.List.{list_any};
+ghost use Rattle.mc_spelling.specs.Spellings.{spelling_of_atom};
+ghost use Rattle.mc_session.specs.SessionState.{link_at, states, with_link};
+ghost use Rattle.mc_session.specs.Sending.{at_once, handed, handed_to, is_link_marked, kept_of, outcome_by, routed, roomy_at, spelled, AreRoomy, IsRoomy};
+
+use crate::errors::SessionError;
+use crate::limits::LINK_MARK;
+use mc_link::{Link, Tag};
+use mc_request::Taken;
+use mc_ring::Ring;
+use mc_route::{Outcome, Routed, into_atoms, without_block};
+use mc_spelling::spelled_len as spelled_len_of;
+use std::alloc::Global;
+
+/// The commands of what was taken, each with its server, and what of it stays for its answer. A fault has no command.
+pub fn route(alloc: Global, what: Taken, ring: &Ring) -> Result<(Vec<Routed>, Taken), SessionError>
+    ensures commands { IfOk result (λ both. both.0.items ≡ routed ring.now what) }
+    ensures kept { IfOk result (λ both. both.1 ≡ kept_of what) }
+{
+    match what {
+        Taken::Whole(request) => {
+            let kept = without_block(alloc, &request)?;
+            Ok((into_atoms(alloc, request, ring)?, Taken::Whole(kept)))
+        }
+        Taken::Faulty(fault) => Ok((Vec::new(alloc), Taken::Faulty(fault))),
+    }
+}
+
+/// Whether a link that one of the commands needs has as much unsent as its mark.
+pub fn is_any_marked(links: &[Link], commands: &[Routed]) -> bool
+    ensures { result ≡ list_any (λ command. is_link_marked (link_at (states links.now) command.server)) commands.now }
+{
+    commands
+        .iter()
+        .any(|command| is_marked(links, command.server))
+}
+
+/// Whether the link of a place is up, and has as much unsent as its mark.
+fn is_marked(links: &[Link], place: usize) -> bool
+    ensures { result ≡ is_link_marked (link_at (states links.now) place) }
+{
+    match links.get(place) {
+        Some(link) => link.is_up() && link.output().len() >= LINK_MARK,
+        None => false,
+    }
+}
+
+/// What becomes of each command at once.
+pub fn at_once(
+    alloc: Global,
+    links: &[Link],
+    commands: &[Routed],
+) -> Result<Vec<Outcome>, SessionError>
+    ensures { IfOk result (λ outcomes. outcomes.items ≡ map (at_once (states links.now)) commands.now) }
+{
+    let mut outcomes = Vec::with_capacity(alloc, commands.len())?;
+    for command in commands {
+        outcomes.push(outcome_at_once(links, command.server))?;
+    }
+    Ok(outcomes)
+}
+
+/// What becomes of a command at once: it is lost where its link is down.
+fn outcome_at_once(links: &[Link], place: usize) -> Outcome
+    ensures { result ≡ outcome_by (link_at (states links.now) place) }
+{
+    if is_up_at(links, place) {
+        Outcome::Awaited
+    } else {
+        Outcome::Lost
+    }
+}
+
+/// Whether the link of a place is up. None is up where there is none.
+fn is_up_at(links: &[Link], place: usize) -> bool
+    ensures up { result ≡ (link_at (states links.now) place).up }
+    ensures inside { result ≡ true → place < length links.now }
+{
+    match links.get(place) {
+        Some(link) => link.is_up(),
+        None => false,
+    }
+}
+
+/// Makes room on the links of the commands that are up, so that the commands can be sent without memory.
+pub fn make_room(links: &mut [Link], commands: &[Routed]) -> Result<(), SessionError>
+    ensures roomy { OnOk result (AreRoomy links.new commands.now) }
+    ensures unchanged { states links.new ≡ states links.old }
+{
+    let Some(bytes) = spelled_len(commands) else {
+        return Err(SessionError::Memory);
+    };
+    for command in commands {
+        make_room_on(links, command.server, bytes, commands.len())?;
+    }
+    Ok(())
+}
+
+/// How many bytes the commands' spellings have in all, where a number has room for it.
+fn spelled_len(commands: &[Routed]) -> Option<usize>
+    ensures { IfSome result (λ bytes. bytes ≡ spelled commands.now) }
+{
+    let mut bytes: usize = 0;
+    for command in commands {
+        bytes = bytes.checked_add(spelled_len_of(&command.atom))?;
+    }
+    Some(bytes)
+}
+
+/// Makes room on the link of a place, where that is up.
+fn make_room_on(
+    links: &mut [Link],
+    place: usize,
+    bytes: usize,
+    heads: usize,
+) -> Result<(), SessionError>
+    ensures roomy { OnOk result (IsRoomy bytes heads (roomy_at links.new place)) }
+    ensures unchanged { states links.new ≡ states links.old }
+    ensures kept { (at b h : ℕ) → IsRoomy b h (roomy_at links.old at) → IsRoomy b h (roomy_at links.new at) }
+{
+    if is_up_at(links, place) {
+        links[place].make_room(bytes, heads)?;
+    }
+    Ok(())
+}
+
+/// Hands each command to the link of its place, in order: a link that is down drops it. It takes no memory.
+pub fn send_all(links: &mut [Link], commands: Vec<Routed>, session: u64, request: u64)
+    requires { AreRoomy links.old commands.items }
+    ensures { states links.new ≡ handed session request 0 commands.items (states links.old) }
+{
+    for (at, command) in commands.into_iter().enumerate() {
+        let tag = Tag {
+            session,
+            request,
+            atom: at,
+        };
+        hand_over(links, command, tag);
+    }
+}
+
+/// Hands a command to the link of its place, where that is up.
+fn hand_over(links: &mut [Link], command: Routed, tag: Tag)
+    requires { IsRoomy (length (spelling_of_atom command.atom)) 1 (roomy_at links.old command.server) }
+    ensures handed { states links.new ≡ with_link command.server (handed_to tag command.atom (link_at (states links.old) command.server)) (states links.old) }
+    ensures room { (at bytes heads : ℕ) → IsRoomy (length (spelling_of_atom command.atom) + bytes) (1 + heads) (roomy_at links.old at)
+        → IsRoomy bytes heads (roomy_at links.new at) }
+{
+    if is_up_at(links, command.server) {
+        links[command.server].send(command.atom, tag).unwrap();
+    }
+}

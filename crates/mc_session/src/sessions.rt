@@ -1,0 +1,199 @@
+//! A session: what a client sends, and what it is answered.
+ghost use Rattle.std.specs.Prelude.{◌≡◌, ◌≢◌, ◌≤◌, ◌<◌, ◌&&◌, ◌==◌, [], None, drop, length, IfOk, IsOkUnless, OnOk, OnErr};
+ghost use Rattle.mc_session.specs.SessionState.{states};
+
+use crate::errors::SessionError;
+use crate::limits::{MAX_UNANSWERED, UNSENT_MARK};
+use crate::sending::{at_once, is_any_marked, make_room, route, send_all};
+use crate::turns::{Emit, Turn};
+use crate::unanswered::Unanswered;
+use mc_link::{Link, Tag};
+use mc_request_reader::{Peek, Reader};
+use mc_ring::Ring;
+use mc_route::Outcome;
+use mc_text::let_go;
+use std::alloc::Global;
+use std::collections::VecDeque;
+use std::marker::Model;
+
+/// A session of a proxy.
+#[derive(Drop)]
+pub struct Session {
+    reader: Reader,
+    output: Vec<u8>,
+    /// How many bytes of the output were taken out.
+    sent: usize,
+    /// How many requests and faults were taken.
+    taken: u64,
+    /// Those of them that are not answered, the oldest first.
+    unanswered: VecDeque<Unanswered>,
+}
+
+impl Model for Session {
+    ghost use Rattle.std.specs.Prelude.{◌≤◌, ◌*◌, drop, length, vec_len};
+    ghost use Rattle.mc_session.specs.SessionState.{SessionState};
+
+    ghost Value = { SessionState };
+
+    ghost view = { λ s. record { reader = s.reader; output = drop s.sent s.output.items; taken = s.taken; unanswered = s.unanswered.items } };
+
+    ghost invariant = { λ s. (2 * s.sent ≤ vec_len s.output) × (length s.unanswered.items ≤ s.taken) };
+}
+
+impl Session {
+    ghost use Rattle.mc_request_reader.specs.Reader.{rest_of};
+    ghost use Rattle.mc_session.specs.SessionState.{fresh_session};
+    ghost use Rattle.mc_session.specs.Emits.{IsEmit, emitted};
+    ghost use Rattle.mc_session.specs.Noting.{noted_in};
+    ghost use Rattle.mc_session.specs.Sending.{is_session_marked};
+    ghost use Rattle.mc_session.specs.Turns.{IsFed, IsTurn};
+
+    /// A session to which nothing has come.
+    pub fn new(alloc: Global) -> Session
+        ensures { result ≡ fresh_session }
+    {
+        Session {
+            reader: Reader::new(alloc),
+            output: Vec::new(alloc),
+            sent: 0,
+            taken: 0,
+            unanswered: VecDeque::new(alloc),
+        }
+    }
+
+    /// Takes the next piece of the client's text.
+    pub fn feed(&mut self, piece: &[u8]) -> Result<(), SessionError>
+        ensures fed { OnOk result (IsFed piece.now self.old self.new) }
+        ensures only_memory { IsOkUnless result SessionError.Memory }
+        ensures err { OnErr result (self.new ≡ self.old) }
+    {
+        self.reader.feed(piece)?;
+        Ok(())
+    }
+
+    /// Whether the session has reached a mark of its own.
+    fn is_marked(&self) -> bool
+        ensures { result ≡ is_session_marked self.now }
+    {
+        self.unanswered.len() >= MAX_UNANSWERED
+            || self.output().len() >= UNSENT_MARK
+            || self.taken == u64::MAX
+    }
+
+    /// Takes the first request or fault that has come whole, and sends its commands, each to the link of its key's owner,
+    /// under tags with the session's number.
+    ///
+    /// What it may need of memory is taken before anything is. Where none waits it needs none.
+    pub fn turn(
+        &mut self,
+        alloc: Global,
+        number: u64,
+        ring: &Ring,
+        links: &mut [Link],
+    ) -> Result<Turn, SessionError>
+        ensures turn { IfOk result (λ turn. IsTurn number turn ring.now (states links.old) (states links.new) self.old self.new) }
+        ensures cause { OnErr result (0 < length (rest_of self.old.reader [])) }
+        ensures only_memory { IsOkUnless result SessionError.Memory }
+        ensures err { OnErr result (self.new ≡ self.old) }
+        ensures links_kept { OnErr result (states links.new ≡ states links.old) }
+    {
+        let (what, front) = match self.reader.peek() {
+            Peek::Closed => return Ok(Turn::Closing),
+            Peek::More => return Ok(Turn::Idle),
+            Peek::First(_, _) if self.is_marked() => return Ok(Turn::Waiting),
+            Peek::First(asked, front) => (asked.taken(alloc)?, front),
+        };
+        let (commands, kept) = route(alloc, what, ring)?;
+        if is_any_marked(links, commands.as_slice()) {
+            return Ok(Turn::Waiting);
+        }
+        let outcomes = at_once(alloc, links, commands.as_slice())?;
+        self.unanswered.reserve(1)?;
+        make_room(links, commands.as_slice())?;
+        self.reader.consume(front);
+        send_all(links, commands, number, self.taken);
+        self.unanswered
+            .push_back(Unanswered::new(kept, outcomes))
+            .unwrap();
+        self.taken += 1;
+        Ok(Turn::Took)
+    }
+
+    /// Notes what became of a command. That of a request which is answered is dropped.
+    pub fn note(&mut self, tag: Tag, outcome: Outcome)
+        ensures { self.new ≡ noted_in tag outcome self.old }
+    {
+        let answered = self.taken - self.unanswered.len() as u64;
+        let Some(place) = tag.request.checked_sub(answered) else {
+            return;
+        };
+        let place = place as usize;
+        if place < self.unanswered.len() {
+            self.unanswered[place].note(tag.atom, outcome);
+        }
+    }
+
+    /// Appends the answer to the oldest request that is not answered, where it is known of each of its commands what became
+    /// of it.
+    ///
+    /// At an error nothing was put out. Where no answer is known it needs no memory.
+    pub fn emit(&mut self) -> Result<Emit, SessionError>
+        ensures emit { IfOk result (λ emit. IsEmit emit self.old self.new) }
+        ensures cause { OnErr result (emitted self.old ≢ None) }
+        ensures only_memory { IsOkUnless result SessionError.Memory }
+        ensures err { OnErr result (self.new ≡ self.old) }
+    {
+        let Some(oldest) = self.unanswered.front() else {
+            return Ok(Emit::Idle);
+        };
+        if !oldest.is_known() {
+            return Ok(Emit::Idle);
+        }
+        oldest.answer(&mut self.output)?;
+        self.unanswered.pop_front();
+        Ok(Emit::Done)
+    }
+
+    /// Whether nothing is read any more and every request is answered.
+    pub fn is_finished(&self) -> bool
+        ensures { result ≡ (self.now.reader.closed && (length self.now.unanswered == 0)) }
+    {
+        self.reader.is_closed() && self.unanswered.is_empty()
+    }
+
+    /// How many requests are not answered.
+    pub fn unanswered(&self) -> usize
+        ensures { result ≡ length self.now.unanswered }
+    {
+        self.unanswered.len()
+    }
+
+    /// The answers that were not taken out.
+    pub fn output(&self) -> &[u8]
+        ensures { result.now ≡ self.now.output }
+    {
+        let (_, output) = self.output.split_at(self.sent);
+        output
+    }
+
+    /// Lets go of the first `count` bytes of the output, which the client was sent.
+    pub fn taken_out(&mut self, count: usize)
+        requires { count ≤ length self.old.output }
+        ensures { self.new ≡ record self.old { output = drop count self.old.output } }
+    {
+        self.sent = let_go(&mut self.output, self.sent + count);
+    }
+
+    /// Gives back the memory of what holds nothing, where there is room for more than `kept` bytes or requests.
+    pub fn give_back(&mut self, kept: usize)
+        ensures { self.new ≡ self.old }
+    {
+        self.reader.give_back(kept);
+        if self.output.is_empty() && self.output.capacity() > kept {
+            self.output.shrink_to_fit();
+        }
+        if self.unanswered.is_empty() && self.unanswered.capacity() > kept {
+            self.unanswered.shrink_to_fit();
+        }
+    }
+}

@@ -1,0 +1,100 @@
+//! A request that was taken and is not answered.
+ghost use Rattle.std.specs.Prelude.{◌≡◌, ◌++◌, OnOk, OnErr};
+ghost use Rattle.mc_session.specs.Emits.{awaited_in, count_awaited};
+
+use crate::errors::SessionError;
+use mc_reply::write_fault;
+use mc_request::Taken;
+use mc_route::{Outcome, join};
+use std::marker::Model;
+
+/// A request or fault that was taken, and what became of its commands so far.
+#[derive(Drop)]
+pub struct Unanswered {
+    what: Taken,
+    outcomes: Vec<Outcome>,
+    /// How many of the replies are awaited.
+    awaited: usize,
+}
+
+impl Model for Unanswered {
+    ghost use Rattle.std.specs.Prelude.{◌≡◌};
+    ghost use Rattle.mc_session.specs.SessionState.{Unanswered};
+    ghost use Rattle.mc_session.specs.Emits.{awaited_in};
+
+    ghost Value = { Unanswered };
+
+    ghost view = { λ u. record { what = u.what; outcomes = u.outcomes.items } };
+
+    ghost invariant = { λ u. u.awaited ≡ awaited_in u.outcomes.items };
+}
+
+impl Unanswered {
+    ghost use Rattle.mc_session.specs.Emits.{answer_of_one, is_known};
+    ghost use Rattle.mc_session.specs.Noting.{with_outcome};
+
+    /// A request or fault that was just taken, and what became of its commands at once.
+    pub fn new(what: Taken, outcomes: Vec<Outcome>) -> Unanswered
+        ensures { result ≡ record { what = what; outcomes = outcomes.items } }
+    {
+        let awaited = awaited_in(outcomes.as_slice());
+        Unanswered {
+            what,
+            outcomes,
+            awaited,
+        }
+    }
+
+    /// Whether it is known of each command what became of it.
+    #[tactic(auto, using(crate::proofs::AwaitedLemmas::none_awaited))]
+    pub fn is_known(&self) -> bool
+        ensures { result ≡ is_known self.now }
+    {
+        self.awaited == 0
+    }
+
+    /// Notes what became of a command, by its number. Where there is none of that number it is dropped.
+    pub fn note(&mut self, at: usize, outcome: Outcome)
+        ensures { self.new ≡ record self.old { outcomes = with_outcome at outcome self.old.outcomes } }
+    {
+        if at >= self.outcomes.len() {
+            return;
+        }
+        let before = count_awaited(&self.outcomes[at]);
+        self.awaited = self.awaited - before + count_awaited(&outcome);
+        self.outcomes[at] = outcome;
+    }
+
+    /// Appends the answer, or nothing where there is no memory.
+    pub fn answer(&self, out: &mut Vec<u8>) -> Result<(), SessionError>
+        ensures ok { OnOk result (out.new.items ≡ out.old.items ++ answer_of_one self.now) }
+        ensures err { OnErr result (out.new.items ≡ out.old.items) }
+    {
+        match &self.what {
+            Taken::Whole(request) => join(request, self.outcomes.as_slice(), out)?,
+            Taken::Faulty(fault) => write_fault(*fault, out)?,
+        }
+        Ok(())
+    }
+}
+
+/// How many replies are awaited.
+fn awaited_in(outcomes: &[Outcome]) -> usize
+    ensures { result ≡ awaited_in outcomes.now }
+{
+    let mut awaited = 0;
+    for outcome in outcomes {
+        awaited += count_awaited(outcome);
+    }
+    awaited
+}
+
+/// 1 where the reply is awaited, else 0.
+fn count_awaited(outcome: &Outcome) -> usize
+    ensures { result ≡ count_awaited outcome.now }
+{
+    match outcome {
+        Outcome::Awaited => 1,
+        Outcome::Reply(_) | Outcome::Lost => 0,
+    }
+}
