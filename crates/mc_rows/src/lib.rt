@@ -20,8 +20,6 @@ mod loopback;
 #[cfg(test)]
 mod meagre;
 #[cfg(test)]
-mod pools;
-#[cfg(test)]
 mod pumps;
 #[cfg(test)]
 mod replies;
