@@ -20,6 +20,8 @@ mod loopback;
 #[cfg(test)]
 mod meagre;
 #[cfg(test)]
+mod pools;
+#[cfg(test)]
 mod pumps;
 #[cfg(test)]
 mod replies;
