@@ -1,13 +1,14 @@
 //! How fast the parts of a proxy carry gets: from a client's bytes to what a server is sent, and from its bytes to the answer.
 
-use anyhow::{Context, bail};
+use anyhow::Context;
 use mc_link::{Link, LinkTurn, Tag};
-use mc_request::Request;
-use mc_request_reader::{Next, Reader};
+use mc_request::Taken;
+use mc_request_reader::{Peek, Reader};
 use mc_ring::{Address, Ring};
-use mc_route::{Outcome, atoms, join};
+use mc_route::{Outcome, Routed, join, route};
 use mc_spelling::spelled_len;
 use std::alloc::Global;
+use std::collections::VecDeque;
 
 /// How many gets are under way at a time.
 const BATCH: u64 = 100;
@@ -18,8 +19,10 @@ struct Lane {
     reader: Reader,
     ring: Ring,
     link: Link,
-    /// The requests under way, the oldest first.
-    requests: Vec<Request>,
+    /// The commands of the request that is taken. Its memory is kept.
+    routed: VecDeque<Routed>,
+    /// What stays of the requests under way, the oldest first.
+    requests: Vec<Taken>,
     /// What the client is answered.
     answers: Vec<u8>,
 }
@@ -52,6 +55,7 @@ impl Lane {
             reader: Reader::new(alloc),
             ring: Ring::new(alloc, &[Address::new(alloc, b"127.0.0.1:11211")?])?,
             link,
+            routed: VecDeque::new(alloc),
             requests: Vec::new(alloc),
             answers: Vec::new(alloc),
         })
@@ -61,24 +65,47 @@ impl Lane {
     fn send(&mut self, alloc: Global, asked: &[u8]) -> anyhow::Result<u64> {
         self.reader.feed(asked)?;
         for _ in 0..asked.len() {
-            let Next::Request(request) = self.reader.next()? else {
+            if !self.take(alloc).context("no request is taken")? {
                 break;
-            };
-            let number = self.requests.len() as u64;
-            for (at, routed) in atoms(alloc, &request, &self.ring)?.into_iter().enumerate() {
-                let tag = Tag {
-                    session: 0,
-                    request: number,
-                    atom: at,
-                };
-                self.link.make_room(spelled_len(&routed.atom), 1)?;
-                self.link.send(routed.atom, tag)?;
             }
-            self.requests.push(request)?;
+            self.send_routed().context("no command is sent")?;
         }
         let sent = self.link.output().len();
         self.link.taken_out(sent);
         Ok(sent as u64)
+    }
+
+    /// Takes the first request, and says whether there was one. None where there is no memory: an [`anyhow::Error`] has
+    /// hundreds of bytes, which each call would move.
+    #[inline(never)]
+    fn take(&mut self, alloc: Global) -> Option<bool> {
+        let front = match &self.reader.peek() {
+            Peek::First(asked, front) => {
+                let kept = route(alloc, asked, &self.ring, &mut self.routed).ok()?;
+                self.requests.push(kept).ok()?;
+                *front
+            }
+            Peek::More | Peek::Closed => return Some(false),
+        };
+        self.reader.consume(front);
+        Some(true)
+    }
+
+    /// Sends the commands of the request that was taken last. None where there is no memory, or the link is down.
+    #[inline(never)]
+    fn send_routed(&mut self) -> Option<()> {
+        let request = self.requests.len().saturating_sub(1) as u64;
+        for atom in 0..self.routed.len() {
+            let routed = self.routed.pop_front()?;
+            let tag = Tag {
+                session: 0,
+                request,
+                atom,
+            };
+            self.link.make_room(spelled_len(&routed.atom), 1).ok()?;
+            self.link.send(routed.atom, tag).ok()?;
+        }
+        Some(())
     }
 
     /// Reads the server's bytes, answers each request, and says how many bytes the answers have.
@@ -86,10 +113,8 @@ impl Lane {
         for bytes in came.chunks(piece.max(1)) {
             self.link.feed(bytes)?;
             for _ in 0..=bytes.len() {
-                match self.link.turn(alloc)? {
-                    LinkTurn::Took(tag, reply) => self.answer(tag, Outcome::Reply(reply))?,
-                    LinkTurn::Idle => break,
-                    LinkTurn::Strange => bail!("a strange reply"),
+                if !self.answer_next(alloc).context("no reply is answered")? {
+                    break;
                 }
             }
         }
@@ -99,14 +124,24 @@ impl Lane {
         Ok(answered as u64)
     }
 
+    /// Answers the request of the next reply, and says whether one came. None where there is no memory, or the reply is strange.
+    fn answer_next(&mut self, alloc: Global) -> Option<bool> {
+        match self.link.turn(alloc).ok()? {
+            LinkTurn::Took(tag, reply) => {
+                self.answer(tag, Outcome::Reply(reply))?;
+                Some(true)
+            }
+            LinkTurn::Idle => Some(false),
+            LinkTurn::Strange => None,
+        }
+    }
+
     /// Answers a request of one command.
-    fn answer(&mut self, tag: Tag, outcome: Outcome) -> anyhow::Result<()> {
-        let request = self
-            .requests
-            .get(tag.request as usize)
-            .context("no such request")?;
-        join(request, &[outcome], &mut self.answers)?;
-        Ok(())
+    fn answer(&mut self, tag: Tag, outcome: Outcome) -> Option<()> {
+        let Taken::Whole(request) = self.requests.get(tag.request as usize)? else {
+            return None;
+        };
+        join(request, &[outcome], &mut self.answers).ok()
     }
 }
 

@@ -6,6 +6,7 @@ ghost use Rattle.mc_forms.specs.Seen.{seen_by, number_if_at};
 use crate::unready::Unready;
 
 /// The bytes behind this text.
+#[inline(always)]
 pub fn text<'a>(text: &[u8], unread: &'a [u8]) -> Result<&'a [u8], Unready>
     ensures { seen_by (λ rest. rest.now) result ≡ text_at text.now unread.now }
 {

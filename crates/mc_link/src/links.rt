@@ -1,5 +1,5 @@
 //! A link.
-ghost use Rattle.std.specs.Prelude.{◌≡◌, ◌+◌, ◌-◌, ◌^◌, ◌<◌, ◌≤◌, ◌++◌, ◌↔◌, ◌⊎◌, ℕ, true, false, length, drop, slice_get, option_map, IfOk, IsOk, IsOkUnless, IsErrOf, OnOk, OnErr};
+ghost use Rattle.std.specs.Prelude.{◌≡◌, ◌+◌, ◌-◌, ◌^◌, ◌<◌, ◌≤◌, ◌++◌, ◌↔◌, ◌⊎◌, ◌∷◌, [], ℕ, true, false, length, drop, slice_get, option_map, IfOk, IsOk, IsOkUnless, IsErrOf, OnOk, OnErr};
 ghost use Rattle.std.specs.Bool.{OnFalse};
 
 use crate::turns::{LinkError, LinkTurn, LostLink, Tag};
@@ -40,6 +40,7 @@ impl Model for Link {
 }
 
 impl Link {
+    ghost use Rattle.mc_request.specs.Atoms.{head_of};
     ghost use Rattle.mc_spelling.specs.Spellings.{spelling_of_atom};
     ghost use Rattle.mc_link.specs.LinkState.{LinkState, KeepsRoom, down_link, up_link, sent, can_come_back};
     ghost use Rattle.mc_link.specs.Turns.{IsLinkTurn};
@@ -152,8 +153,34 @@ impl Link {
         self.needs_up()?;
         self.waiting.reserve(1)?;
         write_atom(&atom, &mut self.output)?;
-        self.waiting.push_back((atom.into_head(), tag)).unwrap();
+        self.wait_for(atom, tag);
         Ok(())
+    }
+
+    /// Puts the head of a command behind those that wait. That of a retrieval, which is asked for most, is made where it is to
+    /// stand.
+    fn wait_for(&mut self, atom: Atom<Block>, tag: Tag)
+        requires up { self.old.state.up ≡ true }
+        requires room { 0 < self.old.heads }
+        ensures waits { self.new.state ≡ record self.old.state { waiting = self.old.state.waiting ++ (head_of atom, tag) ∷ [] } }
+        ensures bytes { self.new.bytes ≡ self.old.bytes }
+        ensures heads { self.new.heads + 1 ≡ self.old.heads }
+    {
+        match atom {
+            Atom::Get {
+                key,
+                exptime,
+                with_cas,
+            } => self.waiting.push_back_reserved((
+                Atom::Get {
+                    key,
+                    exptime,
+                    with_cas,
+                },
+                tag,
+            )),
+            other => self.waiting.push_back_reserved((other.into_head(), tag)),
+        }
     }
 
     /// The bytes that were not taken out.

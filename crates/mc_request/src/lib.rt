@@ -36,7 +36,7 @@ mod rows;
 mod storage_lines;
 
 pub use announced::announced_in;
-pub use command_lines::command_line;
+pub use command_lines::{command_line, plain_get};
 pub use faults::Fault;
 pub use flags::{Flag, OPAQUE_LIMIT, flag_of};
 pub use heads::Head;
@@ -48,6 +48,7 @@ pub use meta_rows::{
     coded_keys, faults_in_order, flags_of_each_command, flags_stand_once, meta_commands, meta_sets,
     modes, opaques, tokens_of_each_flag,
 };
+pub use owned::keys_of;
 pub use parts::{Atom, Direction, ReadError, Request, StoreMode, Taken, Update};
 pub use rows::{
     counts, deletions, flushes, noreply_at_the_end, refused_blocks, several_keys, storage_modes,

@@ -1,5 +1,5 @@
 //! Command lines that no data block follows.
-ghost use Rattle.std.specs.Prelude.{◌≡◌, true, None, Ok, Err, if◌then◌else◌};
+ghost use Rattle.std.specs.Prelude.{◌≡◌, ◌&&◌, true, None, Ok, Err, if◌then◌else◌};
 ghost use Rattle.std.specs.List.{list_all};
 ghost use Rattle.mc_text.specs.Keys.{is_plain_key};
 ghost use Rattle.mc_request.specs.Names.{at_most, at_least, between, noreply_of};
@@ -32,6 +32,17 @@ pub fn keys_line(exptime: Option<i64>, with_cas: bool, keys: WordIter<'_>) -> Co
         exptime,
         with_cas,
     })
+}
+
+/// Whether there are words, and each is a plain key.
+#[inline(always)]
+pub fn has_plain_keys(mut words: WordIter<'_>) -> bool
+    ensures { result ≡ (at_least 1 words.entry && list_all is_plain_key words.entry) }
+{
+    let Some(first) = words.next() else {
+        return false;
+    };
+    is_plain_key(first) && are_plain_keys(words)
 }
 
 /// Whether each word is a plain key.

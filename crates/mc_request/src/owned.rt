@@ -158,8 +158,8 @@ impl MetaForm<WordIter<'_>> {
     }
 }
 
-/// The keys of words that are known to be plain ones. There is room for all before the second is copied.
-fn keys_of(alloc: Global, mut words: WordIter<'_>) -> Result<Keys, ReadError>
+/// The keys of words that are known to be plain ones: they are copied. There is room for all before the second is.
+pub fn keys_of(alloc: Global, mut words: WordIter<'_>) -> Result<Keys, ReadError>
     requires some { 0 < length words }
     requires plain { list_all is_plain_key words ≡ true }
     ensures { IfOk result (λ keys. keys ≡ words.entry) }

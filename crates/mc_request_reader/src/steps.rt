@@ -9,7 +9,7 @@ ghost use Rattle.mc_request_reader.specs.Steps.{IsSearched, StandIs, StartsBy, l
 ghost use Rattle.mc_request.specs.WellFormed.{is_good_meaning};
 
 use crate::searched::Searched;
-use mc_request::{Asked, CommandLine, Fault, Storing, announced_in, command_line};
+use mc_request::{Asked, CommandLine, Fault, Storing, announced_in, command_line, plain_get};
 use mc_text::{LINE_LIMIT, Line};
 
 /// What stands behind a data block.
@@ -113,7 +113,17 @@ pub fn first_asked(unread: &[u8], searched: Searched) -> Option<(Asked<'_>, usiz
     match searched.line(unread) {
         Line::Partial => None,
         Line::TooLong => Some((Asked::Faulty(Fault::LineTooLong), LINE_LIMIT)),
-        Line::Whole { content, taken } => asked_behind(unread, command_line(content), taken),
+        Line::Whole { content, taken } => match plain_get(content) {
+            Some((keys, with_cas)) => Some((
+                Asked::Get {
+                    keys,
+                    exptime: None,
+                    with_cas,
+                },
+                taken,
+            )),
+            None => asked_behind(unread, command_line(content), taken),
+        },
     }
 }
 

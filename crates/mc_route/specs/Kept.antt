@@ -4,6 +4,8 @@ use Rattle.mc_request.specs.declared.meta.MetaCommand.{MetaCommand}
 use Rattle.mc_request.specs.declared.parts.Request.{Request}
 use Rattle.mc_request.specs.declared.parts.Request.TheVariants as requests
 use Rattle.mc_request.specs.declared.parts.Update.{Update}
+use Rattle.mc_request.specs.declared.parts.Taken.{Taken}
+use Rattle.mc_request.specs.declared.parts.Taken.TheVariants.{Whole, Faulty}
 use Rattle.mc_request.specs.Parts.{update_map, meta_map}
 
 -- an update with an empty data block, where it has one
@@ -19,3 +21,8 @@ abbrev pub without_block : Request → Request
 without_block (requests.Update update noreply) = requests.Update (emptied update) noreply
 without_block (requests.Meta command form) = requests.Meta (emptied_meta command) form
 without_block other = other
+
+-- what was taken, likewise: a fault stays as it is
+abbrev pub kept_of : Taken → Taken
+kept_of (Whole request) = Whole (without_block request)
+kept_of (Faulty fault) = Faulty fault

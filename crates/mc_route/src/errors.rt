@@ -3,6 +3,7 @@ ghost use Rattle.std.specs.Prelude.{◌≡◌};
 ghost use Rattle.mc_route.specs.declared.errors.RouteError.TheVariants.{Memory};
 
 use mc_reply::ReplyError;
+use mc_request::ReadError;
 use std::alloc::{AllocError, AllocFailed};
 use thiserror::Error;
 
@@ -34,6 +35,14 @@ impl From<ReplyError> for RouteError {
     ghost from_gives = { λ _ e. e ≡ Memory };
 
     fn from(_e: ReplyError) -> RouteError {
+        RouteError::Memory
+    }
+}
+
+impl From<ReadError> for RouteError {
+    ghost from_gives = { λ _ e. e ≡ Memory };
+
+    fn from(_e: ReadError) -> RouteError {
         RouteError::Memory
     }
 }

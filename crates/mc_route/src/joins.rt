@@ -1,17 +1,18 @@
 //! From what became of a request's commands to its answer.
-ghost use Rattle.std.specs.Prelude.{◌≡◌, ◌+◌, ◌-◌, ◌^◌, ◌≤◌, ◌++◌, ◌∷◌, List, min, false, length, vec_len, vec_capacity, IsOk, OnOk, OnErr};
+ghost use Rattle.std.specs.Prelude.{◌≡◌, ◌+◌, ◌-◌, ◌^◌, ◌<◌, ◌≤◌, ◌++◌, ◌∷◌, List, min, false, length, vec_len, vec_capacity, IsOk, OnOk, OnErr};
 ghost use Rattle.mc_request.specs.Atoms.{atoms_of};
 ghost use Rattle.mc_reply.specs.Spelling.{answer_of, blocks_of, end_line};
 ghost use Rattle.mc_reply.specs.MetaRooms.{part_room};
+ghost use Rattle.mc_reply.specs.Seen.{value_len};
 ghost use Rattle.mc_route.specs.declared.outcomes.Outcome.{Outcome};
 ghost use Rattle.mc_route.specs.Joins.{has_lost, replies_in, outcome_part, joined_answer};
 ghost use Rattle.mc_route.specs.Rooms.{outcome_room, outcomes_room, join_room};
 
 use crate::errors::RouteError;
 use crate::outcomes::Outcome;
-use mc_reply::{KEY_ROOM, LINE_ROOM, part_room, value_len, write_end, write_key, write_part};
+use mc_reply::{KEY_ROOM, LINE_ROOM, Reply, part_room, write_end, write_key, write_part};
 use mc_request::{Keys, Request};
-use mc_text::Key;
+use mc_text::{Block, Key};
 
 /// What a client is told where a command of its request was lost.
 const LOST_LINE: &[u8] = b"SERVER_ERROR link lost\r\n";
@@ -61,8 +62,31 @@ fn outcome_room(outcome: &Outcome) -> usize
 {
     match outcome {
         Outcome::Lost | Outcome::Awaited => 0,
-        Outcome::Reply(reply) => value_len(&reply.lent()) + KEY_ROOM,
+        Outcome::Reply(reply) => shown_len(reply) + KEY_ROOM,
     }
+}
+
+/// How many bytes of a value a reply shows: fewer than 2^63.
+fn shown_len(reply: &Reply<Block>) -> usize
+    ensures len { result ≡ value_len reply.now }
+    ensures bound { result < 2 ^ 63 }
+{
+    match reply {
+        Reply::Hit { value, .. } => block_len(value),
+        Reply::Meta {
+            value: Some(value),
+            ..
+        } => block_len(value),
+        _ => 0,
+    }
+}
+
+/// How many bytes a block has.
+fn block_len(block: &Block) -> usize
+    ensures len { result ≡ length block.now }
+    ensures bound { result < 2 ^ 63 }
+{
+    block.as_slice().len()
 }
 
 /// Whether a command was lost.
@@ -145,7 +169,12 @@ fn append_item(key: &Key, outcome: &Outcome, out: &mut Vec<u8>)
     ensures len { vec_len out.new ≤ vec_len out.old + outcome_room outcome.now }
     ensures room { vec_capacity out.old ≤ vec_capacity out.new }
 {
-    if let Outcome::Reply(reply) = outcome {
-        write_key(key.as_bytes(), &reply.lent(), out).unwrap();
+    if let Outcome::Reply(Reply::Hit { flags, cas, value }) = outcome {
+        let hit = Reply::Hit {
+            flags: *flags,
+            cas: *cas,
+            value: value.as_slice(),
+        };
+        write_key(key.as_bytes(), &hit, out).unwrap();
     }
 }

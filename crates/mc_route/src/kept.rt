@@ -37,7 +37,7 @@ pub fn without_block(alloc: Global, request: &Request) -> Result<Request, RouteE
 }
 
 /// The same of a meta command.
-fn meta_without_block(
+pub fn meta_without_block(
     alloc: Global,
     command: &MetaCommand<Key, Block>,
 ) -> Result<MetaCommand<Key, Block>, AllocError>
@@ -56,7 +56,7 @@ fn meta_without_block(
 }
 
 /// The same of an update.
-fn update_without_block(
+pub fn update_without_block(
     alloc: Global,
     update: &Update<Key, Block>,
 ) -> Result<Update<Key, Block>, AllocError>

@@ -1,8 +1,9 @@
 //! Routes: from a request to its servers, and from what became of its commands to its answer.
 //!
-//! Who has a request and a ring asks which servers it is for: [`atoms`] gives its commands, each with its server
-//! ([`Routed`]), and copies keys and blocks; [`into_atoms`] takes the request apart and copies none. Each key's digest is
-//! computed once, there. What stays for the answer is the request, or what [`without_block`] copies of it. When each
+//! Who has what a reader lends, and a ring, asks which servers it is for: [`route`] puts its commands, each with its server
+//! ([`Routed`]), behind those of a queue that the caller keeps, and gives what stays of it for the answer. Each key's digest
+//! is computed once, there. Of a request that is taken already, [`atoms`] gives the commands, and copies keys and blocks;
+//! [`into_atoms`] takes the request apart and copies none, and [`without_block`] copies what stays for the answer. When each
 //! command has its [`Outcome`], its reply or that it was lost, [`join`] appends the answer to bytes that are still to be
 //! sent, for which [`join_room`] is room enough.
 //!
@@ -13,7 +14,7 @@
 //! (`joined_answer`). The laws say that nothing else depends on how many servers there are
 //! ([`one_server_answers_alike`], [`commands_are_those_of_one_server`], [`answers_are_those_of_one_server`]).
 //!
-//! `atoms`, `into_atoms` and `without_block` take memory, and `join` where there is not room enough; a call that gives up
+//! `route`, `atoms`, `into_atoms` and `without_block` take memory, and `join` where there is not room enough; a call that gives up
 //! has changed nothing. `join_room` takes none.
 #![tactic(auto)]
 
@@ -21,6 +22,7 @@ mod errors;
 mod joins;
 mod kept;
 mod laws;
+mod lent;
 mod outcomes;
 mod routes;
 mod rows;
@@ -32,6 +34,7 @@ pub use laws::{
     answers_are_those_of_one_server, blocks_play_no_part, commands_are_those_of_one_server,
     one_server_answers_alike, routes_stay_inside,
 };
+pub use lent::route;
 pub use outcomes::Outcome;
 pub use routes::{Routed, atoms, into_atoms};
 pub use rows::{

@@ -1,5 +1,6 @@
 //! From a request to its servers.
-ghost use Rattle.std.specs.Prelude.{◌≡◌, ◌+◌, ◌≤◌, ◌++◌, ◌∷◌, [], length, vec_len, vec_capacity, IfOk, IfErr, OnOk};
+ghost use Rattle.std.specs.Prelude.{◌≡◌, ◌+◌, ◌≤◌, ◌++◌, ◌∷◌, [], length, IfOk, IfErr, OnOk};
+ghost use Rattle.std.specs.VecDeque.{deque_len, deque_capacity};
 ghost use Rattle.mc_request.specs.declared.parts.Atom.TheVariants.{Meta as AMeta, Update as AnUpdate};
 ghost use Rattle.mc_request.specs.declared.parts.Update.TheVariants.{FlushAll};
 ghost use Rattle.mc_reply.specs.Spelling.{meta_key};
@@ -11,6 +12,7 @@ use mc_request::{Atom, Keys, MetaCommand, Request, Update};
 use mc_ring::Ring;
 use mc_text::{Block, Key};
 use std::alloc::{AllocError, AllocFailed, Global};
+use std::collections::VecDeque;
 
 /// A command, and the server that it goes to.
 #[derive(Debug, Drop)]
@@ -27,9 +29,9 @@ pub struct Routed {
 pub fn atoms(alloc: Global, request: &Request, ring: &Ring) -> Result<Vec<Routed>, RouteError>
     ensures { IfOk result (λ routed. routed.items ≡ route_of ring.now request.now) }
 {
-    let mut routed = Vec::with_capacity(alloc, command_count(request, ring))?;
+    let mut routed = VecDeque::with_capacity(alloc, command_count(request, ring))?;
     push_copied(&mut routed, ring, request)?;
-    Ok(routed)
+    Ok(routed.into_vec())
 }
 
 /// The same of a request that is taken apart: no key and no block is copied. Where there is no memory, the request comes
@@ -42,37 +44,48 @@ pub fn into_atoms(
     ensures ok { IfOk result (λ routed. routed.items ≡ route_of ring.now request) }
     ensures back { IfErr result (λ refused. refused.value ≡ request) }
 {
-    match Vec::with_capacity(alloc, command_count(&request, ring)) {
+    match VecDeque::with_capacity(alloc, command_count(&request, ring)) {
         Ok(mut routed) => {
             push_moved(&mut routed, ring, request);
-            Ok(routed)
+            Ok(routed.into_vec())
         }
         Err(_refused) => Err(AllocFailed { value: request }),
     }
 }
 
 /// How many commands a request has.
-#[tactic(auto, using(crate::proofs::RouteLemmas::each_steps))]
 fn command_count(request: &Request, ring: &Ring) -> usize
     ensures { result ≡ length (route_of ring.now request.now) }
 {
     match request {
         Request::Get { keys, .. } => keys.len(),
-        Request::Update { update, .. } => match update {
-            Update::FlushAll { .. } => ring.servers().len(),
-            Update::Store { .. }
-            | Update::Touch { .. }
-            | Update::Delete { .. }
-            | Update::Count { .. } => 1,
-        },
+        Request::Update { update, .. } => update_count(update, ring),
         Request::Meta { .. } => 1,
         Request::MetaNoop | Request::Version | Request::Quit => 0,
     }
 }
 
+/// How many commands an update has.
+#[tactic(auto, using(crate::proofs::RouteLemmas::each_steps))]
+pub fn update_count(update: &Update<Key, Block>, ring: &Ring) -> usize
+    ensures { result ≡ length (route_of_update ring.now update.now) }
+{
+    match update {
+        Update::FlushAll { .. } => ring.servers().len(),
+        Update::Store { .. }
+        | Update::Touch { .. }
+        | Update::Delete { .. }
+        | Update::Count { .. } => 1,
+    }
+}
+
 /// Puts the commands of a request behind others. Its keys and blocks are copied; at an error some commands may stand there.
-fn push_copied(routed: &mut Vec<Routed>, ring: &Ring, request: &Request) -> Result<(), AllocError>
-    requires { vec_len routed.old + length (route_of ring.now request.now) ≤ vec_capacity routed.old }
+fn push_copied(
+    routed: &mut VecDeque<Routed>,
+    ring: &Ring,
+    request: &Request,
+) -> Result<(), AllocError>
+    requires { deque_len routed.old + length (route_of ring.now request.now) ≤ deque_capacity routed.old }
     ensures { OnOk result (routed.new.items ≡ routed.old.items ++ route_of ring.now request.now) }
 {
     match request {
@@ -89,8 +102,8 @@ fn push_copied(routed: &mut Vec<Routed>, ring: &Ring, request: &Request) -> Resu
 }
 
 /// Puts the commands of a request behind others. Its keys and blocks are moved.
-fn push_moved(routed: &mut Vec<Routed>, ring: &Ring, request: Request)
-    requires { vec_len routed.old + length (route_of ring.now request) ≤ vec_capacity routed.old }
+fn push_moved(routed: &mut VecDeque<Routed>, ring: &Ring, request: Request)
+    requires { deque_len routed.old + length (route_of ring.now request) ≤ deque_capacity routed.old }
     ensures { routed.new.items ≡ routed.old.items ++ route_of ring.now request }
 {
     match request {
@@ -106,21 +119,27 @@ fn push_moved(routed: &mut Vec<Routed>, ring: &Ring, request: Request)
 }
 
 /// Puts a command behind others, for which there is room.
-fn push(routed: &mut Vec<Routed>, server: usize, atom: Atom<Block>)
-    requires { vec_len routed.old + 1 ≤ vec_capacity routed.old }
+fn push(routed: &mut VecDeque<Routed>, server: usize, atom: Atom<Block>)
+    requires { deque_len routed.old + 1 ≤ deque_capacity routed.old }
     ensures items { routed.new.items ≡ routed.old.items ++ to_place server atom ∷ [] }
-    ensures len { vec_len routed.new ≡ vec_len routed.old + 1 }
-    ensures room { vec_capacity routed.old ≤ vec_capacity routed.new }
+    ensures len { deque_len routed.new ≡ deque_len routed.old + 1 }
+    ensures room { deque_capacity routed.old ≤ deque_capacity routed.new }
 {
-    routed.push(Routed { server, atom }).unwrap();
+    routed.push_back_reserved(Routed { server, atom });
 }
 
 /// Puts the command on one key of a retrieval command behind others.
-fn push_get(routed: &mut Vec<Routed>, ring: &Ring, key: Key, exptime: Option<i64>, with_cas: bool)
-    requires { vec_len routed.old + 1 ≤ vec_capacity routed.old }
+fn push_get(
+    routed: &mut VecDeque<Routed>,
+    ring: &Ring,
+    key: Key,
+    exptime: Option<i64>,
+    with_cas: bool,
+)
+    requires { deque_len routed.old + 1 ≤ deque_capacity routed.old }
     ensures items { routed.new.items ≡ routed.old.items ++ route_of_gets ring.now exptime with_cas (key ∷ []) }
-    ensures len { vec_len routed.new ≡ vec_len routed.old + 1 }
-    ensures room { vec_capacity routed.old ≤ vec_capacity routed.new }
+    ensures len { deque_len routed.new ≡ deque_len routed.old + 1 }
+    ensures room { deque_capacity routed.old ≤ deque_capacity routed.new }
 {
     let server = ring.owner(&key);
     let atom = Atom::Get {
@@ -133,13 +152,13 @@ fn push_get(routed: &mut Vec<Routed>, ring: &Ring, key: Key, exptime: Option<i64
 
 /// Puts the commands of a retrieval command behind others. Its keys are copied; at an error some of them may stand there.
 fn push_copied_keys(
-    routed: &mut Vec<Routed>,
+    routed: &mut VecDeque<Routed>,
     ring: &Ring,
     keys: &Keys,
     exptime: Option<i64>,
     with_cas: bool,
 ) -> Result<(), AllocError>
-    requires { vec_len routed.old + length keys.now ≤ vec_capacity routed.old }
+    requires { deque_len routed.old + length keys.now ≤ deque_capacity routed.old }
     ensures { OnOk result (routed.new.items ≡ routed.old.items ++ route_of_gets ring.now exptime with_cas keys.now) }
 {
     for at in 0..keys.len() {
@@ -161,14 +180,14 @@ fn meta_copy_of(command: &MetaCommand<Key, Block>) -> Result<MetaCommand<Key, Bl
 }
 
 /// Puts the commands of a retrieval command behind others. Its keys are moved.
-fn push_moved_keys(
-    routed: &mut Vec<Routed>,
+pub fn push_moved_keys(
+    routed: &mut VecDeque<Routed>,
     ring: &Ring,
     keys: Keys,
     exptime: Option<i64>,
     with_cas: bool,
 )
-    requires { vec_len routed.old + length keys ≤ vec_capacity routed.old }
+    requires { deque_len routed.old + length keys ≤ deque_capacity routed.old }
     ensures { routed.new.items ≡ routed.old.items ++ route_of_gets ring.now exptime with_cas keys }
 {
     let (first, more) = keys.into_parts();
@@ -179,8 +198,8 @@ fn push_moved_keys(
 }
 
 /// Puts the command of an update behind others, to the owner of its key; a flush to each server.
-fn push_update(routed: &mut Vec<Routed>, ring: &Ring, update: Update<Key, Block>)
-    requires { vec_len routed.old + length (route_of_update ring.now update) ≤ vec_capacity routed.old }
+pub fn push_update(routed: &mut VecDeque<Routed>, ring: &Ring, update: Update<Key, Block>)
+    requires { deque_len routed.old + length (route_of_update ring.now update) ≤ deque_capacity routed.old }
     ensures { routed.new.items ≡ routed.old.items ++ route_of_update ring.now update }
 {
     let server = match &update {
@@ -195,8 +214,8 @@ fn push_update(routed: &mut Vec<Routed>, ring: &Ring, update: Update<Key, Block>
 
 /// Puts a flush for each server behind others, in the servers' order.
 #[tactic(auto, using(crate::proofs::RouteLemmas::each_steps))]
-fn push_flush(routed: &mut Vec<Routed>, ring: &Ring, delay: i64)
-    requires { vec_len routed.old + length (to_each 0 ring.now.servers (AnUpdate (FlushAll delay))) ≤ vec_capacity routed.old }
+fn push_flush(routed: &mut VecDeque<Routed>, ring: &Ring, delay: i64)
+    requires { deque_len routed.old + length (to_each 0 ring.now.servers (AnUpdate (FlushAll delay))) ≤ deque_capacity routed.old }
     ensures { routed.new.items ≡ routed.old.items ++ to_each 0 ring.now.servers (AnUpdate (FlushAll delay)) }
 {
     for server in 0..ring.servers().len() {
@@ -205,8 +224,8 @@ fn push_flush(routed: &mut Vec<Routed>, ring: &Ring, delay: i64)
 }
 
 /// Puts a meta command behind others, to the owner of its key.
-fn push_meta(routed: &mut Vec<Routed>, ring: &Ring, command: MetaCommand<Key, Block>)
-    requires { vec_len routed.old + 1 ≤ vec_capacity routed.old }
+pub fn push_meta(routed: &mut VecDeque<Routed>, ring: &Ring, command: MetaCommand<Key, Block>)
+    requires { deque_len routed.old + 1 ≤ deque_capacity routed.old }
     ensures { routed.new.items ≡ routed.old.items ++ to_owner ring.now (meta_key command) (AMeta command) ∷ [] }
 {
     let server = ring.owner_of_bytes(key_of(&command));

@@ -1,6 +1,10 @@
 use Rattle.std.proofs.Common.{sym}
 use Rattle.mc_request.specs.LinesSeen.{meaning_of}
-use Rattle.mc_request_reader.proofs.StepLemmas.{starts_by, partial_none, too_long_fault}
+use Rattle.std.specs.Prelude.{None}
+use Rattle.mc_request.specs.Meanings.{Alone}
+use Rattle.mc_request.specs.declared.parts.Request.TheVariants.{Get}
+use Rattle.mc_request.specs.declared.parts.Taken.TheVariants.{Whole}
+use Rattle.mc_request_reader.proofs.StepLemmas.{starts_by, starts_now, partial_none, too_long_fault}
 use Rattle.mc_request_reader.proofs.steps.first_asked.Goals as goal
 
 pub asked_behind-requires : goal.asked_behind-requires
@@ -12,3 +16,10 @@ returns-in-Partial c = sym (partial_none c.args.unread.now (sym c.in-Partial.ens
 
 pub returns-in-TooLong : goal.returns-in-TooLong
 returns-in-TooLong c = sym (too_long_fault c.args.unread.now (sym c.in-TooLong.ensures.line))
+
+-- a good retrieval line is taken alone
+pub returns-in-Some : goal.returns-in-Some
+returns-in-Some c =
+    let asked = Alone (Whole (Get c.in-Some.keys None c.in-Some.with_cas)) in
+    let starts = starts_by c.args.unread.now c.in-Whole.content.now c.in-Whole.taken asked (sym c.in-Whole.ensures.line) c.in-Some.ensures in
+    sym (starts_now c.args.unread.now asked c.in-Whole.taken starts)

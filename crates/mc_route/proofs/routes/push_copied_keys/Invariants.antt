@@ -1,4 +1,5 @@
-use Rattle.std.proofs.Common.{◌≡◌, ◌+◌, ◌≤◌, ◌++◌, length, drop, vec_len, vec_capacity}
+use Rattle.std.proofs.Common.{◌≡◌, ◌+◌, ◌≤◌, ◌++◌, length, drop}
+use Rattle.std.specs.VecDeque.{deque_len, deque_capacity}
 use Rattle.mc_route.specs.Routes.{route_of_gets}
 use Rattle.mc_route.proofs.routes.push_copied_keys.Given as goal
 
@@ -6,5 +7,5 @@ use Rattle.mc_route.proofs.routes.push_copied_keys.Given as goal
 abbrev pub invariant-loop-at : goal.invariant-loop-at
 invariant-loop-at l = record {
   items : l.routed.items ++ route_of_gets l.ring l.exptime l.with_cas (drop l.at l.keys) ≡ l.initial.routed.items ++ route_of_gets l.ring l.exptime l.with_cas l.keys;
-  room : vec_len l.routed + length (drop l.at l.keys) ≤ vec_capacity l.routed;
+  room : deque_len l.routed + length (drop l.at l.keys) ≤ deque_capacity l.routed;
 }

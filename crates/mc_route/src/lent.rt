@@ -1,0 +1,121 @@
+//! From a request that is lent to its servers.
+ghost use Rattle.std.specs.Prelude.{◌≡◌, ◌<◌, ◌++◌, true, length, IfOk, OnOk, OnErr};
+ghost use Rattle.std.specs.List.{list_all};
+ghost use Rattle.mc_text.specs.Keys.{is_plain_key};
+ghost use Rattle.mc_request.specs.declared.parts.Request.TheVariants.{Get, Update as UpdateRequest, Meta};
+ghost use Rattle.mc_request.specs.declared.parts.Taken.TheVariants.{Whole};
+ghost use Rattle.mc_request.specs.LinesSeen.{asked_of};
+ghost use Rattle.mc_request.specs.Parts.{update_seen, meta_said};
+ghost use Rattle.mc_request.specs.WellFormed.{is_well_formed, has_key, has_meta_key};
+ghost use Rattle.mc_route.specs.Kept.{emptied, emptied_meta, kept_of};
+ghost use Rattle.mc_route.specs.Routes.{route_of, route_of_taken};
+
+use crate::errors::RouteError;
+use crate::kept::{meta_without_block, update_without_block};
+use crate::routes::{Routed, push_meta, push_moved_keys, push_update, update_count};
+use mc_request::{Asked, MetaCommand, MetaForm, Request, Taken, Update, keys_of};
+use mc_ring::Ring;
+use mc_text::WordIter;
+use std::alloc::Global;
+use std::collections::VecDeque;
+
+/// Puts the commands of what a reader lends behind those of a queue, each with its server, and gives what stays of it for
+/// its answer: the request without its data block, or the fault, which has no command.
+///
+/// A queue that is kept and emptied from the front takes no memory for most requests. What is copied is each key, once for
+/// its command and once for the answer, the block, and the flag words of a meta command. Where there is no memory, the queue
+/// has the commands that it had.
+pub fn route(
+    alloc: Global,
+    asked: &Asked<'_>,
+    ring: &Ring,
+    routed: &mut VecDeque<Routed>,
+) -> Result<Taken, RouteError>
+    requires { is_well_formed (asked_of asked.now) ≡ true }
+    ensures routed { OnOk result (routed.new.items ≡ routed.old.items ++ route_of_taken ring.now (asked_of asked.now)) }
+    ensures kept { IfOk result (λ kept. kept ≡ kept_of (asked_of asked.now)) }
+    ensures err { OnErr result (routed.new.items ≡ routed.old.items) }
+{
+    match asked {
+        Asked::Get {
+            keys,
+            exptime,
+            with_cas,
+        } => route_keys(alloc, keys.again(), *exptime, *with_cas, ring, routed),
+        Asked::Update { update, noreply } => route_update(alloc, update, *noreply, ring, routed),
+        Asked::Meta { command, form } => route_meta(alloc, command, form, ring, routed),
+        Asked::MetaNoop => Ok(Taken::Whole(Request::MetaNoop)),
+        Asked::Version => Ok(Taken::Whole(Request::Version)),
+        Asked::Quit => Ok(Taken::Whole(Request::Quit)),
+        Asked::Faulty(fault) => Ok(Taken::Faulty(*fault)),
+    }
+}
+
+/// The same of a retrieval command, by the words that are its keys.
+fn route_keys(
+    alloc: Global,
+    words: WordIter<'_>,
+    exptime: Option<i64>,
+    with_cas: bool,
+    ring: &Ring,
+    routed: &mut VecDeque<Routed>,
+) -> Result<Taken, RouteError>
+    requires some { 0 < length words }
+    requires plain { list_all is_plain_key words ≡ true }
+    ensures routed { OnOk result (routed.new.items ≡ routed.old.items ++ route_of ring.now (Get words.entry exptime with_cas)) }
+    ensures kept { IfOk result (λ kept. kept ≡ Whole (Get words.entry exptime with_cas)) }
+    ensures err { OnErr result (routed.new.items ≡ routed.old.items) }
+{
+    let keys = keys_of(alloc, words)?;
+    let sent = keys.clone()?;
+    routed.reserve(keys.len())?;
+    push_moved_keys(routed, ring, sent, exptime, with_cas);
+    Ok(Taken::Whole(Request::Get {
+        keys,
+        exptime,
+        with_cas,
+    }))
+}
+
+/// The same of an update.
+fn route_update(
+    alloc: Global,
+    update: &Update<&[u8], &[u8]>,
+    noreply: bool,
+    ring: &Ring,
+    routed: &mut VecDeque<Routed>,
+) -> Result<Taken, RouteError>
+    requires { has_key (update_seen update.now) ≡ true }
+    ensures routed { OnOk result
+        (routed.new.items ≡ routed.old.items ++ route_of ring.now (UpdateRequest (update_seen update.now) noreply)) }
+    ensures kept { IfOk result (λ kept. kept ≡ Whole (UpdateRequest (emptied (update_seen update.now)) noreply)) }
+    ensures err { OnErr result (routed.new.items ≡ routed.old.items) }
+{
+    let sent = update.owned(alloc)?;
+    let update = update_without_block(alloc, &sent)?;
+    routed.reserve(update_count(&sent, ring))?;
+    push_update(routed, ring, sent);
+    Ok(Taken::Whole(Request::Update { update, noreply }))
+}
+
+/// The same of a meta command.
+fn route_meta(
+    alloc: Global,
+    command: &MetaCommand<&[u8], &[u8]>,
+    form: &MetaForm<WordIter<'_>>,
+    ring: &Ring,
+    routed: &mut VecDeque<Routed>,
+) -> Result<Taken, RouteError>
+    requires { has_meta_key (meta_said form.now.coded command.now) ≡ true }
+    ensures routed { OnOk result
+        (routed.new.items ≡ routed.old.items ++ route_of ring.now (Meta (meta_said form.now.coded command.now) form.now)) }
+    ensures kept { IfOk result (λ kept. kept ≡ Whole (Meta (emptied_meta (meta_said form.now.coded command.now)) form.now)) }
+    ensures err { OnErr result (routed.new.items ≡ routed.old.items) }
+{
+    let sent = command.owned(alloc, form.coded)?;
+    let command = meta_without_block(alloc, &sent)?;
+    let form = form.owned(alloc)?;
+    routed.reserve(1)?;
+    push_meta(routed, ring, sent);
+    Ok(Taken::Whole(Request::Meta { command, form }))
+}
