@@ -1,4 +1,3 @@
-pub mod SideLemmas
 pub mod StretchLemmas
 pub mod PumpLemmas
 pub mod RoundLemmas

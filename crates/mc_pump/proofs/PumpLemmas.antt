@@ -2,13 +2,13 @@
 use Rattle.std.proofs.Common.{◌≡◌, ℕ, Bool, true, false, Ok, Err, List, [], ◌++◌, Option, Some}
 use Rattle.std.specs.Io.KnownBytes.{Appends}
 use Rattle.mc_server.specs.ServerState.{ConnectionState, ServerState, connection_at}
-use Rattle.mc_pump.specs.Sides.{Carries, Brings, IsStopOfSide, UnlessFailed}
+use Rattle.mc_stream.specs.Sides.{Carries, Brings, IsStopOfSide, UnlessFailed}
 use Rattle.mc_pump.specs.Stretches.{Stretch}
 use Rattle.mc_pump.specs.Pumps.{Leaves, Pumps}
 use Rattle.mc_pump.specs.Rounds.{Receives, Sends}
-use Rattle.mc_pump.specs.declared.outcomes.Pump.{Pump}
-use Rattle.mc_pump.specs.declared.outcomes.Pump.TheVariants.{Again, Blocked, Done, Failed}
-use Rattle.mc_pump.proofs.SideLemmas.{carries_none, carried_then, carried_as, unless_failed, carries_brought, carries_sent}
+use Rattle.mc_stream.specs.declared.outcomes.Pump.{Pump}
+use Rattle.mc_stream.specs.declared.outcomes.Pump.TheVariants.{Again, Blocked, Done, Failed}
+use Rattle.mc_stream.proofs.SideLemmas.{carries_none, carried_then, carried_as, unless_failed, carries_brought, carries_sent}
 use Rattle.mc_pump.proofs.StretchLemmas.{stretch_none, stretch_then}
 
 -- nothing was done yet

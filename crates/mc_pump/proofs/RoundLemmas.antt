@@ -8,13 +8,13 @@ use Rattle.mc_server.specs.declared.turns.Turn.TheVariants.{Took, Idle, Closing}
 use Rattle.mc_server.proofs.ConnectionLemmas.{updated_own}
 use Rattle.mc_request_reader.specs.Reader.{rest_of}
 use Rattle.mc_pump.specs.Stretches.{Stretch}
-use Rattle.mc_pump.specs.Sides.{Brings, HowItWent}
+use Rattle.mc_stream.specs.Sides.{Brings, HowItWent}
 use Rattle.mc_pump.specs.Pumps.{IsOver}
 use Rattle.mc_pump.specs.Rounds.{IsSentOf, Receives, Sends, StopsAt}
 use Rattle.mc_pump.specs.declared.limits.TheConstants.{UNSENT_MARK}
 use Rattle.mc_pump.specs.declared.rounds.Stop.{Stop}
 use Rattle.mc_pump.specs.declared.rounds.Stop.TheVariants as stops
-use Rattle.mc_pump.specs.declared.outcomes.Pump.{Pump}
+use Rattle.mc_stream.specs.declared.outcomes.Pump.{Pump}
 use Rattle.mc_pump.proofs.StretchLemmas.{stretch_none, stretch_sent, stretch_open}
 
 -- an open connection

@@ -1,4 +1,3 @@
 pub mod Stretches
-pub mod Sides
 pub mod Pumps
 pub mod Rounds

@@ -3,11 +3,11 @@ use Rattle.std.specs.Prelude.{◌≡◌, ℕ, ◌<◌, ◌≤◌, Bool, true, Li
 use Rattle.std.specs.Io.KnownBytes.{Appends}
 use Rattle.mc_server.specs.ServerState.{ConnectionState, ServerState, connection_at, output_of}
 use Rattle.mc_server.specs.Turns.{waiting_of, is_closed_at}
-use Rattle.mc_pump.specs.Sides.{Brings, HowItWent}
+use Rattle.mc_stream.specs.Sides.{Brings, HowItWent}
 use Rattle.mc_pump.specs.Stretches.{Stretch}
 use Rattle.mc_pump.specs.declared.limits.TheConstants.{UNSENT_MARK}
-use Rattle.mc_pump.specs.declared.outcomes.Pump.{Pump}
-use Rattle.mc_pump.specs.declared.outcomes.Pump.TheVariants.{Again}
+use Rattle.mc_stream.specs.declared.outcomes.Pump.{Pump}
+use Rattle.mc_stream.specs.declared.outcomes.Pump.TheVariants.{Again}
 use Rattle.mc_pump.specs.declared.rounds.Stop.{Stop}
 use Rattle.mc_pump.specs.declared.rounds.Stop.TheVariants.{Idle, Closing, Marked}
 

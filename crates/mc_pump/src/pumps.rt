@@ -3,11 +3,10 @@ ghost use Rattle.std.specs.Prelude.{◌≡◌, ◌<◌, ◌^◌, None, length, I
 ghost use Rattle.mc_server.specs.ServerState.{connection_at};
 ghost use Rattle.mc_pump.specs.Pumps.{Pumps};
 
-use crate::limits::MAX_ROUNDS;
-use crate::outcomes::Pump;
 use crate::rounds::round;
 use mc_server::Server;
 use mc_store::Store;
+use mc_stream::{MAX_ROUNDS, Pump};
 use std::io::{Read, Write};
 
 /// Carries a connection's bytes between a server and the two sides of a stream that do not wait, and serves what comes

@@ -7,10 +7,9 @@ ghost use Rattle.mc_pump.specs.Pumps.{Pumps};
 ghost use Rattle.mc_pump.specs.Rounds.{Receives, Sends, StopsAt, pump_of};
 
 use crate::limits::UNSENT_MARK;
-use crate::outcomes::Pump;
-use crate::sides::{read_once, write_once};
 use mc_server::{Server, ServerError, Turn};
 use mc_store::Store;
+use mc_stream::{Pump, read_once, write_once};
 use std::io::{Read, Write};
 
 /// Why the turns of a round stopped.

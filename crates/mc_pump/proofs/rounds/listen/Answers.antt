@@ -2,12 +2,12 @@ use Rattle.std.proofs.Common.{◌≡◌, inl, rules, sym, subst, Result, Err, []
 use Rattle.mc_server.specs.ServerState.{connection_at}
 use Rattle.mc_server.specs.Turns.{waiting_of}
 use Rattle.mc_pump.specs.Pumps.{Pumps}
-use Rattle.mc_pump.specs.Sides.{Brings}
+use Rattle.mc_stream.specs.Sides.{Brings}
 use Rattle.mc_pump.specs.Rounds.{pump_of}
-use Rattle.mc_pump.specs.declared.outcomes.Pump.{Pump}
-use Rattle.mc_pump.specs.declared.outcomes.Pump.TheVariants.{Again, Blocked}
+use Rattle.mc_stream.specs.declared.outcomes.Pump.{Pump}
+use Rattle.mc_stream.specs.declared.outcomes.Pump.TheVariants.{Again, Blocked}
 use Rattle.mc_pump.proofs.PumpLemmas.{pumps_heard, pumps_unheard}
-use Rattle.mc_pump.proofs.SideLemmas.{went_false}
+use Rattle.mc_stream.proofs.SideLemmas.{went_false}
 use Rattle.mc_pump.proofs.rounds.listen.Goals as goal
 
 pub returns-in_err-moved : goal.returns-in_err-moved

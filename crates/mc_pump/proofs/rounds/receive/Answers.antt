@@ -1,10 +1,10 @@
 use Rattle.std.proofs.Common.{◌≡◌, rules, refl, sym, subst, Bool, Result, Ok, Err}
 use Rattle.mc_server.specs.ServerState.{ServerState}
 use Rattle.mc_pump.specs.Rounds.{Receives}
-use Rattle.mc_pump.specs.declared.outcomes.Pump.{Pump}
-use Rattle.mc_pump.specs.declared.outcomes.Pump.TheVariants.{Failed}
+use Rattle.mc_stream.specs.declared.outcomes.Pump.{Pump}
+use Rattle.mc_stream.specs.declared.outcomes.Pump.TheVariants.{Failed}
 use Rattle.mc_pump.proofs.StretchLemmas.{stretch_fed}
-use Rattle.mc_pump.proofs.SideLemmas.{read_stops, read_none, side_rests}
+use Rattle.mc_stream.proofs.SideLemmas.{read_stops, read_none, side_rests}
 use Rattle.mc_pump.proofs.RoundLemmas.{receives_still}
 use Rattle.mc_pump.proofs.rounds.receive.Goals as goal
 

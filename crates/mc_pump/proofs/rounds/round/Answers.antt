@@ -2,11 +2,11 @@ use Rattle.std.proofs.Common.{◌≡◌, ◌∙◌, inl, inr, rules, arith, sym,
 use Rattle.mc_server.specs.ServerState.{connection_at}
 use Rattle.mc_pump.specs.Pumps.{Pumps}
 use Rattle.mc_pump.specs.Rounds.{StopsAt, pump_of}
-use Rattle.mc_pump.specs.declared.outcomes.Pump.{Pump}
-use Rattle.mc_pump.specs.declared.outcomes.Pump.TheVariants.{Again, Blocked, Done}
+use Rattle.mc_stream.specs.declared.outcomes.Pump.{Pump}
+use Rattle.mc_stream.specs.declared.outcomes.Pump.TheVariants.{Again, Blocked, Done}
 use Rattle.mc_pump.specs.declared.rounds.Stop.TheVariants.{Idle, Closing}
 use Rattle.mc_pump.proofs.PumpLemmas.{pumps_then, pumps_turns, pumps_unsent, stopped}
-use Rattle.mc_pump.proofs.SideLemmas.{went_false}
+use Rattle.mc_stream.proofs.SideLemmas.{went_false}
 use Rattle.mc_pump.proofs.RoundLemmas.{stays_open, over, blocked, no_length}
 use Rattle.mc_pump.proofs.rounds.round.Goals as goal
 

@@ -1,7 +1,7 @@
 use Rattle.std.proofs.Common.{◌≡◌, rules, refl, sym, subst, Bool, false, Result, Ok, Err}
 use Rattle.mc_pump.specs.Rounds.{Sends}
-use Rattle.mc_pump.specs.declared.outcomes.Pump.{Pump}
-use Rattle.mc_pump.proofs.SideLemmas.{write_stops, wrote_none}
+use Rattle.mc_stream.specs.declared.outcomes.Pump.{Pump}
+use Rattle.mc_stream.proofs.SideLemmas.{write_stops, wrote_none}
 use Rattle.mc_pump.proofs.RoundLemmas.{sends_still, sends_some}
 use Rattle.mc_pump.proofs.rounds.send.Goals as goal
 

@@ -1,5 +1,5 @@
-use Rattle.mc_pump.proofs.SideLemmas.{writes_nothing}
-use Rattle.mc_pump.proofs.sides.write_once.Goals as goal
+use Rattle.mc_stream.proofs.SideLemmas.{writes_nothing}
+use Rattle.mc_stream.proofs.sides.write_once.Goals as goal
 
 pub returns-in-Err : goal.returns-in-Err
 returns-in-Err g c = writes_nothing c.moved_nothing.result _ _ _ c.moved_nothing.ensures c.in-Err.ensures.bytes

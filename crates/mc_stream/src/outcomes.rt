@@ -1,6 +1,6 @@
 //! How a pump ends.
 
-/// How a pump left a connection.
+/// How a pump left a stream, and what stands behind it.
 #[derive(Clone, Copy, Debug, PartialEq, Eq)]
 pub enum Pump {
     /// Its rounds are used up, or a call of the system was interrupted: it may go on at once.
@@ -9,7 +9,6 @@ pub enum Pump {
     Blocked,
     /// The input has ended, or is read no further, and all that came whole is answered and sent.
     Done,
-    /// The stream failed or took nothing, a call was refused memory, or no such connection is open. The caller closes the
-    /// connection.
+    /// The stream failed or took nothing, a call was refused memory, or nothing stands behind the stream. The caller closes it.
     Failed,
 }

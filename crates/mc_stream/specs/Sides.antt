@@ -2,8 +2,8 @@
 -- this project's own; `Consumes`, `Appends` and `Keeps` are std's.
 use Rattle.std.specs.Prelude.{◌≡◌, ℕ, ◌≤◌, ◌⊎◌, Bool, true, false, List, length, take, Option, Some, None, Result, Ok, Err}
 use Rattle.std.specs.Io.KnownBytes.{Appends, Consumes, Keeps}
-use Rattle.mc_pump.specs.declared.outcomes.Pump.{Pump}
-use Rattle.mc_pump.specs.declared.outcomes.Pump.TheVariants.{Again, Blocked, Done, Failed}
+use Rattle.mc_stream.specs.declared.outcomes.Pump.{Pump}
+use Rattle.mc_stream.specs.declared.outcomes.Pump.TheVariants.{Again, Blocked, Done, Failed}
 
 -- bytes that came are all that the reader had, where that is known
 abbrev pub IsAll : Option (List ℕ) → List ℕ → Type 0

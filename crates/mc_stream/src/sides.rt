@@ -1,6 +1,6 @@
 //! The two sides of a stream that does not wait: one write, one read. Nothing here knows what is behind the stream.
 ghost use Rattle.std.specs.Prelude.{◌≡◌, ◌<◌, false, length};
-ghost use Rattle.mc_pump.specs.Sides.{MovesNothing, Reads, Writes};
+ghost use Rattle.mc_stream.specs.Sides.{MovesNothing, Reads, Writes};
 
 use crate::outcomes::Pump;
 use std::io::{Error, ErrorKind, Read, Write};

@@ -3,9 +3,9 @@ use Rattle.std.proofs.Common.{◌≡◌, ◌∙◌, ◌<◌, inl, inr, ℕ, Bool
 use Rattle.std.proofs.lemmas.List.{append-nil}
 use Rattle.std.proofs.KnownBytes.{Appends-nil, Appends-trans, Consumes-nil, Consumes-trans}
 use Rattle.std.specs.Io.KnownBytes.{Appends, Consumes, Keeps, IsAtEnd}
-use Rattle.mc_pump.specs.Sides.{IsAll, Carries, CarriesUnlessFailed, Brings, HowItWent, IsStopOfSide, UnlessFailed, MovesNothing, Reads, Writes}
-use Rattle.mc_pump.specs.declared.outcomes.Pump.{Pump}
-use Rattle.mc_pump.specs.declared.outcomes.Pump.TheVariants.{Again, Blocked, Done, Failed}
+use Rattle.mc_stream.specs.Sides.{IsAll, Carries, CarriesUnlessFailed, Brings, HowItWent, IsStopOfSide, UnlessFailed, MovesNothing, Reads, Writes}
+use Rattle.mc_stream.specs.declared.outcomes.Pump.{Pump}
+use Rattle.mc_stream.specs.declared.outcomes.Pump.TheVariants.{Again, Blocked, Done, Failed}
 
 -- known bytes that are kept
 pub keeps_consumes : (a b : Option (List ℕ)) → Keeps a b → Consumes a b []
