@@ -1,6 +1,6 @@
 # `make run` proves and runs the script program on its stored script; `make serve` proves and starts the server at its
-# defaults; `make test` is the merge gate.
-.PHONY: run serve test
+# defaults, `make pool` two servers and a proxy in front of them on free ports; `make test` is the merge gate.
+.PHONY: run serve pool test
 
 ifeq ($(shell command -v rt 2> /dev/null),)
 $(error the Rattle toolchain is missing: its command `rt` is not on the PATH (`rt version` names the toolchain))
@@ -11,6 +11,11 @@ run:
 
 serve:
 	@cd crates/mc_serverd && rt run
+
+pool:
+	@cd crates/mc_serverd && rt run -- --check > /dev/null
+	@cd crates/mc_proxyd && rt run -- --check 127.0.0.1:11211 > /dev/null
+	@tests/pool.py crates/mc_proxyd/out/mc_proxyd crates/mc_serverd/out/mc_serverd
 
 test:
 	@tests/gate.sh

@@ -1,7 +1,7 @@
 #!/usr/bin/env python3
-"""Measures what a request costs a server, beside Debian's memcached with one thread.
+"""Measures what a request costs a server, beside Debian's memcached with one thread; or a proxy, beside Debian's nutcracker.
 
-Usage: serve.py SERVER [--beside MEMCACHED] [--cases NAME,NAME ..] [--seconds S] [--rounds N]
+Usage: serve.py SERVER [--through PROXY] [--beside PROGRAM] [--cases NAME,NAME ..] [--seconds S] [--rounds N]
 
 SERVER is the built mc_serverd. (memcached in its place measures memcached beside itself: all ratios are to be about 1.)
 Both servers stand filled, and are loaded in turn within one run: for each case many short rounds, each of both servers.
@@ -9,16 +9,22 @@ The load is load.c, which is built by `cc -O2` into a temporary folder: it keeps
 outstanding and looks at every reply. Where there are two processors or more, both servers have one of their own and the
 load another.
 
+With --through, PROXY (the built mc_proxyd) is measured beside nutcracker (`distribution: ketama`, `hash: md5`): both stand in
+front of the same two servers, which are SERVER's, on processors of their own where there are enough. What these servers spend
+on a request is told too, since a proxy may send them more or fewer commands.
+
 What is measured is the processor time of the server's process, by its own clock, over the requests of a round: its own
 code and the kernel's work for it. How fast the load is matters little to that. A cost is the median of all rounds. A ratio is
 that of both costs of a round, since a machine that others use is not as fast at one second as at the next; told is the
-median of all rounds, and between what the middle half of them lie. Two cases are of other things: `memory` is what a
-million items take, and `flush` how long a `flush_all` of a million items holds up the other connections.
+median of all rounds, and between what the middle half of them lie. Some cases are of other things: `memory` is what a
+million items take, or what a proxy has resident with 500 clients, and `flush` how long a `flush_all` of a million items holds
+up the other connections.
 
 It prints tables in Markdown, as they stand in RESULTS.md.
 """
 
 import argparse
+import contextlib
 import datetime
 import os
 import pathlib
@@ -34,12 +40,13 @@ from typing import NamedTuple
 HERE = pathlib.Path(__file__).resolve().parent
 sys.path.insert(0, str(HERE.parent / "tests"))
 
-from servers import Server, connected
+from servers import Proxy, Server, connected
 
 COST_OF_AN_ITEM = 64
 KEY_SIZE = 20
 WARM_UP = 0.3
 FLUSHES = 3
+SECONDS_TO_REST = 2.5
 WANTED_BYTES_AN_ITEM = 300
 
 
@@ -53,7 +60,7 @@ class Data(NamedTuple):
 class Case(NamedTuple):
     name: str
     told: str
-    wanted: float
+    wanted: float | None
     data: Data = Data()
     words: str = ""
 
@@ -73,6 +80,19 @@ CASES = [
     Case("million32", "get of 1,000,000 keys, 32 at a time", 0.35, MILLION, "pipeline=32"),
 ]
 OTHERS = ["memory", "flush"]
+CASES_OF_PROXIES = [
+    Case("get1", "get, one at a time", None),
+    Case("get32", "get, 32 at a time", None, words="pipeline=32"),
+    Case("set1", "set, one at a time", None, words="get=0 set=100"),
+    Case("set32", "set, 32 at a time", None, words="get=0 set=100 pipeline=32"),
+    Case("keys24", "get of 24 keys", None, words="many=24"),
+    Case("get500", "get of 500 connections", None, words="connections=500"),
+    Case("get10k", "get of 10,240 bytes, 10,000 keys", None, LARGE),
+    Case("set10k", "set of 10,240 bytes, 10,000 keys", None, LARGE, "get=0 set=100"),
+]
+OTHERS_OF_PROXIES = ["memory"]
+MANY_CLIENTS = 500
+SERVERS_OF_A_PROXY = 2
 
 
 class Load:
@@ -110,9 +130,14 @@ class Round(NamedTuple):
     processor: float
     user: float
     system: float
+    behind: float
 
     def cost(self):
         return self.processor / self.requests * 1e9
+
+    def cost_behind(self):
+        """What the servers behind a proxy spent on a request."""
+        return self.behind / self.requests * 1e9
 
 
 def pin(pid, processor):
@@ -123,95 +148,141 @@ def pin(pid, processor):
 
 
 def processors():
-    """A processor for the servers and one of another core for the load, or none where there is one alone."""
-    ours = sorted(os.sched_getaffinity(0), reverse=True)
-
-    def core(processor):
+    """Processors of as many cores as there are: the first is for what is measured, the second for the load, the others for
+    servers behind a proxy. There are none where there is one alone."""
+    cores = {}
+    for processor in sorted(os.sched_getaffinity(0), reverse=True):
         siblings = pathlib.Path(f"/sys/devices/system/cpu/cpu{processor}/topology/thread_siblings_list")
-        return siblings.read_text() if siblings.exists() else str(processor)
-
-    others = [processor for processor in ours if core(processor) != core(ours[0])]
-    return (ours[0], others[0]) if others else (None, None)
+        cores.setdefault(siblings.read_text() if siblings.exists() else str(processor), processor)
+    return list(cores.values()) if len(cores) > 1 else []
 
 
 class Pair:
     """Both servers, filled with the same."""
 
     def __init__(self, bench, data):
-        self.bench, self.data = bench, data
-        budget = data.keys * (KEY_SIZE + data.size + COST_OF_AN_ITEM) * 11 // 10
-        self.servers = [Server(program, budget, data.keys * 11 // 10) for program in bench.programs]
-        for server in self.servers:
-            pin(server.process.pid, bench.server_processor)
-        self.empty = [server.memory() for server in self.servers]
-        for server in self.servers:
-            self.fill(server)
+        self.bench, self.data, self.behind = bench, data, []
+        self.stack = contextlib.ExitStack()
+        with self.stack:
+            self.measured = self.start()
+            for each in self.measured:
+                pin(each.process.pid, bench.processor(0))
+            self.empty = [each.memory() for each in self.measured]
+            for each in self.measured:
+                self.fill(each)
+            self.stack = self.stack.pop_all()
 
-    def load(self, server, words):
-        return Load(self.bench.load, server, self.bench.load_processor, self.data, words)
+    def start(self):
+        return [self.server(program) for program in self.bench.programs]
 
-    def fill(self, server):
-        with self.load(server, "connections=10 pipeline=64 get=0 set=100") as load:
+    def server(self, program):
+        budget = self.data.keys * (KEY_SIZE + self.data.size + COST_OF_AN_ITEM) * 11 // 10
+        return self.stack.enter_context(Server(program, budget, self.data.keys * 11 // 10))
+
+    def load(self, each, words):
+        return Load(self.bench.load, each, self.bench.processor(1), self.data, words)
+
+    def fill(self, each):
+        with self.load(each, "connections=10 pipeline=64 get=0 set=100") as load:
             load.tell("fill")
+
+    def round(self, each, load, seconds):
+        user, system = each.user_and_system()
+        processor, behind = each.processor_time(), sum(server.processor_time() for server in self.behind)
+        requests, took = load.tell(f"run {seconds}")
+        processor = each.processor_time() - processor
+        behind = sum(server.processor_time() for server in self.behind) - behind
+        user_now, system_now = each.user_and_system()
+        return Round(requests, took, processor, user_now - user, system_now - system, behind)
+
+    def measure(self, case):
+        """The rounds of a case, of each of both; who comes first changes from round to round."""
+        rounds = [[], []]
+        with self.load(self.measured[0], case.words) as first, self.load(self.measured[1], case.words) as second:
+            loads = (first, second)
+            for each, load in zip(self.measured, loads):
+                self.round(each, load, WARM_UP)
+            for number in range(self.bench.rounds):
+                for at in (0, 1) if number % 2 == 0 else (1, 0):
+                    rounds[at].append(self.round(self.measured[at], loads[at], self.bench.seconds))
+        return rounds
 
     def __enter__(self):
         return self
 
     def __exit__(self, *_):
-        for server in self.servers:
-            server.stop()
+        self.stack.close()
+
+
+class PairOfProxies(Pair):
+    """Both proxies, in front of the same servers."""
+
+    def start(self):
+        self.behind = [self.server(self.bench.server) for _ in range(SERVERS_OF_A_PROXY)]
+        for number, server in enumerate(self.behind, 2):
+            pin(server.process.pid, self.bench.processor(number))
+        addresses = [server.address for server in self.behind]
+        return [self.stack.enter_context(Proxy(program, addresses)) for program in self.bench.programs]
 
 
 class Bench:
     """The programs that are measured, and where."""
 
     def __init__(self, asked, folder):
-        self.programs = [asked.server, asked.beside]
+        self.server, self.is_of_proxies = asked.server, asked.through is not None
+        self.programs = [asked.through or asked.server, asked.beside]
         self.seconds, self.rounds = asked.seconds, asked.rounds
-        self.server_processor, self.load_processor = processors()
+        self.processors = processors()
         self.load = str(folder / "load")
         subprocess.run(["cc", "-O2", "-o", self.load, str(HERE / "load.c"), "-lm"], check=True)
 
-    def round(self, server, load, seconds):
-        user, system = server.user_and_system()
-        processor = server.processor_time()
-        requests, took = load.tell(f"run {seconds}")
-        processor = server.processor_time() - processor
-        user_now, system_now = server.user_and_system()
-        return Round(requests, took, processor, user_now - user, system_now - system)
+    def processor(self, number):
+        """One of the processors: of those beyond the first two there may be one, which the servers then share, or none."""
+        if number < len(self.processors):
+            return self.processors[number]
+        return self.processors[2] if len(self.processors) > 2 else None
 
-    def measure(self, case, pair):
-        """The rounds of a case, of each server; who comes first changes from round to round."""
-        rounds = [[], []]
-        with pair.load(pair.servers[0], case.words) as first, pair.load(pair.servers[1], case.words) as second:
-            for server, load in zip(pair.servers, (first, second)):
-                self.round(server, load, WARM_UP)
-            for number in range(self.rounds):
-                for each in (0, 1) if number % 2 == 0 else (1, 0):
-                    rounds[each].append(self.round(pair.servers[each], (first, second)[each], self.seconds))
-        return rounds
+    def pair(self, data):
+        return (PairOfProxies if self.is_of_proxies else Pair)(self, data)
 
 
 def cost_told(rounds):
     """Nanoseconds of a request, with those of its own code and of the kernel; and how busy the server was."""
     cost = statistics.median(each.cost() for each in rounds)
     user, system = sum(each.user for each in rounds), sum(each.system for each in rounds)
-    own = cost * user / (user + system)
+    own = cost * user / (user + system or 1)
     busy = sum(each.processor for each in rounds) / sum(each.seconds for each in rounds)
     return f"{cost:,.0f} ({own:,.0f} + {cost - own:,.0f}) | {busy:.0%}"
 
 
+def behind_told(rounds):
+    return f"{statistics.median(each.cost_behind() for each in rounds):,.0f}"
+
+
 def row_of(case, rounds):
     low, ratio, high = statistics.quantiles((ours.cost() / theirs.cost() for ours, theirs in zip(*rounds)), n=4)
-    ratio = f"{ratio:.2f} ({low:.2f} to {high:.2f})"
-    return f"| {case.told} | {cost_told(rounds[0])} | {cost_told(rounds[1])} | {ratio} | {case.wanted:.2f} |"
+    told = [case.told, cost_told(rounds[0]), cost_told(rounds[1]), f"{ratio:.2f} ({low:.2f} to {high:.2f})"]
+    told.append(" | ".join(map(behind_told, rounds)) if case.wanted is None else f"{case.wanted:.2f}")
+    return f"| {' | '.join(told)} |"
 
 
 def memory_rows(pair, names):
-    for server, name, empty in zip(pair.servers, names, pair.empty):
+    for server, name, empty in zip(pair.measured, names, pair.empty):
         filled = server.memory()
         grown = (filled - empty) / pair.data.keys
         yield f"| {name} | {empty / 2**20:.1f} | {filled / 2**20:.1f} | {grown:.0f} | {WANTED_BYTES_AN_ITEM} |"
+
+
+def memory_rows_of_proxies(pair, names):
+    """What each has resident when it was started, while 500 clients load it by gets, and once they are gone."""
+    for proxy, name, empty in zip(pair.measured, names, pair.empty):
+        with pair.load(proxy, f"connections={MANY_CLIENTS} pipeline=8") as load:
+            pair.round(proxy, load, 4 * WARM_UP)
+            loaded = proxy.memory()
+        time.sleep(SECONDS_TO_REST)
+        most = max(loaded, proxy.memory("VmHWM"))
+        told = " | ".join(f"{each / 2**20:.1f}" for each in (empty, loaded, most, proxy.memory()))
+        yield f"| {name} | {told} |"
 
 
 def flush_once(server):
@@ -236,7 +307,7 @@ def flush_once(server):
 
 
 def flush_rows(pair, names):
-    for server, name in zip(pair.servers, names):
+    for server, name in zip(pair.measured, names):
         times = [flush_once(server)]
         while len(times) < FLUSHES:
             pair.fill(server)
@@ -249,9 +320,12 @@ def told_machine(bench, versions):
     models = [line for line in pathlib.Path("/proc/cpuinfo").read_text().splitlines() if line.startswith("model name")]
     model = models[0].partition(": ")[2] if models else platform.machine()
     memory = os.sysconf("SC_PHYS_PAGES") * os.sysconf("SC_PAGE_SIZE") / 2**30
-    where = "servers and load were not kept on processors"
-    if bench.server_processor is not None:
-        where = f"servers on processor {bench.server_processor}, the load on {bench.load_processor}"
+    where = "nothing was kept on a processor"
+    if bench.processors:
+        what = "proxies" if bench.is_of_proxies else "servers"
+        where = f"{what} on processor {bench.processor(0)}, the load on {bench.processor(1)}"
+        if bench.is_of_proxies:
+            where += f", the servers behind on {bench.processor(2)} and {bench.processor(3)}"
     print(f"{datetime.datetime.now():%Y-%m-%d %H:%M}, {os.cpu_count()} processors ({model}), {memory:.0f} GB, {where};")
     print(f"Linux {platform.release()}; {'; '.join(versions)}; {bench.rounds} rounds of {bench.seconds} seconds.")
     print(f"Load of the machine at the start: {os.getloadavg()[0]:.2f}.\n")
@@ -263,56 +337,85 @@ def names_of(programs):
 
 
 def version_of(program):
-    """A version, of memcached its own words, of a server what it answers."""
+    """A version: what a server answers."""
     with Server(program) as server:
         return f"{pathlib.Path(program).name} answers {server.version()}"
 
 
-def run(bench, wanted):
-    names = names_of(bench.programs)
-    told_machine(bench, [version_of(program) for program in bench.programs])
-    print(f"| Case | {names[0]}, ns (its code + kernel) | busy | {names[1]}, ns | busy | Ratio | Wanted |")
-    print("|---|---|---|---|---|---|---|")
-    others = {}
-    for data in sorted({case.data for case in CASES}, key=[Data(), LARGE, MILLION].index):
-        cases = [case for case in CASES if case.data == data and case.name in wanted]
-        asked = [name for name in OTHERS if data == MILLION and name in wanted]
-        if not cases and not asked:
-            continue
-        with Pair(bench, data) as pair:
-            if "memory" in asked:
-                others["memory"] = list(memory_rows(pair, names))
-            for case in cases:
-                print(row_of(case, bench.measure(case, pair)), flush=True)
-            if "flush" in asked:
-                others["flush"] = list(flush_rows(pair, names))
-    if "memory" in others:
+def versions(bench):
+    if not bench.is_of_proxies:
+        return [version_of(program) for program in bench.programs]
+    proxy = subprocess.run([bench.programs[1], "--version"], capture_output=True, text=True)
+    return [version_of(bench.server), *(proxy.stdout + proxy.stderr).split("\n")[:1]]
+
+
+def heads_told(bench, names):
+    first, second = names
+    if bench.is_of_proxies:
+        print(f"| Case | {first}, ns (its code + kernel) | busy | {second}, ns | busy | Ratio | servers behind {first}, ns", end="")
+        print(f" | behind {second}, ns |")
+    else:
+        print(f"| Case | {first}, ns (its code + kernel) | busy | {second}, ns | busy | Ratio | Wanted |")
+    print("|---" * (8 if bench.is_of_proxies else 7) + "|")
+
+
+def others_told(others, is_of_proxies):
+    if "memory" in others and is_of_proxies:
+        print(f"\n| {MANY_CLIENTS} clients | MB at the start | MB under load | most MB ever | MB when they are gone |")
+        print("|---|---|---|---|---|", *others["memory"], sep="\n")
+    elif "memory" in others:
         print("\n| 1,000,000 items of 20 and 100 bytes | MB when empty | MB | bytes an item | Wanted, at most |")
         print("|---|---|---|---|---|", *others["memory"], sep="\n")
     if "flush" in others:
         print("\n| flush_all of 1,000,000 items | ms to the answer of another's get | ms of its next get |")
         print("|---|---|---|", *others["flush"], sep="\n")
+
+
+def run(bench, all_cases, wanted):
+    names = names_of(bench.programs)
+    told_machine(bench, versions(bench))
+    heads_told(bench, names)
+    rows = {"memory": memory_rows_of_proxies if bench.is_of_proxies else memory_rows, "flush": flush_rows}
+    data_of = {"memory": Data() if bench.is_of_proxies else MILLION, "flush": MILLION}
+    others = {}
+    for data in (Data(), LARGE, MILLION):
+        cases = [case for case in all_cases if case.data == data and case.name in wanted]
+        asked = [name for name in wanted if data_of.get(name) == data]
+        if not cases and not asked:
+            continue
+        with bench.pair(data) as pair:
+            if "memory" in asked:
+                others["memory"] = list(rows["memory"](pair, names))
+            for case in cases:
+                print(row_of(case, pair.measure(case)), flush=True)
+            if "flush" in asked:
+                others["flush"] = list(rows["flush"](pair, names))
+    others_told(others, bench.is_of_proxies)
     print(f"\nLoad of the machine at the end: {os.getloadavg()[0]:.2f}.")
 
 
 def main():
-    names = [case.name for case in CASES] + OTHERS
     words = argparse.ArgumentParser(description=__doc__, formatter_class=argparse.RawDescriptionHelpFormatter)
     words.add_argument("server", metavar="SERVER")
-    words.add_argument("--beside", metavar="MEMCACHED", default=shutil.which("memcached"))
-    words.add_argument("--cases", default=",".join(names), help=f"of {', '.join(names)}")
+    words.add_argument("--through", metavar="PROXY")
+    words.add_argument("--beside", metavar="PROGRAM", help="memcached, or for a proxy nutcracker")
+    words.add_argument("--cases", help="the names of some, with commas; all, where none are given")
     words.add_argument("--seconds", type=float, default=0.25, help="of a round, for each server (0.25)")
     words.add_argument("--rounds", type=int, default=30, help="of a case (30)")
     asked = words.parse_args()
-    wanted = asked.cases.split(",")
+    cases, others = (CASES_OF_PROXIES, OTHERS_OF_PROXIES) if asked.through else (CASES, OTHERS)
+    names = [case.name for case in cases] + others
+    wanted = asked.cases.split(",") if asked.cases else names
     if not set(wanted) <= set(names):
         words.error(f"the cases are {', '.join(names)}")
     if asked.rounds < 2:
         words.error("a case has two rounds or more")
+    beside = "nutcracker" if asked.through else "memcached"
+    asked.beside = asked.beside or shutil.which(beside, path=os.environ["PATH"] + ":/usr/sbin")
     if asked.beside is None:
-        words.error("memcached is not installed (Debian: memcached)")
+        words.error(f"{beside} is not installed (Debian: {beside})")
     with tempfile.TemporaryDirectory() as folder:
-        run(Bench(asked, pathlib.Path(folder)), wanted)
+        run(Bench(asked, pathlib.Path(folder)), cases, wanted)
 
 
 if __name__ == "__main__":

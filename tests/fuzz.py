@@ -1,7 +1,9 @@
 #!/usr/bin/env python3
-"""Sends a server mutated requests over many connections at once, and sees that it lives and mixes nothing up.
+"""Sends a server, or a proxy in front of two, mutated requests over many connections at once, and sees that it lives and mixes
+nothing up.
 
-Usage: fuzz.py SERVER [--requests N] [--connections N] [--seed N]      (1,000,000 requests, 100 connections, seed 1)
+Usage: fuzz.py SERVER [--through PROXY] [--requests N] [--connections N] [--seed N]
+                                                               (1,000,000 requests, 100 connections, seed 1)
        fuzz.py --batch CONNECTION NUMBER [--seed N] > FILE             (the bytes of a batch that the other form sends)
 
 SERVER is the built mc_serverd (or memcached, whose lines are known too). Each connection sends batches of 1 to 79 requests
@@ -20,11 +22,14 @@ It fails, and says the connection, the batch, what was sent and what came, where
   each item, and 4 MiB for each connection (unread bytes are at most 1.1 MB, in a buffer that may be twice as large while it
   grows, and answers), and 16 MiB.
 
+What is said of the server is looked at in the proxy, where there is one; no link of it is to be lost.
+
 At the end stand what was answered how often, what was sent, and what it cost the server.
 """
 
 import argparse
 import collections
+import contextlib
 import errno
 import re
 import selectors
@@ -34,7 +39,7 @@ import sys
 import time
 
 import junk
-from servers import Server, connected, is_memcached
+from servers import Proxy, Server, connected, is_memcached
 
 # Little enough for items to be evicted all the time, and so much that what an exchange stores stays until it is asked for.
 BUDGET = 4 * 2**20
@@ -47,7 +52,7 @@ PATIENCE = 10.0  # so long an answer may take
 QUIET = 0.5  # so long without an answer: what was sent has been swallowed
 QUIET_BEHIND_FLUSHES = 2.0  # longer, since no flush may be left behind
 GREEDY_BATCHES = 1 / 2000
-GREEDY_GETS = 600
+GREEDY_GETS, GREEDY_GETS_OF_A_PROXY = 600, 20
 GREEDY_TIME = 0.5
 
 LINE = (
@@ -308,8 +313,8 @@ class Connection:
 class Fuzz:
     """All connections, and what they have in common."""
 
-    def __init__(self, server, requests, connections, seed):
-        self.server, self.seed = server, seed
+    def __init__(self, server, requests, connections, seed, greedy_gets):
+        self.server, self.seed, self.greedy_gets = server, seed, greedy_gets
         self.of_memcached = is_memcached(server.program)
         self.line = re.compile(LINE_OF_MEMCACHED if self.of_memcached else LINE)
         self.requests_each = -(-requests // connections)
@@ -327,7 +332,7 @@ class Fuzz:
         key = tag + b"greedy"
         greedy = connected(self.server.port, PATIENCE)
         greedy.sendall(b"set %s 0 60 1000000 noreply\r\n%s\r\n" % (key, tag * 200000))
-        greedy.sendall(b"get %s\r\n" % key * GREEDY_GETS)
+        greedy.sendall(b"get %s\r\n" % key * self.greedy_gets)
         self.greedy.append((time.monotonic() + GREEDY_TIME, greedy))
         self.counts["connections that read nothing"] += 1
 
@@ -387,10 +392,20 @@ class Fuzz:
         return kinds
 
 
+def start(asked, stack):
+    """What is tried, and how many gets somebody sends who reads nothing."""
+    servers = [stack.enter_context(Server(asked.server, BUDGET, ITEMS)) for _ in range(2 if asked.through else 1)]
+    if asked.through is None:
+        return servers[0], GREEDY_GETS
+    proxy = Proxy(asked.through, [server.address for server in servers])
+    return stack.enter_context(proxy), GREEDY_GETS_OF_A_PROXY
+
+
 def fuzz(asked):
-    with Server(asked.server, BUDGET, ITEMS) as server:
+    with contextlib.ExitStack() as stack:
+        server, greedy_gets = start(asked, stack)
         started = time.monotonic()
-        fuzz = Fuzz(server, asked.requests, asked.connections, asked.seed)
+        fuzz = Fuzz(server, asked.requests, asked.connections, asked.seed, greedy_gets)
         fuzz.at = fuzz.connections[0]
         try:
             fuzz.run()
@@ -407,6 +422,7 @@ def fuzz(asked):
 def main():
     words = argparse.ArgumentParser(description=__doc__, formatter_class=argparse.RawDescriptionHelpFormatter)
     words.add_argument("server", metavar="SERVER", nargs="?")
+    words.add_argument("--through", metavar="PROXY")
     words.add_argument("--requests", type=int, default=1_000_000)
     words.add_argument("--connections", type=int, default=100)
     words.add_argument("--seed", type=int, default=1)

@@ -1,54 +1,89 @@
-"""Starts the servers that scripts try: mc_serverd, or Debian's memcached where the program has that name.
+"""Starts the programs that scripts try: mc_serverd and mc_proxyd, or Debian's memcached and nutcracker where a program has that
+name.
 
-    with Server(program) as server:
-        ..server.port, server.process.pid..
+    with Server(program) as server, Proxy(proxy_program, [server.address]) as proxy:
+        ..proxy.port, server.process.pid..
 
-The port is one that was free a moment ago, on 127.0.0.1. A server takes connections from the first line of the block on,
+The port is one that was free a moment ago, on 127.0.0.1. A program takes connections from the first line of the block on,
 and is ended at the end of it.
 """
 
 import os
 import pathlib
+import random
+import resource
 import selectors
 import socket
 import subprocess
+import tempfile
 import time
 
 HOST = "127.0.0.1"
 SECONDS_TO_START = 20
+SECONDS_TO_END = 10
+EPHEMERAL = pathlib.Path("/proc/sys/net/ipv4/ip_local_port_range")
+
+POOL = """pool:
+  listen: {listen}
+  hash: md5
+  distribution: ketama
+  timeout: 5000
+  server_retry_timeout: 100
+  backlog: 1024
+  preconnect: true
+  servers:
+"""
 
 
 def free_port():
-    with socket.socket() as free:
-        free.bind((HOST, 0))
-        return free.getsockname()[1]
+    """A port that nobody listens at, and that the system gives to no connection: where a server is gone for a while, whoever
+    connects to its port again and again would else be given that port for its own side one day, and so meet itself."""
+    first_given = int(EPHEMERAL.read_text().split()[0])
+    while True:
+        port = random.randrange(first_given // 2, first_given)
+        with socket.socket() as free:
+            try:
+                free.bind((HOST, port))
+                return port
+            except OSError:
+                continue
 
 
 def is_memcached(program):
     return pathlib.Path(program).name == "memcached"
 
 
+def is_nutcracker(program):
+    return pathlib.Path(program).name == "nutcracker"
+
+
 def connected(port, timeout=10):
-    """A connection to a server of this machine that sends at once what it is given."""
+    """A connection to a program of this machine that sends at once what it is given."""
     connection = socket.create_connection((HOST, port), timeout=timeout)
     connection.setsockopt(socket.IPPROTO_TCP, socket.TCP_NODELAY, 1)
     return connection
 
 
-class Server:
-    """A server that was started, with a budget of bytes and a limit of items (memcached has its own ways with both)."""
+def limit(limits):
+    for name, most in limits:
+        resource.setrlimit(name, (most, most))
 
-    def __init__(self, program, budget=67108864, items=65536):
-        self.program = str(program)
-        self.port = free_port()
-        errors = None
-        if is_memcached(program):
-            megabytes = 64 + 2 * budget // 2**20
-            words = f"-l {HOST} -p {self.port} -U 0 -t 1 -u nobody -m {megabytes} -c 2000".split()
-            errors = subprocess.DEVNULL  # It tells of each connection that broke.
-        else:
-            words = f"--listen {HOST}:{self.port} --budget {budget} --items {items}".split()
-        self.process = subprocess.Popen([self.program, *words], stdout=subprocess.PIPE, stderr=errors)
+
+class Listener:
+    """A program that was started with these words, and listens at a port.
+
+    `limits` are kinds of resources with the most of each. Where its standard output is no pipe nobody waits for it to start.
+    """
+
+    says_where = True  # whether it prints where it listens; else it is tried
+
+    def __init__(self, program, words, port, limits=(), stdout=subprocess.PIPE, stderr=None):
+        self.program, self.port = str(program), port
+        self.address = f"{HOST}:{port}"
+        limiting = (lambda: limit(limits)) if limits else None
+        self.process = subprocess.Popen(
+            [self.program, *words], stdout=stdout, stderr=stderr, preexec_fn=limiting
+        )
         try:
             self.await_start()
         except BaseException:
@@ -56,19 +91,26 @@ class Server:
             raise
 
     def await_start(self):
-        """Waits until the server takes connections: mc_serverd says so, memcached is tried."""
-        deadline = time.monotonic() + SECONDS_TO_START
-        if not is_memcached(self.program):
+        if self.process.stdout is None:
+            return
+        if self.says_where:
             with selectors.DefaultSelector() as selector:
                 selector.register(self.process.stdout, selectors.EVENT_READ)
                 line = self.process.stdout.readline() if selector.select(SECONDS_TO_START) else b""
-            if line != f"listening {HOST}:{self.port}\n".encode():
+            if line != f"listening {self.address}\n".encode():
                 raise RuntimeError(f"{self.program}: did not say where it listens, but {line!r}")
-            return
+        else:
+            self.connected_in_time().close()
+
+    def connected(self):
+        return connected(self.port)
+
+    def connected_in_time(self):
+        """A connection to a program that may not listen yet."""
+        deadline = time.monotonic() + SECONDS_TO_START
         while self.process.poll() is None and time.monotonic() < deadline:
             try:
-                connected(self.port).close()
-                return
+                return self.connected()
             except ConnectionRefusedError:
                 time.sleep(0.02)
         raise RuntimeError(f"{self.program}: did not start")
@@ -76,7 +118,9 @@ class Server:
     def stop(self):
         self.process.kill()
         self.process.wait()
-        self.process.stdout.close()
+        for stream in (self.process.stdout, self.process.stderr):
+            if stream:
+                stream.close()
 
     def __enter__(self):
         return self
@@ -84,11 +128,9 @@ class Server:
     def __exit__(self, *_):
         self.stop()
 
-    def version(self):
-        """What it answers to `version`, with the version of its own that memcached has there."""
-        with connected(self.port) as connection:
-            connection.sendall(b"version\r\n")
-            return connection.recv(100).decode().strip()
+    def ended(self):
+        """Its status and what it wrote as errors, once it has ended by itself."""
+        return self.process.wait(SECONDS_TO_END), self.process.stderr.read()
 
     def memory(self, what="VmRSS"):
         """Bytes of memory: VmRSS is what it has resident, VmHWM the most that it ever had."""
@@ -96,6 +138,10 @@ class Server:
             if line.startswith(what + ":"):
                 return int(line.split()[1]) * 1024
         raise RuntimeError(f"{self.program}: it has ended")
+
+    def descriptors(self):
+        """How many files and sockets it has open."""
+        return len(os.listdir(f"/proc/{self.process.pid}/fd"))
 
     def processor_time(self):
         """Seconds of processor time of all its threads, to the nanosecond, by its own clock (clock_getcpuclockid)."""
@@ -106,3 +152,45 @@ class Server:
         fields = pathlib.Path(f"/proc/{self.process.pid}/stat").read_text().rpartition(")")[2].split()
         ticks = os.sysconf("SC_CLK_TCK")
         return int(fields[11]) / ticks, int(fields[12]) / ticks
+
+
+class Server(Listener):
+    """A server, with a budget of bytes and a limit of items (memcached has its own ways with both)."""
+
+    def __init__(self, program, budget=67108864, items=65536, port=None):
+        port = port or free_port()
+        self.says_where = not is_memcached(program)
+        if self.says_where:
+            words = f"--listen {HOST}:{port} --budget {budget} --items {items}".split()
+            super().__init__(program, words, port)
+        else:
+            megabytes = 64 + 2 * budget // 2**20
+            words = f"-l {HOST} -p {port} -U 0 -t 1 -u nobody -m {megabytes} -c 2000".split()
+            super().__init__(program, words, port, stderr=subprocess.DEVNULL)  # It tells of each connection that broke.
+
+    def version(self):
+        """What it answers to `version`, with the version of its own that memcached has there."""
+        with self.connected() as connection:
+            connection.sendall(b"version\r\n")
+            return connection.recv(100).decode().strip()
+
+
+class Proxy(Listener):
+    """A proxy in front of the servers of some addresses (`<host>:<port>`), all alike."""
+
+    def __init__(self, program, addresses, words=(), limits=(), **streams):
+        port = free_port()
+        self.folder = tempfile.TemporaryDirectory()
+        self.says_where = not is_nutcracker(program)
+        if self.says_where:
+            words = ["--listen", f"{HOST}:{port}", *words, *addresses]
+        else:
+            pool = pathlib.Path(self.folder.name) / "pool.yml"
+            pool.write_text(POOL.format(listen=f"{HOST}:{port}") + "".join(f"   - {each}:1\n" for each in addresses))
+            words = ["-c", str(pool), "-a", HOST, "-s", str(free_port())]
+            streams = {"stderr": subprocess.DEVNULL, **streams}
+        super().__init__(program, words, port, limits, **streams)
+
+    def stop(self):
+        super().stop()
+        self.folder.cleanup()

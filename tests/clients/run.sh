@@ -2,16 +2,17 @@
 # Tries others' clients on a server, call by call: pymemcache, pylibmc, PHP's Memcached, the programs of libmemcached, and
 # nutcracker, a proxy.
 #
-# Usage: run.sh SERVER [--beside MEMCACHED]      (SERVER is the built mc_serverd)
+# Usage: run.sh SERVER [--through PROXY] [--beside MEMCACHED]      (SERVER is the built mc_serverd, PROXY mc_proxyd)
 #
 # Each script starts servers of its own on free ports of 127.0.0.1 and compares what each call gives with what it is to
-# give. A call that memcached answers otherwise names the line of docs/PROTOCOL.md that says so. With --beside the same
-# calls are made to Debian's memcached: there the others have to give the same, and these something else. A client that is
-# not installed is said and left out. The last line is 'N passed, M differ as documented, K failed'.
+# give. A call that memcached answers otherwise names the line of docs/PROTOCOL.md that says so. With --through the calls are
+# made to proxies in the servers' places, each in front of two servers, and are to give the same. With --beside they are made
+# to Debian's memcached as well: there the others have to give the same, and these something else. A client that is not
+# installed is said and left out. The last line is 'N passed, M differ as documented, K failed'.
 set -u
 shopt -s lastpipe
 if [ $# -eq 0 ] || ! [ -x "$1" ]; then
-    echo "usage: tests/clients/run.sh SERVER [--beside MEMCACHED]" >&2
+    echo "usage: tests/clients/run.sh SERVER [--through PROXY] [--beside MEMCACHED]" >&2
     exit 2
 fi
 here=$(cd "$(dirname "$0")" && pwd)

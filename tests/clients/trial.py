@@ -6,17 +6,19 @@ of the line of docs/PROTOCOL.md that says so ("Where we differ from memcached 1.
 asked for, so a later one finds what an earlier one left.
 
 `main` plays the generator to two servers that it starts, and to two of memcached where `--beside` names it. Then each call
-without such a piece has to give the same there, and each with one has to give something else.
+without such a piece has to give the same there, and each with one has to give something else. Where `--through` names a proxy, the
+calls are given two of it in the servers' places, each in front of two servers: they are to give the same.
 """
 
 import argparse
+import contextlib
 import pathlib
 import sys
 from typing import Any, Callable, NamedTuple
 
 sys.path.insert(0, str(pathlib.Path(__file__).resolve().parent.parent))
 
-from servers import Server
+from servers import Proxy, Server
 
 PROTOCOL = pathlib.Path(__file__).resolve().parent.parent.parent / "docs" / "PROTOCOL.md"
 SECTION = "## Where we differ from memcached 1.6"
@@ -100,18 +102,26 @@ def shortened(value, most=100):
     return text if len(text) <= most else f"{text[:most]}.. ({len(text)} characters)"
 
 
-def gave(calls, program):
-    """Plays the calls to two servers: each call with what it gave."""
-    with Server(program) as first, Server(program) as second:
-        return [(call, call.outcome()) for call in (Call(*row) for row in calls(first, second))]
+def gave(calls, program, proxy=None):
+    """Plays the calls to two servers, or to two proxies in front of two each: each call with what it gave."""
+    with contextlib.ExitStack() as stack:
+
+        def server():
+            return stack.enter_context(Server(program))
+
+        def place():
+            return stack.enter_context(Proxy(proxy, [server().address, server().address])) if proxy else server()
+
+        return [(call, call.outcome()) for call in (Call(*row) for row in calls(place(), place()))]
 
 
 def main(usage, calls):
     words = argparse.ArgumentParser(description=usage, formatter_class=argparse.RawDescriptionHelpFormatter)
     words.add_argument("server", metavar="SERVER", help="the program mc_serverd")
     words.add_argument("--beside", metavar="MEMCACHED", help="the program memcached, to which the same calls are made")
+    words.add_argument("--through", metavar="PROXY", help="the program mc_proxyd, to which the calls are made in front of servers")
     asked = words.parse_args()
-    ours = gave(calls, asked.server)
+    ours = gave(calls, asked.server, asked.through)
     theirs = gave(calls, asked.beside) if asked.beside else []
     if asked.beside and [call.name for call, _ in ours] != [call.name for call, _ in theirs]:
         raise SystemExit("memcached was not asked the same")

@@ -5,6 +5,7 @@ use Rattle.std.proofs.lemmas.Bool.{cases_Bool, cases_lt, eqb-true}
 use Rattle.std.proofs.lemmas.List.{drop-append-le, get_or_past, length-append, map-append, set_past, take-append-le}
 use Rattle.mc_request.specs.Atoms.{head_of}
 use Rattle.mc_request.specs.declared.parts.Atom.{Atom}
+use Rattle.mc_route.specs.Routes.{route_of_taken}
 use Rattle.mc_route.specs.declared.outcomes.Outcome.{Outcome}
 use Rattle.mc_route.specs.declared.outcomes.Outcome.TheVariants.{Awaited, Lost, Reply}
 use Rattle.mc_route.specs.declared.routes.Routed.{Routed}
@@ -13,7 +14,7 @@ use Rattle.mc_spelling.specs.Spellings.{spelling_of_atom}
 use Rattle.mc_link.specs.LinkState.{LinkState, Waiting, down_link, sent}
 use Rattle.mc_link.specs.declared.turns.Tag.{Tag}
 use Rattle.mc_session.specs.Emits.{is_told}
-use Rattle.mc_session.specs.Sending.{at_once, handed, handed_to, routed, tag_of}
+use Rattle.mc_session.specs.Sending.{at_once, handed, handed_to, tag_of}
 use Rattle.mc_session.specs.SessionState.{link_at, with_link}
 use Rattle.mc_account.specs.Orders.{Entry, Order, Tagged, commands_from, commands_in, commands_to, outcomes_from, outcomes_in, outcomes_to}
 use Rattle.mc_account.specs.Lanes.{CanHave, Lane, LaneStands, LinkStands, as_waiting, spelled, told}
@@ -144,21 +145,21 @@ lane_taken place order e lane link awaited h =
 
 -- the link of a place, where a request is taken
 pub link_taken : (place session request : ℕ) (order : Order) (e : Entry) (lane : Lane) (links now : List LinkState)
-    → e.session ≡ session → e.request ≡ request → e.outcomes ≡ map (at_once links) (routed e.ring e.what)
-    → now ≡ handed session request 0 (routed e.ring e.what) links
+    → e.session ≡ session → e.request ≡ request → e.outcomes ≡ map (at_once links) (route_of_taken e.ring e.what)
+    → now ≡ handed session request 0 (route_of_taken e.ring e.what) links
     → LinkStands place order lane (link_at links place) → LinkStands place (order ++ e ∷ []) lane (link_at now place)
 link_taken place session request order e lane links now whose numbered outcomes sent_now h =
     let now_is : link_at now place ≡ received (commands_in place e) (link_at links place) =
-    ap (λ (ls : List LinkState). link_at ls place) sent_now ∙ handed_at place session request 0 (routed e.ring e.what) links
-    ∙ ap₂ (λ (s r : ℕ). received (commands_from place s r 0 (routed e.ring e.what)) (link_at links place)) (sym whose) (sym numbered) in
-    let becomes : outcomes_in place e ≡ outcomes_from place (routed e.ring e.what) (map (at_once links) (routed e.ring e.what)) =
-    ap (λ (xs : List Outcome). outcomes_from place (routed e.ring e.what) xs) outcomes in
+    ap (λ (ls : List LinkState). link_at ls place) sent_now ∙ handed_at place session request 0 (route_of_taken e.ring e.what) links
+    ∙ ap₂ (λ (s r : ℕ). received (commands_from place s r 0 (route_of_taken e.ring e.what)) (link_at links place)) (sym whose) (sym numbered) in
+    let becomes : outcomes_in place e ≡ outcomes_from place (route_of_taken e.ring e.what) (map (at_once links) (route_of_taken e.ring e.what)) =
+    ap (λ (xs : List Outcome). outcomes_from place (route_of_taken e.ring e.what) xs) outcomes in
     ⊎_elim
     (λ (up : (link_at links place).up ≡ true).
     let is : link_at now place ≡ record (link_at links place) { output = (link_at links place).output ++ spelled (commands_in place e); waiting = (link_at links place).waiting ++ as_waiting (commands_in place e) } =
     now_is ∙ received_up (commands_in place e) (link_at links place) up in
     subst (λ (l : LinkState). LinkStands place (order ++ e ∷ []) lane l) (sym is) (
-      λ _. lane_taken place order e lane (link_at links place) (becomes ∙ at_once_up place e.session e.request 0 (routed e.ring e.what) links up) (h.0 up),
+      λ _. lane_taken place order e lane (link_at links place) (becomes ∙ at_once_up place e.session e.request 0 (route_of_taken e.ring e.what) links up) (h.0 up),
       λ down. absurd (down up),
     ))
     (λ (off : (link_at links place).up ≡ false).
@@ -170,7 +171,7 @@ link_taken place session request order e lane links now whose numbered outcomes 
         nothing = (h.1 down).nothing;
         outcomes = ap (λ (xs : List Outcome). list_all is_told xs) (outcomes-push place order e)
             ∙ passes_joined is_told (outcomes_to place order) (outcomes_in place e) (h.1 down).outcomes
-            (ap (λ (xs : List Outcome). list_all is_told xs) becomes ∙ at_once_down place (routed e.ring e.what) links off);
+            (ap (λ (xs : List Outcome). list_all is_told xs) becomes ∙ at_once_down place (route_of_taken e.ring e.what) links off);
       },
     ))
     (cases_Bool (link_at links place).up)

@@ -10,6 +10,7 @@ use Rattle.mc_request.specs.declared.parts.Atom.{Atom}
 use Rattle.mc_reply.specs.CanHave.{can_have}
 use Rattle.mc_reply.specs.Spelling.{spelling_of}
 use Rattle.mc_reply.specs.declared.replies.Reply.{Reply as AReply}
+use Rattle.mc_route.specs.Routes.{route_of_taken}
 use Rattle.mc_route.specs.declared.outcomes.Outcome.{Outcome}
 use Rattle.mc_route.specs.declared.outcomes.Outcome.TheVariants.{Awaited, Reply}
 use Rattle.mc_route.specs.declared.routes.Routed.{Routed}
@@ -18,7 +19,6 @@ use Rattle.mc_link.specs.LinkState.{LinkState, Waiting, down_link, up_link}
 use Rattle.mc_link.specs.Turns.{Takes as LinkTakes}
 use Rattle.mc_link.specs.declared.turns.Tag.{Tag}
 use Rattle.mc_session.specs.Emits.{is_told}
-use Rattle.mc_session.specs.Sending.{routed}
 use Rattle.mc_session.specs.SessionState.{link_at, with_link}
 use Rattle.mc_account.specs.Orders.{Order, Tagged, IsSized, commands_to, is_settled, note, note_in, outcomes_from, outcomes_in, outcomes_to}
 use Rattle.mc_account.specs.Lanes.{CanHave, IsDown, Lane, LaneStands, LinkStands, as_waiting, fresh_lane, spelled, told}
@@ -343,7 +343,7 @@ settled_order [] sized known = refl
 settled_order (e ∷ es) sized known =
     let parts = λ (place : ℕ). passes_parts is_told (outcomes_in place e) (outcomes_to place es) (known place) in
     and_from (is_settled e) (list_all is_settled es)
-    (settled_from (routed e.ring e.what) e.outcomes (All-head IsSized e es sized) (λ place. (parts place).0))
+    (settled_from (route_of_taken e.ring e.what) e.outcomes (All-head IsSized e es sized) (λ place. (parts place).0))
     (settled_order es (All-tail IsSized e es sized) (λ place. (parts place).1))
 
 -- a link that came up just now

@@ -4,12 +4,13 @@ use Rattle.std.specs.Prelude.{All}
 use Rattle.std.specs.List.{list_all}
 use Rattle.std.proofs.lemmas.Bool.{and_from, and_parts, and_right, eq-eqb}
 use Rattle.std.proofs.lemmas.List.Elements.{All-head, All-tail}
+use Rattle.mc_route.specs.Routes.{route_of_taken}
 use Rattle.mc_route.specs.declared.outcomes.Outcome.{Outcome}
 use Rattle.mc_route.specs.declared.routes.Routed.{Routed}
 use Rattle.mc_link.specs.declared.turns.Tag.{Tag}
 use Rattle.mc_session.specs.Emits.{is_told}
 use Rattle.mc_session.specs.Noting.{with_outcome}
-use Rattle.mc_session.specs.Sending.{routed, tag_of}
+use Rattle.mc_session.specs.Sending.{tag_of}
 use Rattle.mc_account.specs.Orders.{Entry, Order, Tagged, IsSized, commands_from, commands_in, commands_to, note, note_in, outcomes_from, outcomes_in, outcomes_to, owns}
 use Rattle.mc_account.proofs.OpenSessions.{other_number}
 use Rattle.mc_account.proofs.OrderLemmas.{lengths_from, lengths_in}
@@ -97,10 +98,10 @@ noted_from tag outcome place session request own at (suc ahead) (command ∷ com
 noted_in_entry : (tag : Tag) (outcome : Outcome) (place : ℕ) (e : Entry) → IsSized e → outcomes_in place (note_in tag outcome e) ≡ renoted tag outcome (commands_in place e) (outcomes_in place e)
 noted_in_entry tag outcome place e sized =
     (elim (owns tag e) as (λ v. owns tag e ≡ v
-    → outcomes_from place (routed e.ring e.what) (if v then with_outcome tag.atom outcome e.outcomes else e.outcomes) ≡ renoted tag outcome (commands_in place e) (outcomes_in place e)) [
-      | true ↦ λ is. noted_from tag outcome place e.session e.request is 0 tag.atom (routed e.ring e.what) e.outcomes sized (omega arith)
+    → outcomes_from place (route_of_taken e.ring e.what) (if v then with_outcome tag.atom outcome e.outcomes else e.outcomes) ≡ renoted tag outcome (commands_in place e) (outcomes_in place e)) [
+      | true ↦ λ is. noted_from tag outcome place e.session e.request is 0 tag.atom (route_of_taken e.ring e.what) e.outcomes sized (omega arith)
       | false ↦ λ is. sym (renoted_absent tag outcome (commands_in place e) (outcomes_in place e)
-          (count_apart tag place e.session e.request 0 (routed e.ring e.what) is) (lengths_in place e sized))
+          (count_apart tag place e.session e.request 0 (route_of_taken e.ring e.what) is) (lengths_in place e sized))
     ]) refl
 
 -- in an order

@@ -7,12 +7,12 @@ use Rattle.std.proofs.lemmas.List.{map-append, length-append, take-append-drop}
 use Rattle.std.proofs.lemmas.List.Elements.{All-nil, All-cons, All-head, All-tail}
 use Rattle.std.proofs.lemmas.List.Folds.{list_all-append}
 use Rattle.mc_request.specs.declared.parts.Taken.{Taken}
+use Rattle.mc_route.specs.Routes.{route_of_taken}
 use Rattle.mc_route.specs.declared.outcomes.Outcome.{Outcome}
 use Rattle.mc_route.specs.declared.routes.Routed.{Routed}
 use Rattle.mc_link.specs.declared.turns.Tag.{Tag}
 use Rattle.mc_session.specs.Emits.{answer_by, is_told}
 use Rattle.mc_session.specs.Noting.{with_outcome}
-use Rattle.mc_session.specs.Sending.{routed}
 use Rattle.mc_account.specs.Orders.{Entry, Order, Tagged, AreInOrder, IsSized, answers_of, commands_from, commands_in, commands_to, entries_of, note, note_in, numbers_from, outcomes_from, outcomes_in, outcomes_to, owns}
 use Rattle.mc_account.proofs.OpenSessions.{own_number, other_number}
 
@@ -140,7 +140,7 @@ length-with_outcome (suc at) outcome (x ∷ xs) = ap suc (length-with_outcome at
 
 sized-note_in : (tag : Tag) (outcome : Outcome) (e : Entry) → IsSized e → IsSized (note_in tag outcome e)
 sized-note_in tag outcome e h =
-    (elim (owns tag e) as (λ v. length (if v then with_outcome tag.atom outcome e.outcomes else e.outcomes) ≡ length (routed e.ring e.what)) [
+    (elim (owns tag e) as (λ v. length (if v then with_outcome tag.atom outcome e.outcomes else e.outcomes) ≡ length (route_of_taken e.ring e.what)) [
       | true ↦ length-with_outcome tag.atom outcome e.outcomes ∙ h
       | false ↦ h
     ])
@@ -165,7 +165,7 @@ lengths_from place session request at (command ∷ commands) (x ∷ xs) h =
     ])
 
 pub lengths_in : (place : ℕ) (e : Entry) → IsSized e → length (commands_in place e) ≡ length (outcomes_in place e)
-lengths_in place e h = lengths_from place e.session e.request 0 (routed e.ring e.what) e.outcomes h
+lengths_in place e h = lengths_from place e.session e.request 0 (route_of_taken e.ring e.what) e.outcomes h
 
 pub lengths_to : (place : ℕ) (es : Order) → All IsSized es → length (commands_to place es) ≡ length (outcomes_to place es)
 lengths_to place [] h = refl

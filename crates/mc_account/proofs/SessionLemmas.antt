@@ -9,13 +9,15 @@ use Rattle.mc_request.specs.Requests.{requests_of}
 use Rattle.mc_request.specs.declared.parts.Taken.{Taken}
 use Rattle.mc_request.specs.declared.parts.Taken.TheVariants.{Whole, Faulty}
 use Rattle.mc_ring.specs.Rings.{RingState}
+use Rattle.mc_route.specs.Kept.{kept_of}
+use Rattle.mc_route.specs.Routes.{route_of_taken}
 use Rattle.mc_route.specs.declared.outcomes.Outcome.{Outcome}
 use Rattle.mc_route.proofs.KeptLemmas.{joined-kept}
 use Rattle.mc_link.specs.LinkState.{LinkState}
 use Rattle.mc_link.specs.declared.turns.Tag.{Tag}
 use Rattle.mc_session.specs.Emits.{answer_by, answer_of_one, emitted, emitted_from}
 use Rattle.mc_session.specs.Noting.{noted_at, noted_in, with_outcome}
-use Rattle.mc_session.specs.Sending.{at_once, kept_of, routed}
+use Rattle.mc_session.specs.Sending.{at_once}
 use Rattle.mc_session.specs.SessionState.{SessionState, Unanswered, answered, fresh_session}
 use Rattle.mc_session.specs.Turns.{IsFed, Takes}
 use Rattle.mc_account.specs.Orders.{Entry, Order, AreInOrder, entries_of, is_settled, note, note_in, numbers_from, owns, taken_of, unanswered_of}
@@ -99,11 +101,11 @@ session_fed number order text sent piece before after h fed = record {
 pub session_took : (number : ℕ) (order : Order) (text sent : List ℕ) (ring : RingState) (links now : List LinkState) (before after : SessionState) (what : Taken)
     → SessionStands number order text sent before → Takes number ring links now before after what
     → SessionStands number
-    (order ++ (record { session = number; request = before.taken; what = what; ring = ring; outcomes = map (at_once links) (routed ring what) }) ∷ []) text sent after
+    (order ++ (record { session = number; request = before.taken; what = what; ring = ring; outcomes = map (at_once links) (route_of_taken ring what) }) ∷ []) text sent after
 session_took number order text sent ring links now before after what h takes =
-    let e : Entry = record { session = number; request = before.taken; what = what; ring = ring; outcomes = map (at_once links) (routed ring what) } in
-    let mine : entries_of number (order ++ (record { session = number; request = before.taken; what = what; ring = ring; outcomes = map (at_once links) (routed ring what) }) ∷ [])
-    ≡ entries_of number order ++ (record { session = number; request = before.taken; what = what; ring = ring; outcomes = map (at_once links) (routed ring what) }) ∷ [] =
+    let e : Entry = record { session = number; request = before.taken; what = what; ring = ring; outcomes = map (at_once links) (route_of_taken ring what) } in
+    let mine : entries_of number (order ++ (record { session = number; request = before.taken; what = what; ring = ring; outcomes = map (at_once links) (route_of_taken ring what) }) ∷ [])
+    ≡ entries_of number order ++ (record { session = number; request = before.taken; what = what; ring = ring; outcomes = map (at_once links) (route_of_taken ring what) }) ∷ [] =
     entries_push_own number order e refl in
     record {
       rest = λ more.

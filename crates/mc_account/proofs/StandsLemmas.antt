@@ -7,9 +7,10 @@ use Rattle.std.proofs.lemmas.List.{append-nil, length-map}
 use Rattle.std.proofs.lemmas.List.Elements.{All-push}
 use Rattle.std.proofs.Math.Seq.{take-nil}
 use Rattle.mc_ring.specs.Rings.{RingState}
+use Rattle.mc_route.specs.Routes.{route_of_taken}
 use Rattle.mc_link.specs.LinkState.{LinkState}
 use Rattle.mc_session.specs.Emits.{IsEmit}
-use Rattle.mc_session.specs.Sending.{at_once, routed}
+use Rattle.mc_session.specs.Sending.{at_once}
 use Rattle.mc_session.specs.SessionState.{SessionState, fresh_session, link_at}
 use Rattle.mc_session.specs.Turns.{IsFed, IsTurn, IsUnchanged}
 use Rattle.mc_session.specs.declared.turns.Emit.TheVariants as emits
@@ -138,7 +139,7 @@ entry_taken {number = number} {old = old} steps = record {
   request = steps.before.taken;
   what = steps.step.0;
   ring = old.ring;
-  outcomes = map (at_once old.links) (routed old.ring steps.step.0);
+  outcomes = map (at_once old.links) (route_of_taken old.ring steps.step.0);
 }
 
 pub stands-took : (texts sent : ℕ → List ℕ) (order : Order) (lanes : ℕ → Lane) (number : ℕ) (old new : ProxyState)
@@ -146,7 +147,7 @@ pub stands-took : (texts sent : ℕ → List ℕ) (order : Order) (lanes : ℕ �
     → ProxyStands texts sent (order ++ entry_taken steps ∷ []) lanes new
 stands-took texts sent order lanes number old new h steps =
     let was = stood texts sent order lanes old number steps.before h steps.was in
-    let sized : IsSized (entry_taken steps) = length-map (routed old.ring steps.step.0) (at_once old.links) in
+    let sized : IsSized (entry_taken steps) = length-map (route_of_taken old.ring steps.step.0) (at_once old.links) in
     stepped texts texts sent sent order (order ++ entry_taken steps ∷ []) lanes number steps.before steps.after old new steps.was steps.is steps.admitted
     (session_took number order (texts number) (sent number) old.ring old.links new.links steps.before steps.after steps.step.0 was steps.step.1)
     (λ _ _. refl) (λ _ _. refl) (λ m differ. entries_push_other m order (entry_taken steps) differ)

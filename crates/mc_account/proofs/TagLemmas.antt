@@ -5,11 +5,12 @@ use Rattle.std.specs.List.{list_all}
 use Rattle.std.proofs.lemmas.Bool.{and_from, and_left, and_parts, and_right, eqb-true}
 use Rattle.std.proofs.lemmas.Bool.Decides.{nat_tests}
 use Rattle.std.proofs.lemmas.List.Elements.{All-head, All-tail}
+use Rattle.mc_route.specs.Routes.{route_of_taken}
 use Rattle.mc_route.specs.declared.outcomes.Outcome.{Outcome}
 use Rattle.mc_route.specs.declared.routes.Routed.{Routed}
 use Rattle.mc_link.specs.declared.turns.Tag.{Tag}
 use Rattle.mc_session.specs.Emits.{is_told}
-use Rattle.mc_session.specs.Sending.{routed, tag_of}
+use Rattle.mc_session.specs.Sending.{tag_of}
 use Rattle.mc_account.specs.Orders.{Entry, Order, Tagged, AreInOrder, IsSized, commands_from, commands_in, commands_to, entries_of, is_settled, numbers_from, outcomes_from, outcomes_in, outcomes_to, owns}
 use Rattle.mc_account.proofs.OpenSessions.{own_number, other_number}
 use Rattle.mc_account.proofs.OrderLemmas.{lengths_in}
@@ -101,10 +102,10 @@ count_once tag place other session request at (command ∷ commands) differ =
 pub count_in_both : (tag : Tag) (place other : ℕ) (e : Entry) → place ≢ other → count tag (commands_in place e) + count tag (commands_in other e) ≤ weight (owns tag e)
 count_in_both tag place other e differ =
     (elim (owns tag e) as (λ v. owns tag e ≡ v → count tag (commands_in place e) + count tag (commands_in other e) ≤ weight v) [
-      | true ↦ λ is. count_once tag place other e.session e.request 0 (routed e.ring e.what) differ
+      | true ↦ λ is. count_once tag place other e.session e.request 0 (route_of_taken e.ring e.what) differ
       | false ↦ λ is.
-          let mine = count_apart tag place e.session e.request 0 (routed e.ring e.what) is in
-          let others = count_apart tag other e.session e.request 0 (routed e.ring e.what) is in
+          let mine = count_apart tag place e.session e.request 0 (route_of_taken e.ring e.what) is in
+          let others = count_apart tag other e.session e.request 0 (route_of_taken e.ring e.what) is in
           omega (arith, mine, others)
     ]) refl
 
@@ -250,7 +251,7 @@ told_from place (command ∷ commands) (x ∷ xs) h =
 awaited_in : (tag : Tag) (place : ℕ) (e : Entry) → awaited tag (commands_in place e) (outcomes_in place e) ≤ weight (not (is_settled e) && owns tag e)
 awaited_in tag place e =
     (elim (is_settled e) as (λ v. is_settled e ≡ v → awaited tag (commands_in place e) (outcomes_in place e) ≤ weight (not v && owns tag e)) [
-      | true ↦ λ is. omega (arith, awaited_none tag (commands_in place e) (outcomes_in place e) (told_from place (routed e.ring e.what) e.outcomes is))
+      | true ↦ λ is. omega (arith, awaited_none tag (commands_in place e) (outcomes_in place e) (told_from place (route_of_taken e.ring e.what) e.outcomes is))
       | false ↦ λ is. omega (arith, awaited-le tag (commands_in place e) (outcomes_in place e), count_in tag place e)
     ]) refl
 

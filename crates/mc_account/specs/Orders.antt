@@ -4,12 +4,14 @@ use Rattle.std.specs.List.{list_all}
 use Rattle.mc_request.specs.declared.parts.Atom.{Atom}
 use Rattle.mc_request.specs.declared.parts.Taken.{Taken}
 use Rattle.mc_ring.specs.Rings.{RingState}
+use Rattle.mc_route.specs.Kept.{kept_of}
+use Rattle.mc_route.specs.Routes.{route_of_taken}
 use Rattle.mc_route.specs.declared.outcomes.Outcome.{Outcome}
 use Rattle.mc_route.specs.declared.routes.Routed.{Routed}
 use Rattle.mc_link.specs.declared.turns.Tag.{Tag}
 use Rattle.mc_session.specs.Emits.{answer_by, is_told}
 use Rattle.mc_session.specs.Noting.{with_outcome}
-use Rattle.mc_session.specs.Sending.{kept_of, routed, tag_of}
+use Rattle.mc_session.specs.Sending.{tag_of}
 use Rattle.mc_session.specs.SessionState.{Unanswered}
 
 -- a request or fault that was taken: of which session, its number there, what it was, the ring by which it was routed, and
@@ -54,7 +56,7 @@ commands_from place session request at (command ∷ commands) =
     else commands_from place session request (suc at) commands
 
 abbrev pub commands_in : ℕ → Entry → List Tagged
-commands_in place e = commands_from place e.session e.request 0 (routed e.ring e.what)
+commands_in place e = commands_from place e.session e.request 0 (route_of_taken e.ring e.what)
 
 -- what became of those commands
 abbrev pub outcomes_from : ℕ → List Routed → List Outcome → List Outcome
@@ -64,7 +66,7 @@ outcomes_from place (command ∷ commands) (outcome ∷ outcomes) =
     if command.server == place then outcome ∷ outcomes_from place commands outcomes else outcomes_from place commands outcomes
 
 abbrev pub outcomes_in : ℕ → Entry → List Outcome
-outcomes_in place e = outcomes_from place (routed e.ring e.what) e.outcomes
+outcomes_in place e = outcomes_from place (route_of_taken e.ring e.what) e.outcomes
 
 -- the commands of an order to the server of a place, in that order, and what became of them
 abbrev pub commands_to : ℕ → Order → List Tagged
@@ -77,7 +79,7 @@ outcomes_to place (e ∷ es) = outcomes_in place e ++ outcomes_to place es
 
 -- each command has its outcome
 abbrev pub IsSized : Entry → Type 0
-IsSized e = length e.outcomes ≡ length (routed e.ring e.what)
+IsSized e = length e.outcomes ≡ length (route_of_taken e.ring e.what)
 
 -- whether it is known of each command of an entry what became of it
 abbrev pub is_settled : Entry → Bool

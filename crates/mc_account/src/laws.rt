@@ -2,10 +2,11 @@
 ghost use Rattle.std.specs.Prelude.{◌≡◌, ◌≢◌, ◌+◌, ◌<◌, ◌≤◌, ℕ, Bool, true, false, List, [], ◌∷◌, ◌++◌, Some, None, length, map, drop, take, replicate};
 ghost use Rattle.std.specs.List.{list_all};
 ghost use Rattle.mc_ring.specs.Rings.{RingState};
+ghost use Rattle.mc_route.specs.Routes.{route_of_taken};
 ghost use Rattle.mc_route.specs.declared.outcomes.Outcome.TheVariants.{Lost, Reply};
 ghost use Rattle.mc_link.specs.LinkState.{can_come_back, down_link, up_link};
 ghost use Rattle.mc_session.specs.Emits.{IsEmit};
-ghost use Rattle.mc_session.specs.Sending.{at_once, routed};
+ghost use Rattle.mc_session.specs.Sending.{at_once};
 ghost use Rattle.mc_session.specs.SessionState.{link_at, with_link};
 ghost use Rattle.mc_session.specs.Turns.{IsFed, IsTurn};
 ghost use Rattle.mc_session.specs.declared.turns.Emit.TheVariants as emits;
@@ -50,7 +51,7 @@ pub fn taken_requests_stand()
           request = step.before.taken;
           what = step.step.0;
           ring = old.ring;
-          outcomes = map (at_once old.links) (routed old.ring step.step.0);
+          outcomes = map (at_once old.links) (route_of_taken old.ring step.step.0);
         }) ∷ []) lanes new }
 {}
 

@@ -1,5 +1,5 @@
 -- How a proxy keeps what it stands for.
-use Rattle.std.specs.Prelude.{◌≡◌, length}
+use Rattle.std.specs.Prelude.{◌≡◌, [], length}
 use Rattle.mc_proxy.specs.Places.{AreNumbered}
 use Rattle.mc_proxy.specs.declared.proxies.Proxy.TheInside.{Inside}
 
@@ -8,3 +8,5 @@ pub record IsProxy (p : Inside) : Type 0 where
   pub linked : length p.links.items ≡ length p.ring.servers
   -- the sessions stand in rising order of their numbers
   pub numbered : AreNumbered p.sessions.items p.admitted
+  -- no command is left of a turn
+  pub emptied : p.queue.items ≡ []

@@ -6,8 +6,10 @@ use crate::limits::MAX_SESSIONS;
 use crate::table::place_of;
 use mc_link::Link;
 use mc_ring::Ring;
+use mc_route::Routed;
 use mc_session::{Emit, Session, Turn};
 use std::alloc::Global;
+use std::collections::VecDeque;
 use std::marker::Model;
 
 /// A proxy over the servers of a ring. Contracts see the ring, the open sessions by their numbers, how many it has admitted,
@@ -24,6 +26,8 @@ pub struct Proxy {
     pub(crate) recent: usize,
     /// The links, by the places of their servers.
     pub(crate) links: Vec<Link>,
+    /// Where a turn's commands stand while they are sent. Between turns it is empty: what is kept is its memory.
+    pub(crate) queue: VecDeque<Routed>,
 }
 
 impl Model for Proxy {
@@ -62,6 +66,7 @@ impl Proxy {
             admitted: 0,
             recent: 0,
             links,
+            queue: VecDeque::new(alloc),
         })
     }
 
@@ -125,7 +130,8 @@ impl Proxy {
             Some(place) => {
                 self.recent = place;
                 let session = &mut self.sessions[place].1;
-                Ok(session.turn(self.alloc, number, &self.ring, self.links.as_mut_slice())?)
+                let links = self.links.as_mut_slice();
+                Ok(session.turn(self.alloc, number, &self.ring, links, &mut self.queue)?)
             }
             None => Err(ProxyError::NoSession),
         }

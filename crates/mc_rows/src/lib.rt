@@ -14,13 +14,19 @@ mod clients;
 #[cfg(test)]
 mod connections;
 #[cfg(test)]
+mod cuts;
+#[cfg(test)]
 mod links;
 #[cfg(test)]
 mod loopback;
 #[cfg(test)]
+mod marks;
+#[cfg(test)]
 mod meagre;
 #[cfg(test)]
 mod pools;
+#[cfg(test)]
+mod proxy_pumps;
 #[cfg(test)]
 mod pumps;
 #[cfg(test)]

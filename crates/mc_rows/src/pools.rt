@@ -1,4 +1,7 @@
 //! Sessions over links: dialogues of a proxy with its clients and its servers, step by step.
+//!
+//! A call that is refused memory is made again. So a dialogue goes the same way whichever allocation of it is refused, and
+//! `tests/refused.py` refuses each of them in turn.
 
 use mc_proxy::{Emit, LinkTurn, Proxy, ProxyError, Turn};
 use mc_ring::{Address, Point, Ring, RingError};
@@ -25,12 +28,16 @@ enum Step {
     Returns(usize, u64),
     /// A client goes.
     Goes(u64),
+    /// A client comes, under this number.
+    Comes(u64),
+    /// A server of this address joins at this place, and its link is up.
+    Joins(&'static [u8], usize),
 }
 
-use Step::{Asks, Goes, Hears, Loses, Returns, Sends, Tells};
+use Step::{Asks, Comes, Goes, Hears, Joins, Loses, Returns, Sends, Tells};
 
-/// `a` belongs to the second server, `abc` to the first. Both links are up, and two clients are there.
-const DIALOGUES: [&[Step]; 6] = [
+/// `a` belongs to the second server, `abc` and `b` to the first. Both links are up, and two clients are there.
+const DIALOGUES: [&[Step]; 10] = [
     // answers in the order of the keys, though the replies come in another
     &[
         Asks(0, b"get a abc\r\n"),
@@ -125,11 +132,117 @@ const DIALOGUES: [&[Step]; 6] = [
         Step::Emit(0, Emit::Idle),
         Tells(0, b"ERROR\r\n"),
     ],
+    // two clients, each answered in its own order, though replies come in another
+    &[
+        Asks(0, b"get a abc\r\nversion\r\n"),
+        Asks(1, b"get abc\r\nget a\r\n"),
+        Step::Turn(0, Turn::Took),
+        Step::Turn(1, Turn::Took),
+        Step::Turn(1, Turn::Took),
+        Step::Turn(0, Turn::Took),
+        Sends(0, b"get abc\r\nget abc\r\n"),
+        Sends(1, b"get a\r\nget a\r\n"),
+        Hears(1, b"VALUE a 0 1\r\nx\r\nEND\r\nEND\r\n", LinkTurn::Took),
+        Step::Emit(0, Emit::Idle),
+        Step::Emit(1, Emit::Idle),
+        Hears(0, b"END\r\nVALUE abc 0 1\r\ny\r\nEND\r\n", LinkTurn::Took),
+        Step::Emit(1, Emit::Done),
+        Step::Emit(0, Emit::Done),
+        Step::Emit(1, Emit::Done),
+        Step::Emit(0, Emit::Done),
+        Tells(0, b"VALUE a 0 1\r\nx\r\nEND\r\nVERSION 1.6.0\r\n"),
+        Tells(1, b"VALUE abc 0 1\r\ny\r\nEND\r\nEND\r\n"),
+    ],
+    // a client that comes later is told nothing of what another asked who is gone, and all of its own, over a loss too
+    &[
+        Asks(0, b"get abc\r\nget a\r\n"),
+        Step::Turn(0, Turn::Took),
+        Step::Turn(0, Turn::Took),
+        Goes(0),
+        Comes(2),
+        Asks(2, b"get a\r\nget abc\r\n"),
+        Step::Turn(2, Turn::Took),
+        Step::Turn(2, Turn::Took),
+        Sends(0, b"get abc\r\nget abc\r\n"),
+        Sends(1, b"get a\r\nget a\r\n"),
+        Hears(1, b"VALUE a 0 1\r\nw\r\nEND\r\n", LinkTurn::Took),
+        Loses(1, b""),
+        Hears(
+            0,
+            b"VALUE abc 0 1\r\nx\r\nEND\r\nVALUE abc 0 1\r\ny\r\nEND\r\n",
+            LinkTurn::Took,
+        ),
+        Returns(1, 2),
+        Asks(2, b"get a\r\n"),
+        Step::Turn(2, Turn::Took),
+        Sends(1, b"get a\r\n"),
+        Hears(1, b"VALUE a 0 1\r\nz\r\nEND\r\n", LinkTurn::Took),
+        Step::Emit(2, Emit::Done),
+        Step::Emit(2, Emit::Done),
+        Step::Emit(2, Emit::Done),
+        Step::Emit(2, Emit::Idle),
+        Tells(
+            2,
+            b"SERVER_ERROR link lost\r\nVALUE abc 0 1\r\ny\r\nEND\r\nVALUE a 0 1\r\nz\r\nEND\r\n",
+        ),
+        Tells(1, b""),
+    ],
+    // of a reply that was cut off nothing is told, and nothing of it stands before what comes once the link is back
+    &[
+        Asks(0, b"get a abc\r\nmg abc v q\r\n"),
+        Step::Turn(0, Turn::Took),
+        Step::Turn(0, Turn::Took),
+        Sends(0, b"get abc\r\nmg YWJj b v\r\n"),
+        Sends(1, b"get a\r\n"),
+        Hears(1, b"VALUE a 0 1\r\nx\r\nEND\r\n", LinkTurn::Took),
+        Hears(0, b"VALUE abc 0 1\r\ny", LinkTurn::Idle),
+        Loses(0, b""),
+        Step::Emit(0, Emit::Done),
+        Step::Emit(0, Emit::Done),
+        Tells(0, b"SERVER_ERROR link lost\r\nSERVER_ERROR link lost\r\n"),
+        Returns(0, 2),
+        Asks(0, b"get abc\r\n"),
+        Step::Turn(0, Turn::Took),
+        Sends(0, b"get abc\r\n"),
+        Hears(0, b"VALUE abc 0 1\r\nz\r\nEND\r\n", LinkTurn::Took),
+        Step::Emit(0, Emit::Done),
+        Tells(0, b"VALUE abc 0 1\r\nz\r\nEND\r\n"),
+    ],
+    // a server that joins is sent what it owns from then on, among it what belonged to another, and no item moves to it
+    &[
+        Asks(0, b"set b 7 0 2\r\nxy\r\nget b\r\n"),
+        Step::Turn(0, Turn::Took),
+        Step::Turn(0, Turn::Took),
+        Joins(b"127.0.0.1:11213", 2),
+        Asks(0, b"get b a\r\nms b 2 F7\r\nxy\r\nmg b v f k O1\r\n"),
+        Step::Turn(0, Turn::Took),
+        Step::Turn(0, Turn::Took),
+        Step::Turn(0, Turn::Took),
+        Sends(0, b"set b 7 0 2\r\nxy\r\nget b\r\n"),
+        Sends(1, b"get a\r\n"),
+        Sends(
+            2,
+            b"get b\r\nms Yg== 2 b T0 F7 MS\r\nxy\r\nmg Yg== b f v\r\n",
+        ),
+        Hears(2, b"END\r\nHD\r\nVA 2 f7\r\nxy\r\n", LinkTurn::Took),
+        Hears(1, b"VALUE a 0 1\r\nx\r\nEND\r\n", LinkTurn::Took),
+        Step::Emit(0, Emit::Idle),
+        Hears(0, b"STORED\r\nVALUE b 7 2\r\nxy\r\nEND\r\n", LinkTurn::Took),
+        Step::Emit(0, Emit::Done),
+        Step::Emit(0, Emit::Done),
+        Step::Emit(0, Emit::Done),
+        Step::Emit(0, Emit::Done),
+        Step::Emit(0, Emit::Done),
+        Tells(
+            0,
+            b"STORED\r\nVALUE b 7 2\r\nxy\r\nEND\r\nVALUE a 0 1\r\nx\r\nEND\r\nHD\r\nVA 2 f7 kb O1\r\nxy\r\n",
+        ),
+    ],
 ];
 
 /// Why a dialogue could not be played.
 #[derive(Debug, Drop)]
-enum Stopped {
+pub enum Stopped {
     Ring,
     Proxy(ProxyError),
 }
@@ -146,42 +259,114 @@ impl From<ProxyError> for Stopped {
     }
 }
 
-/// A proxy over two servers, with two clients, whose links are up.
-fn pool(alloc: Global) -> Result<Proxy, Stopped> {
-    let servers = [
-        Address::new(alloc, b"127.0.0.1:11211")?,
-        Address::new(alloc, b"127.0.0.1:11212")?,
-    ];
-    let points = [
-        Point {
-            point: 0x9850_0190,
-            place: 0,
-        },
-        Point {
-            point: 0xb975_c10c,
-            place: 1,
-        },
-    ];
-    let ring = Ring::of_points(alloc, &servers, &points)?;
-    let mut proxy = Proxy::new(alloc, ring)?;
-    for place in 0..2 {
-        proxy.back(place)?;
-        proxy.admit()?;
+/// The addresses of a pool's servers.
+const ADDRESSES: [&[u8]; 2] = [b"127.0.0.1:11211", b"127.0.0.1:11212"];
+
+/// A pool of one server, which owns every key.
+pub const ONE: [Point; 1] = [Point { point: 0, place: 0 }];
+
+/// A pool of two servers: the first owns `abc`, whose hash this is, and the second `a`.
+const TWO: [Point; 2] = [
+    Point {
+        point: 0x9850_0190,
+        place: 0,
+    },
+    Point {
+        point: 0xb975_c10c,
+        place: 1,
+    },
+];
+
+/// A ring of as many servers as there are points, one for each.
+fn ring(alloc: Global, points: &[Point]) -> Result<Ring, RingError> {
+    let mut servers = Vec::new(alloc);
+    for (address, _) in ADDRESSES.iter().zip(points) {
+        servers.push(Address::new(alloc, address)?)?;
     }
+    Ring::of_points(alloc, servers.as_slice(), points)
+}
+
+/// A proxy over as many servers as there are points, with two clients, whose links are up.
+pub fn pool(alloc: Global, points: &[Point]) -> Result<Proxy, Stopped> {
+    let mut proxy = Proxy::new(alloc, ring(alloc, points)?)?;
+    for place in 0..points.len() {
+        proxy.back(place)?;
+    }
+    admit(&mut proxy)?;
+    admit(&mut proxy)?;
     Ok(proxy)
 }
 
+/// A pool of two servers; where one is refused memory, another.
+fn pool_of_two(alloc: Global) -> Result<Proxy, Stopped> {
+    for _ in 0..TRIES {
+        if let Ok(proxy) = pool(alloc, &TWO) {
+            return Ok(proxy);
+        }
+    }
+    pool(alloc, &TWO)
+}
+
+/// How often a call is made again where it is refused memory.
+const TRIES: usize = 3;
+
+/// A call, which is made again where it is refused memory.
+macro_rules! again {
+    ($call:expr) => {{
+        for _ in 0..TRIES {
+            match $call {
+                Err(ProxyError::Memory) => {}
+                answer => return answer,
+            }
+        }
+        $call
+    }};
+}
+
+fn admit(proxy: &mut Proxy) -> Result<u64, ProxyError> {
+    again!(proxy.admit())
+}
+
+fn feed(proxy: &mut Proxy, session: u64, bytes: &[u8]) -> Result<(), ProxyError> {
+    again!(proxy.feed(session, bytes))
+}
+
+fn turn(proxy: &mut Proxy, session: u64) -> Result<Turn, ProxyError> {
+    again!(proxy.turn(session))
+}
+
+fn emit(proxy: &mut Proxy, session: u64) -> Result<Emit, ProxyError> {
+    again!(proxy.emit(session))
+}
+
+fn link_feed(proxy: &mut Proxy, server: usize, bytes: &[u8]) -> Result<(), ProxyError> {
+    again!(proxy.link_feed(server, bytes))
+}
+
+fn link_turn(proxy: &mut Proxy, server: usize) -> Result<LinkTurn, ProxyError> {
+    again!(proxy.link_turn(server))
+}
+
+fn join(proxy: &mut Proxy, alloc: Global, address: &[u8]) -> Result<usize, ProxyError> {
+    again!(join_once(proxy, alloc, address))
+}
+
+fn join_once(proxy: &mut Proxy, alloc: Global, address: &[u8]) -> Result<usize, ProxyError> {
+    let address = Address::new(alloc, address)?;
+    proxy.join_server(address, true)
+}
+
 /// Whether a step brings what it is to bring.
-fn goes_so(proxy: &mut Proxy, step: &Step) -> Result<bool, Stopped> {
+fn goes_so(alloc: Global, proxy: &mut Proxy, step: &Step) -> Result<bool, Stopped> {
     Ok(match step {
         Asks(session, bytes) => {
-            proxy.feed(*session, bytes)?;
+            feed(proxy, *session, bytes)?;
             true
         }
-        Step::Turn(session, turn) => proxy.turn(*session)? == *turn,
+        Step::Turn(session, wanted) => turn(proxy, *session)? == *wanted,
         Sends(server, bytes) => sends(proxy, *server, bytes),
-        Hears(server, bytes, turn) => hears(proxy, *server, bytes)? == *turn,
-        Step::Emit(session, emit) => proxy.emit(*session)? == *emit,
+        Hears(server, bytes, wanted) => hears(proxy, *server, bytes)? == *wanted,
+        Step::Emit(session, wanted) => emit(proxy, *session)? == *wanted,
         Tells(session, bytes) => tells(proxy, *session, bytes),
         Loses(server, bytes) => is_whole(proxy.lost(*server)?.as_slice(), bytes),
         Returns(server, generation) => proxy.back(*server)? == *generation,
@@ -189,6 +374,8 @@ fn goes_so(proxy: &mut Proxy, step: &Step) -> Result<bool, Stopped> {
             proxy.gone(*session)?;
             true
         }
+        Comes(session) => admit(proxy)? == *session,
+        Joins(address, place) => join(proxy, alloc, address)? == *place,
     })
 }
 
@@ -217,17 +404,17 @@ fn tells(proxy: &mut Proxy, session: u64, wanted: &[u8]) -> bool {
 fn hears(proxy: &mut Proxy, server: usize, bytes: &[u8]) -> Result<LinkTurn, ProxyError> {
     let mut last = LinkTurn::Idle;
     for byte in bytes {
-        proxy.link_feed(server, &[*byte])?;
-        last = proxy.link_turn(server)?;
+        link_feed(proxy, server, &[*byte])?;
+        last = link_turn(proxy, server)?;
     }
     Ok(last)
 }
 
 /// Whether each step of a dialogue brings what it is to bring.
 fn goes_on_so(alloc: Global, steps: &[Step]) -> Result<bool, Stopped> {
-    let mut proxy = pool(alloc)?;
+    let mut proxy = pool_of_two(alloc)?;
     for step in steps {
-        if !goes_so(&mut proxy, step)? {
+        if !goes_so(alloc, &mut proxy, step)? {
             return Ok(false);
         }
     }

@@ -29,7 +29,7 @@ const EXCHANGES: [Exchange; 2] = [
 
 /// What a call of a side of a stream does.
 #[derive(Clone, Copy)]
-enum Call {
+pub enum Call {
     /// It moves so many bytes, or fewer where there are no more.
     Moves(usize),
     Blocks,
@@ -38,7 +38,7 @@ enum Call {
 }
 
 /// What the reads do, over and over, and what the writes do.
-const SCRIPTS: [(&[Call], &[Call]); 8] = [
+pub const SCRIPTS: [(&[Call], &[Call]); 8] = [
     (&[Moves(1)], &[Moves(1)]),
     (&[Moves(2)], &[Moves(7)]),
     (&[Moves(7)], &[Moves(2)]),
@@ -54,16 +54,16 @@ const SCRIPTS: [(&[Call], &[Call]); 8] = [
 
 /// The calls of a side of a stream.
 #[derive(Clone, Copy)]
-struct Calls {
+pub struct Calls {
     script: &'static [Call],
     /// A call that does otherwise, by its number, counted from 0.
     odd: Option<(usize, Call)>,
     /// How many calls were made.
-    made: usize,
+    pub made: usize,
 }
 
 impl Calls {
-    fn new(script: &'static [Call], odd: Option<(usize, Call)>) -> Self {
+    pub fn new(script: &'static [Call], odd: Option<(usize, Call)>) -> Self {
         Calls {
             script,
             odd,
@@ -91,20 +91,33 @@ impl Calls {
 
 /// A side that gives bytes, and then the end.
 #[derive(Drop)]
-struct Source {
-    bytes: Vec<u8>,
+pub struct Source {
+    pub bytes: Vec<u8>,
     /// How many of them were given.
     given: usize,
-    calls: Calls,
+    /// Whether it blocks behind its bytes, in place of the end.
+    is_open: bool,
+    pub calls: Calls,
 }
 
 impl Source {
-    fn new(alloc: Global, bytes: &[u8], calls: Calls) -> Result<Self, AllocError> {
+    pub fn new(alloc: Global, bytes: &[u8], calls: Calls) -> Result<Self, AllocError> {
         Ok(Source {
             bytes: bytes.to_vec(alloc)?,
             given: 0,
+            is_open: false,
             calls,
         })
+    }
+
+    /// A side to which bytes are still to come.
+    pub fn open(alloc: Global, calls: Calls) -> Self {
+        Source {
+            bytes: Vec::new(alloc),
+            given: 0,
+            is_open: true,
+            calls,
+        }
     }
 }
 
@@ -112,6 +125,9 @@ impl Read for Source {
     fn read(&mut self, piece: &mut [u8]) -> io::Result<usize> {
         let most = self.calls.make()?;
         let (_, left) = self.bytes.split_at(self.given.min(self.bytes.len()));
+        if self.is_open && left.is_empty() && most > 0 {
+            return Err(ErrorKind::WouldBlock.into());
+        }
         let count = most.min(left.len()).min(piece.len());
         let (next, _) = left.split_at(count);
         piece[..count].copy_from_slice(next);
@@ -122,13 +138,13 @@ impl Read for Source {
 
 /// A side that takes bytes.
 #[derive(Drop)]
-struct Sink {
-    taken: Vec<u8>,
-    calls: Calls,
+pub struct Sink {
+    pub taken: Vec<u8>,
+    pub calls: Calls,
 }
 
 impl Sink {
-    fn new(alloc: Global, calls: Calls) -> Self {
+    pub fn new(alloc: Global, calls: Calls) -> Self {
         Sink {
             taken: Vec::new(alloc),
             calls,
@@ -150,7 +166,7 @@ impl Write for Sink {
 }
 
 /// More pumps than a connection here needs.
-const MANY: u32 = 10_000;
+pub const MANY: u32 = 10_000;
 
 /// Pumps a connection until it is done or failed, and says which.
 fn pumped(
@@ -172,14 +188,14 @@ fn pumped(
 
 /// How the calls of the two sides of a stream go.
 #[derive(Clone, Copy)]
-struct Sides {
-    reads: Calls,
-    writes: Calls,
+pub struct Sides {
+    pub reads: Calls,
+    pub writes: Calls,
 }
 
 impl Sides {
     /// The same, but for one call of one of them.
-    fn with(self, is_write: bool, number: usize, call: Call) -> Self {
+    pub fn with(self, is_write: bool, number: usize, call: Call) -> Self {
         let odd = Some((number, call));
         let Sides {
             mut reads,
@@ -267,12 +283,17 @@ fn pump_never_works(rt: HostRuntime) -> Result<(), Fail> {
     Ok(())
 }
 
-/// As many bytes of a value, with what stands before and behind it.
-fn with_value(alloc: Global, before: &[u8], behind: &[u8]) -> Result<Vec<u8>, AllocError> {
+/// A value of so many times 16 bytes, with what stands before and behind it.
+pub fn with_value(
+    alloc: Global,
+    before: &[u8],
+    sixteens: usize,
+    behind: &[u8],
+) -> Result<Vec<u8>, AllocError> {
     let mut text = Vec::new(alloc);
     text.extend_from_slice(before)?;
-    for _ in 0..50_000 {
-        text.extend_from_slice(b"0123456789")?;
+    for _ in 0..sixteens {
+        text.extend_from_slice(b"0123456789abcdef")?;
     }
     text.extend_from_slice(behind)?;
     Ok(text)
@@ -287,6 +308,7 @@ fn asking(alloc: Global, times: usize) -> Result<Source, AllocError> {
     Ok(Source {
         bytes,
         given: 0,
+        is_open: false,
         calls: Calls::new(&[Moves(7)], None),
     })
 }
@@ -297,10 +319,13 @@ fn are_repeated(bytes: &[u8], text: &[u8], times: usize) -> bool {
         && bytes.chunks(text.len().max(1)).all(|part| part == text)
 }
 
+/// 500,000 bytes.
+const SIXTEENS: usize = 31_250;
+
 /// A server that holds a value of 500,000 bytes.
 fn server_with_value(alloc: Global) -> Result<Server<MeagreStore>, Fail> {
     let mut server = new_server(alloc, WIDE)?;
-    let stored = with_value(alloc, b"set a 0 0 500000\r\n", b"\r\n")?;
+    let stored = with_value(alloc, b"set a 0 0 500000\r\n", SIXTEENS, b"\r\n")?;
     let calm = Sides {
         reads: Calls::new(&[Moves(usize::MAX)], None),
         writes: Calls::new(&[Moves(usize::MAX)], None),
@@ -326,7 +351,7 @@ fn unsent_after_a_pump(
 #[test]
 fn unsent_answers_stop_reads(rt: HostRuntime) -> Result<(), Fail> {
     let alloc = rt.alloc();
-    let answer = with_value(alloc, b"VALUE a 0 500000\r\n", b"\r\nEND\r\n")?;
+    let answer = with_value(alloc, b"VALUE a 0 500000\r\n", SIXTEENS, b"\r\nEND\r\n")?;
     let mut source = asking(alloc, 20)?;
     let mut sink = Sink::new(alloc, Calls::new(&[Blocks], None));
     let mut server = server_with_value(alloc)?;

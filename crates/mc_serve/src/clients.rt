@@ -3,11 +3,10 @@ ghost use Rattle.std.specs.Prelude.{◌<◌, ◌^◌, length};
 
 use mc_pump::{Pump, pump};
 use mc_server::Server;
+use mc_socket::{Edge, Input};
 use mc_store::Store;
 use mio::event::Event;
 use mio::net::TcpStream;
-use std::io;
-use std::io::{ErrorKind, Read};
 
 /// A client of a server that listens.
 #[derive(Drop)]
@@ -24,35 +23,6 @@ pub struct Client {
     busy: bool,
 }
 
-/// What the last event and the reads since say of a socket's input.
-#[derive(Clone, Copy, Debug, PartialEq, Eq)]
-struct Edge {
-    /// Whether all that had come is read: until the next event there is no more.
-    drained: bool,
-    /// Whether the peer has said that it will send no more, so that the end is still to be read.
-    to_the_end: bool,
-}
-
-/// The input of a socket of which events tell. A read that gives fewer bytes than were asked for has emptied it, and the
-/// next one need not ask the system.
-#[derive(Drop)]
-struct Input<'a> {
-    stream: &'a TcpStream,
-    edge: Edge,
-}
-
-impl<'a> Read for Input<'a> {
-    fn read(&mut self, piece: &mut [u8]) -> io::Result<usize> {
-        if self.edge.drained {
-            return Err(io::Error::from(ErrorKind::WouldBlock));
-        }
-        let mut stream = self.stream;
-        let count = stream.read(piece)?;
-        self.edge.drained = count < piece.len() && !self.edge.to_the_end;
-        Ok(count)
-    }
-}
-
 impl Client {
     /// A client whose connection has this number.
     pub fn new(stream: TcpStream, number: u64) -> Self {
@@ -60,10 +30,7 @@ impl Client {
             stream,
             number,
             ended: false,
-            edge: Edge {
-                drained: true,
-                to_the_end: false,
-            },
+            edge: Edge::new(),
             queued: false,
             busy: false,
         }
@@ -76,12 +43,7 @@ impl Client {
 
     /// Notes what an event says of it.
     pub fn note(&mut self, event: &Event) {
-        if event.is_readable() || event.is_read_closed() || event.is_error() {
-            self.edge.drained = false;
-        }
-        if event.is_read_closed() || event.is_error() {
-            self.edge.to_the_end = true;
-        }
+        self.edge.note(event);
     }
 
     /// Notes whether it waits in the queue of those that go on, and says whether it did.

@@ -2,9 +2,9 @@
 ghost use Rattle.std.specs.Prelude.{◌<◌, ◌^◌, vec_len};
 
 use crate::clients::Client;
-use crate::limits::{KEPT_ROOM, PIECE_LEN};
 use mc_pump::Pump;
 use mc_server::{MAX_CONNECTIONS, Server};
+use mc_socket::{KEPT_ROOM, PIECE_LEN};
 use mc_store::Store;
 use mio::event::Event;
 use mio::net::TcpStream;

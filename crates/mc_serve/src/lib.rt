@@ -8,20 +8,16 @@
 //! [`serve`] waits for its sockets, and may wait for ever; no other call does. What a socket carries, no contract says.
 #![tactic(auto)]
 
-mod binding;
 mod clients;
 mod clocks;
-mod errors;
 mod hosts;
-mod limits;
 mod options;
 mod serving;
 mod settings;
 
-pub use binding::bind;
 pub use clocks::{Seconds, SystemSeconds};
-pub use errors::ServeError;
-pub use limits::PIECE_LEN;
+pub use mc_socket::{PIECE_LEN, bind};
+pub use mc_stream::ServeError;
 pub use options::{Options, command};
 pub use serving::serve;
 pub use settings::Settings;

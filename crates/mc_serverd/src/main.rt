@@ -1,19 +1,11 @@
 //! A memcached server on a socket.
 //!
-//! The exit status is 0 where `--check` was asked for, or where as many connections as `--accept` says were served. Else
-//! it is 1 where standard output cannot be written, 2 where the words are refused (those that ask for help among them),
-//! 3 where the server cannot listen, and 4 where there was no memory to start with; standard error says why. The words
-//! are read first, then `--check` is obeyed, then it listens.
+//! The exit status is 0 where `--check` was asked for, or where as many connections as `--accept` says were served. Else it is
+//! that of [`mc_program`]. The words are read first, then `--check` is obeyed, then it listens.
 #![tactic(auto)]
 
-ghost use Rattle.std.specs.Prelude.{◌≡◌, MatchResult};
-ghost use Rattle.mc_serverd.specs.Statuses.{status_of};
-
-mod failures;
-
-use failures::Failure;
+use mc_program::{Failure, exit_status, read_words};
 use mc_serve::{Options, SystemSeconds, bind, command, serve};
-use std::env;
 use std::net::Net;
 use std::process::ExitCode;
 use std::random::RandomSource;
@@ -23,19 +15,9 @@ use std::sync::Wait;
 fn main(rt: HostRuntime) -> ExitCode {
     let served = run(&rt);
     if let Err(failure) = &served {
-        failure.tell(&rt);
+        failure.tell(&rt, "mc_serverd");
     }
     ExitCode::from(exit_status(&served))
-}
-
-/// The exit status of a run: 0 where it came to its end, and else that of its failure.
-fn exit_status(served: &Result<(), Failure>) -> u8
-    ensures { MatchResult served.now (λ _. result ≡ 0) (λ failure. result ≡ status_of failure) }
-{
-    match served {
-        Ok(()) => 0,
-        Err(failure) => failure.status(),
-    }
 }
 
 /// Reads the words, and then prints the settings or serves.
@@ -44,10 +26,11 @@ where
     R: Env + Clock + Print + Net + RandomSource + Wait + AllocGlobal,
 {
     let alloc = rt.alloc();
-    let words = env::args(rt).map_err(|error| Failure::of_words(&error))?;
-    let words: Vec<String> = words.collect(alloc)?;
+    let words = read_words(rt)?;
     let matches = command(alloc)?.try_get_matches_from(words.as_slice())?;
-    let options = Options::of(&matches).ok_or(Failure::OutOfLimits)?;
+    // The command line refuses such a number first.
+    let out_of_limits = Failure::Refused("a number is not within its limits");
+    let options = Options::of(&matches).ok_or(out_of_limits)?;
     if options.check {
         return check(rt, &options);
     }

@@ -2,11 +2,6 @@
 use Rattle.std.specs.Prelude.{ℕ, suc, ◌+◌, ◌-◌, ◌^◌, ◌&&◌, ◌||◌, ◌≡◌, ◌≤◌, nat_le, Bool, true, List, [], ◌∷◌, length, slice_index_or, All, if◌then◌else◌}
 use Rattle.std.specs.List.{list_any}
 use Rattle.mc_request.specs.declared.parts.Atom.{Atom}
-use Rattle.mc_request.specs.declared.parts.Taken.{Taken}
-use Rattle.mc_request.specs.declared.parts.Taken.TheVariants.{Whole, Faulty}
-use Rattle.mc_ring.specs.Rings.{RingState}
-use Rattle.mc_route.specs.Kept.{without_block}
-use Rattle.mc_route.specs.Routes.{route_of}
 use Rattle.mc_route.specs.declared.routes.Routed.{Routed}
 use Rattle.mc_route.specs.declared.outcomes.Outcome.{Outcome}
 use Rattle.mc_route.specs.declared.outcomes.Outcome.TheVariants.{Awaited, Lost}
@@ -15,16 +10,6 @@ use Rattle.mc_link.specs.LinkState.{LinkState, RoomyLink, down_link, sent}
 use Rattle.mc_link.specs.declared.turns.Tag.{Tag}
 use Rattle.mc_session.specs.SessionState.{SessionState, link_at, with_link}
 use Rattle.mc_session.specs.declared.limits.TheConstants.{MAX_UNANSWERED, UNSENT_MARK, LINK_MARK}
-
--- the commands of what was taken, each with the place of its server: a fault has none
-abbrev pub routed : RingState → Taken → List Routed
-routed ring (Whole request) = route_of ring request
-routed ring (Faulty fault) = []
-
--- what of it stays for its answer: all but a data block
-abbrev pub kept_of : Taken → Taken
-kept_of (Whole request) = Whole (without_block request)
-kept_of (Faulty fault) = Faulty fault
 
 -- whose a command is: the session's number, the request's in the session, and the command's in the request
 abbrev pub tag_of : ℕ → ℕ → ℕ → Tag

@@ -5,9 +5,11 @@ use Rattle.mc_request_reader.specs.Peeks.{IsFirst, HasNone}
 use Rattle.mc_request_reader.specs.Reader.{rest_of}
 use Rattle.mc_request.specs.Requests.{ends}
 use Rattle.mc_ring.specs.Rings.{RingState}
+use Rattle.mc_route.specs.Kept.{kept_of}
+use Rattle.mc_route.specs.Routes.{route_of_taken}
 use Rattle.mc_link.specs.LinkState.{LinkState}
 use Rattle.mc_session.specs.SessionState.{SessionState}
-use Rattle.mc_session.specs.Sending.{at_once, handed, is_marked, kept_of, routed}
+use Rattle.mc_session.specs.Sending.{at_once, handed, is_marked}
 use Rattle.mc_session.specs.declared.turns.Turn.{Turn}
 use Rattle.mc_session.specs.declared.turns.Turn.TheVariants.{Took, Idle, Waiting, Closing}
 
@@ -23,19 +25,19 @@ pub record IsFed (piece : List ℕ) (before after : SessionState) : Type 0 where
 pub record Takes (number : ℕ) (ring : RingState) (links now : List LinkState) (before after : SessionState) (what : Taken) : Type 0 where
   pub first : IsFirst before.reader what after.reader
   pub closed : after.reader.closed ≡ ends what
-  pub unmarked : is_marked before links (routed ring what) ≡ false
+  pub unmarked : is_marked before links (route_of_taken ring what) ≡ false
   pub output : after.output ≡ before.output
   pub taken : after.taken ≡ before.taken + 1
   pub unanswered : after.unanswered
-      ≡ before.unanswered ++ record { what = kept_of what; outcomes = map (at_once links) (routed ring what) } ∷ []
-  pub sent : now ≡ handed number before.taken 0 (routed ring what) links
+      ≡ before.unanswered ++ record { what = kept_of what; outcomes = map (at_once links) (route_of_taken ring what) } ∷ []
+  pub sent : now ≡ handed number before.taken 0 (route_of_taken ring what) links
 
 -- a mark is reached by the first request or fault of the session's rest
 pub record IsHeldUp (ring : RingState) (links : List LinkState) (session : SessionState) : Type 0 where
   pub what : Taken
   pub others : List Taken
   pub first : rest_of session.reader [] ≡ what ∷ others
-  pub marked : is_marked session links (routed ring what) ≡ true
+  pub marked : is_marked session links (route_of_taken ring what) ≡ true
 
 -- nothing changes
 abbrev pub IsUnchanged : List LinkState → List LinkState → SessionState → SessionState → Type 0

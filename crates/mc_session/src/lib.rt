@@ -2,11 +2,12 @@
 //!
 //! A [`Session`] is fed the bytes that its client sends in whatever pieces they come ([`Session::feed`]), and takes a request
 //! a turn ([`Session::turn`]): each of the request's commands goes to the link of its key's owner, under a tag that says whose
-//! it is, or is lost at once where that link is down. What became of a command is noted under its tag ([`Session::note`]). Once
-//! it is known of each command of the oldest unanswered request, its answer is put out ([`Session::emit`]), and the caller takes
-//! it out ([`Session::output`], [`Session::taken_out`]). So answers stand in the order of the requests, in whatever order
-//! replies come. [`Session::unanswered`] and [`Session::is_finished`] say how it stands, and [`Session::give_back`] gives large
-//! empty buffers back.
+//! it is, or is lost at once where that link is down. They pass through a queue that the caller keeps, empty between turns. What
+//! became of a command is noted under its tag ([`Session::note`]). Once it is known of each command of the oldest unanswered
+//! request, its answer is put out ([`Session::emit`]), and the caller takes it out ([`Session::output`],
+//! [`Session::taken_out`]). So answers stand in the order of the requests, in whatever order replies come.
+//! [`Session::unanswered`] and [`Session::is_finished`] say how it stands, and [`Session::give_back`] gives large empty buffers
+//! back.
 //!
 //! A turn waits where a mark is reached: [`MAX_UNANSWERED`], [`UNSENT_MARK`] or [`LINK_MARK`]. `specs/SessionState.antt` says
 //! what a session is, `specs/Turns.antt` what a turn does, `specs/Sending.antt` how commands are sent, `specs/Noting.antt` and

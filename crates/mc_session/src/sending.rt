@@ -1,32 +1,19 @@
 //! The commands of a request, to their links.
-ghost use Rattle.std.specs.Prelude.{◌≡◌, ◌+◌, ◌-◌, ◌<◌, ◌≤◌, ◌^◌, ℕ, true, length, map, IfOk, IfSome, OnOk};
+ghost use Rattle.std.specs.Prelude.{◌≡◌, ◌+◌, ◌-◌, ◌<◌, ◌≤◌, ◌^◌, ℕ, [], true, length, map, IfOk, IfSome, OnOk};
 ghost use Rattle.std.specs.List.{list_any};
+ghost use Rattle.std.specs.VecDeque.{deque_len, deque_capacity};
 ghost use Rattle.mc_spelling.specs.Spellings.{spelling_of_atom};
 ghost use Rattle.mc_session.specs.SessionState.{link_at, states, with_link};
-ghost use Rattle.mc_session.specs.Sending.{at_once, handed, handed_to, is_link_marked, kept_of, outcome_by, routed, roomy_at, spelled, AreRoomy, IsRoomy};
+ghost use Rattle.mc_session.specs.Sending.{at_once, handed, handed_to, is_link_marked, outcome_by, roomy_at, spelled, AreRoomy, IsRoomy};
 
 use crate::errors::SessionError;
 use crate::limits::LINK_MARK;
+use crate::unanswered::Unanswered;
 use mc_link::{Link, Tag};
-use mc_request::Taken;
-use mc_ring::Ring;
-use mc_route::{Outcome, Routed, into_atoms, without_block};
+use mc_route::{Outcome, Routed};
 use mc_spelling::spelled_len as spelled_len_of;
 use std::alloc::Global;
-
-/// The commands of what was taken, each with its server, and what of it stays for its answer. A fault has no command.
-pub fn route(alloc: Global, what: Taken, ring: &Ring) -> Result<(Vec<Routed>, Taken), SessionError>
-    ensures commands { IfOk result (λ both. both.0.items ≡ routed ring.now what) }
-    ensures kept { IfOk result (λ both. both.1 ≡ kept_of what) }
-{
-    match what {
-        Taken::Whole(request) => {
-            let kept = without_block(alloc, &request)?;
-            Ok((into_atoms(alloc, request, ring)?, Taken::Whole(kept)))
-        }
-        Taken::Faulty(fault) => Ok((Vec::new(alloc), Taken::Faulty(fault))),
-    }
-}
+use std::collections::VecDeque;
 
 /// Whether a link that one of the commands needs has as much unsent as its mark.
 pub fn is_any_marked(links: &[Link], commands: &[Routed]) -> bool
@@ -47,12 +34,28 @@ fn is_marked(links: &[Link], place: usize) -> bool
     }
 }
 
-/// What becomes of each command at once.
-pub fn at_once(
+/// Takes what memory a request needs: for what becomes of its commands at once, which is given, for its place among those that
+/// are not answered, and for its commands on their links.
+pub fn prepare(
     alloc: Global,
-    links: &[Link],
+    unanswered: &mut VecDeque<Unanswered>,
+    links: &mut [Link],
     commands: &[Routed],
 ) -> Result<Vec<Outcome>, SessionError>
+    ensures outcomes { IfOk result (λ outcomes. outcomes.items ≡ map (at_once (states links.old)) commands.now) }
+    ensures place { OnOk result (deque_len unanswered.new < deque_capacity unanswered.new) }
+    ensures roomy { OnOk result (AreRoomy links.new commands.now) }
+    ensures unchanged { states links.new ≡ states links.old }
+    ensures unanswered_kept { unanswered.new.items ≡ unanswered.old.items }
+{
+    let outcomes = at_once(alloc, links, commands)?;
+    unanswered.reserve(1)?;
+    make_room(links, commands)?;
+    Ok(outcomes)
+}
+
+/// What becomes of each command at once.
+fn at_once(alloc: Global, links: &[Link], commands: &[Routed]) -> Result<Vec<Outcome>, SessionError>
     ensures { IfOk result (λ outcomes. outcomes.items ≡ map (at_once (states links.now)) commands.now) }
 {
     let mut outcomes = Vec::with_capacity(alloc, commands.len())?;
@@ -85,7 +88,7 @@ fn is_up_at(links: &[Link], place: usize) -> bool
 }
 
 /// Makes room on the links of the commands that are up, so that the commands can be sent without memory.
-pub fn make_room(links: &mut [Link], commands: &[Routed]) -> Result<(), SessionError>
+fn make_room(links: &mut [Link], commands: &[Routed]) -> Result<(), SessionError>
     ensures roomy { OnOk result (AreRoomy links.new commands.now) }
     ensures unchanged { states links.new ≡ states links.old }
 {
@@ -126,18 +129,22 @@ fn make_room_on(
     Ok(())
 }
 
-/// Hands each command to the link of its place, in order: a link that is down drops it. It takes no memory.
-pub fn send_all(links: &mut [Link], commands: Vec<Routed>, session: u64, request: u64)
-    requires { AreRoomy links.old commands.items }
-    ensures { states links.new ≡ handed session request 0 commands.items (states links.old) }
+/// Hands each command of a queue to the link of its place, in order: a link that is down drops it. Then the queue is empty. It
+/// takes no memory.
+pub fn send_all(links: &mut [Link], queue: &mut VecDeque<Routed>, session: u64, request: u64)
+    requires { AreRoomy links.old queue.old.items }
+    ensures handed { states links.new ≡ handed session request 0 queue.old.items (states links.old) }
+    ensures emptied { queue.new.items ≡ [] }
 {
-    for (at, command) in commands.into_iter().enumerate() {
+    let mut at: usize = 0;
+    while let Some(command) = queue.pop_front() {
         let tag = Tag {
             session,
             request,
             atom: at,
         };
         hand_over(links, command, tag);
+        at += 1;
     }
 }
 

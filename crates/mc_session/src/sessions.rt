@@ -4,13 +4,13 @@ ghost use Rattle.mc_session.specs.SessionState.{states};
 
 use crate::errors::SessionError;
 use crate::limits::{MAX_UNANSWERED, UNSENT_MARK};
-use crate::sending::{at_once, is_any_marked, make_room, route, send_all};
+use crate::sending::{is_any_marked, prepare, send_all};
 use crate::turns::{Emit, Turn};
 use crate::unanswered::Unanswered;
 use mc_link::{Link, Tag};
 use mc_request_reader::{Peek, Reader};
 use mc_ring::Ring;
-use mc_route::Outcome;
+use mc_route::{Outcome, Routed, route};
 use mc_text::let_go;
 use std::alloc::Global;
 use std::collections::VecDeque;
@@ -83,38 +83,43 @@ impl Session {
     /// Takes the first request or fault that has come whole, and sends its commands, each to the link of its key's owner,
     /// under tags with the session's number.
     ///
-    /// What it may need of memory is taken before anything is. Where none waits it needs none.
+    /// What it may need of memory is taken before anything is. Where none waits it needs none. The commands go through a queue,
+    /// which the caller keeps: it is empty before and behind each turn, and has room for those of the requests so far.
     pub fn turn(
         &mut self,
         alloc: Global,
         number: u64,
         ring: &Ring,
         links: &mut [Link],
+        queue: &mut VecDeque<Routed>,
     ) -> Result<Turn, SessionError>
+        requires { queue.old.items ≡ [] }
         ensures turn { IfOk result (λ turn. IsTurn number turn ring.now (states links.old) (states links.new) self.old self.new) }
         ensures cause { OnErr result (0 < length (rest_of self.old.reader [])) }
         ensures only_memory { IsOkUnless result SessionError.Memory }
         ensures err { OnErr result (self.new ≡ self.old) }
         ensures links_kept { OnErr result (states links.new ≡ states links.old) }
+        ensures emptied { queue.new.items ≡ [] }
     {
-        let (what, front) = match self.reader.peek() {
+        let (kept, front) = match self.reader.peek() {
             Peek::Closed => return Ok(Turn::Closing),
             Peek::More => return Ok(Turn::Idle),
             Peek::First(_, _) if self.is_marked() => return Ok(Turn::Waiting),
-            Peek::First(asked, front) => (asked.taken(alloc)?, front),
+            Peek::First(asked, front) => (route(alloc, &asked, ring, queue)?, front),
         };
-        let (commands, kept) = route(alloc, what, ring)?;
-        if is_any_marked(links, commands.as_slice()) {
+        let commands = queue.make_contiguous();
+        if is_any_marked(links, commands) {
+            queue.clear();
             return Ok(Turn::Waiting);
         }
-        let outcomes = at_once(alloc, links, commands.as_slice())?;
-        self.unanswered.reserve(1)?;
-        make_room(links, commands.as_slice())?;
+        let Ok(outcomes) = prepare(alloc, &mut self.unanswered, links, commands) else {
+            queue.clear();
+            return Err(SessionError::Memory);
+        };
         self.reader.consume(front);
-        send_all(links, commands, number, self.taken);
+        send_all(links, queue, number, self.taken);
         self.unanswered
-            .push_back(Unanswered::new(kept, outcomes))
-            .unwrap();
+            .push_back_reserved(Unanswered::new(kept, outcomes));
         self.taken += 1;
         Ok(Turn::Took)
     }

@@ -1,11 +1,15 @@
-use Rattle.std.proofs.Common.{◌≡◌}
+use Rattle.std.proofs.Common.{◌≡◌, ◌+◌, length}
 use Rattle.mc_session.specs.SessionState.{states}
 use Rattle.mc_session.specs.Sending.{AreRoomy, handed}
 use Rattle.mc_session.proofs.sending.send_all.Given as goal
 
 -- the commands to come are handed behind those so far, and there is room for them
-abbrev pub invariant-loop-at : goal.invariant-loop-at
-invariant-loop-at l = record {
-  handed : handed l.session l.request l.at-iterator.count l.at-iterator.iter.rest.items (states l.links) ≡ handed l.session l.request 0 l.fn.commands.items (states l.initial.links);
-  roomy : AreRoomy l.links l.at-iterator.iter.rest.items;
+abbrev pub invariant-loop-command : goal.invariant-loop-command
+invariant-loop-command l = record {
+  handed : handed l.session l.request l.at l.queue.items (states l.links) ≡ handed l.session l.request 0 l.initial.queue.items (states l.initial.links);
+  roomy : AreRoomy l.links l.queue.items;
+  counted : l.at + length l.queue.items ≡ length l.initial.queue.items;
 }
+
+abbrev pub decreases-loop-command : goal.decreases-loop-command
+decreases-loop-command l = length l.queue.items

@@ -23,4 +23,5 @@ invariant_of-self c =
     record {
       linked = c.self.invariant.linked;
       numbered = rw c.remove.ensures.items (numbered_remove _ _ _ held.0 c.self.invariant.numbered);
+      emptied = c.self.invariant.emptied;
     }

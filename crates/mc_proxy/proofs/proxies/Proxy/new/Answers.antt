@@ -15,4 +15,5 @@ invariant_of-result c =
     record {
       linked = omega (arith, many, servers, c.loop-test.false, c.loop.auto.counter-end);
       numbered = numbered_none c.new-2.result.items 0 c.new-2.ensures.items;
+      emptied = c.new-3.ensures.items;
     }

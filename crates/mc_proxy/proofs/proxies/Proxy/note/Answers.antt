@@ -10,6 +10,7 @@ invariant_of-self c =
     record {
       linked = c.self.invariant.linked;
       numbered = numbered_update _ _ _ c.index_mut.result.now _ c.self.invariant.numbered held.0 c.index_mut.ensures.value;
+      emptied = c.self.invariant.emptied;
     }
 
 -- what stands at the place is the session of the command

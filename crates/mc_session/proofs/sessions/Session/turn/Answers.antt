@@ -1,7 +1,10 @@
-use Rattle.std.proofs.Common.{◌≡◌, ◌+◌, [], ◌∷◌, ◌++◌, map, false, sym, refl, ◌∙◌}
+use Rattle.std.proofs.Common.{◌≡◌, ◌+◌, List, false, sym, ap, refl, ◌∙◌}
 use Rattle.mc_request.specs.LinesSeen.{asked_of}
+use Rattle.mc_route.specs.Routes.{route_of_taken}
+use Rattle.mc_route.specs.declared.routes.Routed.{Routed}
+use Rattle.mc_link.specs.LinkState.{LinkState}
 use Rattle.mc_session.specs.SessionState.{SessionState, states}
-use Rattle.mc_session.specs.Sending.{at_once, handed, is_session_marked, kept_of, routed}
+use Rattle.mc_session.specs.Sending.{handed, is_session_marked}
 use Rattle.mc_session.specs.Turns.{Takes}
 use Rattle.mc_session.proofs.TurnLemmas.{any_marked, held_by_link, held_by_session, took}
 use Rattle.mc_session.specs.contracts.sessions.Session.{the_view}
@@ -22,9 +25,10 @@ returns-then-is_any_marked-clause-turn c =
     let own = the_view c.self.inside in
     let links = states c.args.links.now in
     let what = asked_of c.in-First.field-0 in
-    let commands_are = rw c.in_ok-taken-in-First-2.ensures at c.in_ok-commands.ensures.commands in
-    let marked = rw c.as_slice.ensures.value at (sym c.is_any_marked.ensures ∙ c.if-is_any_marked.true) in
-    (rw (← c.self.view_is) (held_by_link c.args.ring.now links own what c.in-First.field-1 c.in_ok-commands.commands.items seen commands_are marked), (refl, refl))
+    let commands = c.make_contiguous-commands.result.now in
+    let routed : commands ≡ route_of_taken c.args.ring.now what = c.make_contiguous-commands.ensures.value ∙ rw c.requires at c.in_ok-route-in-First-2.ensures.routed in
+    let marked = sym c.is_any_marked.ensures ∙ c.if-is_any_marked.true in
+    (rw (← c.self.view_is) (held_by_link c.args.ring.now links own what c.in-First.field-1 commands seen routed marked), (refl, refl))
 
 -- the request is taken
 pub returns-clause-turn : goal.returns-clause-turn
@@ -34,19 +38,20 @@ returns-clause-turn c =
     let links = states c.args.links.now in
     let ring = c.args.ring.now in
     let what = asked_of c.in-First.field-0 in
-    let commands = c.in_ok-commands.commands.items in
-    let kept = c.in_ok-commands.kept in
-    let outcomes = c.in_ok-outcomes.outcomes.items in
+    let commands = c.make_contiguous-commands.result.now in
     let now = states c.send_all.new.links in
-    let all = c.push_back.new.self.items in
+    let all = c.push_back_reserved.new.self.items in
     let after : SessionState = record { reader = c.consume.new.self; output = own.output; taken = own.taken + 1; unanswered = all } in
     let marked : is_session_marked own ≡ false = rw (← c.self.view_is) at (sym c.is_marked.ensures ∙ c.if-is_marked.false) in
-    let others : any_marked links commands ≡ false = rw c.as_slice.ensures.value at (sym c.is_any_marked.ensures ∙ c.if-is_any_marked.false) in
-    let commands_are : commands ≡ routed ring what = rw c.in_ok-taken-in-First-2.ensures at c.in_ok-commands.ensures.commands in
-    let kept_is : kept ≡ kept_of what = rw c.in_ok-taken-in-First-2.ensures at c.in_ok-commands.ensures.kept in
-    let outcomes_are : outcomes ≡ map (at_once links) commands = rw c.as_slice-2.ensures.value at c.in_ok-outcomes.ensures in
-    let last : all ≡ own.unanswered ++ record { what = kept; outcomes = outcomes } ∷ [] = rw (c.unwrap.ensures, c.reserve.ensures.items, c.new.ensures) at c.push_back.ensures.items in
-    let sent : now ≡ handed c.args.number own.taken 0 commands links = rw c.make_room.ensures.unchanged at c.send_all.ensures in
+    let others : any_marked links commands ≡ false = sym c.is_any_marked.ensures ∙ c.if-is_any_marked.false in
+    let routed : commands ≡ route_of_taken ring what = c.make_contiguous-commands.ensures.value ∙ rw c.requires at c.in_ok-route-in-First-2.ensures.routed in
+    let last = rw (c.prepare.ensures.unanswered_kept, c.new.ensures) at c.push_back_reserved.ensures.items in
+    let queued = c.make_contiguous-commands.ensures.writes_back commands c.make_contiguous-commands.ensures.len in
+    let sent : now ≡ handed c.args.number own.taken 0 commands links =
+    c.send_all.ensures.handed
+    ∙ ap (λ (cs : List Routed). handed c.args.number own.taken 0 cs (states c.prepare.new.links)) queued
+    ∙ ap (λ (ls : List LinkState). handed c.args.number own.taken 0 commands ls) c.prepare.ensures.unchanged in
     let takes : Takes c.args.number ring links now own after what =
-    took c.args.number ring links now own after what kept c.in-First.field-1 commands outcomes seen c.consume.ensures.taken marked others commands_are kept_is outcomes_are refl refl last sent in
+    took c.args.number ring links now own after what _ c.in-First.field-1 commands _ seen c.consume.ensures.taken marked others routed c.in_ok-route-in-First-2.ensures.kept
+    c.in-Ok.ensures.outcomes refl refl last sent in
     (what, rw (← c.self.view_is) takes)

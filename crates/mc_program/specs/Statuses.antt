@@ -1,0 +1,13 @@
+-- The exit status of a program where it fails: this project's own.
+use Rattle.std.specs.Prelude.{ℕ}
+use Rattle.mc_stream.specs.Statuses.{status_of as status_of_error}
+use Rattle.mc_program.specs.declared.failures.Failure.{Failure}
+use Rattle.mc_program.specs.declared.failures.Failure.TheVariants.{Words, NoText, Refused, Output, Serve}
+
+-- 1 where output fails, 2 where the words are refused, and that of the error of serving
+abbrev pub status_of : Failure → ℕ
+status_of Output = 1
+status_of (Words error) = 2
+status_of NoText = 2
+status_of (Refused why) = 2
+status_of (Serve error) = status_of_error error

@@ -1,0 +1,79 @@
+//! Why a program ends with another status than 0.
+ghost use Rattle.std.specs.Prelude.{◌≡◌, MatchResult};
+ghost use Rattle.mc_program.specs.Statuses.{status_of};
+
+use clap::error::ErrorKind;
+use mc_stream::ServeError;
+use std::alloc::AllocError;
+
+/// Why a program ends with another status than 0.
+#[derive(Debug, Drop)]
+pub enum Failure {
+    /// The words are refused by the command line, or ask for help.
+    Words(clap::Error),
+    /// A word is no text in UTF-8.
+    NoText,
+    /// The words are refused by the program, which says why.
+    Refused(&'static str),
+    /// Standard output cannot be written.
+    Output,
+    /// The program cannot serve.
+    Serve(ServeError),
+}
+
+impl Failure {
+    /// The exit status.
+    pub fn status(&self) -> u8
+        ensures { result ≡ status_of self.now }
+    {
+        match self {
+            Failure::Output => 1,
+            Failure::Words(_) | Failure::NoText | Failure::Refused(_) => 2,
+            Failure::Serve(error) => error.status(),
+        }
+    }
+
+    /// Says it on standard error, as the program of a name; a text of help goes to standard output.
+    pub fn tell<R: Print + Eprint>(&self, rt: &R, program: &str) {
+        // Where it cannot be said, the status alone tells it.
+        let _ = match self {
+            Failure::Words(error) => error.print(rt),
+            Failure::NoText => eprintln!(rt; "{program}: a word is no text in UTF-8"),
+            Failure::Refused(why) => eprintln!(rt; "{program}: {why}"),
+            Failure::Output => eprintln!(rt; "{program}: output failed"),
+            Failure::Serve(error) => eprintln!(rt; "{program}: {error}"),
+        };
+    }
+}
+
+/// The exit status of a run: 0 where it came to its end, and else that of its failure.
+pub fn exit_status(served: &Result<(), Failure>) -> u8
+    ensures { MatchResult served.now (λ _. result ≡ 0) (λ failure. result ≡ status_of failure) }
+{
+    match served {
+        Ok(()) => 0,
+        Err(failure) => failure.status(),
+    }
+}
+
+impl From<clap::Error> for Failure {
+    fn from(error: clap::Error) -> Failure {
+        if error.kind() == ErrorKind::OutOfMemory {
+            Failure::Serve(ServeError::Memory)
+        } else {
+            Failure::Words(error)
+        }
+    }
+}
+
+impl From<AllocError> for Failure {
+    fn from(_e: AllocError) -> Failure {
+        Failure::Serve(ServeError::Memory)
+    }
+}
+
+impl From<ServeError> for Failure {
+    fn from(error: ServeError) -> Failure {
+        Failure::Serve(error)
+    }
+}

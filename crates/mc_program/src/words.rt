@@ -1,0 +1,22 @@
+//! The words of a program.
+
+use crate::failures::Failure;
+use mc_stream::ServeError;
+use std::rt::Env;
+use std::{env, io};
+
+/// The words that the program was started with, its own name first.
+pub fn read_words<R: Env + AllocGlobal>(rt: &R) -> Result<Vec<String>, Failure> {
+    let alloc = rt.alloc();
+    let words = env::args(rt).map_err(|error| failure_of(&error))?;
+    Ok(words.collect(alloc)?)
+}
+
+/// What an error of reading the words says.
+fn failure_of(error: &io::Error) -> Failure {
+    if error.kind() == io::ErrorKind::OutOfMemory {
+        Failure::Serve(ServeError::Memory)
+    } else {
+        Failure::NoText
+    }
+}

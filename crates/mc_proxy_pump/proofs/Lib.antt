@@ -1,0 +1,5 @@
+pub mod StretchLemmas
+pub mod RoundLemmas
+pub mod PumpLemmas
+pub mod LinkLemmas
+pub mod LawLemmas

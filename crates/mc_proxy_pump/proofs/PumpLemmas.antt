@@ -1,0 +1,140 @@
+-- Pumps of a session: one behind another, and what each part of a round adds.
+use Rattle.std.proofs.Common.{◌≡◌, ℕ, Bool, true, false, Ok, Err, List, [], ◌++◌, Option, IsSome}
+use Rattle.std.specs.Io.KnownBytes.{Appends}
+use Rattle.mc_session.specs.SessionState.{SessionState}
+use Rattle.mc_proxy.specs.ProxyState.{ProxyState, session_at}
+use Rattle.mc_stream.specs.Sides.{Carries, Brings, IsStopOfSide, UnlessFailed}
+use Rattle.mc_stream.specs.declared.outcomes.Pump.{Pump}
+use Rattle.mc_stream.specs.declared.outcomes.Pump.TheVariants.{Again, Blocked, Done, Failed}
+use Rattle.mc_stream.proofs.SideLemmas.{carries_none, carried_then, carried_as, unless_failed, carries_brought, carries_sent}
+use Rattle.mc_proxy_pump.specs.Calls.{Stretch}
+use Rattle.mc_proxy_pump.specs.Clients.{Leaves, PumpsClient}
+use Rattle.mc_proxy_pump.specs.Rounds.{Receives, Sends}
+use Rattle.mc_proxy_pump.proofs.StretchLemmas.{stretch_none, stretch_then}
+
+-- nothing was done yet
+pub pumps_none : (number : ℕ) (s : ProxyState) (unread written : Option (List ℕ)) (ended : Bool) → IsSome (session_at s number)
+    → PumpsClient number Again s s unread unread written written ended ended
+pumps_none number s unread written ended there = record {
+  came = [];
+  went = [];
+  stretch = stretch_none number s there;
+  carried = carries_none unread written ended;
+  left = tt;
+}
+
+-- a pump that goes on
+pub pumps_then : (number : ℕ) (pump : Pump) (a b c : ProxyState) (unread middle unread' written between written' : Option (List ℕ)) (ended later ended' : Bool)
+    → PumpsClient number Again a b unread middle written between ended later → PumpsClient number pump b c middle unread' between written' later ended'
+    → PumpsClient number pump a c unread unread' written written' ended ended'
+pumps_then number pump a b c unread middle unread' written between written' ended later ended' h k = record {
+  came = h.came ++ k.came;
+  went = h.went ++ k.went;
+  stretch = stretch_then number a b c h.came k.came h.went k.went h.stretch k.stretch;
+  carried = carried_then pump unread middle unread' written between written' ended later ended' h.came k.came h.went k.went h.carried k.carried;
+  left = k.left;
+}
+
+-- a stop of a side leaves nothing to say
+left_by_side : (pump : Pump) (ended : Bool) (proxy : ProxyState) (session : Option SessionState) → IsStopOfSide pump → Leaves pump ended proxy session
+left_by_side Again ended proxy session h = tt
+left_by_side Blocked ended proxy session h = absurd h
+left_by_side Done ended proxy session h = absurd h
+left_by_side Failed ended proxy session h = tt
+
+-- turns alone
+pub pumps_turns : (number : ℕ) (pump : Pump) (a b : ProxyState) (unread written : Option (List ℕ)) (ended : Bool)
+    → Stretch number a b [] [] → Leaves pump ended b (session_at b number) → PumpsClient number pump a b unread unread written written ended ended
+pumps_turns number pump a b unread written ended h left = record {
+  came = [];
+  went = [];
+  stretch = h;
+  carried = carried_as pump unread unread written written ended ended [] [] (elim pump as (λ p. UnlessFailed p (Carries unread unread written written ended ended [] [])) [
+    | Again ↦ carries_none unread written ended
+    | Blocked ↦ carries_none unread written ended
+    | Done ↦ carries_none unread written ended
+    | Failed ↦ tt
+  ]);
+  left = left;
+}
+
+-- a write that took bytes
+pub pumps_sent : (number : ℕ) (moved : Bool) (a b : ProxyState) (unread written written' : Option (List ℕ)) (ended : Bool)
+    → Sends number (Ok moved) a b written written' → PumpsClient number Again a b unread unread written written' ended ended
+pumps_sent number true a b unread written written' ended h =
+    record { came = []; went = h.went; stretch = h.stretch; carried = carries_sent unread written written' ended h.went h.how; left = tt }
+pumps_sent number false a b unread written written' ended h =
+    record { came = []; went = h.went; stretch = h.stretch; carried = carries_sent unread written written' ended h.went h.how.0; left = tt }
+
+-- a write that stopped the pump
+pub pumps_unsent : (number : ℕ) (pump : Pump) (a b : ProxyState) (unread written written' : Option (List ℕ)) (ended : Bool)
+    → Sends number (Err pump) a b written written' → PumpsClient number pump a b unread unread written written' ended ended
+pumps_unsent number pump a b unread written written' ended h = record {
+  came = [];
+  went = h.went;
+  stretch = h.stretch;
+  carried = carried_as pump unread unread written written' ended ended [] h.went
+      (unless_failed pump (Appends written written' h.went) (Carries unread unread written written' ended ended [] h.went) (carries_sent unread written written' ended h.went) h.how.1);
+  left = left_by_side pump ended b (session_at b number) h.how.0;
+}
+
+-- a read after which the pump goes on
+pub pumps_heard : (number : ℕ) (moved : Bool) (pump : Pump) (a b : ProxyState) (unread unread' written : Option (List ℕ)) (ended ended' : Bool) → ended ≡ false
+    → Receives number (Ok moved) a b unread unread' ended' → Leaves pump ended' b (session_at b number) → PumpsClient number pump a b unread unread' written written ended ended'
+pumps_heard number true pump a b unread unread' written ended ended' open_yet h left = record {
+  came = h.came;
+  went = [];
+  stretch = h.stretch;
+  carried = carried_as pump unread unread' written written ended ended' h.came [] (elim pump as (λ p. UnlessFailed p (Carries unread unread' written written ended ended' h.came [])) [
+    | Again ↦ carries_brought unread unread' written ended ended' h.came open_yet h.how
+    | Blocked ↦ carries_brought unread unread' written ended ended' h.came open_yet h.how
+    | Done ↦ carries_brought unread unread' written ended ended' h.came open_yet h.how
+    | Failed ↦ tt
+  ]);
+  left = left;
+}
+pumps_heard number false pump a b unread unread' written ended ended' open_yet h left = record {
+  came = h.came;
+  went = [];
+  stretch = h.stretch;
+  carried = carried_as pump unread unread' written written ended ended' h.came [] (elim pump as (λ p. UnlessFailed p (Carries unread unread' written written ended ended' h.came [])) [
+    | Again ↦ carries_brought unread unread' written ended ended' h.came open_yet h.how.0
+    | Blocked ↦ carries_brought unread unread' written ended ended' h.came open_yet h.how.0
+    | Done ↦ carries_brought unread unread' written ended ended' h.came open_yet h.how.0
+    | Failed ↦ tt
+  ]);
+  left = left;
+}
+
+-- a read that stopped the pump
+pub pumps_unheard : (number : ℕ) (pump : Pump) (a b : ProxyState) (unread unread' written : Option (List ℕ)) (ended ended' : Bool) → ended ≡ false
+    → Receives number (Err pump) a b unread unread' ended' → PumpsClient number pump a b unread unread' written written ended ended'
+pumps_unheard number pump a b unread unread' written ended ended' open_yet h = record {
+  came = h.came;
+  went = [];
+  stretch = h.stretch;
+  carried = carried_as pump unread unread' written written ended ended' h.came []
+      (unless_failed pump (Brings unread unread' ended' h.came) (Carries unread unread' written written ended ended' h.came []) (carries_brought unread unread' written ended ended' h.came open_yet) h.how.1);
+  left = left_by_side pump ended' b (session_at b number) h.how.0;
+}
+
+-- turns, a write, and then a stop
+pub stopped : (number : ℕ) (moved : Bool) (pump : Pump) (a b c : ProxyState) (unread written written' : Option (List ℕ)) (ended : Bool)
+    → Stretch number a b [] [] → Sends number (Ok moved) b c written written' → Leaves pump ended c (session_at c number)
+    → PumpsClient number pump a c unread unread written written' ended ended
+stopped number moved pump a b c unread written written' ended turns sent left =
+    let before = pumps_turns number Again a b unread written ended turns tt in
+    let then_sent = pumps_sent number moved b c unread written written' ended sent in
+    let both = pumps_then number Again a b c unread unread unread written written written' ended ended ended before then_sent in
+    record {
+      came = both.came;
+      went = both.went;
+      stretch = both.stretch;
+      carried = carried_as pump unread unread written written' ended ended both.came both.went (elim pump as (λ p. UnlessFailed p (Carries unread unread written written' ended ended both.came both.went)) [
+        | Again ↦ both.carried
+        | Blocked ↦ both.carried
+        | Done ↦ both.carried
+        | Failed ↦ tt
+      ]);
+      left = left;
+    }

@@ -1,0 +1,221 @@
+-- The parts of a round of a session's pump.
+use Rattle.std.proofs.Common.{◌≡◌, ◌∙◌, ◌⊎◌, ◌+◌, ◌≤◌, ◌<◌, inl, inr, ℕ, suc, ◌==◌, ◌&&◌, Bool, true, false, if◌then◌else◌, Result, Ok, List, [], ◌∷◌, ◌++◌, length, take, drop, Option, Some, None, IsSome, refl, sym, ap, subst, arith, length-drop}
+use Rattle.std.proofs.lemmas.Bool.Decides.{nat_tests}
+use Rattle.std.proofs.lemmas.List.{length_push}
+use Rattle.std.specs.Io.KnownBytes.{Appends}
+use Rattle.mc_request.specs.declared.parts.Taken.{Taken}
+use Rattle.mc_request_reader.specs.Reader.{ReaderState, rest_of}
+use Rattle.mc_ring.specs.Rings.{RingState}
+use Rattle.mc_link.specs.LinkState.{LinkState}
+use Rattle.mc_session.specs.Emits.{IsEmit, emitted, emitted_from, is_known, answer_of_one}
+use Rattle.mc_session.specs.SessionState.{SessionState, Unanswered}
+use Rattle.mc_session.specs.Turns.{IsFed, IsHeldUp, IsTurn, Takes}
+use Rattle.mc_session.specs.declared.limits.TheConstants.{UNSENT_MARK}
+use Rattle.mc_session.specs.declared.turns.Emit.TheVariants as emits
+use Rattle.mc_session.specs.declared.turns.Turn.{Turn}
+use Rattle.mc_session.specs.declared.turns.Turn.TheVariants as turns
+use Rattle.mc_proxy.specs.ProxyState.{ProxyState, output_of, sent_by, session_at, unanswered_of}
+use Rattle.mc_proxy.specs.Turns.{Alone, Steps, waiting_of}
+use Rattle.mc_stream.specs.Sides.{Brings, HowItWent}
+use Rattle.mc_stream.specs.declared.outcomes.Pump.{Pump}
+use Rattle.mc_proxy_pump.specs.Calls.{Fed, Turned, Emitted, Sent, Stretch}
+use Rattle.mc_proxy_pump.specs.Clients.{IsOver, IsStuck, emitted_at, is_closed_at}
+use Rattle.mc_proxy_pump.specs.Rounds.{HasAnswered, HowMany, IsSentOf, Receives, Sends, StopsAt, work_of}
+use Rattle.mc_proxy_pump.proofs.StretchLemmas.{is_open, sent_at, steps_at, steps_still, stretch_none, stretch_one, the_open}
+
+-- a turn is a call
+pub stretch_turned : (number : ℕ) (turn : Turn) (old new : ProxyState) → Steps number old new (IsTurn number turn old.ring) → Stretch number old new [] []
+stretch_turned number turn old new steps =
+    stretch_one number (Turned turn) old new steps (is_open (session_at new number) steps.after (steps_at number old new (IsTurn number turn old.ring) steps))
+
+-- a request that is taken is one less to take, and one more to answer
+took_less : (number : ℕ) (ring : RingState) (links now : List LinkState) (before after : SessionState) (what : Taken) → Takes number ring links now before after what
+    → work_of (Some after) < work_of (Some before)
+took_less number ring links now before after what takes =
+    let fewer : length (rest_of before.reader []) ≡ suc (length (rest_of after.reader [])) = ap (λ (ts : List Taken). length ts) (takes.first.rest []) in
+    let more : length after.unanswered ≡ length before.unanswered + 1 =
+    ap (λ (us : List Unanswered). length us) takes.unanswered ∙ length_push before.unanswered _ in
+    omega (arith, fewer, more)
+
+pub took_one : (number : ℕ) (old new : ProxyState) → Steps number old new (IsTurn number turns.Took old.ring) → work_of (session_at new number) < work_of (session_at old number)
+took_one number old new steps =
+    let less = took_less number old.ring old.links new.links steps.before steps.after steps.step.0 steps.step.1 in
+    let P : Option SessionState → Type 0 = λ o. work_of o < work_of (session_at old number) in
+    let Q : Option SessionState → Type 0 = λ o. work_of (Some steps.after) < work_of o in
+    subst P (sym (steps_at number old new (IsTurn number turns.Took old.ring) steps)) (subst Q (sym steps.was) less)
+
+-- a turn that takes nothing changes nothing, and says why
+turn_stops : (number : ℕ) (turn : Turn) (old new : ProxyState) (stop : (s : SessionState) → session_at old number ≡ Some s → StopsAt turn old (Some s))
+    → new ≡ old → IsSome (session_at old number) → (StopsAt turn new (session_at new number)) × (work_of (session_at new number) ≤ work_of (session_at old number))
+turn_stops number turn old new stop same there =
+    let own = the_open (session_at old number) there in
+    let P : Option SessionState → Type 0 = λ o. StopsAt turn old o in
+    let Q : ProxyState → Type 0 = λ p. (StopsAt turn p (session_at p number)) × (work_of (session_at p number) ≤ work_of (session_at old number)) in
+    subst Q (sym same) (subst P (sym own.1) (stop own.0 own.1), omega arith)
+
+pub idle_stops : (number : ℕ) (old new : ProxyState) → Steps number old new (IsTurn number turns.Idle old.ring)
+    → (StopsAt turns.Idle new (session_at new number)) × (work_of (session_at new number) ≤ work_of (session_at old number))
+idle_stops number old new steps =
+    turn_stops number turns.Idle old new
+    (λ s was. let both : Some steps.before ≡ Some s = sym steps.was ∙ was in let same : steps.before ≡ s = cc in
+    subst (λ (x : SessionState). rest_of x.reader [] ≡ []) same steps.step.0.none)
+    (steps_still number old new (IsTurn number turns.Idle old.ring) steps steps.step.1.1 steps.step.1.0)
+    (is_open (session_at old number) steps.before steps.was)
+
+pub waiting_stops : (number : ℕ) (old new : ProxyState) → Steps number old new (IsTurn number turns.Waiting old.ring)
+    → (StopsAt turns.Waiting new (session_at new number)) × (work_of (session_at new number) ≤ work_of (session_at old number))
+waiting_stops number old new steps =
+    turn_stops number turns.Waiting old new
+    (λ s was. let both : Some steps.before ≡ Some s = sym steps.was ∙ was in let same : steps.before ≡ s = cc in
+    subst (λ (x : SessionState). IsHeldUp old.ring old.links x) same steps.step.0)
+    (steps_still number old new (IsTurn number turns.Waiting old.ring) steps steps.step.1.1 steps.step.1.0)
+    (is_open (session_at old number) steps.before steps.was)
+
+closed_has_none : (r : ReaderState) → r.closed ≡ true → rest_of r [] ≡ []
+closed_has_none r closed = rw closed refl
+
+pub closing_stops : (number : ℕ) (old new : ProxyState) → Steps number old new (IsTurn number turns.Closing old.ring)
+    → (StopsAt turns.Closing new (session_at new number)) × (work_of (session_at new number) ≤ work_of (session_at old number))
+closing_stops number old new steps =
+    turn_stops number turns.Closing old new
+    (λ s was. let both : Some steps.before ≡ Some s = sym steps.was ∙ was in let same : steps.before ≡ s = cc in
+    let closed : s.reader.closed ≡ true = ap (λ (x : SessionState). x.reader.closed) (sym same) ∙ steps.step.0 in
+    (closed_has_none s.reader closed, closed))
+    (steps_still number old new (IsTurn number turns.Closing old.ring) steps steps.step.1.1 steps.step.1.0)
+    (is_open (session_at old number) steps.before steps.was)
+
+-- putting an answer out is a call
+pub stretch_emitted : (number : ℕ) (old new : ProxyState) → Steps number old new (Alone (IsEmit emits.Done)) → length (output_of (session_at old number)) < UNSENT_MARK
+    → Stretch number old new [] []
+stretch_emitted number old new steps below =
+    stretch_one number (Emitted emits.Done) old new (steps, below) (is_open (session_at new number) steps.after (steps_at number old new (Alone (IsEmit emits.Done)) steps))
+
+pub stretch_unemitted : (number : ℕ) (old new : ProxyState) → Steps number old new (Alone (IsEmit emits.Idle)) → length (output_of (session_at old number)) < UNSENT_MARK
+    → Stretch number old new [] []
+stretch_unemitted number old new steps below =
+    stretch_one number (Emitted emits.Idle) old new (steps, below) (is_open (session_at new number) steps.after (steps_at number old new (Alone (IsEmit emits.Idle)) steps))
+
+-- an answer that is put out is one less to answer
+emit_parts : (session : SessionState) (us : List Unanswered) (after : SessionState) → emitted_from session us ≡ Some after
+    → (suc (length after.unanswered) ≡ length us) × (after.reader ≡ session.reader)
+emit_parts session [] after e = absurd cc
+emit_parts session (u ∷ us) after e =
+    (elim (is_known u) as (λ v. (if v then Some (record session { output = session.output ++ answer_of_one u; unanswered = us }) else None) ≡ Some after
+    → (suc (length after.unanswered) ≡ length (u ∷ us)) × (after.reader ≡ session.reader)) [
+      | true ↦ λ is.
+          let same : record session { output = session.output ++ answer_of_one u; unanswered = us } ≡ after = cc in
+          (ap (λ (s : SessionState). suc (length s.unanswered)) (sym same), ap (λ (s : SessionState). s.reader) (sym same))
+      | false ↦ λ is. absurd cc
+    ]) e
+
+emit_less : (before after : SessionState) → emitted before ≡ Some after → (work_of (Some after) < work_of (Some before)) × (length after.unanswered < length before.unanswered)
+emit_less before after is =
+    let parts = emit_parts before before.unanswered after is in
+    let rest : length (rest_of after.reader []) ≡ length (rest_of before.reader []) = ap (λ (r : ReaderState). length (rest_of r [])) parts.1 in
+    (omega (arith, parts.0, rest), omega (arith, parts.0))
+
+pub put_one : (number : ℕ) (old new : ProxyState) → Steps number old new (Alone (IsEmit emits.Done))
+    → (work_of (session_at new number) < work_of (session_at old number)) × (unanswered_of (session_at new number) < unanswered_of (session_at old number))
+put_one number old new steps =
+    let less = emit_less steps.before steps.after steps.step.1 in
+    let P : Option SessionState → Type 0 = λ o. (work_of o < work_of (session_at old number)) × (unanswered_of o < unanswered_of (session_at old number)) in
+    let Q : Option SessionState → Type 0 = λ o. (work_of (Some steps.after) < work_of o) × (unanswered_of (Some steps.after) < unanswered_of o) in
+    subst P (sym (steps_at number old new (Alone (IsEmit emits.Done)) steps)) (subst Q (sym steps.was) less)
+
+-- where none is put out nothing changes, and none is known
+pub put_none : (number : ℕ) (old new : ProxyState) → Steps number old new (Alone (IsEmit emits.Idle)) → (new ≡ old) × (emitted_at (session_at new number) ≡ None)
+put_none number old new steps =
+    let P : Option SessionState → Type 0 = λ o. emitted_at o ≡ None in
+    let none : emitted steps.after ≡ None = ap (λ (s : SessionState). emitted s) steps.step.1.1 ∙ steps.step.1.0 in (
+      steps_still number old new (Alone (IsEmit emits.Idle)) steps steps.step.1.1 steps.step.0,
+      subst P (sym (steps_at number old new (Alone (IsEmit emits.Idle)) steps)) none,
+    )
+
+-- nothing was sent
+pub sends_still : (number : ℕ) (side : Result Bool Pump) (s : ProxyState) (written written' : Option (List ℕ)) → IsSome (session_at s number)
+    → HowItWent side (Appends written written' []) (s ≡ s) → Sends number side s s written written'
+sends_still number side s written written' there how = record {
+  went = [];
+  stretch = stretch_none number s there;
+  how = how;
+  same = record { waits = refl; closed = refl; known = λ none. none; fewer = omega arith };
+}
+
+emitted_sent : (s : SessionState) (output : List ℕ) (us : List Unanswered) → emitted_from s us ≡ None → emitted_from (record s { output = output }) us ≡ None
+emitted_sent s output [] e = refl
+emitted_sent s output (u ∷ us) e =
+    (elim (is_known u) as (λ v. (if v then Some (record s { output = s.output ++ answer_of_one u; unanswered = us }) else None) ≡ None
+    → (if v then Some (record s { output = output ++ answer_of_one u; unanswered = us }) else None) ≡ None) [
+      | true ↦ λ is. absurd cc
+      | false ↦ λ is. refl
+    ]) e
+
+-- the first bytes were sent
+pub sends_some : (number count : ℕ) (output : List ℕ) (old new : ProxyState) (written written' : Option (List ℕ)) → IsSome (session_at old number) → output ≡ output_of (session_at old number)
+    → count ≤ length output → new ≡ sent_by number count (session_at old number) old → Appends written written' (take count output) → Sends number (Ok true) old new written written'
+sends_some number count output old new written written' there unsent few is appended =
+    let s = the_open (session_at old number) there in
+    let after : SessionState = record s.0 { output = drop count s.0.output } in
+    let now : session_at new number ≡ Some after = sent_at number count s.0 old new s.1 is in
+    let fewer : length (drop count s.0.output) ≤ length s.0.output = omega (arith, length-drop count s.0.output) in
+    let bound : count ≤ length (output_of (session_at old number)) = subst (λ (bytes : List ℕ). count ≤ length bytes) unsent few in
+    let P : Option SessionState → Type 0 = λ o. IsSentOf (Some s.0) o in
+    let Q : Option SessionState → Type 0 = λ o. IsSentOf o (session_at new number) in
+    record {
+      went = take count (output_of (session_at old number));
+      stretch = stretch_one number (Sent count (take count (output_of (session_at old number)))) old new (bound, refl, is) (is_open (session_at new number) after now);
+      how = subst (λ (bytes : List ℕ). Appends written written' (take count bytes)) unsent appended;
+      same = subst Q (sym s.1) (subst P (sym now) (record {
+        waits = refl;
+        closed = refl;
+        known = λ none. emitted_sent s.0 (drop count s.0.output) s.0.unanswered none;
+        fewer = fewer;
+      }));
+    }
+
+-- nothing came
+pub receives_still : (number : ℕ) (side : Result Bool Pump) (s : ProxyState) (unread unread' : Option (List ℕ)) (ended' : Bool) → IsSome (session_at s number)
+    → HowItWent side (Brings unread unread' ended' []) (s ≡ s) → Receives number side s s unread unread' ended'
+receives_still number side s unread unread' ended' there how = record { came = []; stretch = stretch_none number s there; how = how }
+
+-- a piece came
+pub stretch_fed : (number : ℕ) (piece : List ℕ) (old new : ProxyState) → Steps number old new (Alone (IsFed piece)) → waiting_of (session_at old number) ≡ []
+    → length (output_of (session_at old number)) < UNSENT_MARK → Stretch number old new piece []
+stretch_fed number piece old new steps none below =
+    stretch_one number (Fed piece) old new (steps, none, below) (is_open (session_at new number) steps.after (steps_at number old new (Alone (IsFed piece)) steps))
+
+-- what a test that all is answered and sent says
+pub settled : (output : List ℕ) (unanswered : ℕ) (answer : Bool) → answer ≡ ((length output == 0) && (unanswered == 0)) → answer ≡ true → (output ≡ []) × (unanswered ≡ 0)
+settled [] unanswered answer is all = (refl, grind (arith, nat_tests, is, all))
+settled (b ∷ bs) unanswered answer is all =
+    let none : (length (b ∷ bs) == 0) ≡ false = grind (arith, nat_tests) in
+    let clash : true ≡ false = sym all ∙ is ∙ ap (λ (v : Bool). v && (unanswered == 0)) none in
+    absurd cc
+
+-- nothing waits, is unanswered or unsent
+pub over : (ended : Bool) (a b : Option SessionState) → waiting_of a ≡ [] → IsSentOf a b → (output_of b ≡ []) × (unanswered_of b ≡ 0) → (ended ≡ true) ⊎ (is_closed_at a ≡ true) → IsOver ended b
+over ended a b none same all cause = record {
+  none_waits = same.waits ∙ none;
+  all_answered = all.1;
+  all_sent = all.0;
+  no_more = elim cause [
+    | inl e ↦ inl e
+    | inr e ↦ inr (same.closed ∙ e)
+  ];
+}
+
+-- where turns and answers stopped, the session is stuck
+pub stuck : (turn : Turn) (proxy : ProxyState) (session : Option SessionState) → StopsAt turn proxy session → HasAnswered session → IsStuck proxy session
+stuck turns.Took proxy session h answered = absurd h
+stuck turns.Idle proxy session h answered = record { taken = inl h; answered = answered }
+stuck turns.Waiting proxy session h answered = record { taken = inr h; answered = answered }
+stuck turns.Closing proxy session h answered = record { taken = inl h.0; answered = answered }
+
+-- one answer more was put out, or none
+pub how_more : (answered : Bool) (number : ℕ) (a b c : ProxyState) → HowMany answered number a b → work_of (session_at c number) < work_of (session_at b number) → HowMany true number a c
+how_more true number a b c h less = omega (arith, h, less)
+how_more false number a b c h less = subst (λ (p : ProxyState). work_of (session_at c number) < work_of (session_at p number)) h less
+
+pub how_same : (answered : Bool) (number : ℕ) (a b c : ProxyState) → HowMany answered number a b → c ≡ b → HowMany answered number a c
+how_same true number a b c h same = subst (λ (p : ProxyState). work_of (session_at p number) < work_of (session_at a number)) (sym same) h
+how_same false number a b c h same = same ∙ h

@@ -1,0 +1,89 @@
+-- Calls for a session: none, one, and one behind another.
+use Rattle.std.proofs.Common.{◌≡◌, ◌∙◌, ℕ, ◌==◌, true, false, if◌then◌else◌, List, [], ◌∷◌, ◌++◌, drop, Option, Some, None, IsSome, refl, sym, ap, subst, append_assoc}
+use Rattle.std.proofs.lemmas.List.{append-nil}
+use Rattle.mc_link.specs.LinkState.{LinkState}
+use Rattle.mc_session.specs.SessionState.{SessionState}
+use Rattle.mc_proxy.specs.ProxyState.{ProxyState, Sessions, sent_by, session_at, session_in, updated}
+use Rattle.mc_proxy.specs.Turns.{Steps}
+use Rattle.mc_proxy.proofs.NotingLemmas.{same_proxy}
+use Rattle.mc_proxy.proofs.SessionLemmas.{updated_own}
+use Rattle.mc_proxy_pump.specs.Calls.{Call, Calls, IsCall, Stretch, came_by, came_of, went_by, went_of}
+
+-- an open session
+pub the_open : (o : Option SessionState) → IsSome o → (s : SessionState) × (o ≡ Some s)
+the_open None h = let clash : false ≡ true = h in absurd cc
+the_open (Some s) h = (s, refl)
+
+pub is_open : (o : Option SessionState) (s : SessionState) → o ≡ Some s → IsSome o
+is_open None s e = absurd cc
+is_open (Some t) s e = refl
+
+-- a session that stays what it was
+updated-same : (number : ℕ) (s : SessionState) (sessions : Sessions) → session_in sessions number ≡ Some s → updated number s sessions ≡ sessions
+updated-same number s [] was = absurd cc
+updated-same number s (x ∷ xs) was =
+    let again = updated-same number s xs in
+    (elim (x.0 == number) as (λ v. (if v then Some x.1 else session_in xs number) ≡ Some s → (if v then (x.0, s) ∷ xs else x ∷ updated number s xs) ≡ x ∷ xs) [
+      | true ↦ λ e. let same : x.1 ≡ s = cc in rw (sym same) refl
+      | false ↦ λ e. ap (λ (others : Sessions). x ∷ others) (again e)
+    ]) was
+
+-- where a step leaves its session
+pub steps_at : (number : ℕ) (old new : ProxyState) (Step : List LinkState → List LinkState → SessionState → SessionState → Type 0) (h : Steps number old new Step)
+    → session_at new number ≡ Some h.after
+steps_at number old new Step h = ap (λ (sessions : Sessions). session_in sessions number) h.is ∙ updated_own number h.before h.after old.sessions h.was
+
+-- a step that changes nothing
+pub steps_still : (number : ℕ) (old new : ProxyState) (Step : List LinkState → List LinkState → SessionState → SessionState → Type 0) (h : Steps number old new Step)
+    → h.after ≡ h.before → new.links ≡ old.links → new ≡ old
+steps_still number old new Step h same links =
+    same_proxy new old h.ring
+    (h.is ∙ ap (λ (s : SessionState). updated number s old.sessions) same ∙ updated-same number h.before old.sessions h.was)
+    h.admitted links
+
+-- a session of which some was sent
+pub sent_at : (number count : ℕ) (s : SessionState) (old new : ProxyState) → session_at old number ≡ Some s → new ≡ sent_by number count (session_at old number) old
+    → session_at new number ≡ Some (record s { output = drop count s.output })
+sent_at number count s old new was is =
+    ap (λ (p : ProxyState). session_at p number) is
+    ∙ ap (λ (o : Option SessionState). session_at (sent_by number count o old) number) was
+    ∙ updated_own number s (record s { output = drop count s.output }) old.sessions was
+
+-- the bytes of calls behind calls
+came-append : (xs ys : List Call) → came_of (xs ++ ys) ≡ came_of xs ++ came_of ys
+came-append [] ys = refl
+came-append (x ∷ xs) ys = ap (λ (bytes : List ℕ). came_by x ++ bytes) (came-append xs ys) ∙ sym (append_assoc (came_by x) (came_of xs) (came_of ys))
+
+went-append : (xs ys : List Call) → went_of (xs ++ ys) ≡ went_of xs ++ went_of ys
+went-append [] ys = refl
+went-append (x ∷ xs) ys = ap (λ (bytes : List ℕ). went_by x ++ bytes) (went-append xs ys) ∙ sym (append_assoc (went_by x) (went_of xs) (went_of ys))
+
+-- calls behind calls
+calls-append : (number : ℕ) (xs ys : List Call) (a b c : ProxyState) → Calls number xs a b → Calls number ys b c → Calls number (xs ++ ys) a c
+calls-append number [] ys a b c h k = subst (λ (p : ProxyState). Calls number ys p c) h k
+calls-append number (x ∷ xs) ys a b c h k = (h.0, (h.1.0, calls-append number xs ys h.0 b c h.1.1 k))
+
+-- no call
+pub stretch_none : (number : ℕ) (s : ProxyState) → IsSome (session_at s number) → Stretch number s s [] []
+stretch_none number s there = record { calls = []; chain = refl; came_is = refl; went_is = refl; still_open = there }
+
+-- one call
+pub stretch_one : (number : ℕ) (call : Call) (a b : ProxyState) → IsCall number call a b → IsSome (session_at b number) → Stretch number a b (came_by call) (went_by call)
+stretch_one number call a b h there = record {
+  calls = call ∷ [];
+  chain = (b, (h, refl));
+  came_is = append-nil (came_by call);
+  went_is = append-nil (went_by call);
+  still_open = there;
+}
+
+-- one stretch behind another
+pub stretch_then : (number : ℕ) (a b c : ProxyState) (came more went yet : List ℕ) → Stretch number a b came went → Stretch number b c more yet
+    → Stretch number a c (came ++ more) (went ++ yet)
+stretch_then number a b c came more went yet h k = record {
+  calls = h.calls ++ k.calls;
+  chain = calls-append number h.calls k.calls a b c h.chain k.chain;
+  came_is = came-append h.calls k.calls ∙ ap (λ (bytes : List ℕ). bytes ++ came_of k.calls) h.came_is ∙ ap (λ (bytes : List ℕ). came ++ bytes) k.came_is;
+  went_is = went-append h.calls k.calls ∙ ap (λ (bytes : List ℕ). bytes ++ went_of k.calls) h.went_is ∙ ap (λ (bytes : List ℕ). went ++ bytes) k.went_is;
+  still_open = k.still_open;
+}

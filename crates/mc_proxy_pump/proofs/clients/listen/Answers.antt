@@ -1,0 +1,29 @@
+use Rattle.std.proofs.Common.{◌≡◌, inl, rules, sym, subst, Result, Err, [], None}
+use Rattle.mc_proxy.specs.ProxyState.{session_at}
+use Rattle.mc_proxy.specs.Turns.{waiting_of}
+use Rattle.mc_stream.specs.Sides.{Brings}
+use Rattle.mc_stream.specs.declared.outcomes.Pump.{Pump}
+use Rattle.mc_stream.specs.declared.outcomes.Pump.TheVariants.{Again, Blocked}
+use Rattle.mc_stream.proofs.SideLemmas.{went_false}
+use Rattle.mc_proxy_pump.specs.Clients.{PumpsClient, emitted_at}
+use Rattle.mc_proxy_pump.specs.Rounds.{pump_of}
+use Rattle.mc_proxy_pump.proofs.PumpLemmas.{pumps_heard, pumps_unheard}
+use Rattle.mc_proxy_pump.proofs.clients.listen.Goals as goal
+
+pub returns-in_err-moved : goal.returns-in_err-moved
+returns-in_err-moved g c = λ written.
+    let same : c.from_residual.result ≡ Err c.in_err-moved.field-0.0 = search rules in
+    let P : Result (Unit {0}) Pump → Type 0 = λ r. PumpsClient c.args.session (pump_of r) c.args.proxy.now c.receive.new.proxy (g.R.Read.remaining c.args.reader.now) (g.R.Read.remaining c.receive.new.reader) written written c.args.ended.now c.receive.new.ended in
+    subst P (sym same) (pumps_unheard c.args.session c.in_err-moved.field-0.0 c.args.proxy.now c.receive.new.proxy _ _ written c.args.ended.now c.receive.new.ended c.requires.goes_on c.in_err-moved.ensures)
+
+pub returns-then-moved : goal.returns-then-moved
+returns-then-moved g c = λ written.
+    pumps_heard c.args.session c.in_ok-moved.moved Again c.args.proxy.now c.receive.new.proxy _ _ written c.args.ended.now c.receive.new.ended c.requires.goes_on c.in_ok-moved.ensures tt
+
+pub returns : goal.returns
+returns g c = λ written.
+    let received = c.in_ok-moved.ensures in
+    let kept : c.receive.new.proxy ≡ c.args.proxy.now = went_false c.in_ok-moved.moved (Brings (g.R.Read.remaining c.args.reader.now) (g.R.Read.remaining c.receive.new.reader) c.receive.new.ended received.came) (c.receive.new.proxy ≡ c.args.proxy.now) c.if-moved.false received.how in
+    let none : waiting_of (session_at c.receive.new.proxy c.args.session) ≡ [] = rw kept c.requires.none_waits in
+    let unknown : emitted_at (session_at c.receive.new.proxy c.args.session) ≡ None = rw kept c.requires.none_known in
+    pumps_heard c.args.session c.in_ok-moved.moved Blocked c.args.proxy.now c.receive.new.proxy _ _ written c.args.ended.now c.receive.new.ended c.requires.goes_on received (record { taken = inl none; answered = inl unknown })

@@ -1,0 +1,65 @@
+-- Calls for one session of a proxy, one behind another: this project's own.
+use Rattle.std.specs.Prelude.{◌≡◌, ℕ, ◌<◌, ◌≤◌, List, [], ◌∷◌, ◌++◌, length, take, IsSome}
+use Rattle.mc_session.specs.Emits.{IsEmit}
+use Rattle.mc_session.specs.Turns.{IsFed, IsTurn}
+use Rattle.mc_session.specs.declared.limits.TheConstants.{UNSENT_MARK}
+use Rattle.mc_session.specs.declared.turns.Emit.{Emit}
+use Rattle.mc_session.specs.declared.turns.Turn.{Turn}
+use Rattle.mc_proxy.specs.ProxyState.{ProxyState, output_of, sent_by, session_at}
+use Rattle.mc_proxy.specs.Turns.{Alone, Steps, waiting_of}
+
+-- a call for a session
+pub data Call : Type 0 where
+  -- it is fed these bytes, which its client sent
+  Fed : List ℕ → Call
+  -- it takes a turn
+  Turned : Turn → Call
+  -- an answer is put out, where one is known
+  Emitted : Emit → Call
+  -- so many bytes of its output are taken out, which are these: its client was sent them
+  Sent : ℕ → List ℕ → Call
+
+-- What a call for the session of a number does to the proxy. It is fed only where no whole request waits, and only while less
+-- is unsent than the mark; and only while less is unsent than the mark an answer is put out.
+abbrev pub IsCall : ℕ → Call → ProxyState → ProxyState → Type 0
+IsCall number (Fed came) old new =
+    Steps number old new (Alone (IsFed came)) × (waiting_of (session_at old number) ≡ []) × (length (output_of (session_at old number)) < UNSENT_MARK)
+IsCall number (Turned turn) old new = Steps number old new (IsTurn number turn old.ring)
+IsCall number (Emitted emit) old new = Steps number old new (Alone (IsEmit emit)) × (length (output_of (session_at old number)) < UNSENT_MARK)
+IsCall number (Sent count went) old new =
+    (count ≤ length (output_of (session_at old number))) × (went ≡ take count (output_of (session_at old number))) × (new ≡ sent_by number count (session_at old number) old)
+
+-- the calls one behind another, from a proxy to what they leave of it
+abbrev pub Calls : ℕ → List Call → ProxyState → ProxyState → Type 0
+Calls number [] old new = new ≡ old
+Calls number (call ∷ calls) old new = (middle : ProxyState) × (IsCall number call old middle × Calls number calls middle new)
+
+-- the bytes that came by a call, and those that went
+abbrev pub came_by : Call → List ℕ
+came_by (Fed came) = came
+came_by (Turned turn) = []
+came_by (Emitted emit) = []
+came_by (Sent count went) = []
+
+abbrev pub went_by : Call → List ℕ
+went_by (Fed came) = []
+went_by (Turned turn) = []
+went_by (Emitted emit) = []
+went_by (Sent count went) = went
+
+-- the bytes that came by calls, joined, and those that went
+abbrev pub came_of : List Call → List ℕ
+came_of [] = []
+came_of (call ∷ calls) = came_by call ++ came_of calls
+
+abbrev pub went_of : List Call → List ℕ
+went_of [] = []
+went_of (call ∷ calls) = went_by call ++ went_of calls
+
+-- Calls for an open session by which these bytes came and these went. The session is open behind them.
+pub record Stretch (number : ℕ) (old new : ProxyState) (came went : List ℕ) : Type 0 where
+  pub calls : List Call
+  pub chain : Calls number calls old new
+  pub came_is : came_of calls ≡ came
+  pub went_is : went_of calls ≡ went
+  pub still_open : IsSome (session_at new number)

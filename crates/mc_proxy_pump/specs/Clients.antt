@@ -1,0 +1,58 @@
+-- What a pump of a session does between a proxy and the two sides of its client's stream.
+use Rattle.std.specs.Prelude.{◌≡◌, ℕ, ◌≤◌, ◌⊎◌, Bool, true, false, List, [], length, Option, Some, None}
+use Rattle.mc_ring.specs.Rings.{RingState}
+use Rattle.mc_link.specs.LinkState.{LinkState}
+use Rattle.mc_session.specs.Emits.{emitted}
+use Rattle.mc_session.specs.SessionState.{SessionState}
+use Rattle.mc_session.specs.Turns.{IsHeldUp}
+use Rattle.mc_session.specs.declared.limits.TheConstants.{UNSENT_MARK}
+use Rattle.mc_proxy.specs.ProxyState.{ProxyState, output_of, session_at, unanswered_of}
+use Rattle.mc_proxy.specs.Turns.{waiting_of}
+use Rattle.mc_stream.specs.Sides.{CarriesUnlessFailed}
+use Rattle.mc_stream.specs.declared.outcomes.Pump.{Pump}
+use Rattle.mc_stream.specs.declared.outcomes.Pump.TheVariants.{Again, Blocked, Done, Failed}
+use Rattle.mc_proxy_pump.specs.Calls.{Stretch}
+
+-- whether nothing is read of a session any more; not so where it is not open
+abbrev pub is_closed_at : Option SessionState → Bool
+is_closed_at None = false
+is_closed_at (Some session) = session.reader.closed
+
+-- the first request or fault of a session has to wait for a mark; not so where it is not open
+abbrev pub IsHeldUpAt : RingState → List LinkState → Option SessionState → Type 0
+IsHeldUpAt ring links None = ⊥
+IsHeldUpAt ring links (Some session) = IsHeldUp ring links session
+
+-- a session whose next answer is put out, where it is known: none where it is not known, or the session not open
+abbrev pub emitted_at : Option SessionState → Option SessionState
+emitted_at None = None
+emitted_at (Some session) = emitted session
+
+-- nothing is left to take, to answer or to send, and nothing more will come: the input has ended, or is read no further
+pub record IsOver (ended : Bool) (session : Option SessionState) : Type 0 where
+  pub none_waits : waiting_of session ≡ []
+  pub all_answered : unanswered_of session ≡ 0
+  pub all_sent : output_of session ≡ []
+  pub no_more : (ended ≡ true) ⊎ (is_closed_at session ≡ true)
+
+-- A session of a proxy can go no further by itself: no whole request waits, or the first has to wait for a mark; and no answer
+-- is known, or as much is unsent as the mark.
+pub record IsStuck (proxy : ProxyState) (session : Option SessionState) : Type 0 where
+  pub taken : (waiting_of session ≡ []) ⊎ IsHeldUpAt proxy.ring proxy.links session
+  pub answered : (emitted_at session ≡ None) ⊎ (UNSENT_MARK ≤ length (output_of session))
+
+-- how a session is left: done where it is over, blocked where it is stuck
+abbrev pub Leaves : Pump → Bool → ProxyState → Option SessionState → Type 0
+Leaves Again ended proxy session = Unit {0}
+Leaves Blocked ended proxy session = IsStuck proxy session
+Leaves Done ended proxy session = IsOver ended session
+Leaves Failed ended proxy session = Unit {0}
+
+-- What a pump of the session of a number does: calls for it, and nothing else. The bytes that came by them are those that the
+-- reader gave, and the bytes that went are those that the writer took, but where the pump failed.
+pub record PumpsClient (number : ℕ) (pump : Pump) (old new : ProxyState) (unread unread' written written' : Option (List ℕ)) (ended ended' : Bool) : Type 0 where
+  pub came : List ℕ
+  pub went : List ℕ
+  pub stretch : Stretch number old new came went
+  pub carried : CarriesUnlessFailed pump unread unread' written written' ended ended' came went
+  pub left : Leaves pump ended' new (session_at new number)

@@ -1,0 +1,32 @@
+-- Where calls for a session, or for a link, leave a proxy's account.
+use Rattle.std.specs.Prelude.{◌≡◌, ℕ, List, [], ◌∷◌, ◌++◌, map}
+use Rattle.mc_proxy.specs.ProxyState.{ProxyState}
+use Rattle.mc_account.specs.Lanes.{Lane}
+use Rattle.mc_account.specs.Orders.{Entry, Order}
+use Rattle.mc_account.specs.Stands.{ProxyStands, changed, grown}
+
+-- each was taken of the session of a number
+abbrev pub AreOf : ℕ → Order → Type 0
+AreOf number [] = Unit {0}
+AreOf number (e ∷ es) = (e.session ≡ number) × AreOf number es
+
+-- The proxy stands with what came to a session of a number and what went from it behind what it had, and with more taken of
+-- that session, of which each is behind all that was taken before.
+pub record StandsBehindClient (number : ℕ) (came went : List ℕ) (texts sent : ℕ → List ℕ) (order : Order) (lanes : ℕ → Lane) (new : ProxyState) : Type 0 where
+  pub more : Order
+  pub own : AreOf number more
+  pub stands : ProxyStands (grown number came texts) (grown number went sent) (order ++ more) lanes new
+
+-- what was taken, without what became of it
+abbrev pub asked_in : Order → Order
+asked_in order = map (λ (e : Entry). record e { outcomes = [] }) order
+
+-- The proxy stands with what came over the link of a place and what went over it behind what had passed there, and with the same
+-- taken in the same order: more may be known of what became of it.
+pub record StandsBehindLink (place : ℕ) (came went : List ℕ) (texts sent : ℕ → List ℕ) (order : Order) (lanes : ℕ → Lane) (new : ProxyState) : Type 0 where
+  pub order' : Order
+  pub same : asked_in order' ≡ asked_in order
+  pub lane : Lane
+  pub came_is : lane.came ≡ (lanes place).came ++ came
+  pub out_is : lane.out ≡ (lanes place).out ++ went
+  pub stands : ProxyStands texts sent order' (changed place lane lanes) new

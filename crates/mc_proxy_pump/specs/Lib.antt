@@ -1,0 +1,7 @@
+pub mod Calls
+pub mod Clients
+pub mod Rounds
+pub mod LinkCalls
+pub mod Links
+pub mod LinkRounds
+pub mod Laws

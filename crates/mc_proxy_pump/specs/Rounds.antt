@@ -1,0 +1,64 @@
+-- What the parts of a round of a session's pump do.
+use Rattle.std.specs.Prelude.{◌≡◌, ℕ, ◌+◌, ◌*◌, ◌<◌, ◌≤◌, ◌⊎◌, Bool, true, false, List, [], length, Option, None, Result, Ok, Err}
+use Rattle.std.specs.Io.KnownBytes.{Appends}
+use Rattle.mc_session.specs.SessionState.{SessionState}
+use Rattle.mc_session.specs.declared.limits.TheConstants.{UNSENT_MARK}
+use Rattle.mc_session.specs.declared.turns.Turn.{Turn}
+use Rattle.mc_session.specs.declared.turns.Turn.TheVariants as turns
+use Rattle.mc_proxy.specs.ProxyState.{ProxyState, output_of, session_at, unanswered_of}
+use Rattle.mc_proxy.specs.Turns.{waiting_of}
+use Rattle.mc_stream.specs.Sides.{Brings, HowItWent}
+use Rattle.mc_stream.specs.declared.outcomes.Pump.{Pump}
+use Rattle.mc_stream.specs.declared.outcomes.Pump.TheVariants.{Again}
+use Rattle.mc_proxy_pump.specs.Calls.{Stretch}
+use Rattle.mc_proxy_pump.specs.Clients.{IsHeldUpAt, emitted_at, is_closed_at}
+
+-- how much a session has to do: each request that is taken lessens it, and each answer that is put out
+abbrev pub work_of : Option SessionState → ℕ
+work_of session = 2 * length (waiting_of session) + unanswered_of session
+
+-- why no more is taken
+abbrev pub StopsAt : Turn → ProxyState → Option SessionState → Type 0
+StopsAt turns.Took proxy session = ⊥
+StopsAt turns.Idle proxy session = waiting_of session ≡ []
+StopsAt turns.Waiting proxy session = IsHeldUpAt proxy.ring proxy.links session
+StopsAt turns.Closing proxy session = (waiting_of session ≡ []) × (is_closed_at session ≡ true)
+
+-- requests are taken until none can be
+pub record TakesTurns (number : ℕ) (old new : ProxyState) : Type 0 where
+  pub stretch : Stretch number old new [] []
+  pub fewer : work_of (session_at new number) ≤ work_of (session_at old number)
+
+-- no answer is known, or as much is unsent as the mark
+abbrev pub HasAnswered : Option SessionState → Type 0
+HasAnswered session = (emitted_at session ≡ None) ⊎ (UNSENT_MARK ≤ length (output_of session))
+
+-- whether answers were put out so far
+abbrev pub HowMany : Bool → ℕ → ProxyState → ProxyState → Type 0
+HowMany true number old new = work_of (session_at new number) < work_of (session_at old number)
+HowMany false number old new = new ≡ old
+
+-- a session of which some was sent: all else of it is as it was
+pub record IsSentOf (old new : Option SessionState) : Type 0 where
+  pub waits : waiting_of new ≡ waiting_of old
+  pub closed : is_closed_at new ≡ is_closed_at old
+  pub known : emitted_at old ≡ None → emitted_at new ≡ None
+  pub fewer : length (output_of new) ≤ length (output_of old)
+
+-- a write of what is unsent
+pub record Sends (number : ℕ) (side : Result Bool Pump) (old new : ProxyState) (written written' : Option (List ℕ)) : Type 0 where
+  pub went : List ℕ
+  pub stretch : Stretch number old new [] went
+  pub how : HowItWent side (Appends written written' went) (new ≡ old)
+  pub same : IsSentOf (session_at old number) (session_at new number)
+
+-- a read, of which the session is fed
+pub record Receives (number : ℕ) (side : Result Bool Pump) (old new : ProxyState) (unread unread' : Option (List ℕ)) (ended' : Bool) : Type 0 where
+  pub came : List ℕ
+  pub stretch : Stretch number old new came []
+  pub how : HowItWent side (Brings unread unread' ended' came) (new ≡ old)
+
+-- a round that does not stop goes on as a pump that may be called again
+abbrev pub pump_of : Result (Unit {0}) Pump → Pump
+pump_of (Ok u) = Again
+pump_of (Err pump) = pump

@@ -1,0 +1,198 @@
+//! The body of a session: bytes in, requests taken, answers out.
+ghost use Rattle.std.specs.Prelude.{◌≡◌, ◌<◌, ◌==◌, ◌&&◌, ℕ, List, [], Option, None, false, length, IfOk, IsSome};
+ghost use Rattle.mc_proxy.specs.ProxyState.{output_of, session_at, unanswered_of};
+ghost use Rattle.mc_proxy.specs.Turns.{waiting_of};
+ghost use Rattle.mc_proxy_pump.specs.Calls.{Stretch};
+ghost use Rattle.mc_proxy_pump.specs.Clients.{PumpsClient, emitted_at};
+ghost use Rattle.mc_proxy_pump.specs.Rounds.{HasAnswered, HowMany, Receives, Sends, StopsAt, TakesTurns, pump_of};
+
+use mc_proxy::{Emit, Proxy, ProxyError, Turn, UNSENT_MARK};
+use mc_stream::{MAX_ROUNDS, Pump, read_once, write_once};
+use std::io::{Read, Write};
+
+/// Carries a session's bytes between a proxy and the two sides of a stream that do not wait, takes its requests, and puts out
+/// the answers that are known.
+///
+/// It does at most [`MAX_ROUNDS`] rounds. A round takes requests and puts answers out as far as it goes, writes what is unsent
+/// in one call, and reads once into `piece`, whose bytes before and after mean nothing. While a request has to wait for a mark,
+/// or [`UNSENT_MARK`] bytes or more are unsent, nothing is read. `ended` says whether the input has ended: the pump sets it when
+/// a read gives no byte, and then reads no more; a caller hands in `false` at first.
+///
+/// Where it says [`Pump::Blocked`], the stream may move, a server may answer one of the session's commands, or a link whose
+/// mark a request waits for may be sent more of its bytes: then the pump is called again. Where the session is not open it says
+/// [`Pump::Failed`].
+pub fn pump_client<R: Read, W: Write>(
+    proxy: &mut Proxy,
+    session: u64,
+    ended: &mut bool,
+    reader: &mut R,
+    writer: &mut W,
+    piece: &mut [u8],
+) -> Pump
+    requires piece { 0 < length piece.old }
+    ensures pumps { IsSome (session_at proxy.old session) → PumpsClient session result proxy.old proxy.new
+        (R.remaining reader.old) (R.remaining reader.new) (W.contents writer.old) (W.contents writer.new) ended.old ended.new }
+    ensures not_open { session_at proxy.old session ≡ None → (result ≡ Pump.Failed) × (proxy.new ≡ proxy.old) }
+{
+    // A session that is not open takes no turn.
+    let Ok(_) = proxy.turn(session) else {
+        return Pump::Failed;
+    };
+    for _ in 0..MAX_ROUNDS {
+        if let Err(pump) = round(proxy, session, ended, reader, writer, piece) {
+            return pump;
+        }
+    }
+    Pump::Again
+}
+
+/// One round: requests and answers, a write, a read. The error is how the pump stops.
+fn round<R: Read, W: Write>(
+    proxy: &mut Proxy,
+    session: u64,
+    ended: &mut bool,
+    reader: &mut R,
+    writer: &mut W,
+    piece: &mut [u8],
+) -> Result<(), Pump>
+    requires is_open { IsSome (session_at proxy.old session) }
+    requires piece { 0 < length piece.old }
+    ensures { PumpsClient session (pump_of result) proxy.old proxy.new (R.remaining reader.old)
+        (R.remaining reader.new) (W.contents writer.old) (W.contents writer.new) ended.old ended.new }
+{
+    let Ok(turn) = advance(proxy, session) else {
+        return Err(Pump::Failed);
+    };
+    let is_marked = proxy.output(session).len() >= UNSENT_MARK;
+    let moved = send(proxy, session, writer)?;
+    let is_over = is_settled(proxy, session);
+    match turn {
+        Turn::Closing if is_over => Err(Pump::Done),
+        Turn::Idle if *ended && is_over => Err(Pump::Done),
+        Turn::Idle if !*ended && !is_marked => {
+            let can_send = moved && !proxy.output(session).is_empty();
+            listen(proxy, session, ended, reader, piece, can_send)
+        }
+        _ if moved => Ok(()),
+        _ => Err(Pump::Blocked),
+    }
+}
+
+/// Whether all that was taken of a session is answered, and all its answers are sent.
+fn is_settled(proxy: &Proxy, session: u64) -> bool
+    ensures { result ≡ ((length (output_of (session_at proxy.now session)) == 0) && (unanswered_of (session_at proxy.now session) == 0)) }
+{
+    proxy.output(session).is_empty() && proxy.unanswered(session) == 0
+}
+
+/// Takes requests and puts answers out, as far as it goes, and says why no more is taken.
+fn advance(proxy: &mut Proxy, session: u64) -> Result<Turn, ProxyError>
+    requires is_open { IsSome (session_at proxy.old session) }
+    ensures calls { Stretch session proxy.old proxy.new [] [] }
+    ensures stop { IfOk result (λ turn. StopsAt turn proxy.new (session_at proxy.new session)) }
+    ensures answered { IfOk result (λ turn. HasAnswered (session_at proxy.new session)) }
+{
+    loop {
+        let stop = take_turns(proxy, session)?;
+        if !put_out(proxy, session)? {
+            return Ok(stop);
+        }
+    }
+}
+
+/// Takes requests until none waits, or none can be taken, and says why.
+fn take_turns(proxy: &mut Proxy, session: u64) -> Result<Turn, ProxyError>
+    requires is_open { IsSome (session_at proxy.old session) }
+    ensures turns { TakesTurns session proxy.old proxy.new }
+    ensures stop { IfOk result (λ turn. StopsAt turn proxy.new (session_at proxy.new session)) }
+{
+    loop {
+        match proxy.turn(session)? {
+            Turn::Took => {}
+            Turn::Idle => return Ok(Turn::Idle),
+            Turn::Waiting => return Ok(Turn::Waiting),
+            Turn::Closing => return Ok(Turn::Closing),
+        }
+    }
+}
+
+/// Puts the answers out that are known, until as much is unsent as the mark, and says whether there was one.
+fn put_out(proxy: &mut Proxy, session: u64) -> Result<bool, ProxyError>
+    requires is_open { IsSome (session_at proxy.old session) }
+    ensures calls { Stretch session proxy.old proxy.new [] [] }
+    ensures how { IfOk result (λ answered. HowMany answered session proxy.old proxy.new) }
+    ensures answered { IfOk result (λ answered. HasAnswered (session_at proxy.new session)) }
+{
+    let mut answered = false;
+    while proxy.output(session).len() < UNSENT_MARK {
+        match proxy.emit(session)? {
+            Emit::Done => answered = true,
+            Emit::Idle => return Ok(answered),
+        }
+    }
+    Ok(answered)
+}
+
+/// Writes what is unsent, in one call, lets go of what the writer took, and says whether it took any.
+fn send<W: Write>(proxy: &mut Proxy, session: u64, writer: &mut W) -> Result<bool, Pump>
+    requires { IsSome (session_at proxy.old session) }
+    ensures { Sends session result proxy.old proxy.new (W.contents writer.old) (W.contents writer.new) }
+{
+    let count = write_once(writer, proxy.output(session))?;
+    if count == 0 {
+        return Ok(false);
+    }
+    proxy.taken_out(session, count);
+    Ok(true)
+}
+
+/// Reads, and says how the pump stops where nothing came and nothing more can be sent.
+fn listen<R: Read>(
+    proxy: &mut Proxy,
+    session: u64,
+    ended: &mut bool,
+    reader: &mut R,
+    piece: &mut [u8],
+    can_send: bool,
+) -> Result<(), Pump>
+    requires is_open { IsSome (session_at proxy.old session) }
+    requires none_waits { waiting_of (session_at proxy.old session) ≡ [] }
+    requires none_known { emitted_at (session_at proxy.old session) ≡ None }
+    requires below { length (output_of (session_at proxy.old session)) < UNSENT_MARK }
+    requires goes_on { ended.old ≡ false }
+    requires piece { 0 < length piece.old }
+    ensures { (written : Option (List ℕ)) → PumpsClient session (pump_of result) proxy.old proxy.new
+        (R.remaining reader.old) (R.remaining reader.new) written written ended.old ended.new }
+{
+    let moved = receive(proxy, session, ended, reader, piece)?;
+    if moved || can_send {
+        return Ok(());
+    }
+    Err(Pump::Blocked)
+}
+
+/// Reads once, feeds the session with what came, and says whether anything came, or the end.
+fn receive<R: Read>(
+    proxy: &mut Proxy,
+    session: u64,
+    ended: &mut bool,
+    reader: &mut R,
+    piece: &mut [u8],
+) -> Result<bool, Pump>
+    requires is_open { IsSome (session_at proxy.old session) }
+    requires none_waits { waiting_of (session_at proxy.old session) ≡ [] }
+    requires below { length (output_of (session_at proxy.old session)) < UNSENT_MARK }
+    requires goes_on { ended.old ≡ false }
+    requires piece { 0 < length piece.old }
+    ensures { Receives session result proxy.old proxy.new (R.remaining reader.old) (R.remaining reader.new) ended.new }
+{
+    let count = read_once(reader, piece, ended)?;
+    if count == 0 {
+        return Ok(*ended);
+    }
+    let (came, _) = piece.split_at(count);
+    match proxy.feed(session, came) {
+        Ok(()) => Ok(true),
+        Err(_) => Err(Pump::Failed),
+    }
+}

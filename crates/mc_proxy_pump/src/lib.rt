@@ -1,0 +1,22 @@
+//! The bodies of a proxy's streams: bytes carried between a proxy and the two sides of a client's stream, or of a server's.
+//!
+//! [`pump_client`] and [`pump_link`] are called again and again, as long as they say [`Pump::Again`], or [`Pump::Blocked`] and
+//! the stream or the proxy then moves. The streams are any reader and any writer: no socket is known here. [`MAX_ROUNDS`] and
+//! [`UNSENT_MARK`] are their limits. A pump of a link tells which sessions got replies, so that each of them is pumped once for
+//! all that came in a read: what came together goes out together.
+//!
+//! A pump does nothing to its proxy but calls for its own session, or for its own link, one behind another:
+//! `specs/Calls.antt` and `specs/LinkCalls.antt` have them, with the bytes that came and went by each. `specs/Clients.antt` and
+//! `specs/Links.antt` say what a pump carries, and how it leaves its session or its link. [`proxies_stand_behind_a_client`] and
+//! [`proxies_stand_behind_a_link`] are laws, and do nothing: behind such calls a proxy's account stands, grown by those bytes.
+#![tactic(auto)]
+
+mod clients;
+mod laws;
+mod links;
+
+pub use clients::pump_client;
+pub use laws::{proxies_stand_behind_a_client, proxies_stand_behind_a_link};
+pub use links::pump_link;
+pub use mc_proxy::UNSENT_MARK;
+pub use mc_stream::{MAX_ROUNDS, Pump};

@@ -1,0 +1,76 @@
+//! How clients come to a proxy.
+
+use crate::hosts::Host;
+use mc_ring::Address;
+use mc_socket::{Door, Waiting};
+use mio::Registry;
+use mio::net::TcpStream;
+use std::net::Net;
+
+/// The most clients that are let in in a round.
+const MAX_ACCEPTS: u32 = 64;
+
+/// A listener, the client that waits behind it until each line was tried, and the server that joins with one of them.
+#[derive(Drop)]
+pub struct Entrance<'a> {
+    door: Door,
+    next: Option<TcpStream>,
+    join: &'a Option<(Address, u64)>,
+}
+
+impl<'a> Entrance<'a> {
+    /// An entrance that nobody has come through.
+    pub fn new(door: Door, join: &'a Option<(Address, u64)>) -> Self {
+        Entrance {
+            door,
+            next: None,
+            join,
+        }
+    }
+
+    /// Notes that the poll has reported the listener.
+    pub fn note(&mut self) {
+        self.door.note();
+    }
+
+    /// Whether there may be somebody to let in.
+    pub fn is_awaited(&self) -> bool {
+        self.next.is_some() || self.door.waiting() == Waiting::More
+    }
+
+    /// Whether somebody waits whom the system does not give now.
+    pub fn is_refused(&self) -> bool {
+        self.door.waiting() == Waiting::Refused
+    }
+
+    /// Whether nobody comes any more.
+    pub fn is_shut(&self) -> bool {
+        self.door.is_shut() && self.next.is_none()
+    }
+
+    /// Lets clients in while each line of the host was tried. With the client that the settings name a server joins, and that
+    /// client is let in once the line to it was tried.
+    pub fn let_in<R: Net>(&mut self, host: &mut Host, rt: &R, registry: &Registry, second: u64) {
+        for _ in 0..MAX_ACCEPTS {
+            if !host.is_settled() {
+                return;
+            }
+            if let Some(stream) = self.next.take() {
+                host.admit(stream, registry);
+            }
+            if self.door.waiting() == Waiting::Nobody {
+                return;
+            }
+            self.next = self.door.accept();
+            if self.next.is_none() {
+                return;
+            }
+            if let Some((server, with)) = self.join {
+                if self.door.accepted() == *with {
+                    host.join(server);
+                    host.keep(rt, registry, second);
+                }
+            }
+        }
+    }
+}

@@ -1,0 +1,25 @@
+//! A proxy that serves: clients and servers on sockets, over one [`mc_proxy::Proxy`].
+//!
+//! [`serve`] serves the clients that a listener accepts, and keeps a connection to each server of the ring as far as that is
+//! there: each is tried once before the first client is accepted, and while it is down at most once in a second. Connecting
+//! waits for nobody. [`ProxySettings`] says when it ends, and which server joins. Its bodies are
+//! [`mc_proxy_pump::pump_client`] and [`mc_proxy_pump::pump_link`], which have the law of a client's stream and of a
+//! server's. [`command`] and [`Options`] are the command line of the program `mc_proxyd`.
+//!
+//! [`serve`] waits for its sockets, and may wait for ever; no other call does. What a socket carries, no contract says.
+#![tactic(auto)]
+
+mod clients;
+mod entrances;
+mod hosts;
+mod limits;
+mod lines;
+mod options;
+mod pools;
+mod serving;
+mod settings;
+mod uptimes;
+
+pub use options::{ListError, Options, command};
+pub use serving::serve;
+pub use settings::ProxySettings;

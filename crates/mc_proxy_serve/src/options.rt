@@ -1,0 +1,131 @@
+//! The command line of a proxy, and the pool that its words name.
+
+use crate::settings::ProxySettings;
+use clap::builder::ValueParser;
+use clap::{Arg, ArgAction, ArgMatches, Command};
+use mc_ring::{Address, Ring, RingError};
+use std::alloc::{AllocError, Global};
+use thiserror::Error;
+
+/// What a command line asks for.
+#[derive(Drop)]
+pub struct Options<'a> {
+    /// Where to listen: `<host>:<port>`.
+    pub listen: &'a str,
+    /// The servers.
+    pub ring: Ring,
+    /// What to serve with.
+    pub settings: ProxySettings,
+    /// Whether to print how many servers and points there are, and end.
+    pub check: bool,
+}
+
+/// Why the words name no pool.
+#[derive(Clone, Copy, Debug, PartialEq, Eq, Error)]
+pub enum ListError {
+    /// 1: the servers are none, more than 64, one of them twice, or a text that is no address; or the server that is to join
+    /// is missing, no address, one of them, or one too many.
+    #[error("bad server list")]
+    Bad,
+    /// 2: no memory.
+    #[error("out of memory")]
+    Memory,
+}
+
+impl From<AllocError> for ListError {
+    fn from(_e: AllocError) -> ListError {
+        ListError::Memory
+    }
+}
+
+impl From<RingError> for ListError {
+    fn from(error: RingError) -> ListError {
+        match error {
+            RingError::Memory => ListError::Memory,
+            RingError::NoServer | RingError::TooMany | RingError::Doubled | RingError::BadAddress =>
+                { ListError::Bad }
+        }
+    }
+}
+
+impl<'a> Options<'a> {
+    /// What matches of [`command`] ask for.
+    pub fn of(alloc: Global, matches: &ArgMatches<'a>) -> Result<Options<'a>, ListError> {
+        let words = matches.get_strs("server").ok_or(ListError::Bad)?;
+        let mut servers = Vec::with_capacity(alloc, words.len())?;
+        for word in words {
+            let server = Address::new(alloc, word.as_bytes())?;
+            servers.push(server).map_err(|_| ListError::Memory)?;
+        }
+        let ring = Ring::new(alloc, servers.as_slice())?;
+        let after = matches.get_one::<u64>("join-after").unwrap_or(0);
+        let join = joining(alloc, &ring, matches.get_str("join"), after)?;
+        Ok(Options {
+            listen: matches.get_str("listen").ok_or(ListError::Bad)?,
+            ring,
+            settings: ProxySettings {
+                accept: matches.get_one::<u64>("accept").unwrap_or(0),
+                join,
+            },
+            check: matches.get_flag("check"),
+        })
+    }
+}
+
+/// Which server joins a ring, and with which client: none where the client's number is 0.
+fn joining(
+    alloc: Global,
+    ring: &Ring,
+    join: Option<&str>,
+    after: u64,
+) -> Result<Option<(Address, u64)>, ListError> {
+    if after == 0 {
+        return Ok(None);
+    }
+    let word = join.ok_or(ListError::Bad)?;
+    let server = Address::new(alloc, word.as_bytes())?;
+    ring.with_server(alloc, server.clone()?)?;
+    Ok(Some((server, after)))
+}
+
+/// The command of a proxy program, with the meaning, the default and the limits of each option.
+pub fn command<'a>(alloc: Global) -> Result<Command<'a>, AllocError> {
+    let listen = Arg::new(alloc, "listen")
+        .long("listen")
+        .value_name("host:port")
+        .default_value("127.0.0.1:11212")
+        .help("Where to listen: a host's name or IPv4 address, and a port from 1 to 65535");
+    let accept = Arg::new(alloc, "accept")
+        .long("accept")
+        .value_name("n")
+        .value_parser(ValueParser::unsigned(0, u64::MAX))
+        .default_value("0")
+        .help("End once so many clients were accepted and all are gone; 0 for never");
+    let join = Arg::new(alloc, "join")
+        .long("join")
+        .value_name("host:port")
+        .help("A server that joins while the proxy runs: see --join-after");
+    let join_after = Arg::new(alloc, "join-after")
+        .long("join-after")
+        .value_name("n")
+        .value_parser(ValueParser::unsigned(0, u64::MAX))
+        .default_value("0")
+        .help("With which accepted client the server of --join joins; 0 for none");
+    let check = Arg::new(alloc, "check")
+        .long("check")
+        .action(ArgAction::SetTrue)
+        .help("Print how many servers and points there are and end, without listening");
+    let server = Arg::new(alloc, "server")
+        .value_name("server")
+        .num_args(1..)
+        .required(true)
+        .help("The servers, 1 to 64, each <host>:<port>; keys are spread by these texts");
+    Command::new(alloc, "mc_proxyd")
+        .about("A memcached proxy: spreads keys over servers by libketama's ring")
+        .arg(listen)?
+        .arg(accept)?
+        .arg(join)?
+        .arg(join_after)?
+        .arg(check)?
+        .arg(server)
+}

@@ -1,0 +1,129 @@
+//! The lines to the servers of a ring.
+ghost use Rattle.std.specs.Prelude.{◌<◌, length};
+
+use crate::lines::Line;
+use mc_proxy::{LINK_MARK, MAX_SESSIONS, Proxy, ProxyError};
+use mc_proxy_pump::Pump;
+use mc_ring::{Address, Ring};
+use mc_socket::KEPT_ROOM;
+use mio::event::Event;
+use mio::{Registry, Token};
+use std::alloc::{AllocError, Global};
+use std::net::Net;
+
+/// The lines to the servers of a ring, by their places.
+#[derive(Drop)]
+pub struct Pool {
+    alloc: Global,
+    lines: Vec<Line>,
+}
+
+impl Pool {
+    /// Lines of which none was tried.
+    pub fn new(alloc: Global, ring: &Ring) -> Result<Pool, AllocError> {
+        let mut lines = Vec::with_capacity(alloc, ring.servers().len())?;
+        for server in ring.servers() {
+            lines.push(line_to(alloc, server)?)?;
+        }
+        Ok(Pool { alloc, lines })
+    }
+
+    /// Whether each line was tried.
+    pub fn is_settled(&self) -> bool {
+        self.lines.iter().all(|line| line.is_tried())
+    }
+
+    /// Whether each line stands.
+    pub fn is_up(&self) -> bool {
+        self.lines.iter().all(|line| line.is_up())
+    }
+
+    /// Whether the socket of a line may have something for it.
+    pub fn is_stirred(&self) -> bool {
+        self.lines.iter().any(|line| line.is_stirred())
+    }
+
+    /// Tries the lines that are down and were not tried in this second.
+    pub fn keep<R: Net>(&mut self, rt: &R, registry: &Registry, second: u64) {
+        for (place, line) in self.lines.iter_mut().enumerate() {
+            line.keep(rt, registry, token_of(place), second);
+        }
+    }
+
+    /// Has a server join, whose line was not tried. Where it cannot, nothing changes.
+    pub fn join(&mut self, proxy: &mut Proxy, server: &Address) {
+        // Where there is no memory the pool stays as it is, and serves on.
+        let _ = self.try_join(proxy, server);
+    }
+
+    /// The same, and says where there was no memory, or no place in the ring.
+    fn try_join(&mut self, proxy: &mut Proxy, server: &Address) -> Result<(), ProxyError> {
+        let line = line_to(self.alloc, server)?;
+        let address = server.clone()?;
+        self.lines.reserve(1)?;
+        proxy.join_server(address, false)?;
+        self.lines.push(line)?;
+        Ok(())
+    }
+
+    /// Notes what an event says of the line whose token it has.
+    pub fn note(&mut self, proxy: &mut Proxy, event: &Event) {
+        let Token(token) = event.token();
+        let Some(place) = token.checked_sub(MAX_SESSIONS) else {
+            return;
+        };
+        if let Some(line) = self.lines.get_mut(place) {
+            line.note(event, proxy, place);
+        }
+    }
+
+    /// Carries the bytes of the lines that have something to send, or may have received something. The sessions that were
+    /// answered are put behind `woken`; the result says whether any other session may go on, since a line was lost, or is at
+    /// its mark no more. A line that fails is let go and its link is lost: the commands that wait on it are lost, and it is
+    /// tried again.
+    pub fn carry(&mut self, proxy: &mut Proxy, piece: &mut [u8], woken: &mut Vec<u64>) -> bool
+        requires piece { 0 < length piece.old }
+    {
+        let mut others = false;
+        for (place, line) in self.lines.iter_mut().enumerate() {
+            if !line.is_stirred() && proxy.link_output(place).is_empty() {
+                continue;
+            }
+            let was_marked = is_marked(proxy, place);
+            match line.pump(proxy, place, piece, woken) {
+                Pump::Again => {}
+                Pump::Blocked => proxy.link_give_back(place, KEPT_ROOM),
+                Pump::Done | Pump::Failed => {
+                    // A strange reply has lost the link before.
+                    let _ = proxy.lost(place);
+                    line.let_go();
+                    others = true;
+                }
+            }
+            others |= was_marked && !is_marked(proxy, place);
+        }
+        others
+    }
+
+    /// Gives back the memory that the links have reserved and that holds nothing.
+    pub fn rest(&self, proxy: &mut Proxy) {
+        for place in 0..self.lines.len() {
+            proxy.link_give_back(place, 0);
+        }
+    }
+}
+
+/// Whether so much is unsent on the link of a place that no more is put on it.
+fn is_marked(proxy: &Proxy, place: usize) -> bool {
+    proxy.link_output(place).len() >= LINK_MARK
+}
+
+/// The token of the line to the server of a place. No client has it.
+fn token_of(place: usize) -> Token {
+    Token(MAX_SESSIONS.saturating_add(place))
+}
+
+/// A line to a server that no connection was begun to.
+fn line_to(alloc: Global, server: &Address) -> Result<Line, AllocError> {
+    Ok(Line::new(String::from_utf8_lossy(alloc, server.as_bytes())?))
+}

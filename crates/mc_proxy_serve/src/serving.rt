@@ -1,0 +1,81 @@
+//! Serving a listener.
+
+use crate::entrances::Entrance;
+use crate::hosts::Host;
+use crate::settings::ProxySettings;
+use crate::uptimes::Uptime;
+use mc_ring::Ring;
+use mc_socket::{Door, PATIENCE};
+use mc_stream::ServeError;
+use mio::net::TcpListener;
+use mio::{Events, Poll, Token};
+use std::alloc::Global;
+use std::net::Net;
+use std::rt::Clock;
+use std::sync::Wait;
+use std::time::Duration;
+
+/// The token of the listener. No client and no line has it.
+const LISTENER: Token = Token(usize::MAX);
+
+/// The most events of a round.
+const MAX_EVENTS: usize = 1024;
+
+/// Serves the clients that a listener accepts, over the servers of a ring.
+///
+/// Each server is tried once before the first client is let in, and while its line is down at most once in a second. It
+/// answers once as many clients as the settings say were accepted and all of them are gone; without such a limit it serves for
+/// ever. A client or a line that fails is closed, and the others go on.
+pub fn serve<R: Net + Clock + Wait>(
+    rt: &R,
+    alloc: Global,
+    listener: TcpListener,
+    settings: &ProxySettings,
+    ring: Ring,
+) -> Result<(), ServeError> {
+    let mut host = Host::new(alloc, ring)?;
+    let mut events = Events::with_capacity(alloc, MAX_EVENTS)?;
+    let mut poll = Poll::new(rt).map_err(|_| ServeError::Listen)?;
+    let mut door = Door::new(listener, settings.accept);
+    door.register(poll.registry(), LISTENER)
+        .map_err(|_| ServeError::Listen)?;
+    let mut entrance = Entrance::new(door, &settings.join);
+    let mut uptime = Uptime::new(rt);
+    let mut rested = 0;
+    for _ in rt.forever() {
+        let second = uptime.seconds(rt);
+        host.keep(rt, poll.registry(), second);
+        let patience = patience(&entrance, &host);
+        poll.poll(&mut events, patience)
+            .map_err(|_| ServeError::Listen)?;
+        host.go_on();
+        for event in events.iter() {
+            if event.token() == LISTENER {
+                entrance.note();
+            } else {
+                host.wake(event);
+            }
+        }
+        host.settle();
+        entrance.let_in(&mut host, rt, poll.registry(), second);
+        if second != rested {
+            rested = second;
+            host.rest();
+        }
+        if entrance.is_shut() && host.is_empty() {
+            return Ok(());
+        }
+    }
+    unreachable!()
+}
+
+/// How long the next round waits: not at all where somebody goes on, and for ever where nothing is to be done unasked.
+fn patience(entrance: &Entrance<'_>, host: &Host) -> Option<Duration> {
+    if host.goes_on() || (entrance.is_awaited() && host.is_settled()) {
+        return Some(Duration::from_millis(0));
+    }
+    if host.is_busy() || entrance.is_refused() {
+        return Some(Duration::from_millis(PATIENCE));
+    }
+    None
+}

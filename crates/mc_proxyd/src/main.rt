@@ -1,0 +1,64 @@
+//! A memcached proxy on a socket.
+//!
+//! The exit status is 0 where `--check` was asked for, or where as many clients as `--accept` says were served. Else it is
+//! that of [`mc_program`], where a list of servers that is no ring is refused like any other word. The words are read first,
+//! then the list, then `--check` is obeyed, then it listens.
+#![tactic(auto)]
+
+use mc_program::{Failure, exit_status, read_words};
+use mc_proxy_serve::{ListError, Options, command, serve};
+use mc_ring::Ring;
+use mc_socket::bind;
+use mc_stream::ServeError;
+use std::net::Net;
+use std::process::ExitCode;
+use std::rt::{Clock, Env};
+use std::sync::Wait;
+
+fn main(rt: HostRuntime) -> ExitCode {
+    let served = run(&rt);
+    if let Err(failure) = &served {
+        failure.tell(&rt, "mc_proxyd");
+    }
+    ExitCode::from(exit_status(&served))
+}
+
+/// Reads the words, and then prints how large the ring is, or serves.
+fn run<R>(rt: &R) -> Result<(), Failure>
+where
+    R: Env + Clock + Print + Net + Wait + AllocGlobal,
+{
+    let alloc = rt.alloc();
+    let words = read_words(rt)?;
+    let matches = command(alloc)?.try_get_matches_from(words.as_slice())?;
+    let Options {
+        listen,
+        ring,
+        settings,
+        check,
+    } = Options::of(alloc, &matches).map_err(failure_of)?;
+    if check {
+        return print_size(rt, &ring);
+    }
+    let listener = bind(rt, alloc, listen)?;
+    // Whom the line does not reach is served all the same.
+    let _ = println!(rt; "listening {listen}");
+    serve(rt, alloc, listener, &settings, ring)?;
+    Ok(())
+}
+
+/// How the program ends where the words name no pool.
+fn failure_of(error: ListError) -> Failure {
+    match error {
+        ListError::Bad => Failure::Refused("bad server list"),
+        ListError::Memory => Failure::Serve(ServeError::Memory),
+    }
+}
+
+/// Prints how many servers and points a ring has.
+fn print_size<R: Print>(rt: &R, ring: &Ring) -> Result<(), Failure> {
+    let servers = ring.servers().len();
+    let points = ring.points().len();
+    let written = println!(rt; "servers {servers} points {points}");
+    written.map_err(|_| Failure::Output)
+}

@@ -1,0 +1,130 @@
+//! A listener, and how many connections it has accepted.
+ghost use Rattle.std.specs.Prelude.{◌≡◌};
+
+use mio::net::{TcpListener, TcpStream};
+use mio::{Interest, Registry, Token};
+use std::io;
+use std::io::ErrorKind;
+use std::marker::Model;
+
+/// How often a call tries again where the system gives no connection but says that there may be one.
+const MAX_TRIES: u32 = 16;
+
+/// What is known of the connections that wait to be accepted.
+#[derive(Clone, Copy, Debug, PartialEq, Eq)]
+pub enum Waiting {
+    /// None waits until the listener is reported again.
+    Nobody,
+    /// There may be more.
+    More,
+    /// There may be more, but the system gives none now: it may have no descriptor left.
+    Refused,
+}
+
+/// A listener, and how many connections it has accepted. Contracts see its limit, that number, and what is known of those who
+/// wait.
+#[derive(Drop)]
+pub struct Door {
+    listener: TcpListener,
+    /// How many are accepted in all; 0 for no limit.
+    limit: u64,
+    accepted: u64,
+    waiting: Waiting,
+}
+
+impl Model for Door {
+    ghost use Rattle.mc_socket.specs.Doors.{DoorState};
+
+    ghost Value = { DoorState };
+
+    ghost view = { λ d. record { limit = d.limit; accepted = d.accepted; waiting = d.waiting } };
+}
+
+impl Door {
+    ghost use Rattle.mc_socket.specs.Doors.{new_door, told, is_shut, IsAccept};
+
+    /// A door that has accepted nobody, and will accept so many connections; 0 for no limit.
+    pub fn new(listener: TcpListener, limit: u64) -> Door
+        ensures { result ≡ new_door limit }
+    {
+        Door {
+            listener,
+            limit,
+            accepted: 0,
+            waiting: Waiting::Nobody,
+        }
+    }
+
+    /// Has a poll report the listener by a token, where a connection comes.
+    pub fn register(&mut self, registry: &Registry, token: Token) -> io::Result<()>
+        ensures { self.new ≡ self.old }
+    {
+        registry.register(&mut self.listener, token, Interest::READABLE)
+    }
+
+    /// Notes that a poll has reported the listener.
+    pub fn note(&mut self)
+        ensures { self.new ≡ told self.old }
+    {
+        self.waiting = Waiting::More;
+    }
+
+    /// The next connection. Where there is none, [`waiting`](Self::waiting) says why; a door that is shut gives none.
+    ///
+    /// A call that the system interrupted, or whose connection is gone again, is made anew, up to 16 times.
+    pub fn accept(&mut self) -> Option<TcpStream>
+        ensures { IsAccept result self.old self.new }
+    {
+        if self.is_shut() {
+            self.waiting = Waiting::Nobody;
+            return None;
+        }
+        match next_connection(&self.listener) {
+            Ok(stream) => {
+                self.accepted = self.accepted.saturating_add(1);
+                self.waiting = Waiting::More;
+                Some(stream)
+            }
+            Err(waiting) => {
+                self.waiting = waiting;
+                None
+            }
+        }
+    }
+
+    /// What is known of the connections that wait.
+    pub fn waiting(&self) -> Waiting
+        ensures { result ≡ self.now.waiting }
+    {
+        self.waiting
+    }
+
+    /// How many connections it has accepted.
+    pub fn accepted(&self) -> u64
+        ensures { result ≡ self.now.accepted }
+    {
+        self.accepted
+    }
+
+    /// Whether it accepts no more: as many as its limit were accepted.
+    pub fn is_shut(&self) -> bool
+        ensures { result ≡ is_shut self.now }
+    {
+        self.limit > 0 && self.accepted >= self.limit
+    }
+}
+
+/// The next connection of a listener, or what is then known of those who wait.
+fn next_connection(listener: &TcpListener) -> Result<TcpStream, Waiting> {
+    for _ in 0..MAX_TRIES {
+        match listener.accept() {
+            Ok((stream, _)) => return Ok(stream),
+            Err(error) => match error.kind() {
+                ErrorKind::Interrupted | ErrorKind::ConnectionAborted => {}
+                ErrorKind::WouldBlock => return Err(Waiting::Nobody),
+                _ => return Err(Waiting::Refused),
+            },
+        }
+    }
+    Err(Waiting::More)
+}

@@ -1,0 +1,167 @@
+"""What a program does with connections, where a server and a proxy do the same: checks of both.
+
+`start(words, limits, says)` starts what is tried, with these words of its program, limits of its resources, and standard output that
+takes what it says, or none of it. It has the methods of `Listener` (servers.py).
+"""
+
+import resource
+import select
+import socket
+import struct
+import time
+
+from checks import PATIENCE, Wrong, asked, is_served, received, received_to_the_end, want
+
+# Dialogues: what a client of a new cache sends, and what it is answered.
+DIALOGUES = {
+    "set_then_get": (b"set a 0 0 1\r\nx\r\nget a\r\n", b"STORED\r\nVALUE a 0 1\r\nx\r\nEND\r\n"),
+    "block_of_line_ends": (
+        b"set a 0 0 7\r\n\r\nEND\r\n\r\ngets a\r\n",
+        b"STORED\r\nVALUE a 0 7 1\r\n\r\nEND\r\n\r\nEND\r\n",
+    ),
+    "key_in_base64": (
+        b"ms YWJj 1 b\r\nx\r\nmg abc v k\r\nmg YWJj k b\r\n",
+        b"HD\r\nVA 1 kabc\r\nx\r\nHD kYWJj b\r\n",
+    ),
+    "storage_and_deletion": (
+        b"add a 0 0 1\r\nx\r\nadd a 0 0 1\r\ny\r\nappend a 9 9 1\r\nz\r\nreplace b 0 0 1\r\ny\r\nget a\r\n"
+        b"delete a 0\r\ndelete a\r\n",
+        b"STORED\r\nNOT_STORED\r\nSTORED\r\nNOT_STORED\r\nVALUE a 0 2\r\nxz\r\nEND\r\nDELETED\r\nNOT_FOUND\r\n",
+    ),
+}
+
+
+def a_dialogue_is_answered(start, sent, answers):
+    """Whole, and then by a client that half-closes; the program ends with its one connection."""
+    for last in (b"quit\r\n", b""):
+        with start("--accept 1") as program:
+            with program.connected() as client:
+                client.sendall(sent + last)
+                if not last:
+                    client.shutdown(socket.SHUT_WR)
+                want(received_to_the_end(client), answers)
+            want(program.ended(), (0, b""))
+
+
+def a_dialogue_comes_in_bytes(start, sent, answers):
+    with start() as program, program.connected() as client:
+        for at in range(len(sent)):
+            client.sendall(sent[at : at + 1])
+        want(received(client, len(answers)), answers)
+
+
+def a_second_is_served_beside_half_a_line(start):
+    with start() as program, program.connected() as first:
+        first.sendall(b"set a 0 0 5\r\nxy")
+        with program.connected() as second:
+            asked(second, b"get a\r\nset a 0 0 1\r\nz\r\n", b"END\r\nSTORED\r\n")
+        asked(first, b"zzz\r\nget a\r\n", b"STORED\r\nVALUE a 0 5\r\nxyzzz\r\nEND\r\n")
+
+
+def two_are_accepted_and_no_more(start):
+    with start("--accept 2") as program:
+        first, second = program.connected(), program.connected()
+        is_served(second)
+        second.close()
+        is_served(first)
+        with program.connected() as third:
+            third.sendall(b"version\r\n")
+            is_served(first)
+            want(program.process.poll(), None)
+            first.close()
+            want(program.ended(), (0, b""))
+            try:
+                want(third.recv(100), b"")
+            except ConnectionResetError:
+                pass  # Nobody has accepted it.
+
+
+def whom_no_line_reaches_is_served(start):
+    with start("--accept 1", says=False) as program:
+        with program.connected_in_time() as client:
+            is_served(client)
+        want(program.ended(), (0, b""))
+
+
+def half_a_request_and_the_end_are_no_answer(start):
+    with start("--accept 1") as program:
+        with program.connected() as client:
+            client.sendall(b"get a\r\nset a 0 0 5\r\nxy")
+            client.shutdown(socket.SHUT_WR)
+            want(received_to_the_end(client), b"END\r\n")
+        want(program.ended(), (0, b""))
+
+
+def a_reset_ends_one_connection(start):
+    """The answers to what was sent before a reset cannot be written, and the others go on."""
+    with start() as program, program.connected() as other:
+        for _ in range(20):
+            broken = program.connected()
+            broken.sendall(b"version\r\n" * 1_000)
+            broken.setsockopt(socket.SOL_SOCKET, socket.SO_LINGER, struct.pack("ii", 1, 0))
+            broken.close()
+            is_served(other)
+
+
+def the_1025th_is_closed_at_once(start):
+    with start(limits=[(resource.RLIMIT_NOFILE, 2_000)]) as program:
+        clients = [program.connected() for _ in range(1_024)]
+        try:
+            is_served(clients[1_023])
+            with program.connected() as more:
+                want(more.recv(100), b"")
+            for client in clients:
+                is_served(client)
+            clients.pop().close()
+            clients.append(served_in_time(program))
+        finally:
+            for client in clients:
+                client.close()
+
+
+def served_in_time(program):
+    """A connection that is served, once there is a place for it."""
+    deadline = time.monotonic() + PATIENCE
+    while True:
+        client = program.connected()
+        try:
+            is_served(client)
+            return client
+        except (Wrong, ConnectionError):
+            client.close()
+            if time.monotonic() > deadline:
+                raise
+
+
+def no_descriptors_are_waited_for(start):
+    """Who cannot be accepted, since the system gives no more descriptors, is served once another is gone."""
+    with start(limits=[(resource.RLIMIT_NOFILE, 16)]) as program:
+        clients = [program.connected() for _ in range(20)]
+        try:
+            last = clients[-1]
+            last.sendall(b"version\r\n")
+            is_served(clients[0])
+            want(select.select([last], [], [], 0.2)[0], [])
+            for client in clients[:-1]:
+                client.close()
+            want(received(last, 15), b"VERSION 1.6.0\r\n")
+        finally:
+            for client in clients:
+                client.close()
+
+
+def checks_of_connections(start, more_dialogues={}):
+    """Each of them by its name, with all dialogues."""
+    for name, (sent, answers) in {**DIALOGUES, **more_dialogues}.items():
+        yield f"{name}, whole", a_dialogue_is_answered, (start, sent, answers)
+        yield f"{name}, in bytes", a_dialogue_comes_in_bytes, (start, sent, answers)
+    for check in (
+        a_second_is_served_beside_half_a_line,
+        two_are_accepted_and_no_more,
+        whom_no_line_reaches_is_served,
+        half_a_request_and_the_end_are_no_answer,
+        a_reset_ends_one_connection,
+        the_1025th_is_closed_at_once,
+        no_descriptors_are_waited_for,
+    ):
+        yield check.__name__, check, (start,)
