@@ -89,7 +89,8 @@ impl Proxy {
         ensures only { IfErr result (λ e. (e ≡ ProxyError.TooManySessions) ⊎ (e ≡ ProxyError.Memory)) }
         ensures err { OnErr result (self.new ≡ self.old) }
     {
-        if self.sessions.len() >= MAX_SESSIONS || self.admitted == u64::MAX {
+        let is_full = self.sessions.len() >= MAX_SESSIONS;
+        if is_full || self.admitted == u64::MAX {
             return Err(ProxyError::TooManySessions);
         }
         let number = self.admitted;

@@ -1,7 +1,6 @@
 //! What a client is answered where a server has no number or no memory left, and an output that is taken out in parts.
 
-use crate::clients::{MOMENT, Setup, WIDE, new_server};
-use crate::meagre::MeagreStore;
+use mc_fixtures::{MOMENT, MeagreStore, Setup, WIDE, new_server};
 use mc_server::Turn::{self, Closing, Idle, Took};
 use mc_server::{Server, ServerError};
 use std::test::Fail;

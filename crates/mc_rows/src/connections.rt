@@ -1,7 +1,6 @@
 //! Connections that are admitted and closed.
 
-use crate::clients::{MOMENT, WIDE, new_server};
-use crate::meagre::MeagreStore;
+use mc_fixtures::{MOMENT, MeagreStore, WIDE, new_server};
 use mc_server::Server;
 use mc_server::ServerError::{NoConnection, TooMany};
 use std::test::Fail;

@@ -10,31 +10,15 @@ mod bounds;
 #[cfg(test)]
 mod caches;
 #[cfg(test)]
-mod clients;
-#[cfg(test)]
 mod connections;
 #[cfg(test)]
-mod cuts;
-#[cfg(test)]
-mod links;
-#[cfg(test)]
 mod loopback;
-#[cfg(test)]
-mod marks;
-#[cfg(test)]
-mod meagre;
-#[cfg(test)]
-mod pools;
-#[cfg(test)]
-mod proxy_pumps;
 #[cfg(test)]
 mod pumps;
 #[cfg(test)]
 mod replies;
 #[cfg(test)]
 mod requests;
-#[cfg(test)]
-mod rings;
 #[cfg(test)]
 mod scripts;
 #[cfg(test)]

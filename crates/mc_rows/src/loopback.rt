@@ -1,6 +1,6 @@
 //! A server on a socket and its clients, on threads of one process.
 
-use crate::clients::MOMENT;
+use mc_fixtures::MOMENT;
 use mc_serve::{Seconds, Settings, serve};
 use mio::net::TcpListener;
 use std::alloc::Global;

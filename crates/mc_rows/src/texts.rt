@@ -1,16 +1,13 @@
 //! What no clause of keys, blocks and errors says: that they find memory where there is some, and how errors read.
 
-use mc_link::LinkError;
+use mc_fixtures::read_so;
 use mc_reply::ReplyError;
 use mc_request::{Keys, ReadError};
-use mc_ring::RingError;
-use mc_route::RouteError;
 use mc_script::{Side, SimError};
 use mc_server::ServerError;
 use mc_store::StoreError;
 use mc_text::{Block, Key, KeyError};
 use std::alloc::{AllocError, Global};
-use std::fmt::Display;
 use std::test::Fail;
 
 fn are_keys_made(alloc: Global) -> Result<bool, KeyError> {
@@ -40,17 +37,6 @@ fn keys_and_blocks_are_made(rt: HostRuntime) -> Result<(), Fail> {
     Ok(())
 }
 
-/// Whether each error reads so.
-fn read_so<E: Display>(alloc: Global, texts: &[(E, &str)]) -> bool {
-    for (error, text) in texts {
-        match error.to_string(alloc) {
-            Ok(said) if said.as_str() == *text => {}
-            _ => return false,
-        }
-    }
-    true
-}
-
 const OF_KEYS: [(KeyError, &'static str); 5] = [
     (KeyError::Empty, "empty key"),
     (KeyError::TooLong, "key longer than 250 bytes"),
@@ -70,19 +56,6 @@ const OF_SERVERS: [(ServerError, &'static str); 3] = [
     (ServerError::Memory, "out of memory"),
 ];
 
-const OF_RINGS: [(RingError, &'static str); 5] = [
-    (RingError::NoServer, "no server"),
-    (RingError::TooMany, "more than 64 servers"),
-    (RingError::Doubled, "server given twice"),
-    (RingError::BadAddress, "bad server address"),
-    (RingError::Memory, "out of memory"),
-];
-
-const OF_LINKS: [(LinkError, &'static str); 2] = [
-    (LinkError::State, "link is in the wrong state"),
-    (LinkError::Memory, "out of memory"),
-];
-
 const OF_SCRIPTS: [(SimError, &'static str); 3] = [
     (SimError::Stream(Side::Output), "input or output failed"),
     (SimError::BadLine(4), "line 4: bad line"),
@@ -96,10 +69,7 @@ fn errors_have_texts(rt: HostRuntime) -> Result<(), Fail> {
         read_so(alloc, &OF_KEYS)
             && read_so(alloc, &OF_STORES)
             && read_so(alloc, &OF_SERVERS)
-            && read_so(alloc, &OF_RINGS)
             && read_so(alloc, &OF_SCRIPTS)
-            && read_so(alloc, &OF_LINKS)
-            && read_so(alloc, &[(RouteError::Memory, "out of memory")])
             && read_so(alloc, &[(ReplyError::Memory, "out of memory")])
             && read_so(alloc, &[(ReadError::Memory, "out of memory")])
     );

@@ -1,7 +1,7 @@
 //! Replies that come in pieces.
 
-use crate::clients::{MOMENT, WIDE, new_server};
 use crate::pools::{ONE, pool};
+use mc_fixtures::{MOMENT, WIDE, new_server};
 use mc_proxy::{Proxy, ProxyError};
 use std::alloc::Global;
 use std::test::Fail;

@@ -1,11 +1,11 @@
 //! The pumps of a proxy between streams in memory, its clients' and its server's, which move few bytes a call, block, are
 //! interrupted and fail.
 
-use crate::clients::{MOMENT, WIDE, new_server};
-use crate::meagre::MeagreStore;
 use crate::pools::{ONE, pool};
-use crate::pumps::Call::{Fails, Moves};
-use crate::pumps::{Call, Calls, MANY, SCRIPTS, Sides, Sink, Source};
+use mc_fixtures::Call::{Fails, Moves};
+use mc_fixtures::{
+    Call, Calls, MANY, MOMENT, MeagreStore, SCRIPTS, Sides, Sink, Source, WIDE, new_server,
+};
 use mc_proxy::Proxy;
 use mc_proxy_pump::{Pump, pump_client, pump_link};
 use mc_server::Server;
@@ -299,16 +299,32 @@ fn ends_alone(
 ) -> Result<bool, Fail> {
     let streams = calm.with(end, number);
     let mut pool = new_pool(alloc, streams.link)?;
-    let (last, _, taken) = play(alloc, &mut pool, exchange.sent, streams.client)?;
-    let is_so = if end.is_link {
-        last == Pump::Done && is_told(alloc, exchange, &taken)?
-    } else {
-        last == Pump::Failed && is_begun(alloc, exchange, &taken)?
-    };
+    let is_so = ends_so(alloc, &mut pool, exchange, streams.client, end)?;
     mend(alloc, &mut pool, calm.link)?;
-    let [next, _] = &EXCHANGES;
-    let (done, _, whole) = play(alloc, &mut pool, next.sent, calm.client)?;
-    Ok(is_so && done == Pump::Done && is_whole(alloc, next, &whole)?)
+    Ok(is_so && is_served(alloc, &mut pool, calm.client)?)
+}
+
+/// Whether the client was sent what it should be, where one call ends its stream or the link's.
+fn ends_so(
+    alloc: Global,
+    pool: &mut Pool,
+    exchange: &Exchange,
+    sides: Sides,
+    end: End,
+) -> Result<bool, Fail> {
+    let (last, _, taken) = play(alloc, pool, exchange.sent, sides)?;
+    if end.is_link {
+        Ok(last == Pump::Done && is_told(alloc, exchange, &taken)?)
+    } else {
+        Ok(last == Pump::Failed && is_begun(alloc, exchange, &taken)?)
+    }
+}
+
+/// Whether a client of the first exchange is answered whole.
+fn is_served(alloc: Global, pool: &mut Pool, sides: Sides) -> Result<bool, Fail> {
+    let [exchange, _] = &EXCHANGES;
+    let (last, _, taken) = play(alloc, pool, exchange.sent, sides)?;
+    Ok(last == Pump::Done && is_whole(alloc, exchange, &taken)?)
 }
 
 /// Whether it is right how an exchange goes, whichever of its calls ends its stream.

@@ -1,7 +1,7 @@
 //! The marks at which a session's turns wait, to the byte.
 
 use crate::pools::{ONE, pool};
-use crate::pumps::with_value;
+use mc_fixtures::with_value;
 use mc_proxy::{Emit, LINK_MARK, LinkTurn, MAX_UNANSWERED, Proxy, ProxyError, Turn, UNSENT_MARK};
 use std::alloc::Global;
 use std::test::Fail;

@@ -109,8 +109,8 @@ fn link_up(alloc: Global) -> Result<Link, Stopped> {
     Ok(link)
 }
 
-/// Sends the commands of a request over a link, and takes what was sent out of it.
-fn send(alloc: Global, link: &mut Link, request: &Request) -> Result<Vec<u8>, Stopped> {
+/// Sends the commands of a request over a link.
+fn send(alloc: Global, link: &mut Link, request: &Request) -> Result<(), Stopped> {
     let ring = Ring::new(alloc, &[Address::new(alloc, b"127.0.0.1:11211")?])?;
     for (at, routed) in atoms(alloc, request, &ring)?.into_iter().enumerate() {
         let tag = Tag {
@@ -120,12 +120,14 @@ fn send(alloc: Global, link: &mut Link, request: &Request) -> Result<Vec<u8>, St
         };
         link.send(routed.atom, tag)?;
     }
-    let mut sent = Vec::new(alloc);
-    if sent.extend_from_slice(link.output()).is_err() {
-        return Err(Stopped::Memory);
-    }
+    Ok(())
+}
+
+/// Whether just these bytes are to be sent over a link, and then are.
+fn is_sent(link: &mut Link, bytes: &[u8]) -> bool {
+    let is_so = link.output() == bytes;
     link.taken_out(link.output().len());
-    Ok(sent)
+    is_so
 }
 
 /// What became of the commands that waited on a link, by the bytes that came, one at a time.
@@ -142,40 +144,63 @@ fn hear(alloc: Global, link: &mut Link, came: &[u8]) -> Result<Vec<Outcome>, Sto
     Ok(outcomes)
 }
 
+/// Whether a request is answered so, once these bytes came for it.
+fn is_answered(
+    alloc: Global,
+    link: &mut Link,
+    request: &Request,
+    exchange: &Exchange,
+) -> Result<bool, Stopped> {
+    let outcomes = hear(alloc, link, exchange.came)?;
+    let mut answer = Vec::new(alloc);
+    join(request, outcomes.as_slice(), &mut answer)?;
+    Ok(answer.as_slice() == exchange.answer)
+}
+
+/// Whether a request goes over a link as it is to.
+fn is_exchanged(
+    alloc: Global,
+    link: &mut Link,
+    request: &Request,
+    exchange: &Exchange,
+) -> Result<bool, Stopped> {
+    send(alloc, link, request)?;
+    let is_sent = is_sent(link, exchange.sent);
+    Ok(is_sent && is_answered(alloc, link, request, exchange)? && link.waiting() == 0)
+}
+
 /// Whether an exchange goes as it is to, over a link of its own.
 fn goes_so(alloc: Global, exchange: &Exchange) -> Result<bool, Stopped> {
     let request = request_of(alloc, exchange.asked)?;
-    let mut link = link_up(alloc)?;
-    let sent = send(alloc, &mut link, &request)?;
-    let outcomes = hear(alloc, &mut link, exchange.came)?;
-    let mut answer = Vec::new(alloc);
-    join(&request, outcomes.as_slice(), &mut answer)?;
-    Ok(
-        sent.as_slice() == exchange.sent
-            && answer.as_slice() == exchange.answer
-            && link.waiting() == 0,
-    )
+    is_exchanged(alloc, &mut link_up(alloc)?, &request, exchange)
 }
 
-/// Whether a byte that comes though nothing waits is strange, and what waits on a link that is lost is handed out.
-fn are_losses_told(alloc: Global) -> Result<bool, Stopped> {
-    let mut link = link_up(alloc)?;
+/// Whether a byte that comes though nothing waits is strange, and the link is then lost and back in its second generation.
+fn is_strange(alloc: Global, link: &mut Link) -> Result<bool, Stopped> {
     link.feed(b"E")?;
     let is_strange = matches!(link.turn(alloc)?, LinkTurn::Strange);
     link.lose(alloc)?;
-    let generation = link.back()?;
-    let request = request_of(alloc, b"get a b\r\n")?;
-    let sent = send(alloc, &mut link, &request)?;
+    Ok(is_strange && link.back()? == 2)
+}
+
+/// How many commands and unsent bytes a link hands out that is lost in the middle of a reply, where all was sent.
+fn lost_behind(
+    alloc: Global,
+    link: &mut Link,
+    request: &Request,
+) -> Result<(usize, usize), Stopped> {
+    send(alloc, link, request)?;
+    link.taken_out(link.output().len());
     link.feed(b"EN")?;
     let lost = link.lose(alloc)?;
-    Ok(
-        is_strange
-            && generation == 2
-            && sent.len() == 14
-            && lost.bytes.is_empty()
-            && lost.waiting.len() == 2
-            && !link.is_up(),
-    )
+    Ok((lost.waiting.len(), lost.bytes.len()))
+}
+
+fn are_losses_told(alloc: Global) -> Result<bool, Stopped> {
+    let mut link = link_up(alloc)?;
+    let is_strange = is_strange(alloc, &mut link)?;
+    let request = request_of(alloc, b"get a b\r\n")?;
+    Ok(is_strange && lost_behind(alloc, &mut link, &request)? == (2, 0) && !link.is_up())
 }
 
 fn go_so(alloc: Global) -> Result<bool, Stopped> {

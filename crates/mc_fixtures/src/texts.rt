@@ -1,0 +1,31 @@
+//! Long texts, and the texts of errors.
+
+use std::alloc::{AllocError, Global};
+use std::fmt::Display;
+
+/// A value of so many times 16 bytes, with what stands before and behind it.
+pub fn with_value(
+    alloc: Global,
+    before: &[u8],
+    sixteens: usize,
+    behind: &[u8],
+) -> Result<Vec<u8>, AllocError> {
+    let mut text = Vec::new(alloc);
+    text.extend_from_slice(before)?;
+    for _ in 0..sixteens {
+        text.extend_from_slice(b"0123456789abcdef")?;
+    }
+    text.extend_from_slice(behind)?;
+    Ok(text)
+}
+
+/// Whether each error reads so.
+pub fn read_so<E: Display>(alloc: Global, texts: &[(E, &str)]) -> bool {
+    for (error, text) in texts {
+        match error.to_string(alloc) {
+            Ok(said) if said.as_str() == *text => {}
+            _ => return false,
+        }
+    }
+    true
+}

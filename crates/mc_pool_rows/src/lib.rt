@@ -1,0 +1,20 @@
+//! Tests of rings, links and proxies, of what no clause says and no script can bring about.
+//!
+//! `mc_rows` has those of servers. What is expected is worked out by hand from the protocol's rules, or is another program's
+//! figure, and is never taken from what the program wrote.
+#![tactic(auto)]
+
+#[cfg(test)]
+mod cuts;
+#[cfg(test)]
+mod errors;
+#[cfg(test)]
+mod links;
+#[cfg(test)]
+mod marks;
+#[cfg(test)]
+mod pools;
+#[cfg(test)]
+mod proxy_pumps;
+#[cfg(test)]
+mod rings;
