@@ -6,7 +6,7 @@ use mc_store::{ListStore, Store};
 use mc_text::Key;
 use std::alloc::Global;
 
-/// A list that has memory for so many new keys.
+/// A list that has memory for so many new keys. [`new_server`](crate::new_server) makes one.
 #[derive(Drop)]
 pub struct MeagreStore {
     list: ListStore,
@@ -14,7 +14,7 @@ pub struct MeagreStore {
 }
 
 impl MeagreStore {
-    pub fn new(alloc: Global, left: u64) -> MeagreStore
+    pub(crate) fn new(alloc: Global, left: u64) -> MeagreStore
         ensures { result.list ≡ [] }
     {
         MeagreStore {

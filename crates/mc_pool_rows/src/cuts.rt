@@ -1,8 +1,9 @@
 //! Replies that come in pieces.
 
 use crate::pools::{ONE, pool};
-use mc_fixtures::{MOMENT, WIDE, new_server};
+use mc_fixtures::{MOMENT, MeagreStore, WIDE, new_server};
 use mc_proxy::{Proxy, ProxyError};
+use mc_server::Server;
 use std::alloc::Global;
 use std::test::Fail;
 
@@ -22,12 +23,10 @@ fn asking(alloc: Global) -> Result<Proxy, Fail> {
     Ok(proxy)
 }
 
-/// What a new server sends for it.
-fn replies(alloc: Global) -> Result<Vec<u8>, Fail> {
-    let proxy = asking(alloc)?;
-    let mut server = new_server(alloc, WIDE)?;
+/// What a server sends for it.
+fn replies(alloc: Global, server: &mut Server<MeagreStore>, asked: &[u8]) -> Result<Vec<u8>, Fail> {
     let number = server.admit()?;
-    server.feed(number, proxy.link_output(0))?;
+    server.feed(number, asked)?;
     for _ in 0..2 {
         server.turn(number, MOMENT)?;
     }
@@ -58,7 +57,8 @@ fn is_answered(alloc: Global, replies: &[u8], first: usize, then: usize) -> Resu
 #[test]
 fn cuts_of_replies_never_matter(rt: HostRuntime) -> Result<(), Fail> {
     let alloc = rt.alloc();
-    let replies = replies(alloc)?;
+    let mut server = new_server(alloc, WIDE)?;
+    let replies = replies(alloc, &mut server, asking(alloc)?.link_output(0))?;
     let mut is_so = replies.as_slice() == ANSWERS && is_answered(alloc, &replies, 0, 1)?;
     for cut in 0..=ANSWERS.len() {
         is_so &= is_answered(alloc, &replies, cut, usize::MAX)?;

@@ -196,11 +196,9 @@ fn lost_behind(
     Ok((lost.waiting.len(), lost.bytes.len()))
 }
 
-fn are_losses_told(alloc: Global) -> Result<bool, Stopped> {
-    let mut link = link_up(alloc)?;
-    let is_strange = is_strange(alloc, &mut link)?;
-    let request = request_of(alloc, b"get a b\r\n")?;
-    Ok(is_strange && lost_behind(alloc, &mut link, &request)? == (2, 0) && !link.is_up())
+fn are_losses_told(alloc: Global, link: &mut Link, request: &Request) -> Result<bool, Stopped> {
+    let is_strange = is_strange(alloc, link)?;
+    Ok(is_strange && lost_behind(alloc, link, request)? == (2, 0) && !link.is_up())
 }
 
 fn go_so(alloc: Global) -> Result<bool, Stopped> {
@@ -209,7 +207,8 @@ fn go_so(alloc: Global) -> Result<bool, Stopped> {
             return Ok(false);
         }
     }
-    are_losses_told(alloc)
+    let request = request_of(alloc, b"get a b\r\n")?;
+    are_losses_told(alloc, &mut link_up(alloc)?, &request)
 }
 
 #[test]

@@ -149,20 +149,32 @@ fn takes_turns(
     Ok(is_so)
 }
 
+/// Whether these bytes are a connection's output, of which a part is then taken out.
+fn puts_out(server: &mut Server<MeagreStore>, number: u64, output: &[u8], part: usize) -> bool {
+    let is_so = server.output(number) == output;
+    server.taken_out(number, server.output(number).len().min(part));
+    is_so
+}
+
+/// Whether a dialogue goes as it is to, on the first connection of a server.
+fn goes_so(
+    server: &mut Server<MeagreStore>,
+    dialogue: &'static Dialogue,
+) -> Result<bool, ServerError> {
+    let number = server.admit()?;
+    let mut is_so = true;
+    for said in dialogue.said {
+        is_so &= takes_turns(server, number, said)?;
+        is_so &= puts_out(server, number, said.output, said.part);
+    }
+    Ok(is_so)
+}
+
 #[test]
 fn dialogues_are_so(rt: HostRuntime) -> Result<(), Fail> {
     for dialogue in &DIALOGUES {
         let mut server = new_server(rt.alloc(), dialogue.server)?;
-        let number = server.admit()?;
-        for said in dialogue.said {
-            assert!(rt;
-                takes_turns(&mut server, number, said)?,
-                "{}",
-                dialogue.name
-            );
-            assert_eq!(rt; server.output(number), said.output, "{}", dialogue.name);
-            server.taken_out(number, server.output(number).len().min(said.part));
-        }
+        assert!(rt; goes_so(&mut server, dialogue)?, "{}", dialogue.name);
     }
     Ok(())
 }

@@ -9,32 +9,39 @@ use mc_reply::{Marks, Reply, Shown};
 use mc_request::{
     Atom, Counting, Creation, Direction, MetaCommand, MetaGet, Show, StoreMode, Update,
 };
-use mc_store::{ListStore, LruStore, Store, StoreError};
+use mc_store::{FixedHasher, ListStore, LruStore, Store, StoreError};
 use mc_text::{Block, Key};
 use std::alloc::{AllocError, Global};
 use std::hash::RandomState;
 use std::test::Fail;
 
-#[test]
-fn an_own_value_is_stored(rt: HostRuntime) -> Result<(), Fail> {
-    let own = Atom::Update(Update::Store {
+/// A store of `xyz` under `b`, whose key and block are its own.
+fn own_store(alloc: Global) -> Result<Atom<Block>, AllocError> {
+    Ok(Atom::Update(Update::Store {
         mode: StoreMode::Set,
         compare: None,
-        key: Key::plain(rt.alloc(), b"b")?,
+        key: Key::of_bytes(alloc, b"b")?,
         flags: 0,
         exptime: 0,
-        block: Block::from_slice(rt.alloc(), b"xyz")?,
-    });
-    let mut cache = new_cache(rt.alloc());
+        block: Block::from_slice(alloc, b"xyz")?,
+    }))
+}
+
+/// Whether a cache stores it and shows it.
+fn is_stored(cache: &mut Cache<ListStore>, own: Atom<Block>) -> bool {
     let is_stored = matches!(cache.step(own, 0), Reply::Stored);
     let is_shown = matches!(cache.get(b"b", None, false, 0), Reply::Hit { .. });
-    assert!(rt;
-        is_stored
-            && is_shown
-            && cache.value(b"b") == Some(b"xyz".as_slice())
-            && cache.front_value() == b"xyz".as_slice()
-            && cache.room(b"b") == 3
-    );
+    is_stored
+        && is_shown
+        && cache.value(b"b") == Some(b"xyz".as_slice())
+        && cache.front_value() == b"xyz".as_slice()
+        && cache.room(b"b") == 3
+}
+
+#[test]
+fn an_own_value_is_stored(rt: HostRuntime) -> Result<(), Fail> {
+    let own = own_store(rt.alloc())?;
+    assert!(rt; is_stored(&mut new_cache(rt.alloc()), own));
     Ok(())
 }
 
@@ -42,6 +49,13 @@ fn an_own_value_is_stored(rt: HostRuntime) -> Result<(), Fail> {
 fn new_cache(alloc: Global) -> Cache<ListStore> {
     let store = ListStore::new(alloc);
     Cache::new(alloc, store, 1_000, 10, CasCounter::starting_at(0))
+}
+
+/// Another, over a store that finds its items by a hash.
+fn new_hashed(alloc: Global) -> Result<Cache<LruStore<FixedHasher>>, StoreError> {
+    let store = LruStore::new(alloc, 10)?;
+    let none = CasCounter::starting_at(0);
+    Ok(Cache::new(alloc, store, 1_000, 10, none))
 }
 
 /// A meta command that asks for all that may be shown.
@@ -145,12 +159,12 @@ fn ask<S: Store + Drop>(
 
 /// Whether a cache that holds nothing answers all of these, in order.
 fn answers_all<S: Store + Drop>(
-    mut cache: Cache<S>,
+    cache: &mut Cache<S>,
     alloc: Global,
     asked: &[(Asking, u64, u32, Option<u64>, Marks, &[u8])],
 ) -> Result<bool, AllocError> {
     for (asking, cas, flags, left, marks, value) in asked {
-        let reply = ask(&mut cache, alloc, *asking)?;
+        let reply = ask(cache, alloc, *asking)?;
         let wanted = Shown {
             cas: Some(*cas),
             flags: Some(*flags),
@@ -169,15 +183,12 @@ fn answers_all<S: Store + Drop>(
 #[test]
 fn meta_commands_find_memory(rt: HostRuntime) -> Result<(), Fail> {
     let alloc = rt.alloc();
-    let none = CasCounter::starting_at(0);
-    let hashed = Cache::new(alloc, LruStore::new(alloc, 10)?, 1_000, 10, none);
+    let by_list = answers_all(&mut new_cache(alloc), alloc, &ASKED)?;
+    let by_hash = answers_all(&mut new_hashed(alloc)?, alloc, &ASKED)?;
     let secret = LruStore::with_hasher(alloc, 10, RandomState::new(&rt)?)?;
-    let secret = Cache::new(alloc, secret, 1_000, 10, none);
-    assert!(rt;
-        answers_all(new_cache(alloc), alloc, &ASKED)?
-            && answers_all(hashed, alloc, &ASKED)?
-            && answers_all(secret, alloc, &ASKED)?
-    );
+    let none = CasCounter::starting_at(0);
+    let mut secret = Cache::new(alloc, secret, 1_000, 10, none);
+    assert!(rt; by_list && by_hash && answers_all(&mut secret, alloc, &ASKED)?);
     Ok(())
 }
 
