@@ -1,0 +1,3 @@
+pub mod ReplayLemmas
+pub mod ShownLemmas
+pub mod OtherKeyLemmas

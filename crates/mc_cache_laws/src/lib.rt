@@ -1,0 +1,25 @@
+//! What commands do by the definitions of `mc_cache`: laws of its step, and commands one after another worked out by hand.
+//!
+//! No program stands on this crate. Its functions do nothing: their contracts are the laws, and the examples that are computed
+//! when the crate is proved. So a definition of `mc_cache` that says something else is refused here. `specs/Laws.antt` has the
+//! statements of the laws, `specs/Examples.antt` the short forms of the commands in the examples.
+#![tactic(auto)]
+
+mod laws;
+mod meta_rows;
+mod rows;
+
+pub use laws::{
+    commands_join, meta_updates_are_updates, other_keys_stay, stored_is_shown,
+    stored_is_shown_by_meta,
+};
+pub use meta_rows::{
+    nothing_becomes_stale_without_a_number, numbers_are_compared, numbers_are_made,
+    one_client_is_sent, the_expiry_is_set_last,
+};
+pub use rows::{
+    cas_compares_the_number, evicts_beyond_the_limit, evicts_by_last_use, faults_come_in_order,
+    flags_and_expiry_stay, flushes_come, items_are_deleted_and_touched, items_expire,
+    modes_of_storing, named_items_stand_first, numbers_are_counted, numbers_are_used_up,
+    set_then_get,
+};
