@@ -35,12 +35,8 @@ pub fn measure(rt: &HostRuntime, gets: u64, value: usize, piece: usize) -> anyho
     let asked = asked(alloc, batch)?;
     let came = came(alloc, batch, value)?;
     let mut lane = Lane::new(alloc)?;
-    let mut sent = 0u64;
-    let mut answered = 0u64;
-    for _ in 0..gets.checked_div(batch).unwrap_or(0) {
-        sent = sent.wrapping_add(lane.send(alloc, asked.as_slice())?);
-        answered = answered.wrapping_add(lane.hear(alloc, came.as_slice(), piece)?);
-    }
+    let batches = gets.checked_div(batch).unwrap_or(0);
+    let (sent, answered) = lane.play(alloc, batches, &asked, &came, piece)?;
     println!(rt;
         "{gets} gets of {value} bytes, heard in pieces of {piece}: {sent} bytes sent, {answered} answered"
     )?;
@@ -59,6 +55,24 @@ impl Lane {
             requests: Vec::new(alloc),
             answers: Vec::new(alloc),
         })
+    }
+
+    /// Plays a batch so often, and says how many bytes were sent and answered.
+    fn play(
+        &mut self,
+        alloc: Global,
+        batches: u64,
+        asked: &[u8],
+        came: &[u8],
+        piece: usize,
+    ) -> anyhow::Result<(u64, u64)> {
+        let mut sent = 0u64;
+        let mut answered = 0u64;
+        for _ in 0..batches {
+            sent = sent.wrapping_add(self.send(alloc, asked)?);
+            answered = answered.wrapping_add(self.hear(alloc, came, piece)?);
+        }
+        Ok((sent, answered))
     }
 
     /// Reads the client's bytes, sends each command, and says how many bytes were sent.

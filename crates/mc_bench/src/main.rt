@@ -22,7 +22,7 @@ mod stores;
 use anyhow::{Context, bail};
 use cases::{CASES, Case, Kind};
 use figures::Figures;
-use std::env;
+use std::env::{self, Args};
 use std::time::Instant;
 
 /// What a run without an argument divides the sizes by.
@@ -37,34 +37,48 @@ fn main(rt: HostRuntime) -> anyhow::Result<()> {
     match mode.as_str() {
         "ring" => rings::measure(&rt),
         "store" => stores::measure(&rt),
-        "link" => links::measure(
-            &rt,
-            arguments.next().context("no gets")?.parse()?,
-            arguments.next().context("no size")?.parse()?,
-            arguments.next().context("no piece")?.parse()?,
-        ),
-        "hold" => stores::hold(&rt, arguments.next().context("no items")?.parse()?),
+        "link" => play_link(&rt, &mut arguments),
+        "hold" => stores::hold(&rt, number(&mut arguments, "no items")?),
         "measure" => run_all(&rt, 1, true),
-        "case" | "load" => {
-            let case = Case {
-                kind: arguments
-                    .next()
-                    .and_then(|word| Kind::named(&word))
-                    .context("no kind")?,
-                size: arguments.next().context("no size")?.parse()?,
-                piece: arguments.next().context("no piece")?.parse()?,
-                asks_first: false,
-            };
-            if mode.as_str() == "case" {
-                return run(&rt, &case, 1, false);
-            }
-            println!(rt; "{}", case.load(rt.alloc(), 1)?.name)?;
-            Ok(())
-        }
+        "case" => run(&rt, &case_of(&mut arguments)?, 1, false),
+        "load" => load(&rt, &case_of(&mut arguments)?),
         _ => bail!(
             "usage: mc_bench [measure | ring | store | hold ITEMS | link GETS SIZE PIECE | case KIND SIZE PIECE | load KIND SIZE PIECE]"
         ),
     }
+}
+
+/// The next argument, which is a number.
+fn number(arguments: &mut Args, missing: &'static str) -> anyhow::Result<u64> {
+    Ok(arguments.next().context(missing)?.parse()?)
+}
+
+/// Carries gets over one link, as the arguments say.
+fn play_link(rt: &HostRuntime, arguments: &mut Args) -> anyhow::Result<()> {
+    let gets = number(arguments, "no gets")?;
+    let size = number(arguments, "no size")?;
+    let piece = number(arguments, "no piece")?;
+    links::measure(rt, gets, size as usize, piece as usize)
+}
+
+/// The case that the arguments say.
+fn case_of(arguments: &mut Args) -> anyhow::Result<Case> {
+    let kind = arguments
+        .next()
+        .and_then(|word| Kind::named(&word))
+        .context("no kind")?;
+    Ok(Case {
+        kind,
+        size: number(arguments, "no size")?,
+        piece: number(arguments, "no piece")? as usize,
+        asks_first: false,
+    })
+}
+
+/// Makes what a case's client would send, and prints its name.
+fn load(rt: &HostRuntime, case: &Case) -> anyhow::Result<()> {
+    println!(rt; "{}", case.load(rt.alloc(), 1)?.name)?;
+    Ok(())
 }
 
 /// Runs each case at a part of its size and at a tenth of that.

@@ -25,17 +25,28 @@ pub fn measure(rt: &HostRuntime) -> anyhow::Result<()> {
         each(digests)
     )?;
     for servers in [2, 16, 64] {
-        let ring = ring_of(rt.alloc(), servers)?;
-        let start = Instant::now(rt)?;
-        let sum = sum_of_owners(&ring, &keys);
-        let owners = nanos(start.elapsed(rt)?);
-        println!(rt;
-            "owners among {servers} servers: {} per second, {} ps each, {} per cent of it digests (sum {sum})",
-            (KEYS * ROUNDS).saturating_mul(1_000_000_000) / owners,
-            each(owners),
-            digests.saturating_mul(100) / owners
-        )?;
+        measure_owners(rt, servers, &keys, digests)?;
     }
+    Ok(())
+}
+
+/// Prints the same of a ring of so many servers, where the digests of all keys took so many nanoseconds.
+fn measure_owners(
+    rt: &HostRuntime,
+    servers: u64,
+    keys: &[Key],
+    digests: u64,
+) -> anyhow::Result<()> {
+    let ring = ring_of(rt.alloc(), servers)?;
+    let start = Instant::now(rt)?;
+    let sum = sum_of_owners(&ring, keys);
+    let owners = nanos(start.elapsed(rt)?);
+    println!(rt;
+        "owners among {servers} servers: {} per second, {} ps each, {} per cent of it digests (sum {sum})",
+        (KEYS * ROUNDS).saturating_mul(1_000_000_000) / owners,
+        each(owners),
+        digests.saturating_mul(100) / owners
+    )?;
     Ok(())
 }
 

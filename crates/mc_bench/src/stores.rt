@@ -60,16 +60,28 @@ fn measure_cache<S: Store + Drop>(
 ) -> anyhow::Result<()> {
     let held = keys(rt.alloc(), 0, items)?;
     let others = keys(rt.alloc(), items, items)?;
+    measure_commands(rt, name, &mut cache, &held, &others)
+}
+
+/// The same, where the first keys are to be held, and the others evict them.
+fn measure_commands<S: Store + Drop>(
+    rt: &HostRuntime,
+    name: &str,
+    cache: &mut Cache<S>,
+    held: &[Key],
+    others: &[Key],
+) -> anyhow::Result<()> {
+    let items = held.len() as u64;
     let rounds = 1_000_000 / items.max(1);
-    sets(&mut cache, &held, 1)?;
+    sets(cache, held, 1)?;
     let start = Instant::now(rt)?;
-    let hits = gets(&mut cache, &held, rounds);
+    let hits = gets(cache, held, rounds);
     let get = nanos(start.elapsed(rt)?);
     let start = Instant::now(rt)?;
-    let stored = sets(&mut cache, &held, rounds)?;
+    let stored = sets(cache, held, rounds)?;
     let set = nanos(start.elapsed(rt)?);
     let start = Instant::now(rt)?;
-    let made = sets(&mut cache, &others, 1)?;
+    let made = sets(cache, others, 1)?;
     let other = nanos(start.elapsed(rt)?);
     println!(rt;
         "{name} of {items} items: a get {} ns ({hits}), a set of a held key {} ns ({stored}), of another {} ns ({made})",

@@ -90,42 +90,60 @@ fn joining(
 
 /// The command of a proxy program, with the meaning, the default and the limits of each option.
 pub fn command<'a>(alloc: Global) -> Result<Command<'a>, AllocError> {
-    let listen = Arg::new(alloc, "listen")
+    Command::new(alloc, "mc_proxyd")
+        .about("A memcached proxy: spreads keys over servers by libketama's ring")
+        .arg(listen(alloc))?
+        .arg(accept(alloc))?
+        .arg(join(alloc))?
+        .arg(join_after(alloc))?
+        .arg(check(alloc))?
+        .arg(server(alloc))
+}
+
+fn listen<'a>(alloc: Global) -> Arg<'a> {
+    Arg::new(alloc, "listen")
         .long("listen")
         .value_name("host:port")
         .default_value("127.0.0.1:11212")
-        .help("Where to listen: a host's name or IPv4 address, and a port from 1 to 65535");
-    let accept = Arg::new(alloc, "accept")
+        .help("Where to listen: a host's name or IPv4 address, and a port from 1 to 65535")
+}
+
+fn accept<'a>(alloc: Global) -> Arg<'a> {
+    Arg::new(alloc, "accept")
         .long("accept")
         .value_name("n")
         .value_parser(ValueParser::unsigned(0, u64::MAX))
         .default_value("0")
-        .help("End once so many clients were accepted and all are gone; 0 for never");
-    let join = Arg::new(alloc, "join")
+        .help("End once so many clients were accepted and all are gone; 0 for never")
+}
+
+fn join<'a>(alloc: Global) -> Arg<'a> {
+    Arg::new(alloc, "join")
         .long("join")
         .value_name("host:port")
-        .help("A server that joins while the proxy runs: see --join-after");
-    let join_after = Arg::new(alloc, "join-after")
+        .help("A server that joins while the proxy runs: see --join-after")
+}
+
+fn join_after<'a>(alloc: Global) -> Arg<'a> {
+    Arg::new(alloc, "join-after")
         .long("join-after")
         .value_name("n")
         .value_parser(ValueParser::unsigned(0, u64::MAX))
         .default_value("0")
-        .help("With which accepted client the server of --join joins; 0 for none");
-    let check = Arg::new(alloc, "check")
+        .help("With which accepted client the server of --join joins; 0 for none")
+}
+
+fn check<'a>(alloc: Global) -> Arg<'a> {
+    Arg::new(alloc, "check")
         .long("check")
         .action(ArgAction::SetTrue)
-        .help("Print how many servers and points there are and end, without listening");
-    let server = Arg::new(alloc, "server")
+        .help("Print how many servers and points there are and end, without listening")
+}
+
+fn server<'a>(alloc: Global) -> Arg<'a> {
+    Arg::new(alloc, "server")
         .value_name("server")
         .num_args(1..)
         .required(true)
-        .help("The servers, 1 to 64, each <host>:<port>; keys are spread by these texts");
-    Command::new(alloc, "mc_proxyd")
-        .about("A memcached proxy: spreads keys over servers by libketama's ring")
-        .arg(listen)?
-        .arg(accept)?
-        .arg(join)?
-        .arg(join_after)?
-        .arg(check)?
-        .arg(server)
+        .help("The servers, 1 to 64, each <host>:<port>; keys are spread by these texts")
 }

@@ -40,14 +40,24 @@ pub fn serve<R: Net + Clock + Wait>(
     door.register(poll.registry(), LISTENER)
         .map_err(|_| ServeError::Listen)?;
     let mut entrance = Entrance::new(door, &settings.join);
+    rounds(rt, &mut poll, &mut events, &mut entrance, &mut host)
+}
+
+/// Goes round until the entrance is shut and nobody is served any more.
+fn rounds<R: Net + Clock + Wait>(
+    rt: &R,
+    poll: &mut Poll,
+    events: &mut Events,
+    entrance: &mut Entrance<'_>,
+    host: &mut Host,
+) -> Result<(), ServeError> {
     let mut uptime = Uptime::new(rt);
     let mut rested = 0;
     for _ in rt.forever() {
         let second = uptime.seconds(rt);
         host.keep(rt, poll.registry(), second);
-        let patience = patience(&entrance, &host);
-        poll.poll(&mut events, patience)
-            .map_err(|_| ServeError::Listen)?;
+        let patience = patience(entrance, host);
+        poll.poll(events, patience).map_err(|_| ServeError::Listen)?;
         host.go_on();
         for event in events.iter() {
             if event.token() == LISTENER {
@@ -57,7 +67,7 @@ pub fn serve<R: Net + Clock + Wait>(
             }
         }
         host.settle();
-        entrance.let_in(&mut host, rt, poll.registry(), second);
+        entrance.let_in(host, rt, poll.registry(), second);
         if second != rested {
             rested = second;
             host.rest();

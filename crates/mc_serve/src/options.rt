@@ -33,40 +33,55 @@ impl<'a> Options<'a> {
 
 /// The command of a server program, with the meaning, the default and the limits of each option.
 pub fn command<'a>(alloc: Global) -> Result<Command<'a>, AllocError> {
-    let listen = Arg::new(alloc, "listen")
+    Command::new(alloc, "mc_serverd")
+        .about("A memcached server: a cache that is proved, for clients of the text protocol")
+        .arg(listen(alloc))?
+        .arg(budget(alloc))?
+        .arg(items(alloc))?
+        .arg(accept(alloc))?
+        .arg(check(alloc))
+}
+
+fn listen<'a>(alloc: Global) -> Arg<'a> {
+    Arg::new(alloc, "listen")
         .long("listen")
         .value_name("host:port")
         .default_value("127.0.0.1:11211")
-        .help("Where to listen: a host's name or IPv4 address, and a port from 1 to 65535");
-    let budget = Arg::new(alloc, "budget")
+        .help("Where to listen: a host's name or IPv4 address, and a port from 1 to 65535")
+}
+
+fn budget<'a>(alloc: Global) -> Arg<'a> {
+    Arg::new(alloc, "budget")
         .long("budget")
         .value_name("bytes")
         .value_parser(ValueParser::unsigned(1, MAX_BUDGET))
         .default_value("67108864")
         .help(
             "What the items may cost in all, an item its key's and its value's bytes and 64: 1 to 1099511627776",
-        );
-    let items = Arg::new(alloc, "items")
+        )
+}
+
+fn items<'a>(alloc: Global) -> Arg<'a> {
+    Arg::new(alloc, "items")
         .long("items")
         .value_name("n")
         .value_parser(ValueParser::unsigned(1, MAX_ITEMS as u64))
         .default_value("65536")
-        .help("The most items: 1 to 16777216; their table is reserved at the start");
-    let accept = Arg::new(alloc, "accept")
+        .help("The most items: 1 to 16777216; their table is reserved at the start")
+}
+
+fn accept<'a>(alloc: Global) -> Arg<'a> {
+    Arg::new(alloc, "accept")
         .long("accept")
         .value_name("n")
         .value_parser(ValueParser::unsigned(0, u64::MAX))
         .default_value("0")
-        .help("End once so many connections were accepted and all are closed; 0 for never");
-    let check = Arg::new(alloc, "check")
+        .help("End once so many connections were accepted and all are closed; 0 for never")
+}
+
+fn check<'a>(alloc: Global) -> Arg<'a> {
+    Arg::new(alloc, "check")
         .long("check")
         .action(ArgAction::SetTrue)
-        .help("Print the settings and end, without listening");
-    Command::new(alloc, "mc_serverd")
-        .about("A memcached server: a cache that is proved, for clients of the text protocol")
-        .arg(listen)?
-        .arg(budget)?
-        .arg(items)?
-        .arg(accept)?
-        .arg(check)
+        .help("Print the settings and end, without listening")
 }

@@ -47,11 +47,22 @@ pub fn serve<R: Net + RandomSource + Wait, C: Seconds>(
     let mut door = Door::new(listener, settings.accept);
     door.register(poll.registry(), LISTENER)
         .map_err(|_| ServeError::Listen)?;
+    rounds(rt, &mut poll, &mut events, &mut door, &mut host, clock)
+}
+
+/// Goes round until the door is shut and nobody is served any more.
+fn rounds<R: Wait, S: Store + Drop, C: Seconds>(
+    rt: &R,
+    poll: &mut Poll,
+    events: &mut Events,
+    door: &mut Door,
+    host: &mut Host<S>,
+    clock: &mut C,
+) -> Result<(), ServeError> {
     let mut rested = 0;
     for _ in rt.forever() {
-        let patience = patience(&door, &host);
-        poll.poll(&mut events, patience)
-            .map_err(|_| ServeError::Listen)?;
+        let patience = patience(door, host);
+        poll.poll(events, patience).map_err(|_| ServeError::Listen)?;
         let moment = clock.now();
         host.go_on(moment);
         for event in events.iter() {
@@ -62,7 +73,7 @@ pub fn serve<R: Net + RandomSource + Wait, C: Seconds>(
             }
         }
         if door.waiting() != Waiting::Nobody {
-            accept(&mut door, &mut host, poll.registry());
+            accept(door, host, poll.registry());
         }
         if moment != rested {
             rested = moment;
