@@ -1,4 +1,5 @@
 //! The proxy's links.
+ghost use Rattle.mc_proxy.specs.Joins.{joined_link};
 ghost use Rattle.std.specs.Prelude.{◌≡◌, ◌+◌, ◌-◌, ◌^◌, ◌<◌, ◌≤◌, ◌↔◌, ◌⊎◌, ◌++◌, true, false, length, drop, option_map, slice_get, IsErrOf, IsOkUnless, IfOk, IfErr, OnOk, OnErr};
 
 use crate::errors::ProxyError;
@@ -8,6 +9,7 @@ use crate::turns::LinkTurn;
 use mc_link::{Link, Tag};
 use mc_ring::Address;
 use mc_route::Outcome;
+use std::alloc::Global;
 
 impl Proxy {
     ghost use Rattle.mc_link.specs.LinkState.{can_come_back, up_link};
@@ -181,13 +183,21 @@ impl Proxy {
         ensures err { OnErr result (self.new ≡ self.old) }
     {
         let ring = self.ring.with_server(self.alloc, address)?;
-        let mut link = Link::new(self.alloc);
-        if up {
-            link.back()?;
-        }
+        let link = joining(self.alloc, up);
         let place = self.links.len();
         self.links.push(link)?;
         self.ring = ring;
         Ok(place)
     }
+}
+
+/// The link of a server that joins: up, of the first generation, or down.
+fn joining(alloc: Global, up: bool) -> Link
+    ensures { result.state ≡ joined_link up }
+{
+    let mut link = Link::new(alloc);
+    if up {
+        link.back().unwrap();
+    }
+    link
 }
