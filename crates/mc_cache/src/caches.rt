@@ -68,7 +68,8 @@ impl<S: Store + Drop> Cache<S> {
     ghost use Rattle.mc_cache.specs.CacheState.{opening_cache, held_value, value_at, front_value};
     ghost use Rattle.mc_store.specs.Items.{longest_of};
     ghost use Rattle.mc_cache.specs.Step.{step_of};
-    ghost use Rattle.mc_cache.specs.Refusals.{may_refuse, takes_block, HasKey, is_refusal, value_after};
+    ghost use Rattle.mc_cache.specs.Memory.{may_refuse, takes_block};
+    ghost use Rattle.mc_cache.specs.Refusals.{HasKey, is_refusal, value_after};
 
     /// A cache that holds nothing, over an empty store that may hold more items than the limit.
     ///

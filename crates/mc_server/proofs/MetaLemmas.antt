@@ -18,7 +18,8 @@ use Rattle.mc_reply.specs.Replies.{filled}
 use Rattle.mc_reply.specs.Spelling.{is_hidden, shown_meta, meta_key}
 use Rattle.mc_reply.specs.MetaSpelling.{meta_line}
 use Rattle.mc_cache.specs.CacheState.{CacheState}
-use Rattle.mc_cache.specs.Refusals.{is_refusal, may_refuse}
+use Rattle.mc_cache.specs.Memory.{may_refuse}
+use Rattle.mc_cache.specs.Refusals.{is_refusal}
 use Rattle.mc_cache.specs.Step.{step_of, Outcome}
 use Rattle.mc_server.specs.Served.{IsServed}
 use Rattle.mc_server.proofs.UpdateLemmas.{is_hidden-filled, is_refusal-filled, or_nothing}

@@ -12,7 +12,8 @@ use Rattle.mc_reply.specs.declared.replies.Reply.TheVariants.{Stored, NotStored,
 use Rattle.mc_reply.specs.Replies.{filled}
 use Rattle.mc_reply.specs.Spelling.{is_fault, is_miss, is_bare_success, is_not_found, is_hidden, reply_line, shown_line}
 use Rattle.mc_cache.specs.CacheState.{CacheState}
-use Rattle.mc_cache.specs.Refusals.{is_refusal, may_refuse}
+use Rattle.mc_cache.specs.Memory.{may_refuse}
+use Rattle.mc_cache.specs.Refusals.{is_refusal}
 use Rattle.mc_cache.specs.Step.{step_of, Outcome}
 use Rattle.mc_server.specs.Served.{IsServed}
 

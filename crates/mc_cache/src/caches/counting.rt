@@ -10,7 +10,8 @@ ghost use Rattle.mc_reply.specs.Replies.{filled};
 ghost use Rattle.mc_store.specs.Items.{body_at};
 ghost use Rattle.mc_cache.specs.CacheState.{value_at};
 ghost use Rattle.mc_cache.specs.Step.{stored, step_of, count_none, count_step, counted};
-ghost use Rattle.mc_cache.specs.Refusals.{is_refusal, count_may_refuse, may_refuse};
+ghost use Rattle.mc_cache.specs.Memory.{count_may_refuse, may_refuse};
+ghost use Rattle.mc_cache.specs.Refusals.{is_refusal};
 ghost use Rattle.mc_cache.specs.Found.{found_body};
 ghost use Rattle.mc_cache.specs.Admissions.{is_refused, reply_or_fault, renewed};
 
@@ -61,7 +62,7 @@ impl<S: Store + Drop> Cache<S> {
             let _ = self.bring(key);
             return reply;
         }
-        let before = self.store.peek(key).unwrap().value.as_slice();
+        let before = self.held(key);
         let room = before.len();
         let Some(number) = read_u64(before) else {
             return Reply::Fault(Fault::NonNumeric);

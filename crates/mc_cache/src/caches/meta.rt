@@ -9,7 +9,8 @@ ghost use Rattle.mc_store.specs.Items.{body_at, front_body, without, brought};
 ghost use Rattle.mc_cache.specs.CacheState.{value_at, front_value};
 ghost use Rattle.mc_cache.specs.Showing.{is_low, marks_by, item_shown};
 ghost use Rattle.mc_cache.specs.Step.{step_of, touched, meta_get_none, meta_get_step};
-ghost use Rattle.mc_cache.specs.Refusals.{is_refusal, may_refuse, get_may_refuse};
+ghost use Rattle.mc_cache.specs.Memory.{may_refuse};
+ghost use Rattle.mc_cache.specs.Refusals.{is_refusal};
 ghost use Rattle.mc_cache.specs.Found.{found_body, body_of};
 ghost use Rattle.mc_cache.specs.Admissions.{IsTold};
 
@@ -51,12 +52,21 @@ impl<S: Store + Drop> Cache<S> {
     {
         let needs = found.stale || is_low(get.recache, found.expiry.left(moment));
         if needs && !found.won {
-            let _ = self.mark(key, found.stale, true, found.cas);
+            self.win(key, found);
         }
-        if let Some(exptime) = get.exptime {
-            let _ = self.expire(key, Deadline::of(exptime, moment));
-        }
+        self.touch_front(key, get.exptime, moment);
         self.show_front(&get.show, marks_by(found.stale, found.won, needs), moment)
+    }
+
+    /// Notes at the first item, which was found under the key, that a client is told to fill it.
+    fn win(&mut self, key: &[u8], found: Found)
+        requires found { body_at key.now self.old.items ≡ found_body (Some found) (front_value self.old.items) }
+        ensures { self.new ≡ record self.old {
+          items = brought key.now
+              (Some (record (body_of found (front_value self.old.items)) { won = true })) self.old.items;
+        } }
+    {
+        let _ = self.mark(key, found.stale, true, found.cas);
     }
 
     /// The same on a settled cache where nothing is held under the key: an item is made, or not.

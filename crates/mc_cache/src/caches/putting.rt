@@ -202,6 +202,14 @@ impl<S: Store + Drop> Cache<S> {
         self.put_held(key, found.with(value, cas));
     }
 
+    /// The value under a held key.
+    pub(super) fn held(&self, key: &[u8]) -> &[u8]
+        requires { is_some (body_at key.now self.now.items) ≡ true }
+        ensures { result.now ≡ value_at key.now self.now.items }
+    {
+        self.store.peek(key).unwrap().value.as_slice()
+    }
+
     /// Takes the body from under a held key, which stays held with no bytes.
     fn lift(&mut self, key: &[u8]) -> Body
         requires { is_some (body_at key.now self.old.items) ≡ true }

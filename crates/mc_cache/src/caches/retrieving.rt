@@ -1,11 +1,12 @@
 //! Commands that store no value: retrieval, `touch`, `delete` and `md`.
 ghost use Rattle.std.specs.Prelude.{◌≡◌, ◌<◌, ◌^◌, ℕ, List, Some, None, is_some, true, false};
+ghost use Rattle.std.specs.Option.{option_map};
 ghost use Rattle.mc_reply.specs.Replies.{filled};
 ghost use Rattle.mc_store.specs.Items.{body_at, without, brought, expiring, marking};
 ghost use Rattle.mc_request.specs.declared.parts.Atom.TheVariants.{Get, Update as AnUpdate};
 ghost use Rattle.mc_request.specs.declared.parts.Update.TheVariants.{Touch, Delete};
 ghost use Rattle.mc_cache.specs.CacheState.{value_at, front_value};
-ghost use Rattle.mc_cache.specs.Step.{step_of, fronted, invalidated};
+ghost use Rattle.mc_cache.specs.Step.{step_of, fronted, invalidated, touched};
 ghost use Rattle.mc_cache.specs.Refusals.{is_refusal, value_after};
 ghost use Rattle.mc_cache.specs.Found.{found_body, body_of};
 
@@ -37,13 +38,25 @@ impl<S: Store + Drop> Cache<S> {
         let Some(found) = self.settle_in_front(key, moment) else {
             return Reply::Miss;
         };
-        if let Some(exptime) = exptime {
-            let _ = self.expire(key, Deadline::of(exptime, moment));
-        }
+        self.touch_front(key, exptime, moment);
         Reply::Hit {
             flags: found.flags,
-            cas: if with_cas { Some(found.cas) } else { None },
+            cas: with_cas.then_some(found.cas),
             value: (),
+        }
+    }
+
+    /// Sets the expiry of the first item, whose key this is, where an exptime is given.
+    pub(super) fn touch_front(&mut self, key: &[u8], exptime: Option<i64>, moment: u64)
+        requires moment { moment < 2 ^ 63 }
+        requires first { self.old.items ≡ brought key.now (body_at key.now self.old.items) self.old.items }
+        ensures { self.new ≡ record self.old {
+          items
+              = brought key.now (option_map (touched exptime moment) (body_at key.now self.old.items)) self.old.items;
+        } }
+    {
+        if let Some(exptime) = exptime {
+            let _ = self.expire(key, Deadline::of(exptime, moment));
         }
     }
 

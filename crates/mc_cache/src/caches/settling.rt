@@ -17,7 +17,7 @@ use mc_store::Store;
 use mc_text::Block;
 
 /// What a look at a held item tells a command.
-#[derive(Clone, Copy, Debug)]
+#[derive(Clone, Copy)]
 pub struct Found {
     /// The client flags.
     pub flags: u32,
@@ -34,6 +34,19 @@ pub struct Found {
 impl Found {
     ghost use Rattle.mc_cache.specs.Step.{numbered, expiry_by};
     ghost use Rattle.mc_cache.specs.Admissions.{renewed};
+
+    /// What a body tells: all but its value.
+    fn of(body: &Body) -> Found
+        ensures { found_body (Some result) body.now.value ≡ Some body.now }
+    {
+        Found {
+            flags: body.flags,
+            expiry: body.expiry,
+            cas: body.cas,
+            stale: body.stale,
+            won: body.won,
+        }
+    }
 
     /// The body as it was found, with another value, another number and no mark.
     pub fn with(self, value: Block, cas: u64) -> Body
@@ -129,13 +142,7 @@ impl<S: Store + Drop> Cache<S> {
             return None;
         }
         let body = self.store.front()?;
-        Some(Found {
-            flags: body.flags,
-            expiry: body.expiry,
-            cas: body.cas,
-            stale: body.stale,
-            won: body.won,
-        })
+        Some(Found::of(body))
     }
 
     /// Brings the cache to a moment for a command on a key, moves the key's item to the front, and looks at it.
@@ -165,12 +172,6 @@ impl<S: Store + Drop> Cache<S> {
         ensures { body_at key.now self.now.items ≡ found_body result (value_at key.now self.now.items) }
     {
         let body = self.store.peek(key)?;
-        Some(Found {
-            flags: body.flags,
-            expiry: body.expiry,
-            cas: body.cas,
-            stale: body.stale,
-            won: body.won,
-        })
+        Some(Found::of(body))
     }
 }

@@ -9,9 +9,10 @@ ghost use Rattle.mc_store.specs.Items.{body_at};
 ghost use Rattle.mc_cache.specs.CacheState.{value_at};
 ghost use Rattle.mc_cache.specs.Settling.{settled};
 ghost use Rattle.mc_cache.specs.Step.{compared, unmet, unstored, stored, store_step, numbered};
-ghost use Rattle.mc_cache.specs.Refusals.{is_refusal, store_may_refuse, store_takes_block};
+ghost use Rattle.mc_cache.specs.Memory.{store_may_refuse, store_takes_block, IsWhole};
+ghost use Rattle.mc_cache.specs.Refusals.{is_refusal};
 ghost use Rattle.mc_cache.specs.Found.{found_body};
-ghost use Rattle.mc_cache.specs.Admissions.{content_of, lent_content, joined, is_refused, reply_or_fault, renewed, IsWhole};
+ghost use Rattle.mc_cache.specs.Admissions.{content_of, lent_content, joined, is_refused, reply_or_fault, renewed};
 
 use super::Cache;
 use super::putting::stored_or_fault;
@@ -21,7 +22,7 @@ use mc_reply::Reply;
 use mc_request::{Fault, StoreMode};
 use mc_store::Store;
 use mc_text::{Block, Key};
-use std::alloc::AllocError;
+use std::alloc::{AllocError, Global};
 
 /// What a storage command stores, with its block lent.
 #[derive(Clone, Copy)]
@@ -60,6 +61,18 @@ pub enum Side {
     Before,
     /// `append`.
     Behind,
+}
+
+impl Side {
+    /// A value with a block before or behind it. It takes memory for both, once.
+    fn join(self, alloc: Global, value: &[u8], block: &[u8]) -> Result<Block, AllocError>
+        ensures { IfOk result (λ whole. whole ≡ joined self value.now block.now) }
+    {
+        match self {
+            Side::Before => Block::joined(alloc, block, value),
+            Side::Behind => Block::joined(alloc, value, block),
+        }
+    }
 }
 
 impl<S: Store + Drop> Cache<S> {
@@ -185,17 +198,13 @@ impl<S: Store + Drop> Cache<S> {
             ≡ (self.new, reply_or_fault result reply) }
         ensures refusal { is_refused result ≡ true → 0 < length block.now }
     {
-        let before = self.store.peek(key).unwrap().value.as_slice();
+        let before = self.held(key);
         let cas = self.admit(key, before.len() + block.len())?;
         if block.is_empty() {
             self.renew(key, found, cas);
             return Ok(());
         }
-        let value = match side {
-            Side::Before => Block::joined(self.alloc, block, before),
-            Side::Behind => Block::joined(self.alloc, before, block),
-        };
-        match value {
+        match side.join(self.alloc, before, block) {
             Ok(value) => {
                 self.put_held(key, found.with(value, cas));
                 Ok(())
