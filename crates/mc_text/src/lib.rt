@@ -7,8 +7,8 @@
 //! [`is_coded_key`] only says whether there is one, and [`write_coded`] gives the word of a key.
 //! [`KeyBytes`] asks a map of keys for some bytes: no key has to be made for a look-up.
 //! [`Block`] is the bytes of a data block.
-//! [`let_go`] and [`drop_front`] serve whoever keeps bytes that are taken from the front, and [`append`] whoever has made
-//! room for what is appended.
+//! [`let_go`] and [`drop_front`] serve whoever keeps bytes that are taken from the front, [`give_back`] whoever will keep
+//! none for a while, and [`append`] whoever has made room for what is appended.
 //!
 //! Each call gives exactly what the definition of its name in `specs/` says of the bytes. Only what makes a
 //! key or a block takes memory. [`coded_keys_have_one_word`] is a law, and the other functions are worked examples: they
@@ -30,7 +30,7 @@ mod word_iter;
 pub use appends::append;
 pub use blocks::{Block, VALUE_LIMIT};
 pub use coded_keys::{CODED_LIMIT, CODED_ROOM, is_coded_key, read_coded, write_coded};
-pub use fronts::{drop_front, let_go};
+pub use fronts::{drop_front, give_back, let_go};
 pub use key_bytes::KeyBytes;
 pub use keys::{KEY_LIMIT, Key, KeyError, is_plain_key};
 pub use laws::coded_keys_have_one_word;
