@@ -1,5 +1,5 @@
 -- What a reader stands for: a function of the text still to come.
-use Rattle.std.specs.Prelude.{ℕ, ◌≡◌, ◌<◌, Bool, true, false, nat_lt, List, [], ◌∷◌, ◌++◌, length, drop, Option, Some, None, if◌then◌else◌}
+use Rattle.std.specs.Prelude.{ℕ, ◌≡◌, ◌<◌, ◌≤◌, ◌*◌, ◌-◌, Bool, true, false, nat_lt, List, [], ◌∷◌, ◌++◌, length, drop, Option, Some, None, if◌then◌else◌}
 use Rattle.mc_request.specs.declared.faults.Fault.{Fault}
 use Rattle.mc_request.specs.declared.parts.Taken.{Taken}
 use Rattle.mc_request.specs.declared.parts.Taken.TheVariants.{Faulty}
@@ -36,6 +36,23 @@ pub record KeepsRest (old new : ReaderState) : Type 0 where
   pub rest : (text : List ℕ) → rest_of new text ≡ rest_of old text
   pub closed : new.closed ≡ old.closed
 
--- where nothing is whole, no more is kept than a line and a data block may have
-abbrev pub KeepsLittle : ReaderState → Type 0
-KeepsLittle s = rest_of s [] ≡ [] → s.held < REQUEST_LIMIT
+-- of a piece of so many bytes, how many are kept: none after the end, nor those of a block that is dropped
+abbrev pub kept_by : Option (Fault × ℕ) → ℕ → ℕ
+kept_by None count = count
+kept_by (Some d) count = count - d.1
+
+abbrev pub kept_of : ReaderState → ℕ → ℕ
+kept_of s count = if s.closed then 0 else kept_by s.dropping count
+
+-- the most bytes that are kept: none after the end or while a block is dropped, else twice those that are not taken
+abbrev pub most_by : Option (Fault × ℕ) → List ℕ → ℕ
+most_by None unread = 2 * length unread
+most_by (Some d) unread = if nat_lt 0 d.1 then 0 else 2 * length unread
+
+abbrev pub most_held : ReaderState → ℕ
+most_held s = if s.closed then 0 else most_by s.dropping s.unread
+
+-- what is kept is bounded by what is not taken; where nothing is whole, by what a line and a data block may have
+pub record KeepsLittle (s : ReaderState) : Type 0 where
+  pub most : s.held ≤ most_held s
+  pub limit : rest_of s [] ≡ [] → s.held < REQUEST_LIMIT

@@ -1,5 +1,5 @@
 //! A reader of requests, fed in pieces.
-ghost use Rattle.std.specs.Prelude.{◌≡◌, ◌<◌, ◌↔◌, ℕ, List, [], ◌++◌, length, true, Some, IsTrue, IsOk, IfOk, OnOk, OnErr};
+ghost use Rattle.std.specs.Prelude.{◌≡◌, ◌<◌, ◌≤◌, ◌+◌, ◌↔◌, ℕ, List, [], ◌++◌, length, true, Some, IsTrue, IfOk, OnOk, OnErr};
 
 use crate::peeks::{Front, Peek};
 use crate::unread::Unread;
@@ -25,7 +25,7 @@ pub enum Next {
 ///
 /// Each byte is looked at a constant number of times, however the text is cut: the end of a line is searched for once, a
 /// line whose block has not come whole is read once more when it has, and a block that is refused is dropped while it comes.
-/// No order of calls changes that. Behind a `feed` or a `consume` it is known whether something is whole, and
+/// No order of calls changes that. After a `feed` or a `consume` it is known whether something is whole, and
 /// [`Reader::ready`] looks at no byte; only where a `consume` brought a short line to the front, of at most 512 bytes, each
 /// `ready` until the next feed reads the words of it that may announce a block. [`Reader::peek`] reads the line that it
 /// lends. Where nothing is whole, a reader keeps fewer than [`REQUEST_LIMIT`](crate::REQUEST_LIMIT) bytes.
@@ -46,7 +46,7 @@ impl Model for Reader {
 }
 
 impl Reader {
-    ghost use Rattle.mc_request_reader.specs.Reader.{fresh_reader, rest_of, KeepsRest, KeepsLittle};
+    ghost use Rattle.mc_request_reader.specs.Reader.{fresh_reader, rest_of, kept_of, KeepsRest, KeepsLittle};
     ghost use Rattle.mc_request_reader.specs.Peeks.{Peeks, Gives, IsWellFormedPeek, front_of, past};
 
     /// A reader to which nothing has come. It takes no memory.
@@ -59,14 +59,17 @@ impl Reader {
         }
     }
 
-    /// Takes the next piece of the text. After `quit` or a line too long it is let go.
+    /// Takes the next piece of the text. After `quit` or a line too long it is let go, and of a block that is refused what
+    /// comes is let go.
     ///
-    /// At `Memory` no byte is taken.
+    /// At `Memory` no byte is taken. It is never refused where nothing of the piece is kept: an empty piece, one after the
+    /// end, or one that is all of a refused block.
     pub fn feed(&mut self, piece: &[u8]) -> Result<(), ReadError>
         ensures fed { OnOk result ((text : List ℕ) → rest_of self.new text ≡ rest_of self.old (piece.now ++ text)) }
         ensures closed { self.new.closed ≡ self.old.closed }
         ensures after_end { self.old.closed ≡ true → self.new ≡ self.old }
-        ensures never_refused { self.old.closed ≡ true → IsOk result }
+        ensures kept { OnOk result (self.new.held ≤ self.old.held + kept_of self.old (length piece.now)) }
+        ensures cause { OnErr result (0 < kept_of self.old (length piece.now)) }
         ensures little { KeepsLittle self.new }
         ensures err { OnErr result (self.new ≡ self.old) }
     {
@@ -111,7 +114,7 @@ impl Reader {
     }
 
     /// Whether a whole request or fault has come, which [`Reader::next`] would give. It takes no memory, and copies
-    /// nothing. No byte is looked at, but for the first words of a short line behind a `consume`.
+    /// nothing. No byte is looked at, but for the first words of a short line after a `consume`.
     pub fn ready(&self) -> bool
         ensures ready { IsTrue result ↔ (0 < length (rest_of self.now [])) }
         ensures little { KeepsLittle self.now }
@@ -126,8 +129,8 @@ impl Reader {
         self.unread.is_closed()
     }
 
-    /// Takes what [`Reader::peek`] showed, and lets go of its bytes once they are more than half of all. What stands
-    /// behind it is looked at as a `feed` does, but for the words of a short line. It takes no memory.
+    /// Takes what [`Reader::peek`] showed, and lets go of its bytes once they are more than half of all. What comes
+    /// after it is looked at as a `feed` does, but for the words of a short line. It takes no memory.
     pub fn consume(&mut self, front: Front)
         requires { front_of self.old ≡ Some front }
         ensures taken { KeepsRest (past front self.old) self.new }
@@ -150,7 +153,8 @@ impl Reader {
     }
 
     /// How many bytes the reader keeps: those that are not taken, and of those taken the ones that are not let go yet,
-    /// which are never more. Where nothing is whole, they are fewer than [`REQUEST_LIMIT`](crate::REQUEST_LIMIT).
+    /// which are never more. None are kept after the end, or while a block that is refused comes. Where nothing is whole, they
+    /// are fewer than [`REQUEST_LIMIT`](crate::REQUEST_LIMIT).
     pub fn held(&self) -> usize
         ensures held { result ≡ self.now.held }
         ensures little { KeepsLittle self.now }

@@ -1,5 +1,5 @@
 //! The bytes that have come and are not taken.
-ghost use Rattle.std.specs.Prelude.{◌≡◌, ◌<◌, ◌↔◌, ℕ, List, [], ◌++◌, length, true, false, None, Some, is_some, IsTrue, IsOk, OnOk, OnErr};
+ghost use Rattle.std.specs.Prelude.{◌≡◌, ◌<◌, ◌≤◌, ◌+◌, ◌↔◌, ℕ, List, [], ◌++◌, length, true, false, None, Some, is_some, IsTrue, OnOk, OnErr};
 
 use crate::peeks::{Front, Peek, REQUEST_LIMIT};
 use crate::searched::Searched;
@@ -9,7 +9,7 @@ use mc_text::{Line, drop_front, let_go};
 use std::alloc::Global;
 use std::marker::Model;
 
-/// The most bytes of a line that is read again by each look behind a `consume`, until more bytes come.
+/// The most bytes of a line that is read again by each look after a `consume`, until more bytes come.
 pub const SHORT_LINE: usize = 512;
 
 /// The bytes that have come and are not taken, as a reader keeps them, with what is known of them.
@@ -18,9 +18,9 @@ pub struct Unread {
     buffer: Vec<u8>,
     /// How many bytes of the buffer are taken.
     start: usize,
-    /// How far the bytes behind them were searched for the end of the first line.
+    /// How far the bytes after them were searched for the end of the first line.
     searched: Searched,
-    /// With fewer bytes behind them than this nothing is whole.
+    /// With fewer bytes after them than this nothing is whole.
     wanted: usize,
     /// Whether the first request or fault is known to be whole with so many.
     sure: bool,
@@ -43,7 +43,7 @@ impl Model for Unread {
 
 impl Unread {
     ghost use Rattle.mc_request.specs.Requests.{next_request};
-    ghost use Rattle.mc_request_reader.specs.Reader.{fresh_reader, rest_of, KeepsRest, KeepsLittle};
+    ghost use Rattle.mc_request_reader.specs.Reader.{fresh_reader, rest_of, kept_of, KeepsRest, KeepsLittle};
     ghost use Rattle.mc_request_reader.specs.Peeks.{Peeks, IsWellFormedPeek, front_of, past};
 
     /// Nothing has come. It takes no memory.
@@ -61,14 +61,15 @@ impl Unread {
         }
     }
 
-    /// Puts a piece behind what has come, without what is dropped of it.
+    /// Puts a piece after what has come, without what is dropped of it.
     ///
     /// At `Memory` no byte is taken.
     pub fn append(&mut self, piece: &[u8]) -> Result<(), ReadError>
         ensures fed { OnOk result ((text : List ℕ) → rest_of self.new text ≡ rest_of self.old (piece.now ++ text)) }
         ensures closed { self.new.closed ≡ self.old.closed }
         ensures after_end { self.old.closed ≡ true → self.new ≡ self.old }
-        ensures never_refused { self.old.closed ≡ true → IsOk result }
+        ensures kept { OnOk result (self.new.held ≡ self.old.held + kept_of self.old (length piece.now)) }
+        ensures cause { OnErr result (0 < kept_of self.old (length piece.now)) }
         ensures err { OnErr result (self.new ≡ self.old) }
     {
         if self.closed {
@@ -88,10 +89,11 @@ impl Unread {
     /// Notes how far what has come was looked at, and begins to drop a block that is refused. Where nothing is whole,
     /// what was taken is let go.
     ///
-    /// What was looked at is not looked at again, and what stays behind is moved once.
+    /// What was looked at is not looked at again, and what is left is moved once.
     pub fn advance(&mut self)
         ensures rest { KeepsRest self.old self.new }
         ensures little { KeepsLittle self.new }
+        ensures fewer { self.new.held ≤ self.old.held }
         ensures after_end { self.old.closed ≡ true → self.new ≡ self.old }
     {
         if self.closed || self.dropping.is_some() {

@@ -2,7 +2,7 @@ use Rattle.std.proofs.Common.{◌≡◌, ◌∙◌, ◌≤◌, ℕ, List, [], �
 use Rattle.std.proofs.lemmas.List.{append-nil}
 use Rattle.mc_request_reader.specs.Reader.{ReaderState}
 use Rattle.mc_request_reader.proofs.StepLemmas.{whole_from}
-use Rattle.mc_request_reader.proofs.ReaderLemmas.{rest_drops, little_whole}
+use Rattle.mc_request_reader.proofs.ReaderLemmas.{rest_drops, little_whole, half_of}
 use Rattle.mc_request_reader.proofs.unread.Unread.advance.Goals as goal
 
 -- the first is known to be whole
@@ -15,7 +15,7 @@ returns-then-self-2-clause-little c =
     let enough : c.self.inside.wanted ≤ length (drop c.self.inside.start c.self.inside.buffer.items ++ []) = rw (append-nil, ← unread_is) (omega arith) in
     let whole = c.self.invariant.whole c.if-self-2.true [] enough in
     let inside_is = ap (λ (s : ReaderState). s.unread) c.self.view_is in
-    little_whole c.args.self.now unclosed none (rw (append-nil, inside_is) at whole)
+    little_whole c.args.self.now unclosed none (rw (← c.self.view_is) (half_of c.self.inside c.self.invariant)) (rw (append-nil, inside_is) at whole)
 
 -- what is whole stays so
 pub invariant_of-self : goal.invariant_of-self
@@ -37,7 +37,7 @@ returns-in-Whole-clause-little c =
     let unread_is = c.split_at.ensures.back ∙ ap (λ (xs : List ℕ). drop c.self.inside.start xs) c.deref.ensures.value in
     let stands = rw (c.in-Whole.is, unread_is) at c.stand_of.ensures in
     let kept : c.self.inside.dropping ≡ None = search rules in
-    little_whole _ c.if-self.false kept stands.1
+    little_whole _ c.if-self.false kept (half_of c.self.inside c.self.invariant) stands.1
 
 -- the block is dropped from here on
 pub returns-in-Drops-clause-rest : goal.returns-in-Drops-clause-rest
