@@ -5,7 +5,7 @@ use crate::peeks::{Front, Peek, REQUEST_LIMIT};
 use crate::searched::Searched;
 use crate::steps::{Stand, first_asked, is_whole, stand_of};
 use mc_request::{Asked, Fault, ReadError};
-use mc_text::{Line, drop_front, let_go};
+use mc_text::{Line, drop_front, give_back, let_go};
 use std::alloc::Global;
 use std::marker::Model;
 
@@ -261,9 +261,7 @@ impl Unread {
     pub fn give_back(&mut self, kept: usize)
         ensures { self.new ≡ self.old }
     {
-        if self.buffer.is_empty() && self.buffer.capacity() > kept {
-            self.buffer.shrink_to_fit();
-        }
+        give_back(&mut self.buffer, kept);
     }
 
     /// How many bytes are kept.
