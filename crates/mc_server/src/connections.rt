@@ -31,7 +31,7 @@ impl Model for Connection {
 }
 
 impl Connection {
-    ghost use Rattle.mc_request_reader.specs.Reader.{rest_of};
+    ghost use Rattle.mc_request_reader.specs.Reader.{rest_of, kept_of, KeepsLittle};
     ghost use Rattle.mc_server.specs.Rooms.{bound_of};
     ghost use Rattle.mc_server.specs.ServerState.{fresh_connection};
     ghost use Rattle.mc_server.specs.Turns.{IsFed, IsTurn};
@@ -50,7 +50,9 @@ impl Connection {
     /// Takes the next piece of the client's text.
     pub fn feed(&mut self, piece: &[u8]) -> Result<(), ServerError>
         ensures fed { OnOk result (IsFed self.old piece.now self.new) }
+        ensures little { OnOk result (KeepsLittle self.new.reader) }
         ensures only_memory { IsOkUnless result ServerError.Memory }
+        ensures cause { OnErr result (0 < kept_of self.old.reader (length piece.now)) }
         ensures err { OnErr result (self.new ≡ self.old) }
     {
         self.reader.feed(piece)?;
@@ -95,6 +97,7 @@ impl Connection {
             → IfOk result (λ turn. IsTurn number moment turn cache.old cache.new self.old self.new) }
         ensures bounded { OnOk result (length self.new.output
             ≤ length self.old.output + bound_of (rest_of self.old.reader []) cache.old) }
+        ensures little { OnOk result (KeepsLittle self.new.reader) }
         ensures only_memory { IsOkUnless result ServerError.Memory }
         ensures cause { OnErr result (0 < length (rest_of self.old.reader [])) }
         ensures err { OnErr result (self.new ≡ self.old) }
