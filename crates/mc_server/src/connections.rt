@@ -6,7 +6,7 @@ use crate::turns::{ServerError, Turn};
 use mc_cache::Cache;
 use mc_request_reader::{Peek, Reader};
 use mc_store::Store;
-use mc_text::let_go;
+use mc_text::{give_back, let_go};
 use std::alloc::Global;
 use std::marker::Model;
 
@@ -136,8 +136,6 @@ impl Connection {
         ensures { self.new ≡ self.old }
     {
         self.reader.give_back(kept);
-        if self.output.is_empty() && self.output.capacity() > kept {
-            self.output.shrink_to_fit();
-        }
+        give_back(&mut self.output, kept);
     }
 }
