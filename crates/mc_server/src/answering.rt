@@ -1,4 +1,4 @@
-//! Serving what stands first in a reader: the cache makes its commands, and the answer goes behind the output.
+//! Serving what stands first in a reader: the cache makes its commands, and the answer goes after the output.
 ghost use Rattle.std.specs.Prelude.{◌≡◌, ◌+◌, ◌≤◌, ◌<◌, ◌^◌, ◌-◌, ◌++◌, min, Bool, true, false, ℕ, List, length, vec_len, vec_capacity, IfOk, OnOk, OnErr};
 ghost use Rattle.std.specs.List.{list_all};
 ghost use Rattle.mc_text.specs.Keys.{is_key, is_plain_key};
@@ -42,7 +42,8 @@ const ROOM_BY_LONGEST: usize = 65_536;
 /// Enough bytes of room for the answer to what is asked; [`usize::MAX`] where it may need that or more.
 pub fn room_for<S: Store + Drop>(asked: &Asked<'_>, cache: &Cache<S>) -> usize
     requires { is_well_formed (asked_of asked.now) ≡ true }
-    ensures { min (room_of (asked_of asked.now) cache.now) (2 ^ 64 - 1) ≤ result }
+    ensures enough { min (room_of (asked_of asked.now) cache.now) (2 ^ 64 - 1) ≤ result }
+    ensures most { result ≤ room_of (asked_of asked.now) cache.now + ROOM_BY_LONGEST }
 {
     match asked {
         Asked::Get { keys, .. } => LINE_ROOM.saturating_add(enough_for_keys(keys, cache)),
@@ -69,11 +70,12 @@ pub fn bound_for<S: Store + Drop>(asked: &Asked<'_>, cache: &Cache<S>) -> usize
     }
 }
 
-/// Enough bytes for the values under some keys and what stands beside them; [`usize::MAX`] where that may be it or more.
+/// Enough bytes for the values under some keys and what is beside them; [`usize::MAX`] where that may be it or more.
 ///
 /// Keys are no more than the bytes of their text and one; where that does not tell enough, no more than its spaces and one.
 fn enough_for_keys<S: Store + Drop>(keys: &WordIter<'_>, cache: &Cache<S>) -> usize
-    ensures { min (keys_room KEY_ROOM keys.now cache.now) (2 ^ 64 - 1) ≤ result }
+    ensures enough { min (keys_room KEY_ROOM keys.now cache.now) (2 ^ 64 - 1) ≤ result }
+    ensures most { result ≤ keys_room KEY_ROOM keys.now cache.now + ROOM_BY_LONGEST }
 {
     let longest = cache.longest();
     if longest <= ROOM_BY_LONGEST {
@@ -97,7 +99,8 @@ fn enough_for_value<S: Store + Drop>(
     cache: &Cache<S>,
 ) -> usize
     requires { has_meta_key (meta_said coded command.now) ≡ true }
-    ensures { meta_value_room (meta_said coded command.now) cache.now ≤ result }
+    ensures enough { meta_value_room (meta_said coded command.now) cache.now ≤ result }
+    ensures most { result ≤ meta_value_room (meta_said coded command.now) cache.now + ROOM_BY_LONGEST }
 {
     let longest = cache.longest();
     match command {
@@ -235,7 +238,7 @@ fn serve_meta<S: Store + Drop>(
     Ok(())
 }
 
-/// What the cache answers to a meta command by the word of its key. The value that it shows stands first.
+/// What the cache answers to a meta command by the word of its key. The value that it shows is first.
 fn meta_reply<S: Store + Drop>(
     command: &MetaCommand<&[u8], &[u8]>,
     coded: bool,
