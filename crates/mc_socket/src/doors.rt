@@ -1,5 +1,5 @@
 //! A listener, and how many connections it has accepted.
-ghost use Rattle.std.specs.Prelude.{◌≡◌};
+ghost use Rattle.std.specs.Prelude.{◌≡◌, ◌≢◌, None, Some};
 
 use mio::net::{TcpListener, TcpStream};
 use mio::{Interest, Registry, Token};
@@ -119,12 +119,28 @@ fn next_connection(listener: &TcpListener) -> Result<TcpStream, Waiting> {
     for _ in 0..MAX_TRIES {
         match listener.accept() {
             Ok((stream, _)) => return Ok(stream),
-            Err(error) => match error.kind() {
-                ErrorKind::Interrupted | ErrorKind::ConnectionAborted => {}
-                ErrorKind::WouldBlock => return Err(Waiting::Nobody),
-                _ => return Err(Waiting::Refused),
-            },
+            Err(error) => {
+                if let Some(waiting) = waiting_by(error.kind()) {
+                    return Err(waiting);
+                }
+            }
         }
     }
     Err(Waiting::More)
+}
+
+/// What an accept that failed by an error of a kind says of those who wait; none where it is to be tried again at once, since
+/// the system interrupted it, or the connection is gone again.
+fn waiting_by(kind: ErrorKind) -> Option<Waiting>
+    ensures nobody { kind ≡ ErrorKind.WouldBlock → result ≡ Some Waiting.Nobody }
+    ensures interrupted { kind ≡ ErrorKind.Interrupted → result ≡ None }
+    ensures aborted { kind ≡ ErrorKind.ConnectionAborted → result ≡ None }
+    ensures refused { kind ≢ ErrorKind.WouldBlock → kind ≢ ErrorKind.Interrupted → kind ≢ ErrorKind.ConnectionAborted
+        → result ≡ Some Waiting.Refused }
+{
+    match kind {
+        ErrorKind::WouldBlock => Some(Waiting::Nobody),
+        ErrorKind::Interrupted | ErrorKind::ConnectionAborted => None,
+        _ => Some(Waiting::Refused),
+    }
 }
