@@ -1,11 +1,13 @@
-//! The input of a socket of which events tell.
+//! The input of a stream of which events tell.
+ghost use Rattle.std.specs.Prelude.{◌≡◌, ◌&&◌, true, IfOk, IsErr, length, nat_lt, not};
+ghost use Rattle.std.specs.Io.{ReadsAtMost};
+ghost use Rattle.std.specs.Io.KnownBytes.{ReadConsumes};
 
 use mio::event::Event;
-use mio::net::TcpStream;
 use std::io;
 use std::io::{ErrorKind, Read};
 
-/// What the last event and the reads since say of a socket's input.
+/// What the last event and the reads since say of a stream's input.
 #[derive(Clone, Copy, Debug, PartialEq, Eq)]
 pub struct Edge {
     /// Whether all that had come is read: until the next event there is no more.
@@ -15,7 +17,7 @@ pub struct Edge {
 }
 
 impl Edge {
-    /// The edge of a socket of which no event has told: nothing has come.
+    /// The edge of a stream of which no event has told: nothing has come.
     pub fn new() -> Edge {
         Edge {
             drained: true,
@@ -23,7 +25,7 @@ impl Edge {
         }
     }
 
-    /// Notes what an event says of the socket.
+    /// Notes what an event says of the stream.
     pub fn note(&mut self, event: &Event) {
         if event.is_readable() || event.is_read_closed() || event.is_error() {
             self.drained = false;
@@ -34,24 +36,40 @@ impl Edge {
     }
 }
 
-/// The input of a socket of which events tell. A read that gives fewer bytes than were asked for has emptied it, and the
-/// next one need not ask the system. Whoever makes it keeps the edge behind the reads for the next one.
+/// The input of a stream of which events tell. A read that gives fewer bytes than were asked for has emptied it, and the
+/// next one need not ask the system. It drops and repeats no byte of its stream. Whoever makes it keeps the edge after the
+/// reads for the next one.
 #[derive(Drop)]
-pub struct Input<'a> {
-    /// The socket, which does not block.
-    pub stream: &'a TcpStream,
+pub struct Input<R> {
+    /// What gives the bytes: a socket that does not block, or another reader that does not wait.
+    pub stream: R,
     /// What is known of its input.
     pub edge: Edge,
 }
 
-impl<'a> Read for Input<'a> {
-    fn read(&mut self, piece: &mut [u8]) -> io::Result<usize> {
+impl<R: Read> Read for Input<R> {
+    ghost remaining = { λ input. R.remaining input.stream };
+
+    fn read(&mut self, piece: &mut [u8]) -> io::Result<usize>
+        ensures bound { ReadsAtMost result piece.new }
+        ensures bytes { ReadConsumes (R.remaining self.old.stream) (R.remaining self.new.stream) result piece.new }
+        ensures drained { self.old.edge.drained ≡ true → IsErr result × (self.new ≡ self.old) }
+        ensures edge { IfOk result (λ count. self.new.edge.drained ≡ (nat_lt count (length piece.new) && not self.old.edge.to_the_end)) }
+        ensures to_the_end { self.new.edge.to_the_end ≡ self.old.edge.to_the_end }
+    {
         if self.edge.drained {
             return Err(io::Error::from(ErrorKind::WouldBlock));
         }
-        let mut stream = self.stream;
-        let count = stream.read(piece)?;
-        self.edge.drained = count < piece.len() && !self.edge.to_the_end;
+        let count = self.stream.read(piece)?;
+        self.edge.drained = is_drained(count, piece.len(), self.edge.to_the_end);
         Ok(count)
     }
+}
+
+/// Whether a read that gave so many bytes of those that were asked for has emptied its stream. While the end is still to be
+/// read, none has: no further event may tell of it.
+fn is_drained(count: usize, asked: usize, to_the_end: bool) -> bool
+    ensures { result ≡ (nat_lt count asked && not to_the_end) }
+{
+    count < asked && !to_the_end
 }
