@@ -9,6 +9,8 @@ use std::alloc::Global;
 use std::net::{Net, SocketAddr, ToSocketAddrs};
 
 /// Listens at a host and a port, `<host>:<port>`, by the first IPv4 address that the host has.
+///
+/// A host that is a name is looked up, and so this may wait for whoever knows the name. An IPv4 address is not looked up.
 pub fn bind<R: Net>(rt: &R, alloc: Global, listen: &str) -> Result<TcpListener, ServeError>
     ensures { IfOk result (λ _. is_address listen.now ≡ true) }
 {
