@@ -1,6 +1,9 @@
 //! The clock of a server.
-ghost use Rattle.std.specs.Prelude.{◌<◌, ◌^◌};
+ghost use Rattle.std.specs.Prelude.{◌≡◌, ◌<◌, ◌≤◌, ◌^◌, ℕ};
+ghost use Rattle.mc_serve.specs.Clocks.{moment_after};
 
+use mc_socket::Uptime;
+use std::marker::Model;
 use std::rt::Clock;
 use std::time::{SystemTime, UNIX_EPOCH};
 
@@ -11,28 +14,61 @@ pub trait Seconds {
         ensures { result < 2 ^ 63 };
 }
 
-/// The system's clock.
+/// The system's clock: what the wall clock said as this one was made, and from then on what the monotonic clock says has passed.
+/// Whoever sets the wall clock neither ends nor prolongs an item. Contracts see the moment that it told last.
+///
+/// Both parts are whole seconds, so that a moment may be a second before that of a wall clock that nobody has set. While the
+/// machine is suspended the clock does not go on.
 #[derive(Drop)]
 pub struct SystemSeconds<'a, R: Clock> {
     rt: &'a R,
+    /// The wall clock as this one was made: whole seconds since 1970.
+    start: u64,
+    uptime: Uptime,
+}
+
+impl<'a, R: Clock> Model for SystemSeconds<'a, R> {
+    ghost Value = { ℕ };
+
+    ghost view = { λ c. moment_after c.start c.uptime };
 }
 
 impl<'a, R: Clock> SystemSeconds<'a, R> {
-    /// The clock of a runtime.
+    /// The clock of a runtime. It begins at 0 where the wall clock is before 1970, or cannot be read.
     pub fn new(rt: &'a R) -> Self {
-        SystemSeconds { rt }
+        SystemSeconds {
+            rt,
+            start: wall_clock(rt),
+            uptime: Uptime::new(rt),
+        }
     }
 }
 
 impl<'a, R: Clock> Seconds for SystemSeconds<'a, R> {
-    /// 0 where the clock is before 1970, or cannot be read.
-    fn now(&mut self) -> u64 {
-        let Ok(time) = SystemTime::now(self.rt) else {
-            return 0;
-        };
-        match time.duration_since(UNIX_EPOCH) {
-            Ok(since) => since.as_secs().min(i64::MAX as u64),
-            Err(_) => 0,
-        }
+    /// Never earlier than it told before. Where the monotonic clock cannot be read, each moment is a second after the one before.
+    fn now(&mut self) -> u64
+        ensures bound { result < 2 ^ 63 }
+        ensures told { result ≡ self.new }
+        ensures never_back { self.old ≤ result }
+    {
+        moment_after(self.start, self.uptime.seconds(self.rt))
+    }
+}
+
+/// The moment so many seconds after a start.
+fn moment_after(start: u64, passed: u64) -> u64
+    ensures { result ≡ moment_after start passed }
+{
+    start.saturating_add(passed).min(i64::MAX as u64)
+}
+
+/// The wall clock: whole seconds since 1970; 0 where it is before 1970, or cannot be read.
+fn wall_clock<R: Clock>(rt: &R) -> u64 {
+    let Ok(time) = SystemTime::now(rt) else {
+        return 0;
+    };
+    match time.duration_since(UNIX_EPOCH) {
+        Ok(since) => since.as_secs(),
+        Err(_) => 0,
     }
 }

@@ -1,20 +1,24 @@
-//! What a program on sockets needs beside what it serves: where it listens, who waits to be accepted, what has come.
+//! What a program on sockets needs beside what it serves: where it listens, who waits to be accepted, what has come, how long
+//! it has served.
 //!
 //! [`bind`] gives a listener. A [`Door`] is a listener and how many connections it has accepted: a poll that it is
 //! [registered](Door::register) with reports it, which it is [told](Door::note), and [`Door::accept`] gives the
 //! connections, one by one. Of a connection's socket an [`Edge`] keeps what events say ([`Edge::note`]), and an [`Input`] is
-//! the reader over both, which asks the system for nothing that is known not to be there. [`PIECE_LEN`], [`KEPT_ROOM`] and
-//! [`PATIENCE`] are limits that all who serve sockets share.
+//! the reader over both, which asks the system for nothing that is known not to be there. [`Uptime`] says how long a program
+//! has served. [`PIECE_LEN`], [`KEPT_ROOM`] and [`PATIENCE`] are limits that all who serve sockets share.
 //!
-//! No call waits. What a socket carries, and who comes, no contract says; how many a door accepts is proved.
+//! No call waits but [`bind`], which looks a name up. What a socket carries, and who comes, no contract says. Proved are how
+//! many a door accepts, that an input drops and repeats no byte of its stream, and that an uptime never goes back.
 #![tactic(auto)]
 
 mod binding;
 mod doors;
 mod inputs;
 mod limits;
+mod uptimes;
 
 pub use binding::bind;
 pub use doors::{Door, Waiting};
 pub use inputs::{Edge, Input};
 pub use limits::{KEPT_ROOM, PATIENCE, PIECE_LEN};
+pub use uptimes::Uptime;
