@@ -2,9 +2,8 @@
 ghost use Rattle.std.specs.Prelude.{◌<◌, ◌^◌, vec_len};
 
 use crate::clients::Client;
-use mc_pump::Pump;
 use mc_server::{MAX_CONNECTIONS, Server};
-use mc_socket::{KEPT_ROOM, PIECE_LEN};
+use mc_socket::{KEPT_ROOM, PIECE_LEN, Step, step_after};
 use mc_store::Store;
 use mio::event::Event;
 use mio::net::TcpStream;
@@ -123,10 +122,10 @@ impl<S: Store + Drop> Host<S> {
         };
         self.busy = true;
         let pumped = client.pump(&mut self.server, &mut self.piece, moment);
-        match pumped {
-            Pump::Again => self.enqueue(key),
-            Pump::Blocked => self.server.give_back(client.number(), KEPT_ROOM),
-            Pump::Done | Pump::Failed => self.close(key),
+        match step_after(pumped) {
+            Step::GoOn => self.enqueue(key),
+            Step::Wait => self.server.give_back(client.number(), KEPT_ROOM),
+            Step::Close => self.close(key),
         }
     }
 

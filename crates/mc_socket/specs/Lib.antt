@@ -1,1 +1,2 @@
 pub mod Doors
+pub mod Steps

@@ -4,21 +4,25 @@
 //! [`bind`] gives a listener. A [`Door`] is a listener and how many connections it has accepted: a poll that it is
 //! [registered](Door::register) with reports it, which it is [told](Door::note), and [`Door::accept`] gives the
 //! connections, one by one. Of a connection's socket an [`Edge`] keeps what events say ([`Edge::note`]), and an [`Input`] is
-//! the reader over both, which asks the system for nothing that is known not to be there. [`Uptime`] says how long a program
-//! has served. [`PIECE_LEN`], [`KEPT_ROOM`] and [`PATIENCE`] are limits that all who serve sockets share.
+//! the reader over both, which asks the system for nothing that is known not to be there. [`step_after`] says what is done
+//! with a client whose pump ended, and [`Uptime`] how long a program has served. [`PIECE_LEN`], [`KEPT_ROOM`] and
+//! [`PATIENCE`] are limits that all who serve sockets share.
 //!
 //! No call waits but [`bind`], which looks a name up. What a socket carries, and who comes, no contract says. Proved are how
-//! many a door accepts, that an input drops and repeats no byte of its stream, and that an uptime never goes back.
+//! many a door accepts, that an input drops and repeats no byte of its stream, what is done after a pump, and that an uptime
+//! never goes back.
 #![tactic(auto)]
 
 mod binding;
 mod doors;
 mod inputs;
 mod limits;
+mod steps;
 mod uptimes;
 
 pub use binding::bind;
 pub use doors::{Door, Waiting};
 pub use inputs::{Edge, Input};
 pub use limits::{KEPT_ROOM, PATIENCE, PIECE_LEN};
+pub use steps::{Step, step_after};
 pub use uptimes::Uptime;
