@@ -1,5 +1,7 @@
 //! A client: its socket, and what is known of it.
-ghost use Rattle.std.specs.Prelude.{◌<◌, ◌^◌, length};
+ghost use Rattle.std.specs.Prelude.{◌≡◌, ◌<◌, ◌^◌, None, IsSome, length};
+ghost use Rattle.mc_server.specs.ServerState.{connection_at};
+ghost use Rattle.mc_pump.specs.Pumps.{Pumps};
 
 use mc_pump::{Pump, pump};
 use mc_server::Server;
@@ -56,7 +58,7 @@ impl Client {
         std::mem::replace(&mut self.busy, false)
     }
 
-    /// Carries its bytes, and serves what comes whole.
+    /// Carries its bytes, and serves what comes whole. Which bytes a socket gives, and which it takes, is not known.
     pub fn pump<S: Store + Drop>(
         &mut self,
         server: &mut Server<S>,
@@ -65,6 +67,9 @@ impl Client {
     ) -> Pump
         requires piece { 0 < length piece.old }
         requires moment { moment < 2 ^ 63 }
+        ensures pumps { IsSome (connection_at server.old self.old.number) → Pumps self.old.number moment result server.old server.new
+            None None None None self.old.ended self.new.ended }
+        ensures number { self.new.number ≡ self.old.number }
     {
         self.busy = true;
         let mut input = Input {

@@ -5,7 +5,9 @@
 //! and the two sides of a stream, and has the law of one connection. [`command`] and [`Options`] are the command line of
 //! the program `mc_serverd`.
 //!
-//! [`serve`] waits for its sockets, and may wait for ever; no other call does. What a socket carries, no contract says.
+//! [`serve`] waits for its sockets, and may wait for ever; [`bind`] looks a name up, and may wait for that; no other call waits.
+//! What a socket carries, no contract says. Proved of a client's turn are that its connection alone is pumped, at the moment that
+//! the clock tells, and what is done with it afterwards; of the system's clock, that it never goes back.
 #![tactic(auto)]
 
 mod clients;
