@@ -8,9 +8,14 @@ import resource
 import select
 import socket
 import struct
+import threading
 import time
 
-from checks import PATIENCE, Wrong, asked, is_served, received, received_to_the_end, want
+from checks import KILOBYTE, PATIENCE, Wrong, asked, is_served, received, received_to_the_end, want, want_at_most
+
+REQUEST = b"version\r\n"
+REQUESTS = REQUEST * (128 * KILOBYTE)
+MOST_SENT = 256 * KILOBYTE * KILOBYTE  # as much a client that sends without end sends at most
 
 # Dialogues: what a client of a new cache sends, and what it is answered.
 DIALOGUES = {
@@ -150,6 +155,50 @@ def no_descriptors_are_waited_for(start):
                 client.close()
 
 
+class Sender(threading.Thread):
+    """Sends small requests on a connection, and reads what comes, until it is told to stop. It gives up at its most, and where
+    nothing moves."""
+
+    def __init__(self, connection):
+        super().__init__(daemon=True)
+        self.connection, self.told, self.sent, self.came = connection, threading.Event(), 0, 0
+        connection.setblocking(False)
+
+    def run(self):
+        requests = memoryview(REQUESTS)
+        while not self.told.is_set() and self.sent < MOST_SENT:
+            readable, writable, _ = select.select([self.connection], [self.connection], [], PATIENCE)
+            if readable:
+                self.came += len(self.connection.recv(len(REQUESTS)))
+            if writable:
+                self.sent += self.connection.send(requests[self.sent % len(REQUEST) :])
+            if not readable and not writable:
+                return
+
+    def __enter__(self):
+        self.start()
+        return self
+
+    def __exit__(self, *_):
+        self.told.set()
+        self.join()
+
+
+def who_sends_without_end_holds_nobody_up(start):
+    """While a client sends more than is served, and reads all answers, another is answered again and again."""
+    with start() as program, program.connected() as first, program.connected() as second:
+        with Sender(first) as sender:
+            while sender.is_alive() and sender.came < len(REQUESTS):
+                time.sleep(0.01)
+            for _ in range(20):
+                before = sender.came
+                is_served(second)
+                while sender.is_alive() and sender.came == before:
+                    time.sleep(0.001)
+            want_at_most(sender.sent, MOST_SENT - 1)
+            want(sender.is_alive(), True)
+
+
 def checks_of_connections(start, more_dialogues={}):
     """Each of them by its name, with all dialogues."""
     for name, (sent, answers) in {**DIALOGUES, **more_dialogues}.items():
@@ -162,6 +211,7 @@ def checks_of_connections(start, more_dialogues={}):
         half_a_request_and_the_end_are_no_answer,
         a_reset_ends_one_connection,
         the_1025th_is_closed_at_once,
+        who_sends_without_end_holds_nobody_up,
         no_descriptors_are_waited_for,
     ):
         yield check.__name__, check, (start,)
