@@ -38,6 +38,7 @@ fi
 
 add rt ci
 add tests/edits.py --read
+add tests/cited.py
 add tests/examples.sh
 add tests/random.sh 5 2000
 add tests/spellings.py 5

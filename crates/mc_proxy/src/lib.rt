@@ -14,8 +14,8 @@
 //! by [`Proxy::link_feed`], and a turn of the link ([`Proxy::link_turn`]) gives the oldest command that waits its reply. A
 //! link whose bytes are no reply is lost. A command that was lost is never sent again.
 //!
-//! `specs/Turns.antt` says what a turn does, `specs/LinkTurns.antt` what a turn of a link and its loss do, and
-//! `specs/Emits.antt` how an answer is put out. No call waits.
+//! `specs/Turns.antt` says what a turn does, and `specs/LinkTurns.antt` what a turn of a link and its loss do. How an answer
+//! is put out is `mc_session`'s `specs/Emits.antt`. No call waits.
 #![tactic(auto)]
 
 mod errors;
