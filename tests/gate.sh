@@ -44,6 +44,7 @@ add tests/prefixes.py
 add tests/random.sh 5 2000
 add tests/spellings.py 5
 add tests/refused.py crates/mc_pool_rows/out/mc_pool_rows_tests pools::dialogues_of_a_pool_go_so
+add tests/refused_scripts.py
 add tests/serverd.py crates/mc_serverd/out/mc_serverd
 add tests/proxyd.py crates/mc_proxyd/out/mc_proxyd crates/mc_serverd/out/mc_serverd
 add tests/keys_at_owners.py crates/mc_proxyd/out/mc_proxyd crates/mc_serverd/out/mc_serverd

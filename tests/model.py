@@ -82,7 +82,7 @@ def coded_key_of(word):
 
 
 def is_noreply(words, allowed):
-    """The words behind a command's parameters: none, or `noreply`."""
+    """The words after a command's parameters: none, or `noreply`."""
     if len(words) > allowed:
         raise Fault(ERROR)
     if not words:
@@ -301,7 +301,7 @@ class Server:
 
     @staticmethod
     def meta_reply(key, asked, code, item, marks, moment):
-        """EN stands alone; else O and k are shown with every code, and the rest where there is an item to show."""
+        """EN is alone; else O and k are shown with every code, and the rest where there is an item to show."""
         if code == "EN":
             return b"EN\r\n"
         line = b"VA %d" % len(item.value) if code == "VA" else code.encode()
@@ -424,7 +424,7 @@ class Server:
             self.pending = self.deadline(delay, moment)
         return "OK"
 
-    # The step of a meta command gives its code, the item to show or none, and the marks behind the flags.
+    # The step of a meta command gives its code, the item to show or none, and the marks after the flags.
 
     def meta_get(self, key, asked, moment):
         item = self.settle(key, moment)
@@ -505,9 +505,13 @@ def escaped(data):
     )
 
 
-def main():
-    lines = [line for line in sys.stdin.buffer.read().decode("latin-1").split("\n") if line]
-    server = Server(*(int(word) for word in lines[0].split(" ")[1:]))
+def lines_of(script):
+    """The lines of a script's bytes."""
+    return [line for line in script.decode("latin-1").split("\n") if line]
+
+
+def printed(lines, server):
+    """What is printed for a script, played to a server as its first line says."""
     for line in lines[1:]:
         name, number, rest = line.split(" ", 2)
         connection = server.connections[int(number)]
@@ -516,8 +520,18 @@ def main():
                 connection.unread += unescaped(rest)
         else:
             server.turn(connection, int(rest))
-    for number, connection in enumerate(server.connections):
-        print(f"client {number}: {escaped(connection.output)}")
+    outputs = enumerate(connection.output for connection in server.connections)
+    return "".join(f"client {number}: {escaped(output)}\n" for number, output in outputs)
+
+
+def settings(lines):
+    """The connections, the budget and the item limit that a script's first line says."""
+    return [int(word) for word in lines[0].split(" ")[1:]]
+
+
+def main():
+    lines = lines_of(sys.stdin.buffer.read())
+    print(printed(lines, Server(*settings(lines))), end="")
 
 
 if __name__ == "__main__":

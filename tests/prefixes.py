@@ -4,9 +4,9 @@ come in two pieces, wherever they are cut, the answers are the same.
 
 Usage: prefixes.py [PROGRAM]      (crates/mc_sim/out/mc_sim, as it was built)
 
-The bytes are those of each script of tests/examples/ that has one client and at most 1,000 bytes. Each beginning, and each pair of
-pieces, is played to mc_sim, with a turn of each piece for each of its lines and one more, and what is printed is compared with
-what a model answers where nothing is cut (model.py). Each has a new server where items' numbers are compared; all others of a
+The bytes are those of each script of tests/examples/ that has one client and at most 1,000 bytes. Each beginning, and each pair
+of pieces, is played to mc_sim, with a turn of each piece for each of its lines and one more, and what is printed is compared
+with what a model answers where nothing is cut (model.py). Each has a new server where items' numbers are compared; all others of a
 script are clients of one, each after a flush, so that what another stored is gone, and only numbers go on. It prints a line for
 each script that fails; the last line is 'N passed, M failed'.
 """
@@ -18,7 +18,7 @@ import re
 import subprocess
 import sys
 
-from model import Connection, Server, escaped, unescaped
+from model import Connection, Server, escaped, lines_of, settings, unescaped
 
 TESTS = pathlib.Path(__file__).resolve().parent
 BUILT = TESTS.parent / "crates" / "mc_sim" / "out" / "mc_sim"
@@ -31,10 +31,9 @@ class Input:
     """What the client of a script sends: pieces, each with the moment of its turns."""
 
     def __init__(self, script):
-        lines = [line for line in script.read_bytes().decode("latin-1").split("\n") if line]
-        words = lines[0].split(" ")
-        self.clients, self.bounds, self.pieces = words[1], [int(word) for word in words[2:]], []
-        moment = 0
+        lines = lines_of(script.read_bytes())
+        self.clients, *self.bounds = settings(lines)
+        moment, self.pieces = 0, []
         for name, _, rest in reversed([line.split(" ", 2) for line in lines[1:]]):
             if name == "turn":
                 moment = int(rest)
@@ -114,7 +113,7 @@ def is_right(program, given):
 def main(program):
     scripts = [script for script in sorted((TESTS / "examples").glob("*.txt")) if not script.with_suffix(".err").exists()]
     inputs = [(script.stem, Input(script)) for script in scripts]
-    inputs = [(name, given) for name, given in inputs if given.clients == "1" and len(given.text) <= MOST]
+    inputs = [(name, given) for name, given in inputs if given.clients == 1 and len(given.text) <= MOST]
     with concurrent.futures.ThreadPoolExecutor(os.cpu_count()) as pool:
         right = list(pool.map(lambda named: is_right(program, named[1]), inputs))
     for name, _ in itertools.compress(inputs, (not each for each in right)):
