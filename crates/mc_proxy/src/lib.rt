@@ -1,6 +1,6 @@
 //! A proxy: clients' requests over links to servers.
 //!
-//! A [`Proxy`] stands over a ring ([`Proxy::new`]), with a link to each of its servers, all of them down at first. A link
+//! A [`Proxy`] is made over a ring ([`Proxy::new`]), with a link to each of its servers, all of them down at first. A link
 //! that is up again ([`Proxy::back`]) takes commands, until it is lost ([`Proxy::lost`]).
 //!
 //! A session is admitted under a number that none had before ([`Proxy::admit`]), fed the bytes that its client sends in
