@@ -1,3 +1,4 @@
 pub mod RouteLemmas
 pub mod JoinLemmas
 pub mod KeptLemmas
+pub mod LookLemmas

@@ -1,4 +1,5 @@
 pub mod Routes
+pub mod Looks
 pub mod Joins
 pub mod Rooms
 pub mod Kept

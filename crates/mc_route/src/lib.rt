@@ -14,8 +14,10 @@
 //! (`joined_answer`). The laws say that nothing else depends on how many servers there are
 //! ([`one_server_answers_alike`], [`commands_are_those_of_one_server`], [`answers_are_those_of_one_server`]).
 //!
+//! [`goes_to`] says of what a reader lends whether a server gets any command of it.
+//!
 //! `route`, `atoms`, `into_atoms` and `without_block` take memory, and `join` where there is not room enough; a call that gives up
-//! has changed nothing. `join_room` takes none.
+//! has changed nothing. `join_room` and `goes_to` take none.
 #![tactic(auto)]
 
 mod errors;
@@ -23,6 +25,7 @@ mod joins;
 mod kept;
 mod laws;
 mod lent;
+mod looks;
 mod outcomes;
 mod routes;
 mod rows;
@@ -35,6 +38,7 @@ pub use laws::{
     one_server_answers_alike, routes_stay_inside,
 };
 pub use lent::route;
+pub use looks::goes_to;
 pub use outcomes::Outcome;
 pub use routes::{Routed, atoms, into_atoms};
 pub use rows::{
