@@ -7,3 +7,4 @@ pub mod HandingLemmas
 pub mod SessionLemmas
 pub mod StandsLemmas
 pub mod LinkLemmas
+pub mod AnsweredLemmas

@@ -1,3 +1,4 @@
 pub mod Orders
 pub mod Lanes
 pub mod Stands
+pub mod Answered

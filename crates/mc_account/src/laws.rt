@@ -18,6 +18,7 @@ ghost use Rattle.mc_proxy.specs.ProxyState.{ProxyState, output_of, sent_by, sess
 ghost use Rattle.mc_proxy.specs.Turns.{Alone, Steps};
 ghost use Rattle.mc_account.specs.Lanes.{Lane, fresh_lane};
 ghost use Rattle.mc_account.specs.Orders.{Order, is_settled, note, note_all};
+ghost use Rattle.mc_account.specs.Answered.{WasAnswered};
 ghost use Rattle.mc_account.specs.Stands.{ProxyStands, changed, grown};
 
 /// A proxy that was just made stands where nothing was taken.
@@ -139,6 +140,13 @@ pub fn joined_servers_stand()
     ensures { (texts sent : ℕ → List ℕ) (order : Order) (lanes : ℕ → Lane) (address : List ℕ) (up : Bool) (place : ℕ) (old new : ProxyState)
         → ProxyStands texts sent order lanes old → length old.links ≡ length old.ring.servers → JoinsServer address up place old new
         → ProxyStands texts sent order (changed place (fresh_lane (length order)) lanes) new }
+{}
+
+/// What each client was sent is the answers to its first requests, in their order, each settled. Of an open session these are
+/// the requests that are answered, and its output is what of their answers was not taken out.
+pub fn clients_are_answered()
+    ensures { (texts sent : ℕ → List ℕ) (order : Order) (lanes : ℕ → Lane) (now : ProxyState)
+        → ProxyStands texts sent order lanes now → (number : ℕ) → WasAnswered number order (sent number) (session_at now number) }
 {}
 
 /// Where no command waits on any link, it is known of each what became of it: so each session can be answered to its last

@@ -6,14 +6,15 @@
 //! replies taken and the unread bytes, and each client's output is the answers to its first requests. No server and no socket
 //! stands in it.
 //!
-//! Each function is a law that says how a call of [`mc_proxy::Proxy`] keeps it, by what the call's contract says; all of them do nothing.
+//! Each function is a law; all of them do nothing. Most say how a call of [`mc_proxy::Proxy`] keeps it, by what the call's contract
+//! says. [`clients_are_answered`] and [`nothing_awaited_is_settled`] say what follows from it.
 #![tactic(auto)]
 
 mod laws;
 
 pub use laws::{
     a_proxy_opens, admitted_sessions_stand, answers_put_out_stand, bytes_sent_to_clients_stand,
-    bytes_sent_to_servers_stand, idle_calls_stand, joined_servers_stand, lost_links_stand,
-    nothing_awaited_is_settled, pieces_stand, replies_stand, returned_links_stand,
-    server_bytes_stand, sessions_gone_stand, taken_requests_stand,
+    bytes_sent_to_servers_stand, clients_are_answered, idle_calls_stand, joined_servers_stand,
+    lost_links_stand, nothing_awaited_is_settled, pieces_stand, replies_stand,
+    returned_links_stand, server_bytes_stand, sessions_gone_stand, taken_requests_stand,
 };
