@@ -12,7 +12,8 @@
 //!
 //! What a link is to send is [`Proxy::link_output`], taken out by [`Proxy::link_taken_out`]; what its server sent comes in
 //! by [`Proxy::link_feed`], and a turn of the link ([`Proxy::link_turn`]) gives the oldest command that waits its reply. A
-//! link whose bytes are no reply is lost. A command that was lost is never sent again.
+//! link whose bytes are no reply is lost. A command that was lost is never sent again. [`Proxy::waits_for`] says whether what a
+//! session has to take next needs a link, so whom to call once that has room again, or is lost.
 //!
 //! `specs/Turns.antt` says what a turn does, and `specs/LinkTurns.antt` what a turn of a link and its loss do. How an answer
 //! is put out is `mc_session`'s `specs/Emits.antt`. No call waits.

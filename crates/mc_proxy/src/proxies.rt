@@ -46,6 +46,7 @@ impl Proxy {
     ghost use Rattle.mc_link.specs.LinkState.{down_link};
     ghost use Rattle.mc_session.specs.Emits.{IsEmit, emitted};
     ghost use Rattle.mc_session.specs.SessionState.{fresh_session};
+    ghost use Rattle.mc_session.specs.Looks.{IsReady, waits_for};
     ghost use Rattle.mc_session.specs.Turns.{IsFed, IsTurn};
     ghost use Rattle.mc_proxy.specs.ProxyState.{is_finished, output_of, sent_by, session_at, unanswered_of, with_fresh, without};
     ghost use Rattle.mc_proxy.specs.Turns.{Alone, Steps, waiting_of};
@@ -119,10 +120,11 @@ impl Proxy {
     /// Takes the first request or fault of a session that has come whole, and sends its commands, each to the link of its
     /// key's owner: where that is down the command is lost.
     ///
-    /// At an error the request is not taken, and no command was sent. Where none waits no memory is taken.
+    /// At an error the request is not taken, and no command was sent. Where none has come whole, or the first has to wait for
+    /// a mark, no memory is taken.
     pub fn turn(&mut self, number: u64) -> Result<Turn, ProxyError>
         ensures turn { IfOk result (λ turn. Steps number self.old self.new (IsTurn number turn self.old.ring)) }
-        ensures memory { IsErrOf result ProxyError.Memory → 0 < length (waiting_of (session_at self.old number)) }
+        ensures memory { IsErrOf result ProxyError.Memory → IfSome (session_at self.old number) (IsReady self.old.ring self.old.links) }
         ensures no_session { IsErrOf result ProxyError.NoSession ↔ (session_at self.old number ≡ None) }
         ensures only { IfErr result (λ e. (e ≡ ProxyError.NoSession) ⊎ (e ≡ ProxyError.Memory)) }
         ensures err { OnErr result (self.new ≡ self.old) }
@@ -135,6 +137,17 @@ impl Proxy {
                 Ok(session.turn(self.alloc, number, &self.ring, links, &mut self.queue)?)
             }
             None => Err(ProxyError::NoSession),
+        }
+    }
+
+    /// Whether the first request or fault of a session that has come whole has a command for the server of a place. It is
+    /// false where none has come, or the session is not open. It takes no memory.
+    pub fn waits_for(&self, number: u64, server: usize) -> bool
+        ensures { result ≡ waits_for self.now.ring server (waiting_of (session_at self.now number)) }
+    {
+        match place_of(self.sessions.as_slice(), self.recent, number) {
+            Some(place) => self.sessions[place].1.waits_for(&self.ring, server),
+            None => false,
         }
     }
 

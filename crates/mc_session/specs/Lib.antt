@@ -3,3 +3,4 @@ pub mod Sending
 pub mod Noting
 pub mod Emits
 pub mod Turns
+pub mod Looks

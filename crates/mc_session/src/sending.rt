@@ -1,7 +1,11 @@
 //! The commands of a request, to their links.
-ghost use Rattle.std.specs.Prelude.{◌≡◌, ◌+◌, ◌-◌, ◌<◌, ◌≤◌, ◌^◌, ℕ, [], true, length, map, IfOk, IfSome, OnOk};
+ghost use Rattle.std.specs.Prelude.{◌≡◌, ◌+◌, ◌-◌, ◌<◌, ◌≤◌, ◌^◌, ◌&&◌, ℕ, [], true, length, map, IfOk, IfSome, OnOk};
 ghost use Rattle.std.specs.List.{list_any};
 ghost use Rattle.std.specs.VecDeque.{deque_len, deque_capacity};
+ghost use Rattle.mc_request.specs.LinesSeen.{asked_of};
+ghost use Rattle.mc_request.specs.WellFormed.{is_well_formed};
+ghost use Rattle.mc_route.specs.Looks.{goes_to};
+ghost use Rattle.mc_route.specs.Routes.{route_of_taken};
 ghost use Rattle.mc_spelling.specs.Spellings.{spelling_of_atom};
 ghost use Rattle.mc_session.specs.SessionState.{link_at, states, with_link};
 ghost use Rattle.mc_session.specs.Sending.{at_once, handed, handed_to, is_link_marked, outcome_by, roomy_at, spelled, AreRoomy, IsRoomy};
@@ -10,18 +14,34 @@ use crate::errors::SessionError;
 use crate::limits::LINK_MARK;
 use crate::unanswered::Unanswered;
 use mc_link::{Link, Tag};
-use mc_route::{Outcome, Routed};
+use mc_request::Asked;
+use mc_ring::Ring;
+use mc_route::{Outcome, Routed, goes_to};
 use mc_spelling::spelled_len as spelled_len_of;
 use std::alloc::Global;
 use std::collections::VecDeque;
 
-/// Whether a link that one of the commands needs has as much unsent as its mark.
-pub fn is_any_marked(links: &[Link], commands: &[Routed]) -> bool
-    ensures { result ≡ list_any (λ command. is_link_marked (link_at (states links.now) command.server)) commands.now }
+/// Whether a link that what is asked needs has as much unsent as its mark. It takes no memory, and looks at no key where no
+/// link has.
+pub fn is_any_marked(links: &[Link], asked: &Asked<'_>, ring: &Ring) -> bool
+    requires { is_well_formed (asked_of asked.now) ≡ true }
+    ensures { result ≡ list_any (λ command. is_link_marked (link_at (states links.now) command.server)) (route_of_taken ring.now (asked_of asked.now)) }
 {
-    commands
-        .iter()
-        .any(|command| is_marked(links, command.server))
+    for place in 0..links.len() {
+        if is_marked_for(links, asked, ring, place) {
+            return true;
+        }
+    }
+    false
+}
+
+/// Whether the link of a place has as much unsent as its mark, and what is asked needs it.
+fn is_marked_for(links: &[Link], asked: &Asked<'_>, ring: &Ring, place: usize) -> bool
+    requires { is_well_formed (asked_of asked.now) ≡ true }
+    ensures { result
+        ≡ (is_link_marked (link_at (states links.now) place) && goes_to place (route_of_taken ring.now (asked_of asked.now))) }
+{
+    is_marked(links, place) && goes_to(asked, ring, place)
 }
 
 /// Whether the link of a place is up, and has as much unsent as its mark.

@@ -10,7 +10,7 @@ use crate::unanswered::Unanswered;
 use mc_link::{Link, Tag};
 use mc_request_reader::{Peek, Reader};
 use mc_ring::Ring;
-use mc_route::{Outcome, Routed, route};
+use mc_route::{Outcome, Routed, goes_to, route};
 use mc_text::let_go;
 use std::alloc::Global;
 use std::collections::VecDeque;
@@ -46,6 +46,7 @@ impl Session {
     ghost use Rattle.mc_session.specs.Emits.{IsEmit, emitted};
     ghost use Rattle.mc_session.specs.Noting.{noted_in};
     ghost use Rattle.mc_session.specs.Sending.{is_session_marked};
+    ghost use Rattle.mc_session.specs.Looks.{IsReady, waits_for};
     ghost use Rattle.mc_session.specs.Turns.{IsFed, IsTurn};
 
     /// A session to which nothing has come.
@@ -83,8 +84,9 @@ impl Session {
     /// Takes the first request or fault that has come whole, and sends its commands, each to the link of its key's owner,
     /// under tags with the session's number.
     ///
-    /// What it may need of memory is taken before anything is. Where none waits it needs none. The commands go through a queue,
-    /// which the caller keeps: it is empty before and behind each turn, and has room for those of the requests so far.
+    /// What it may need of memory is taken before anything is. Where none has come, or the first has to wait for a mark, it
+    /// needs none. The commands go through a queue, which the caller keeps: it is empty before and after each turn, and has
+    /// room for those of the requests so far.
     pub fn turn(
         &mut self,
         alloc: Global,
@@ -95,7 +97,7 @@ impl Session {
     ) -> Result<Turn, SessionError>
         requires { queue.old.items ≡ [] }
         ensures turn { IfOk result (λ turn. IsTurn number turn ring.now (states links.old) (states links.new) self.old self.new) }
-        ensures cause { OnErr result (0 < length (rest_of self.old.reader [])) }
+        ensures cause { OnErr result (IsReady ring.now (states links.old) self.old) }
         ensures only_memory { IsOkUnless result SessionError.Memory }
         ensures err { OnErr result (self.new ≡ self.old) }
         ensures links_kept { OnErr result (states links.new ≡ states links.old) }
@@ -105,13 +107,14 @@ impl Session {
             Peek::Closed => return Ok(Turn::Closing),
             Peek::More => return Ok(Turn::Idle),
             Peek::First(_, _) if self.is_marked() => return Ok(Turn::Waiting),
-            Peek::First(asked, front) => (route(alloc, &asked, ring, queue)?, front),
+            Peek::First(asked, front) => {
+                if is_any_marked(links, &asked, ring) {
+                    return Ok(Turn::Waiting);
+                }
+                (route(alloc, &asked, ring, queue)?, front)
+            }
         };
         let commands = queue.make_contiguous();
-        if is_any_marked(links, commands) {
-            queue.clear();
-            return Ok(Turn::Waiting);
-        }
         let Ok(outcomes) = prepare(alloc, &mut self.unanswered, links, commands) else {
             queue.clear();
             return Err(SessionError::Memory);
@@ -122,6 +125,18 @@ impl Session {
             .push_back_reserved(Unanswered::new(kept, outcomes));
         self.taken += 1;
         Ok(Turn::Took)
+    }
+
+    /// Whether the first request or fault that has come whole has a command for the server of a place of the ring. It takes no
+    /// memory.
+    pub fn waits_for(&self, ring: &Ring, place: usize) -> bool
+        ensures { result ≡ waits_for ring.now place (rest_of self.now.reader []) }
+    {
+        match self.reader.peek() {
+            Peek::First(asked, _) => goes_to(&asked, ring, place),
+            Peek::More => false,
+            Peek::Closed => false,
+        }
     }
 
     /// Notes what became of a command. That of a request which is answered is dropped.

@@ -6,7 +6,7 @@ use Rattle.mc_link.specs.LinkState.{LinkState}
 use Rattle.mc_session.specs.SessionState.{SessionState, states}
 use Rattle.mc_session.specs.Sending.{handed, is_session_marked}
 use Rattle.mc_session.specs.Turns.{Takes}
-use Rattle.mc_session.proofs.TurnLemmas.{any_marked, held_by_link, held_by_session, took}
+use Rattle.mc_session.proofs.TurnLemmas.{any_marked, at_error, held_by_link, held_by_session, ready, took}
 use Rattle.mc_session.specs.contracts.sessions.Session.{the_view}
 use Rattle.mc_session.proofs.sessions.Session.turn.Goals as goal
 
@@ -23,12 +23,31 @@ pub returns-then-is_any_marked-clause-turn : goal.returns-then-is_any_marked-cla
 returns-then-is_any_marked-clause-turn c =
     let seen = rw c.in-First.is at c.peek.ensures.seen in
     let own = the_view c.self.inside in
+    let what = asked_of c.in-First.field-0 in
+    let marked = sym c.is_any_marked.ensures ∙ c.if-is_any_marked.true in
+    (rw (← c.self.view_is) (held_by_link c.args.ring.now (states c.args.links.now) own what c.in-First.field-1 seen marked), (refl, refl))
+
+-- no mark is reached where the request cannot be routed for want of memory
+pub returns-in_err-route-in-First-2-clause-cause : goal.returns-in_err-route-in-First-2-clause-cause
+returns-in_err-route-in-First-2-clause-cause c =
+    let seen = rw c.in-First.is at c.peek.ensures.seen in
+    let own = the_view c.self.inside in
     let links = states c.args.links.now in
     let what = asked_of c.in-First.field-0 in
-    let commands = c.make_contiguous-commands.result.now in
-    let routed : commands ≡ route_of_taken c.args.ring.now what = c.make_contiguous-commands.ensures.value ∙ rw c.requires at c.in_ok-route-in-First-2.ensures.routed in
-    let marked = sym c.is_any_marked.ensures ∙ c.if-is_any_marked.true in
-    (rw (← c.self.view_is) (held_by_link c.args.ring.now links own what c.in-First.field-1 commands seen routed marked), (refl, refl))
+    let marked : is_session_marked own ≡ false = rw (← c.self.view_is) at (sym c.is_marked.ensures ∙ c.if-is_marked.false) in
+    let others : any_marked links (route_of_taken c.args.ring.now what) ≡ false = sym c.is_any_marked.ensures ∙ c.if-is_any_marked.false in
+    at_error c.from_residual.result (rw (← c.self.view_is) (ready c.args.ring.now links own what c.in-First.field-1 seen marked others))
+
+-- nor where there is none for its commands
+pub returns-in_default-clause-cause : goal.returns-in_default-clause-cause
+returns-in_default-clause-cause c =
+    let seen = rw c.in-First.is at c.peek.ensures.seen in
+    let own = the_view c.self.inside in
+    let links = states c.args.links.now in
+    let what = asked_of c.in-First.field-0 in
+    let marked : is_session_marked own ≡ false = rw (← c.self.view_is) at (sym c.is_marked.ensures ∙ c.if-is_marked.false) in
+    let others : any_marked links (route_of_taken c.args.ring.now what) ≡ false = sym c.is_any_marked.ensures ∙ c.if-is_any_marked.false in
+    rw (← c.self.view_is) (ready c.args.ring.now links own what c.in-First.field-1 seen marked others)
 
 -- the request is taken
 pub returns-clause-turn : goal.returns-clause-turn
@@ -43,7 +62,7 @@ returns-clause-turn c =
     let all = c.push_back_reserved.new.self.items in
     let after : SessionState = record { reader = c.consume.new.self; output = own.output; taken = own.taken + 1; unanswered = all } in
     let marked : is_session_marked own ≡ false = rw (← c.self.view_is) at (sym c.is_marked.ensures ∙ c.if-is_marked.false) in
-    let others : any_marked links commands ≡ false = sym c.is_any_marked.ensures ∙ c.if-is_any_marked.false in
+    let others : any_marked links (route_of_taken ring what) ≡ false = sym c.is_any_marked.ensures ∙ c.if-is_any_marked.false in
     let routed : commands ≡ route_of_taken ring what = c.make_contiguous-commands.ensures.value ∙ rw c.requires at c.in_ok-route-in-First-2.ensures.routed in
     let last = rw (c.prepare.ensures.unanswered_kept, c.new.ensures) at c.push_back_reserved.ensures.items in
     let queued = c.make_contiguous-commands.ensures.writes_back commands c.make_contiguous-commands.ensures.len in
