@@ -136,11 +136,12 @@ fn serve(server: &mut Server<MeagreStore>, number: u64, link: &mut Stream) -> Re
     Ok(())
 }
 
-/// Pumps the link, and loses it where that fails.
+/// Pumps the link, and loses it where that fails, or the server's input has ended.
 fn pump_server(proxy: &mut Proxy, link: &mut Stream, woken: &mut Vec<u64>) -> Result<(), Fail> {
     let mut piece = [0u8; 16];
     let Stream { source, sink } = link;
-    if pump_link(proxy, 0, source, sink, &mut piece, woken) == Pump::Failed && proxy.is_up(0) {
+    let pumped = pump_link(proxy, 0, source, sink, &mut piece, woken);
+    if (pumped == Pump::Failed || pumped == Pump::Done) && proxy.is_up(0) {
         proxy.lost(0)?;
     }
     Ok(())

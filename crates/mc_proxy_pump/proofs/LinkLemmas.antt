@@ -1,5 +1,5 @@
 -- Calls for a link: none, one, and one behind another; the parts of a round of its pump, and its pumps.
-use Rattle.std.proofs.Common.{◌≡◌, ◌∙◌, ℕ, ◌<◌, ◌≤◌, Bool, true, false, Result, Ok, Err, List, [], ◌∷◌, ◌++◌, length, take, drop, Option, Some, refl, sym, ap, subst, append_assoc, arith}
+use Rattle.std.proofs.Common.{◌≡◌, ◌∙◌, inr, ℕ, ◌<◌, ◌≤◌, Bool, true, false, Result, Ok, Err, List, [], ◌∷◌, ◌++◌, length, take, drop, Option, Some, refl, sym, ap, subst, append_assoc, arith}
 use Rattle.std.proofs.lemmas.List.{append-nil}
 use Rattle.std.specs.Io.KnownBytes.{Appends}
 use Rattle.std.specs.Prelude.{slice_get}
@@ -12,12 +12,12 @@ use Rattle.mc_proxy.specs.LinkTurns.{Answers, IsLinkTurn}
 use Rattle.mc_proxy.specs.ProxyState.{ProxyState}
 use Rattle.mc_proxy.specs.declared.turns.LinkTurn.TheVariants as turns
 use Rattle.mc_account.proofs.LaneLemmas.{link_own, up_is_there}
-use Rattle.mc_stream.specs.Sides.{Brings, Carries, HowItWent, IsStopOfSide, UnlessFailed}
+use Rattle.mc_stream.specs.Sides.{Brings, Carries, CarriesBy, HowItCame, HowItWent, IsStopOfSide, StopsRead}
 use Rattle.mc_stream.specs.declared.outcomes.Pump.{Pump}
 use Rattle.mc_stream.specs.declared.outcomes.Pump.TheVariants.{Again, Blocked, Done, Failed}
-use Rattle.mc_stream.proofs.SideLemmas.{carried_as, carried_then, carries_none, carries_sent, unless_failed}
+use Rattle.mc_stream.proofs.SideLemmas.{came_any, carried_as, carried_then, carries_none, carries_sent, stop_of_read, went_any}
 use Rattle.mc_proxy_pump.specs.LinkCalls.{LinkCall, Fed, Sent, Replied, Rested, Lost, IsLinkCall, LinkCalls, LinkStretch, came_by, came_of, went_by, went_of, with_woken, woken_by}
-use Rattle.mc_proxy_pump.specs.Links.{LeavesLink, PumpsLink}
+use Rattle.mc_proxy_pump.specs.Links.{LeavesLink, PumpsLink, is_done}
 use Rattle.mc_proxy_pump.specs.LinkRounds.{HowItTurned, ReceivesLink, SendsLink, TakesReplies, TakesReply}
 
 -- the bytes of calls behind calls, and the sessions that they woke
@@ -72,7 +72,7 @@ link_is place link old new up is = ap (λ (p : ProxyState). link_at p.links plac
 
 -- nothing was sent
 pub link_unsent : (place : ℕ) (side : Result Bool Pump) (s : ProxyState) (written written' : Option (List ℕ)) → (link_at s.links place).up ≡ true
-    → HowItWent side (Appends written written' []) (s ≡ s) → SendsLink place side s s written written'
+    → HowItWent side written written' [] (s ≡ s) → SendsLink place side s s written written'
 link_unsent place side s written written' up how = record { went = []; stretch = λ woken. link_none place s woken; how = how; still_up = up }
 
 -- the first bytes were sent
@@ -91,7 +91,7 @@ link_sent place count output old new written written' up unsent few is appended 
 
 -- nothing came
 pub link_unfed : (place : ℕ) (side : Result Bool Pump) (s : ProxyState) (unread unread' : Option (List ℕ)) (ended' : Bool) → (link_at s.links place).up ≡ true
-    → HowItWent side (Brings unread unread' ended' []) (s ≡ s) → ReceivesLink place side s s unread unread' ended'
+    → HowItCame side unread unread' ended' [] (s ≡ s) → ReceivesLink place side s s unread unread' ended'
 link_unfed place side s unread unread' ended' up how = record { came = []; stretch = λ woken. link_none place s woken; how = how; still_up = up }
 
 -- a piece came
@@ -164,11 +164,6 @@ pub turned_false : (more : Bool) (old new : LinkState) → more ≡ false → Ho
 turned_false true old new e h = absurd cc
 turned_false false old new e h = h
 
--- what a side carried, whether any moved or not
-went_any : (moved : Bool) (carried unmoved : Type 0) → HowItWent (Ok moved) carried unmoved → carried
-went_any true carried unmoved h = h
-went_any false carried unmoved h = h.0
-
 -- nothing was done yet
 pub link_pumps_none : (place : ℕ) (s : ProxyState) (unread written : Option (List ℕ)) (woken : List ℕ) → (link_at s.links place).up ≡ true → PumpsLink place Again s s unread unread written written woken woken
 link_pumps_none place s unread written woken up = record {
@@ -187,16 +182,9 @@ link_pumps_then place pump a b c unread middle unread' written between written' 
   came = h.came ++ k.came;
   went = h.went ++ k.went;
   stretch = link_then place a b c h.came k.came h.went k.went first second third h.stretch k.stretch;
-  carried = carried_then pump unread middle unread' written between written' false false false h.came k.came h.went k.went h.carried k.carried;
+  carried = carried_then pump unread middle unread' written between written' false false (is_done pump) h.came k.came h.went k.went h.carried k.carried;
   left = k.left;
 }
-
--- what holds at each end of a pump, holds but where it failed
-at_each_end : (pump : Pump) (P : Type 0) → P → UnlessFailed pump P
-at_each_end Again P h = h
-at_each_end Blocked P h = h
-at_each_end Done P h = h
-at_each_end Failed P h = tt
 
 -- how a link is left by a side that stops the pump
 left_by_side : (pump : Pump) (link : LinkState) → link.up ≡ true → IsStopOfSide pump → LeavesLink pump link
@@ -212,9 +200,17 @@ link_pumps_sent place moved a b unread written written' woken h = record {
   came = [];
   went = h.went;
   stretch = h.stretch woken;
-  carried = carries_sent unread written written' false h.went (went_any moved (Appends written written' h.went) (b ≡ a) h.how);
+  carried = carries_sent unread written written' false h.went (went_any moved written written' h.went (b ≡ a) h.how);
   left = h.still_up;
 }
+
+-- what a write carried that stopped the pump
+carried_unsent : (pump : Pump) (unread written written' : Option (List ℕ)) (went : List ℕ) → IsStopOfSide pump × Appends written written' went
+    → CarriesBy pump unread unread written written' false (is_done pump) [] went
+carried_unsent Again unread written written' went h = carries_sent unread written written' false went h.1
+carried_unsent Blocked unread written written' went h = absurd h.0
+carried_unsent Done unread written written' went h = absurd h.0
+carried_unsent Failed unread written written' went h = ([], carries_sent unread written written' false went h.1)
 
 -- a write that stopped the pump
 pub link_pumps_unsent : (place : ℕ) (pump : Pump) (a b : ProxyState) (unread written written' : Option (List ℕ)) (woken : List ℕ)
@@ -223,8 +219,7 @@ link_pumps_unsent place pump a b unread written written' woken h = record {
   came = [];
   went = h.went;
   stretch = h.stretch woken;
-  carried = carried_as pump unread unread written written' false false [] h.went
-      (unless_failed pump (Appends written written' h.went) (Carries unread unread written written' false false [] h.went) (carries_sent unread written written' false h.went) h.how.1);
+  carried = carried_unsent pump unread written written' h.went h.how;
   left = left_by_side pump (link_at b.links place) h.still_up h.how.0;
 }
 
@@ -234,16 +229,13 @@ carries_read unread unread' written ended' came h =
     let none = carries_none unread' written false in
     record { consumed = h.consumed; appended = none.appended; still_ended = λ e. e; at_end = λ e. absurd cc }
 
--- a read that went on
-pub link_pumps_heard : (place : ℕ) (moved : Bool) (a b : ProxyState) (unread unread' written : Option (List ℕ)) (ended' : Bool) (woken : List ℕ)
-    → ReceivesLink place (Ok moved) a b unread unread' ended' → PumpsLink place Again a b unread unread' written written woken woken
-link_pumps_heard place moved a b unread unread' written ended' woken h = record {
-  came = h.came;
-  went = [];
-  stretch = h.stretch woken;
-  carried = carries_read unread unread' written ended' h.came (went_any moved (Brings unread unread' ended' h.came) (b ≡ a) h.how);
-  left = h.still_up;
-}
+-- what a read carried that stopped the pump
+carried_unread : (pump : Pump) (unread unread' written : Option (List ℕ)) (ended' : Bool) (came : List ℕ) → StopsRead pump unread unread' ended' came
+    → CarriesBy pump unread unread' written written false (is_done pump) came []
+carried_unread Again unread unread' written ended' came h = carries_read unread unread' written ended' came h
+carried_unread Blocked unread unread' written ended' came h = absurd h
+carried_unread Done unread unread' written ended' came h = absurd h
+carried_unread Failed unread unread' written ended' came h = (h.0, carries_read unread unread' written ended' (came ++ h.0) h.1)
 
 -- a read that stopped the pump
 pub link_pumps_unheard : (place : ℕ) (pump : Pump) (a b : ProxyState) (unread unread' written : Option (List ℕ)) (ended' : Bool) (woken : List ℕ)
@@ -252,29 +244,43 @@ link_pumps_unheard place pump a b unread unread' written ended' woken h = record
   came = h.came;
   went = [];
   stretch = h.stretch woken;
-  carried = carried_as pump unread unread' written written false false h.came []
-      (unless_failed pump (Brings unread unread' ended' h.came) (Carries unread unread' written written false false h.came []) (carries_read unread unread' written ended' h.came) h.how.1);
-  left = left_by_side pump (link_at b.links place) h.still_up h.how.0;
+  carried = carried_unread pump unread unread' written ended' h.came h.how;
+  left = left_by_side pump (link_at b.links place) h.still_up (stop_of_read pump unread unread' ended' h.came h.how);
 }
 
--- turns, and how the pump then stops
-pub link_pumps_turned : (place : ℕ) (pump : Pump) (side : Result (Unit {0}) Pump) (a b : ProxyState) (unread written : Option (List ℕ)) (woken woken' : List ℕ)
-    → TakesReplies place side a b woken woken' → LeavesLink pump (link_at b.links place) → PumpsLink place pump a b unread unread written written woken woken'
-link_pumps_turned place pump side a b unread written woken woken' h left = record {
-  came = [];
-  went = [];
-  stretch = h.stretch;
-  carried = carried_as pump unread unread written written false false [] [] (at_each_end pump (Carries unread unread written written false false [] []) (carries_none unread written false));
-  left = left;
-}
+-- a read that went on and turns, and how the pump then stops: done only at the end
+pub link_pumps_turned : (place : ℕ) (pump : Pump) (moved : Bool) (side : Result (Unit {0}) Pump) (a b c : ProxyState) (unread unread' written : Option (List ℕ)) (ended' : Bool) (woken woken' : List ℕ)
+    → ReceivesLink place (Ok moved) a b unread unread' ended' → TakesReplies place side b c woken woken' → (is_done pump ≡ true → ended' ≡ true) → LeavesLink pump (link_at c.links place)
+    → PumpsLink place pump a c unread unread' written written woken woken'
+link_pumps_turned place pump moved side a b c unread unread' written ended' woken woken' h k ends left =
+    let brings = came_any moved unread unread' ended' h.came (b ≡ a) h.how in
+    let none = carries_none unread' written false in
+    let carries : Carries unread unread' written written false (is_done pump) h.came [] = record {
+      consumed = brings.consumed;
+      appended = none.appended;
+      still_ended = λ e. absurd cc;
+      at_end = λ e. inr (brings.at_end (ends e));
+    } in
+    let P : List ℕ → Type 0 = λ bytes. CarriesBy pump unread unread' written written false (is_done pump) bytes [] in
+    record {
+      came = h.came ++ [];
+      went = [];
+      stretch = link_then place a b c h.came [] [] [] woken woken woken' (h.stretch woken) k.stretch;
+      carried = subst P (sym (append-nil h.came)) (carried_as pump unread unread' written written false (is_done pump) h.came [] carries);
+      left = left;
+    }
+
+-- a pump that failed is not done
+pub absurd_done : (pump : Pump) {P : Type 0} → pump ≡ Failed → is_done pump ≡ true → P
+absurd_done Again f e = absurd cc
+absurd_done Blocked f e = absurd cc
+absurd_done Done f e = absurd cc
+absurd_done Failed f e = absurd cc
 
 -- a round: a write, a read, and turns
 pub link_round : (place : ℕ) (pump : Pump) (sent came : Bool) (side : Result (Unit {0}) Pump) (a b c d : ProxyState) (unread unread' written written' : Option (List ℕ)) (ended' : Bool) (woken woken' : List ℕ)
-    → SendsLink place (Ok sent) a b written written' → ReceivesLink place (Ok came) b c unread unread' ended' → TakesReplies place side c d woken woken' → LeavesLink pump (link_at d.links place)
-    → PumpsLink place pump a d unread unread' written written' woken woken'
-link_round place pump sent came side a b c d unread unread' written written' ended' woken woken' h k l left =
-    let first = link_pumps_sent place sent a b unread written written' woken h in
-    let second = link_pumps_heard place came b c unread unread' written' ended' woken k in
-    let third = link_pumps_turned place pump side c d unread' written' woken woken' l left in
-    link_pumps_then place pump a b d unread unread unread' written written' written' woken woken woken' first
-    (link_pumps_then place pump b c d unread unread' unread' written' written' written' woken woken woken' second third)
+    → SendsLink place (Ok sent) a b written written' → ReceivesLink place (Ok came) b c unread unread' ended' → TakesReplies place side c d woken woken' → (is_done pump ≡ true → ended' ≡ true)
+    → LeavesLink pump (link_at d.links place) → PumpsLink place pump a d unread unread' written written' woken woken'
+link_round place pump sent came side a b c d unread unread' written written' ended' woken woken' h k l ends left =
+    link_pumps_then place pump a b d unread unread unread' written written' written' woken woken woken' (link_pumps_sent place sent a b unread written written' woken h)
+    (link_pumps_turned place pump came side b c d unread unread' written' ended' woken woken' k l ends left)

@@ -1,12 +1,11 @@
--- Pumps of a session: one behind another, and what each part of a round adds.
+-- Pumps of a session: one after another, and what each part of a round adds.
 use Rattle.std.proofs.Common.{◌≡◌, ℕ, Bool, true, false, Ok, Err, List, [], ◌++◌, Option, IsSome}
-use Rattle.std.specs.Io.KnownBytes.{Appends}
 use Rattle.mc_session.specs.SessionState.{SessionState}
 use Rattle.mc_proxy.specs.ProxyState.{ProxyState, session_at}
-use Rattle.mc_stream.specs.Sides.{Carries, Brings, IsStopOfSide, UnlessFailed}
+use Rattle.mc_stream.specs.Sides.{IsStopOfSide}
 use Rattle.mc_stream.specs.declared.outcomes.Pump.{Pump}
 use Rattle.mc_stream.specs.declared.outcomes.Pump.TheVariants.{Again, Blocked, Done, Failed}
-use Rattle.mc_stream.proofs.SideLemmas.{carries_none, carried_then, carried_as, unless_failed, carries_brought, carries_sent}
+use Rattle.mc_stream.proofs.SideLemmas.{came_any, carried_as, carried_then, carried_unheard, carries_brought, carries_none, carries_sent, stop_of_read, went_any}
 use Rattle.mc_proxy_pump.specs.Calls.{Stretch}
 use Rattle.mc_proxy_pump.specs.Clients.{Leaves, PumpsClient}
 use Rattle.mc_proxy_pump.specs.Rounds.{Receives, Sends}
@@ -49,22 +48,20 @@ pumps_turns number pump a b unread written ended h left = record {
   came = [];
   went = [];
   stretch = h;
-  carried = carried_as pump unread unread written written ended ended [] [] (elim pump as (λ p. UnlessFailed p (Carries unread unread written written ended ended [] [])) [
-    | Again ↦ carries_none unread written ended
-    | Blocked ↦ carries_none unread written ended
-    | Done ↦ carries_none unread written ended
-    | Failed ↦ tt
-  ]);
+  carried = carried_as pump unread unread written written ended ended [] [] (carries_none unread written ended);
   left = left;
 }
 
 -- a write that took bytes
 pub pumps_sent : (number : ℕ) (moved : Bool) (a b : ProxyState) (unread written written' : Option (List ℕ)) (ended : Bool)
     → Sends number (Ok moved) a b written written' → PumpsClient number Again a b unread unread written written' ended ended
-pumps_sent number true a b unread written written' ended h =
-    record { came = []; went = h.went; stretch = h.stretch; carried = carries_sent unread written written' ended h.went h.how; left = tt }
-pumps_sent number false a b unread written written' ended h =
-    record { came = []; went = h.went; stretch = h.stretch; carried = carries_sent unread written written' ended h.went h.how.0; left = tt }
+pumps_sent number moved a b unread written written' ended h = record {
+  came = [];
+  went = h.went;
+  stretch = h.stretch;
+  carried = carries_sent unread written written' ended h.went (went_any moved written written' h.went (b ≡ a) h.how);
+  left = tt;
+}
 
 -- a write that stopped the pump
 pub pumps_unsent : (number : ℕ) (pump : Pump) (a b : ProxyState) (unread written written' : Option (List ℕ)) (ended : Bool)
@@ -73,36 +70,19 @@ pumps_unsent number pump a b unread written written' ended h = record {
   came = [];
   went = h.went;
   stretch = h.stretch;
-  carried = carried_as pump unread unread written written' ended ended [] h.went
-      (unless_failed pump (Appends written written' h.went) (Carries unread unread written written' ended ended [] h.went) (carries_sent unread written written' ended h.went) h.how.1);
+  carried = carried_as pump unread unread written written' ended ended [] h.went (carries_sent unread written written' ended h.went h.how.1);
   left = left_by_side pump ended b (session_at b number) h.how.0;
 }
 
 -- a read after which the pump goes on
 pub pumps_heard : (number : ℕ) (moved : Bool) (pump : Pump) (a b : ProxyState) (unread unread' written : Option (List ℕ)) (ended ended' : Bool) → ended ≡ false
     → Receives number (Ok moved) a b unread unread' ended' → Leaves pump ended' b (session_at b number) → PumpsClient number pump a b unread unread' written written ended ended'
-pumps_heard number true pump a b unread unread' written ended ended' open_yet h left = record {
+pumps_heard number moved pump a b unread unread' written ended ended' open_yet h left = record {
   came = h.came;
   went = [];
   stretch = h.stretch;
-  carried = carried_as pump unread unread' written written ended ended' h.came [] (elim pump as (λ p. UnlessFailed p (Carries unread unread' written written ended ended' h.came [])) [
-    | Again ↦ carries_brought unread unread' written ended ended' h.came open_yet h.how
-    | Blocked ↦ carries_brought unread unread' written ended ended' h.came open_yet h.how
-    | Done ↦ carries_brought unread unread' written ended ended' h.came open_yet h.how
-    | Failed ↦ tt
-  ]);
-  left = left;
-}
-pumps_heard number false pump a b unread unread' written ended ended' open_yet h left = record {
-  came = h.came;
-  went = [];
-  stretch = h.stretch;
-  carried = carried_as pump unread unread' written written ended ended' h.came [] (elim pump as (λ p. UnlessFailed p (Carries unread unread' written written ended ended' h.came [])) [
-    | Again ↦ carries_brought unread unread' written ended ended' h.came open_yet h.how.0
-    | Blocked ↦ carries_brought unread unread' written ended ended' h.came open_yet h.how.0
-    | Done ↦ carries_brought unread unread' written ended ended' h.came open_yet h.how.0
-    | Failed ↦ tt
-  ]);
+  carried = carried_as pump unread unread' written written ended ended' h.came []
+      (carries_brought unread unread' written ended ended' h.came open_yet (came_any moved unread unread' ended' h.came (b ≡ a) h.how));
   left = left;
 }
 
@@ -113,9 +93,8 @@ pumps_unheard number pump a b unread unread' written ended ended' open_yet h = r
   came = h.came;
   went = [];
   stretch = h.stretch;
-  carried = carried_as pump unread unread' written written ended ended' h.came []
-      (unless_failed pump (Brings unread unread' ended' h.came) (Carries unread unread' written written ended ended' h.came []) (carries_brought unread unread' written ended ended' h.came open_yet) h.how.1);
-  left = left_by_side pump ended' b (session_at b number) h.how.0;
+  carried = carried_unheard pump unread unread' written ended ended' h.came open_yet h.how;
+  left = left_by_side pump ended' b (session_at b number) (stop_of_read pump unread unread' ended' h.came h.how);
 }
 
 -- turns, a write, and then a stop
@@ -130,11 +109,6 @@ stopped number moved pump a b c unread written written' ended turns sent left =
       came = both.came;
       went = both.went;
       stretch = both.stretch;
-      carried = carried_as pump unread unread written written' ended ended both.came both.went (elim pump as (λ p. UnlessFailed p (Carries unread unread written written' ended ended both.came both.went)) [
-        | Again ↦ both.carried
-        | Blocked ↦ both.carried
-        | Done ↦ both.carried
-        | Failed ↦ tt
-      ]);
+      carried = carried_as pump unread unread written written' ended ended both.came both.went both.carried;
       left = left;
     }

@@ -1,5 +1,5 @@
 -- The parts of a round of a session's pump.
-use Rattle.std.proofs.Common.{◌≡◌, ◌∙◌, ◌⊎◌, ◌+◌, ◌≤◌, ◌<◌, inl, inr, ℕ, suc, ◌==◌, ◌&&◌, Bool, true, false, if◌then◌else◌, Result, Ok, List, [], ◌∷◌, ◌++◌, length, take, drop, Option, Some, None, IsSome, refl, sym, ap, subst, arith, length-drop}
+use Rattle.std.proofs.Common.{◌≡◌, ◌∙◌, ◌⊎◌, ◌+◌, ◌≤◌, ◌<◌, inl, inr, ℕ, suc, ◌==◌, ◌&&◌, Bool, true, false, nat_le, if◌then◌else◌, Result, Ok, List, [], ◌∷◌, ◌++◌, length, take, drop, Option, Some, None, IsSome, refl, sym, ap, subst, arith, length-drop}
 use Rattle.std.proofs.lemmas.Bool.Decides.{nat_tests}
 use Rattle.std.proofs.lemmas.List.{length_push}
 use Rattle.std.specs.Io.KnownBytes.{Appends}
@@ -16,11 +16,11 @@ use Rattle.mc_session.specs.declared.turns.Turn.{Turn}
 use Rattle.mc_session.specs.declared.turns.Turn.TheVariants as turns
 use Rattle.mc_proxy.specs.ProxyState.{ProxyState, output_of, sent_by, session_at, unanswered_of}
 use Rattle.mc_proxy.specs.Turns.{Alone, Steps, waiting_of}
-use Rattle.mc_stream.specs.Sides.{Brings, HowItWent}
+use Rattle.mc_stream.specs.Sides.{HowItCame, HowItWent}
 use Rattle.mc_stream.specs.declared.outcomes.Pump.{Pump}
 use Rattle.mc_proxy_pump.specs.Calls.{Fed, Turned, Emitted, Sent, Stretch}
-use Rattle.mc_proxy_pump.specs.Clients.{IsOver, IsStuck, emitted_at, is_closed_at}
-use Rattle.mc_proxy_pump.specs.Rounds.{HasAnswered, HowMany, IsSentOf, Receives, Sends, StopsAt, work_of}
+use Rattle.mc_proxy_pump.specs.Clients.{IsHeldUpAt, IsOver, IsStuck, emitted_at, is_closed_at}
+use Rattle.mc_proxy_pump.specs.Rounds.{HasAnswered, HowMany, IsSentOf, Receives, Sends, StopsAt, ends_by, reads_by, work_of}
 use Rattle.mc_proxy_pump.proofs.StretchLemmas.{is_open, sent_at, steps_at, steps_still, stretch_none, stretch_one, the_open}
 
 -- a turn is a call
@@ -58,7 +58,7 @@ pub idle_stops : (number : ℕ) (old new : ProxyState) → Steps number old new 
 idle_stops number old new steps =
     turn_stops number turns.Idle old new
     (λ s was. let both : Some steps.before ≡ Some s = sym steps.was ∙ was in let same : steps.before ≡ s = cc in
-    subst (λ (x : SessionState). rest_of x.reader [] ≡ []) same steps.step.0.none)
+    subst (λ (x : SessionState). StopsAt turns.Idle old (Some x)) same (steps.step.0.none, steps.step.0.is_open))
     (steps_still number old new (IsTurn number turns.Idle old.ring) steps steps.step.1.1 steps.step.1.0)
     (is_open (session_at old number) steps.before steps.was)
 
@@ -133,7 +133,7 @@ put_none number old new steps =
 
 -- nothing was sent
 pub sends_still : (number : ℕ) (side : Result Bool Pump) (s : ProxyState) (written written' : Option (List ℕ)) → IsSome (session_at s number)
-    → HowItWent side (Appends written written' []) (s ≡ s) → Sends number side s s written written'
+    → HowItWent side written written' [] (s ≡ s) → Sends number side s s written written'
 sends_still number side s written written' there how = record {
   went = [];
   stretch = stretch_none number s there;
@@ -175,7 +175,7 @@ sends_some number count output old new written written' there unsent few is appe
 
 -- nothing came
 pub receives_still : (number : ℕ) (side : Result Bool Pump) (s : ProxyState) (unread unread' : Option (List ℕ)) (ended' : Bool) → IsSome (session_at s number)
-    → HowItWent side (Brings unread unread' ended' []) (s ≡ s) → Receives number side s s unread unread' ended'
+    → HowItCame side unread unread' ended' [] (s ≡ s) → Receives number side s s unread unread' ended'
 receives_still number side s unread unread' ended' there how = record { came = []; stretch = stretch_none number s there; how = how }
 
 -- a piece came
@@ -184,32 +184,102 @@ pub stretch_fed : (number : ℕ) (piece : List ℕ) (old new : ProxyState) → S
 stretch_fed number piece old new steps none below =
     stretch_one number (Fed piece) old new (steps, none, below) (is_open (session_at new number) steps.after (steps_at number old new (Alone (IsFed piece)) steps))
 
--- what a test that all is answered and sent says
-pub settled : (output : List ℕ) (unanswered : ℕ) (answer : Bool) → answer ≡ ((length output == 0) && (unanswered == 0)) → answer ≡ true → (output ≡ []) × (unanswered ≡ 0)
-settled [] unanswered answer is all = (refl, grind (arith, nat_tests, is, all))
-settled (b ∷ bs) unanswered answer is all =
-    let none : (length (b ∷ bs) == 0) ≡ false = grind (arith, nat_tests) in
-    let clash : true ≡ false = sym all ∙ is ∙ ap (λ (v : Bool). v && (unanswered == 0)) none in
-    absurd cc
+-- both of two tests hold
+both : (a b answer : Bool) → answer ≡ (a && b) → answer ≡ true → (a ≡ true) × (b ≡ true)
+both true true answer is e = (refl, refl)
+both true false answer is e = let clash : true ≡ false = sym e ∙ is in absurd cc
+both false b answer is e = let clash : true ≡ false = sym e ∙ is in absurd cc
 
--- nothing waits, is unanswered or unsent
-pub over : (ended : Bool) (a b : Option SessionState) → waiting_of a ≡ [] → IsSentOf a b → (output_of b ≡ []) × (unanswered_of b ≡ 0) → (ended ≡ true) ⊎ (is_closed_at a ≡ true) → IsOver ended b
-over ended a b none same all cause = record {
-  none_waits = same.waits ∙ none;
-  all_answered = all.1;
-  all_sent = all.0;
-  no_more = elim cause [
-    | inl e ↦ inl e
-    | inr e ↦ inr (same.closed ∙ e)
-  ];
+no_bytes : (bytes : List ℕ) → length bytes ≡ 0 → bytes ≡ []
+no_bytes [] e = refl
+no_bytes (b ∷ bs) e = absurd (omega (arith, e))
+
+no_more : (turn : Turn) (ended : Bool) (proxy : ProxyState) (o : Option SessionState) → StopsAt turn proxy o → ends_by turn ended ≡ true
+    → (waiting_of o ≡ []) × ((ended ≡ true) ⊎ (is_closed_at o ≡ true))
+no_more turns.Took ended proxy o h e = absurd h
+no_more turns.Idle ended proxy o h e = (h.0, inl e)
+no_more turns.Waiting ended proxy o h e = absurd cc
+no_more turns.Closing ended proxy o h e = (h.0, inr h.1)
+
+-- where all is answered and sent and nothing more will come, the session is over
+pub over : (turn : Turn) (ended answer : Bool) (proxy : ProxyState) (a b : Option SessionState) → StopsAt turn proxy a → IsSentOf a b
+    → answer ≡ ((length (output_of b) == 0) && ((unanswered_of b == 0) && ends_by turn ended)) → answer ≡ true → IsOver ended b
+over turn ended answer proxy a b h same is e =
+    let first = both (length (output_of b) == 0) ((unanswered_of b == 0) && ends_by turn ended) answer is e in
+    let second = both (unanswered_of b == 0) (ends_by turn ended) ((unanswered_of b == 0) && ends_by turn ended) refl first.1 in
+    let more = no_more turn ended proxy a h second.1 in
+    record {
+      none_waits = same.waits ∙ more.0;
+      all_answered = grind (arith, nat_tests, second.0);
+      all_sent = no_bytes (output_of b) (grind (arith, nat_tests, first.0));
+      no_more = elim more.1 [
+        | inl e ↦ inl e
+        | inr e ↦ inr (same.closed ∙ e)
+      ];
+    }
+
+-- where turns stopped, none waits or the first waits for a mark
+stopped_at : (turn : Turn) (proxy : ProxyState) (session : Option SessionState) → StopsAt turn proxy session → (waiting_of session ≡ []) ⊎ IsHeldUpAt proxy.ring proxy.links session
+stopped_at turns.Took proxy session h = absurd h
+stopped_at turns.Idle proxy session h = inl h.0
+stopped_at turns.Waiting proxy session h = inr h
+stopped_at turns.Closing proxy session h = inl h.0
+
+-- a request waits where the first has to wait for a mark
+held_waits : (ring : RingState) (links : List LinkState) (session : Option SessionState) → IsHeldUpAt ring links session → waiting_of session ≡ [] → ⊥
+held_waits ring links None h none = h
+held_waits ring links (Some s) h none = let clash : h.what ∷ h.others ≡ [] = sym h.first ∙ none in absurd cc
+
+-- where nothing waits or is unsent, and the input is read no further, it has ended
+not_read : (turn : Turn) (ended marked : Bool) (proxy : ProxyState) (o : Option SessionState) → StopsAt turn proxy o → reads_by turn ended marked ≡ false → marked ≡ false → waiting_of o ≡ []
+    → ends_by turn ended ≡ true
+not_read turns.Took ended marked proxy o h e unmarked none = absurd h
+not_read turns.Idle true marked proxy o h e unmarked none = refl
+not_read turns.Idle false true proxy o h e unmarked none = absurd cc
+not_read turns.Idle false false proxy o h e unmarked none = absurd cc
+not_read turns.Waiting ended marked proxy o h e unmarked none = absurd (held_waits proxy.ring proxy.links o h none)
+not_read turns.Closing ended marked proxy o h e unmarked none = refl
+
+-- no bytes are less than the mark
+pub unmarked : (output : List ℕ) → output ≡ [] → nat_le UNSENT_MARK (length output) ≡ false
+unmarked [] none = refl
+unmarked (b ∷ bs) none = absurd cc
+
+-- where the session is not over, and the input is read no further, it is stuck
+pub stuck : (turn : Turn) (ended marked answer : Bool) (proxy : ProxyState) (o : Option SessionState) → StopsAt turn proxy o → HasAnswered o
+    → answer ≡ ((length (output_of o) == 0) && ((unanswered_of o == 0) && ends_by turn ended)) → answer ≡ false
+    → reads_by turn ended marked ≡ false → (output_of o ≡ [] → marked ≡ false) → IsStuck ended proxy o
+stuck turn ended marked answer proxy o h answered is e unread unmarked = record {
+  taken = stopped_at turn proxy o h;
+  answered = answered;
+  goes_on = λ all.
+      let ends : ends_by turn ended ≡ true = not_read turn ended marked proxy o h unread (unmarked all.all_sent) all.none_waits in
+      let sent : (length (output_of o) == 0) ≡ true = rw all.all_sent refl in
+      let none : (unanswered_of o == 0) ≡ true = rw all.all_answered refl in
+      let clash : true ≡ false = sym (rw sent (rw none (rw ends refl))) ∙ sym is ∙ e in
+      absurd cc;
 }
 
--- where turns and answers stopped, the session is stuck
-pub stuck : (turn : Turn) (proxy : ProxyState) (session : Option SessionState) → StopsAt turn proxy session → HasAnswered session → IsStuck proxy session
-stuck turns.Took proxy session h answered = absurd h
-stuck turns.Idle proxy session h answered = record { taken = inl h; answered = answered }
-stuck turns.Waiting proxy session h answered = record { taken = inr h; answered = answered }
-stuck turns.Closing proxy session h answered = record { taken = inl h.0; answered = answered }
+-- where the input is read on, no request waits, and less is unsent than the mark
+pub read_on : (turn : Turn) (ended marked answer : Bool) (proxy : ProxyState) (o : Option SessionState) → StopsAt turn proxy o → answer ≡ reads_by turn ended marked → answer ≡ true
+    → (StopsAt turns.Idle proxy o) × (ended ≡ false) × (marked ≡ false)
+read_on turns.Took ended marked answer proxy o h is e = absurd h
+read_on turns.Idle true marked answer proxy o h is e = let clash : true ≡ false = sym e ∙ is in absurd cc
+read_on turns.Idle false true answer proxy o h is e = let clash : true ≡ false = sym e ∙ is in absurd cc
+read_on turns.Idle false false answer proxy o h is e = (h, refl, refl)
+read_on turns.Waiting ended marked answer proxy o h is e = let clash : true ≡ false = sym e ∙ is in absurd cc
+read_on turns.Closing ended marked answer proxy o h is e = let clash : true ≡ false = sym e ∙ is in absurd cc
+
+-- a session whose input is read on is not over
+pub unheard : (ended : Bool) (proxy : ProxyState) (o : Option SessionState) → waiting_of o ≡ [] → emitted_at o ≡ None → is_closed_at o ≡ false → ended ≡ false → IsStuck ended proxy o
+unheard ended proxy o none unknown closed goes_on = record {
+  taken = inl none;
+  answered = inl unknown;
+  goes_on = λ all. elim all.no_more [
+    | inl e ↦ let clash : true ≡ false = sym e ∙ goes_on in absurd cc
+    | inr e ↦ let clash : true ≡ false = sym e ∙ closed in absurd cc
+  ];
+}
 
 -- one answer more was put out, or none
 pub how_more : (answered : Bool) (number : ℕ) (a b c : ProxyState) → HowMany answered number a b → work_of (session_at c number) < work_of (session_at b number) → HowMany true number a c

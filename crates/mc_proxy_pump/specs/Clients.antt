@@ -8,7 +8,7 @@ use Rattle.mc_session.specs.Turns.{IsHeldUp}
 use Rattle.mc_session.specs.declared.limits.TheConstants.{UNSENT_MARK}
 use Rattle.mc_proxy.specs.ProxyState.{ProxyState, output_of, session_at, unanswered_of}
 use Rattle.mc_proxy.specs.Turns.{waiting_of}
-use Rattle.mc_stream.specs.Sides.{CarriesUnlessFailed}
+use Rattle.mc_stream.specs.Sides.{CarriesBy}
 use Rattle.mc_stream.specs.declared.outcomes.Pump.{Pump}
 use Rattle.mc_stream.specs.declared.outcomes.Pump.TheVariants.{Again, Blocked, Done, Failed}
 use Rattle.mc_proxy_pump.specs.Calls.{Stretch}
@@ -35,24 +35,25 @@ pub record IsOver (ended : Bool) (session : Option SessionState) : Type 0 where
   pub all_sent : output_of session ≡ []
   pub no_more : (ended ≡ true) ⊎ (is_closed_at session ≡ true)
 
--- A session of a proxy can go no further by itself: no whole request waits, or the first has to wait for a mark; and no answer
--- is known, or as much is unsent as the mark.
-pub record IsStuck (proxy : ProxyState) (session : Option SessionState) : Type 0 where
+-- A session of a proxy is not over, but can go no further by itself: no whole request waits, or the first has to wait for a
+-- mark; and no answer is known, or as much is unsent as the mark.
+pub record IsStuck (ended : Bool) (proxy : ProxyState) (session : Option SessionState) : Type 0 where
   pub taken : (waiting_of session ≡ []) ⊎ IsHeldUpAt proxy.ring proxy.links session
   pub answered : (emitted_at session ≡ None) ⊎ (UNSENT_MARK ≤ length (output_of session))
+  pub goes_on : IsOver ended session → ⊥
 
 -- how a session is left: done where it is over, blocked where it is stuck
 abbrev pub Leaves : Pump → Bool → ProxyState → Option SessionState → Type 0
 Leaves Again ended proxy session = Unit {0}
-Leaves Blocked ended proxy session = IsStuck proxy session
+Leaves Blocked ended proxy session = IsStuck ended proxy session
 Leaves Done ended proxy session = IsOver ended session
 Leaves Failed ended proxy session = Unit {0}
 
 -- What a pump of the session of a number does: calls for it, and nothing else. The bytes that came by them are those that the
--- reader gave, and the bytes that went are those that the writer took, but where the pump failed.
+-- reader gave, or the first of them where the pump failed, and the bytes that went are those that the writer took.
 pub record PumpsClient (number : ℕ) (pump : Pump) (old new : ProxyState) (unread unread' written written' : Option (List ℕ)) (ended ended' : Bool) : Type 0 where
   pub came : List ℕ
   pub went : List ℕ
   pub stretch : Stretch number old new came went
-  pub carried : CarriesUnlessFailed pump unread unread' written written' ended ended' came went
+  pub carried : CarriesBy pump unread unread' written written' ended ended' came went
   pub left : Leaves pump ended' new (session_at new number)

@@ -1,11 +1,10 @@
 -- What the parts of a round of a link's pump do.
 use Rattle.std.specs.Prelude.{◌≡◌, ℕ, ◌<◌, Bool, true, false, List, [], length, Option, Result, Ok, Err}
-use Rattle.std.specs.Io.KnownBytes.{Appends}
 use Rattle.mc_link.specs.Turns.{IsIdle}
 use Rattle.mc_link.specs.LinkState.{LinkState}
 use Rattle.mc_session.specs.SessionState.{link_at}
 use Rattle.mc_proxy.specs.ProxyState.{ProxyState}
-use Rattle.mc_stream.specs.Sides.{Brings, HowItWent}
+use Rattle.mc_stream.specs.Sides.{HowItCame, HowItWent}
 use Rattle.mc_stream.specs.declared.outcomes.Pump.{Pump}
 use Rattle.mc_stream.specs.declared.outcomes.Pump.TheVariants.{Failed}
 use Rattle.mc_proxy_pump.specs.LinkCalls.{LinkStretch}
@@ -14,14 +13,14 @@ use Rattle.mc_proxy_pump.specs.LinkCalls.{LinkStretch}
 pub record SendsLink (place : ℕ) (side : Result Bool Pump) (old new : ProxyState) (written written' : Option (List ℕ)) : Type 0 where
   pub went : List ℕ
   pub stretch : (woken : List ℕ) → LinkStretch place old new [] went woken woken
-  pub how : HowItWent side (Appends written written' went) (new ≡ old)
+  pub how : HowItWent side written written' went (new ≡ old)
   pub still_up : (link_at new.links place).up ≡ true
 
 -- a read, of which a link is fed
 pub record ReceivesLink (place : ℕ) (side : Result Bool Pump) (old new : ProxyState) (unread unread' : Option (List ℕ)) (ended' : Bool) : Type 0 where
   pub came : List ℕ
   pub stretch : (woken : List ℕ) → LinkStretch place old new came [] woken woken
-  pub how : HowItWent side (Brings unread unread' ended' came) (new ≡ old)
+  pub how : HowItCame side unread unread' ended' came (new ≡ old)
   pub still_up : (link_at new.links place).up ≡ true
 
 -- how a turn of a link leaves it: one command less waits, or no whole reply has come; a refused turn, or a strange one, fails

@@ -1,13 +1,12 @@
 -- What the parts of a round of a session's pump do.
-use Rattle.std.specs.Prelude.{◌≡◌, ℕ, ◌+◌, ◌*◌, ◌<◌, ◌≤◌, ◌⊎◌, Bool, true, false, List, [], length, Option, None, Result, Ok, Err}
-use Rattle.std.specs.Io.KnownBytes.{Appends}
+use Rattle.std.specs.Prelude.{◌≡◌, ℕ, ◌+◌, ◌*◌, ◌<◌, ◌≤◌, ◌⊎◌, Bool, true, false, not, ◌&&◌, List, [], length, Option, None, Result, Ok, Err}
 use Rattle.mc_session.specs.SessionState.{SessionState}
 use Rattle.mc_session.specs.declared.limits.TheConstants.{UNSENT_MARK}
 use Rattle.mc_session.specs.declared.turns.Turn.{Turn}
 use Rattle.mc_session.specs.declared.turns.Turn.TheVariants as turns
 use Rattle.mc_proxy.specs.ProxyState.{ProxyState, output_of, session_at, unanswered_of}
 use Rattle.mc_proxy.specs.Turns.{waiting_of}
-use Rattle.mc_stream.specs.Sides.{Brings, HowItWent}
+use Rattle.mc_stream.specs.Sides.{HowItCame, HowItWent}
 use Rattle.mc_stream.specs.declared.outcomes.Pump.{Pump}
 use Rattle.mc_stream.specs.declared.outcomes.Pump.TheVariants.{Again}
 use Rattle.mc_proxy_pump.specs.Calls.{Stretch}
@@ -20,9 +19,23 @@ work_of session = 2 * length (waiting_of session) + unanswered_of session
 -- why no more is taken
 abbrev pub StopsAt : Turn → ProxyState → Option SessionState → Type 0
 StopsAt turns.Took proxy session = ⊥
-StopsAt turns.Idle proxy session = waiting_of session ≡ []
+StopsAt turns.Idle proxy session = (waiting_of session ≡ []) × (is_closed_at session ≡ false)
 StopsAt turns.Waiting proxy session = IsHeldUpAt proxy.ring proxy.links session
 StopsAt turns.Closing proxy session = (waiting_of session ≡ []) × (is_closed_at session ≡ true)
+
+-- whether nothing more will come, where no more is taken for this cause: the input has ended, or is read no further
+abbrev pub ends_by : Turn → (ended : Bool) → Bool
+ends_by turns.Took ended = false
+ends_by turns.Idle ended = ended
+ends_by turns.Waiting ended = false
+ends_by turns.Closing ended = true
+
+-- whether the input is read on, where as much is unsent as the mark or not
+abbrev pub reads_by : Turn → (ended marked : Bool) → Bool
+reads_by turns.Took ended marked = false
+reads_by turns.Idle ended marked = not ended && not marked
+reads_by turns.Waiting ended marked = false
+reads_by turns.Closing ended marked = false
 
 -- requests are taken until none can be
 pub record TakesTurns (number : ℕ) (old new : ProxyState) : Type 0 where
@@ -49,14 +62,14 @@ pub record IsSentOf (old new : Option SessionState) : Type 0 where
 pub record Sends (number : ℕ) (side : Result Bool Pump) (old new : ProxyState) (written written' : Option (List ℕ)) : Type 0 where
   pub went : List ℕ
   pub stretch : Stretch number old new [] went
-  pub how : HowItWent side (Appends written written' went) (new ≡ old)
+  pub how : HowItWent side written written' went (new ≡ old)
   pub same : IsSentOf (session_at old number) (session_at new number)
 
 -- a read, of which the session is fed
 pub record Receives (number : ℕ) (side : Result Bool Pump) (old new : ProxyState) (unread unread' : Option (List ℕ)) (ended' : Bool) : Type 0 where
   pub came : List ℕ
   pub stretch : Stretch number old new came []
-  pub how : HowItWent side (Brings unread unread' ended' came) (new ≡ old)
+  pub how : HowItCame side unread unread' ended' came (new ≡ old)
 
 -- a round that does not stop goes on as a pump that may be called again
 abbrev pub pump_of : Result (Unit {0}) Pump → Pump

@@ -3,8 +3,8 @@ ghost use Rattle.std.specs.Prelude.{◌≡◌, ◌<◌, ◌==◌, ◌&&◌, ℕ,
 ghost use Rattle.mc_proxy.specs.ProxyState.{output_of, session_at, unanswered_of};
 ghost use Rattle.mc_proxy.specs.Turns.{waiting_of};
 ghost use Rattle.mc_proxy_pump.specs.Calls.{Stretch};
-ghost use Rattle.mc_proxy_pump.specs.Clients.{PumpsClient, emitted_at};
-ghost use Rattle.mc_proxy_pump.specs.Rounds.{HasAnswered, HowMany, Receives, Sends, StopsAt, TakesTurns, pump_of};
+ghost use Rattle.mc_proxy_pump.specs.Clients.{PumpsClient, emitted_at, is_closed_at};
+ghost use Rattle.mc_proxy_pump.specs.Rounds.{HasAnswered, HowMany, Receives, Sends, StopsAt, TakesTurns, ends_by, pump_of, reads_by};
 
 use mc_proxy::{Emit, Proxy, ProxyError, Turn, UNSENT_MARK};
 use mc_stream::{MAX_ROUNDS, Pump, read_once, write_once};
@@ -65,24 +65,46 @@ fn round<R: Read, W: Write>(
     };
     let is_marked = proxy.output(session).len() >= UNSENT_MARK;
     let moved = send(proxy, session, writer)?;
-    let is_over = is_settled(proxy, session);
+    if is_over(proxy, session, turn, *ended) {
+        return Err(Pump::Done);
+    }
+    if is_read(turn, *ended, is_marked) {
+        let can_send = moved && !proxy.output(session).is_empty();
+        return listen(proxy, session, ended, reader, piece, can_send);
+    }
+    if moved {
+        return Ok(());
+    }
+    Err(Pump::Blocked)
+}
+
+/// Whether all that was taken of a session is answered, all its answers are sent, and nothing more will come, where no more is
+/// taken for this cause.
+fn is_over(proxy: &Proxy, session: u64, turn: Turn, ended: bool) -> bool
+    ensures { result ≡ ((length (output_of (session_at proxy.now session)) == 0) && ((unanswered_of (session_at proxy.now session) == 0) && ends_by turn ended)) }
+{
+    proxy.output(session).is_empty() && proxy.unanswered(session) == 0 && ends(turn, ended)
+}
+
+/// Whether nothing more will come, where no more is taken for this cause.
+fn ends(turn: Turn, ended: bool) -> bool
+    ensures { result ≡ ends_by turn ended }
+{
     match turn {
-        Turn::Closing if is_over => Err(Pump::Done),
-        Turn::Idle if *ended && is_over => Err(Pump::Done),
-        Turn::Idle if !*ended && !is_marked => {
-            let can_send = moved && !proxy.output(session).is_empty();
-            listen(proxy, session, ended, reader, piece, can_send)
-        }
-        _ if moved => Ok(()),
-        _ => Err(Pump::Blocked),
+        Turn::Idle => ended,
+        Turn::Closing => true,
+        Turn::Took | Turn::Waiting => false,
     }
 }
 
-/// Whether all that was taken of a session is answered, and all its answers are sent.
-fn is_settled(proxy: &Proxy, session: u64) -> bool
-    ensures { result ≡ ((length (output_of (session_at proxy.now session)) == 0) && (unanswered_of (session_at proxy.now session) == 0)) }
+/// Whether the input is read on, where no more is taken for this cause, and as much is unsent as the mark or not.
+fn is_read(turn: Turn, ended: bool, is_marked: bool) -> bool
+    ensures { result ≡ reads_by turn ended is_marked }
 {
-    proxy.output(session).is_empty() && proxy.unanswered(session) == 0
+    match turn {
+        Turn::Idle => !ended && !is_marked,
+        Turn::Took | Turn::Waiting | Turn::Closing => false,
+    }
 }
 
 /// Takes requests and puts answers out, as far as it goes, and says why no more is taken.
@@ -159,6 +181,7 @@ fn listen<R: Read>(
     requires none_waits { waiting_of (session_at proxy.old session) ≡ [] }
     requires none_known { emitted_at (session_at proxy.old session) ≡ None }
     requires below { length (output_of (session_at proxy.old session)) < UNSENT_MARK }
+    requires is_read { is_closed_at (session_at proxy.old session) ≡ false }
     requires goes_on { ended.old ≡ false }
     requires piece { 0 < length piece.old }
     ensures { (written : Option (List ℕ)) → PumpsClient session (pump_of result) proxy.old proxy.new

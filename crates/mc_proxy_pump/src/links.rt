@@ -14,11 +14,12 @@ use std::io::{Read, Write};
 ///
 /// It does at most [`MAX_ROUNDS`] rounds. A round writes what is unsent in one call, reads once into `piece`, whose bytes before
 /// and after mean nothing, and takes all replies that have come whole. The sessions whose commands got their replies are put
-/// behind `woken`, one that follows itself once. A link has no mark here: it is always read.
+/// after those in `woken`, one that follows itself once. A link has no mark here: it is always read.
 ///
-/// It says [`Pump::Failed`] where the link is down or not there, where the stream failed or has ended, where a call was refused
-/// memory, and where what came is no reply, which has lost the link: then each command that waited on it is lost, and any session
-/// may have an answer more. The caller loses the link if it is still up. It never says [`Pump::Done`].
+/// It says [`Pump::Done`] where the input has ended: then all replies that came whole are taken. It says [`Pump::Failed`] where
+/// the link is down or not there, where the stream failed, where a call was refused memory, and where what came is no reply,
+/// which has lost the link: then each command that waited on it is lost, and any session may have an answer more. In both cases
+/// the caller loses the link if it is still up.
 pub fn pump_link<R: Read, W: Write>(
     proxy: &mut Proxy,
     server: usize,
@@ -63,7 +64,7 @@ fn round<R: Read, W: Write>(
     let came = receive(proxy, server, &mut ended, reader, piece)?;
     take_replies(proxy, server, woken)?;
     if ended {
-        return Err(Pump::Failed);
+        return Err(Pump::Done);
     }
     if came || (sent && !proxy.link_output(server).is_empty()) {
         return Ok(());

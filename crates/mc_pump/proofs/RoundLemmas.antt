@@ -1,5 +1,5 @@
 -- The parts of a round.
-use Rattle.std.proofs.Common.{◌≡◌, ◌∙◌, ◌⊎◌, ◌≤◌, ◌<◌, inl, inr, ℕ, ◌==◌, Bool, true, false, Result, Ok, List, [], ◌∷◌, length, take, drop, Option, Some, None, IsSome, refl, sym, ap, subst, arith, length-drop}
+use Rattle.std.proofs.Common.{◌≡◌, ◌∙◌, ◌⊎◌, ◌≤◌, ◌<◌, inl, inr, ℕ, ◌==◌, ◌&&◌, Bool, true, false, Result, Ok, List, [], ◌∷◌, length, take, drop, Option, Some, None, IsSome, refl, sym, ap, subst, arith, length-drop}
 use Rattle.std.proofs.lemmas.Bool.Decides.{nat_tests}
 use Rattle.std.specs.Io.KnownBytes.{Appends}
 use Rattle.mc_server.specs.ServerState.{ConnectionState, Connections, ServerState, connection_at, connection_in, output_of, updated, sent_by}
@@ -8,9 +8,9 @@ use Rattle.mc_server.specs.declared.turns.Turn.TheVariants.{Took, Idle, Closing}
 use Rattle.mc_server.proofs.ConnectionLemmas.{updated_own}
 use Rattle.mc_request_reader.specs.Reader.{rest_of}
 use Rattle.mc_pump.specs.Stretches.{Stretch}
-use Rattle.mc_stream.specs.Sides.{Brings, HowItWent}
-use Rattle.mc_pump.specs.Pumps.{IsOver}
-use Rattle.mc_pump.specs.Rounds.{IsSentOf, Receives, Sends, StopsAt}
+use Rattle.mc_stream.specs.Sides.{HowItCame, HowItWent}
+use Rattle.mc_pump.specs.Pumps.{IsOver, IsStuck}
+use Rattle.mc_pump.specs.Rounds.{IsSentOf, Receives, Sends, StopsAt, ends_by, reads_by}
 use Rattle.mc_pump.specs.declared.limits.TheConstants.{UNSENT_MARK}
 use Rattle.mc_pump.specs.declared.rounds.Stop.{Stop}
 use Rattle.mc_pump.specs.declared.rounds.Stop.TheVariants as stops
@@ -45,14 +45,14 @@ took_one number moment old new steps =
 
 -- a turn that finds none leaves none, and as much unsent
 pub found_none : (number moment : ℕ) (old new : ServerState) → Steps number old new (IsTurn number moment Idle) → length (output_of (connection_at old number)) < UNSENT_MARK
-    → (waiting_of (connection_at new number) ≡ []) × (length (output_of (connection_at new number)) < UNSENT_MARK)
+    → StopsAt stops.Idle (connection_at new number)
 found_none number moment old new steps below =
     let now : connection_at new number ≡ Some steps.after = ap (λ (cs : Connections). connection_in cs number) steps.is ∙ updated_own number steps.before steps.after old.connections steps.was in
     let none : rest_of steps.after.reader [] ≡ [] = steps.step.none.rest [] ∙ steps.step.none.none in
     let few : length steps.before.output < UNSENT_MARK = subst (λ (c : Option ConnectionState). length (output_of c) < UNSENT_MARK) steps.was below in
     let same : length steps.after.output < UNSENT_MARK = subst (λ (bytes : List ℕ). length bytes < UNSENT_MARK) (sym steps.step.output) few in
-    let P : Option ConnectionState → Type 0 = λ o. (waiting_of o ≡ []) × (length (output_of o) < UNSENT_MARK) in
-    subst P (sym now) (none, same)
+    let P : Option ConnectionState → Type 0 = λ o. StopsAt stops.Idle o in
+    subst P (sym now) (none, same, steps.step.none.is_open)
 
 -- a closed reader has nothing
 pub closed_has_none : (number moment : ℕ) (old new : ServerState) → Steps number old new (IsTurn number moment Closing) → (waiting_of (connection_at new number) ≡ []) × (is_closed_at (connection_at new number) ≡ true)
@@ -65,7 +65,7 @@ closed_has_none number moment old new steps =
 
 -- nothing was sent
 pub sends_still : (number moment : ℕ) (side : Result Bool Pump) (s : ServerState) (written written' : Option (List ℕ)) → IsSome (connection_at s number)
-    → HowItWent side (Appends written written' []) (s ≡ s) → Sends number moment side s s written written'
+    → HowItWent side written written' [] (s ≡ s) → Sends number moment side s s written written'
 sends_still number moment side s written written' there how =
     let c = the_open (connection_at s number) there in
     record {
@@ -97,7 +97,7 @@ sends_some number moment count output old new written written' there unsent is a
 
 -- nothing came
 pub receives_still : (number moment : ℕ) (side : Result Bool Pump) (s : ServerState) (unread unread' : Option (List ℕ)) (ended' : Bool) → IsSome (connection_at s number)
-    → HowItWent side (Brings unread unread' ended' []) (s ≡ s) → Receives number moment side s s unread unread' ended'
+    → HowItCame side unread unread' ended' [] (s ≡ s) → Receives number moment side s s unread unread' ended'
 receives_still number moment side s unread unread' ended' there how =
     let c = the_open (connection_at s number) there in
     record { came = []; stretch = stretch_none number moment s c.0 c.1; how = how }
@@ -106,23 +106,69 @@ no_bytes : (bytes : List ℕ) → length bytes ≡ 0 → bytes ≡ []
 no_bytes [] e = refl
 no_bytes (b ∷ bs) e = absurd (omega (arith, e))
 
--- nothing waits and nothing is unsent
-pub over : (ended : Bool) (a b : Option ConnectionState) (output : List ℕ) → waiting_of a ≡ [] → IsSentOf a b → output ≡ output_of b → length output ≡ 0 → (ended ≡ true) ⊎ (is_closed_at a ≡ true) → IsOver ended b
-over ended a b output none same unsent empty cause = record {
-  none_waits = same.waits ∙ none;
-  all_sent = let nothing : output ≡ [] = no_bytes output empty in sym unsent ∙ nothing;
-  no_more = elim cause [
-    | inl e ↦ inl e
-    | inr e ↦ inr (same.closed ∙ e)
-  ];
-}
+-- both of two tests hold
+both : (a b answer : Bool) → answer ≡ (a && b) → answer ≡ true → (a ≡ true) × (b ≡ true)
+both true true answer is e = (refl, refl)
+both true false answer is e = let clash : true ≡ false = sym e ∙ is in absurd cc
+both false b answer is e = let clash : true ≡ false = sym e ∙ is in absurd cc
 
--- a test that a length is 0
-pub no_length : (n : ℕ) → true ≡ (n == 0) → n ≡ 0
-no_length n e = grind (arith, nat_tests, e)
+no_more : (stop : Stop) (ended : Bool) (o : Option ConnectionState) → StopsAt stop o → ends_by stop ended ≡ true → (waiting_of o ≡ []) × ((ended ≡ true) ⊎ (is_closed_at o ≡ true))
+no_more stops.Idle ended o h e = (h.0, inl e)
+no_more stops.Closing ended o h e = (h.0, inr h.1)
+no_more stops.Marked ended o h e = absurd cc
+
+-- where all is sent and nothing more will come, the connection is over
+pub over : (stop : Stop) (ended answer : Bool) (a b : Option ConnectionState) → StopsAt stop a → IsSentOf a b → answer ≡ ((length (output_of b) == 0) && ends_by stop ended) → answer ≡ true → IsOver ended b
+over stop ended answer a b h same is e =
+    let tests = both (length (output_of b) == 0) (ends_by stop ended) answer is e in
+    let more = no_more stop ended a h tests.1 in
+    record {
+      none_waits = same.waits ∙ more.0;
+      all_sent = no_bytes (output_of b) (grind (arith, nat_tests, tests.0));
+      no_more = elim more.1 [
+        | inl e ↦ inl e
+        | inr e ↦ inr (same.closed ∙ e)
+      ];
+    }
 
 -- where turns stopped, none waits or too much is unsent
-pub blocked : (stop : Stop) (o : Option ConnectionState) → StopsAt stop o → (waiting_of o ≡ []) ⊎ (UNSENT_MARK ≤ length (output_of o))
-blocked stops.Idle o h = inl h.0
-blocked stops.Closing o h = inl h.0
-blocked stops.Marked o h = inr h
+stopped_at : (stop : Stop) (o : Option ConnectionState) → StopsAt stop o → (waiting_of o ≡ []) ⊎ (UNSENT_MARK ≤ length (output_of o))
+stopped_at stops.Idle o h = inl h.0
+stopped_at stops.Closing o h = inl h.0
+stopped_at stops.Marked o h = inr h
+
+-- where nothing is unsent, and the input is read no further, it has ended
+not_read : (stop : Stop) (ended : Bool) (o : Option ConnectionState) → StopsAt stop o → reads_by stop ended ≡ false → output_of o ≡ [] → ends_by stop ended ≡ true
+not_read stops.Idle true o h e none = refl
+not_read stops.Idle false o h e none = absurd cc
+not_read stops.Closing ended o h e none = refl
+not_read stops.Marked ended o h e none = let nothing : length (output_of o) ≡ 0 = ap (λ (bytes : List ℕ). length bytes) none in absurd (omega (arith, h, nothing))
+
+-- where the connection is not over, and the input is read no further, it is stuck
+pub stuck : (stop : Stop) (ended answer : Bool) (o : Option ConnectionState) → StopsAt stop o → answer ≡ ((length (output_of o) == 0) && ends_by stop ended) → answer ≡ false
+    → reads_by stop ended ≡ false → IsStuck ended o
+stuck stop ended answer o h is e unread = record {
+  taken = stopped_at stop o h;
+  goes_on = λ all.
+      let ends : ends_by stop ended ≡ true = not_read stop ended o h unread all.all_sent in
+      let sent : (length (output_of o) == 0) ≡ true = rw all.all_sent refl in
+      let clash : true ≡ false = sym (rw sent (rw ends refl)) ∙ sym is ∙ e in
+      absurd cc;
+}
+
+-- where the input is read on, no request waits, and less is unsent than the mark
+pub read_on : (stop : Stop) (ended answer : Bool) (o : Option ConnectionState) → StopsAt stop o → answer ≡ reads_by stop ended → answer ≡ true → (StopsAt stops.Idle o) × (ended ≡ false)
+read_on stops.Idle true answer o h is e = let clash : true ≡ false = sym e ∙ is in absurd cc
+read_on stops.Idle false answer o h is e = (h, refl)
+read_on stops.Closing ended answer o h is e = let clash : true ≡ false = sym e ∙ is in absurd cc
+read_on stops.Marked ended answer o h is e = let clash : true ≡ false = sym e ∙ is in absurd cc
+
+-- a connection whose input is read on is not over
+pub unheard : (ended : Bool) (o : Option ConnectionState) → waiting_of o ≡ [] → is_closed_at o ≡ false → ended ≡ false → IsStuck ended o
+unheard ended o none closed goes_on = record {
+  taken = inl none;
+  goes_on = λ all. elim all.no_more [
+    | inl e ↦ let clash : true ≡ false = sym e ∙ goes_on in absurd cc
+    | inr e ↦ let clash : true ≡ false = sym e ∙ closed in absurd cc
+  ];
+}

@@ -2,7 +2,7 @@
 use Rattle.std.specs.Prelude.{◌≡◌, ℕ, ◌≤◌, ◌⊎◌, Bool, true, List, [], length, Option}
 use Rattle.mc_server.specs.ServerState.{ConnectionState, ServerState, connection_at, output_of}
 use Rattle.mc_server.specs.Turns.{waiting_of, is_closed_at}
-use Rattle.mc_stream.specs.Sides.{CarriesUnlessFailed}
+use Rattle.mc_stream.specs.Sides.{CarriesBy}
 use Rattle.mc_pump.specs.Stretches.{Stretch}
 use Rattle.mc_pump.specs.declared.limits.TheConstants.{UNSENT_MARK}
 use Rattle.mc_stream.specs.declared.outcomes.Pump.{Pump}
@@ -14,10 +14,15 @@ pub record IsOver (ended : Bool) (connection : Option ConnectionState) : Type 0 
   pub all_sent : output_of connection ≡ []
   pub no_more : (ended ≡ true) ⊎ (is_closed_at connection ≡ true)
 
--- how a connection is left: done where it is over; blocked where no whole request waits, or as much is unsent as the mark
+-- A connection is not over, but can go no further by itself: no whole request waits, or as much is unsent as the mark.
+pub record IsStuck (ended : Bool) (connection : Option ConnectionState) : Type 0 where
+  pub taken : (waiting_of connection ≡ []) ⊎ (UNSENT_MARK ≤ length (output_of connection))
+  pub goes_on : IsOver ended connection → ⊥
+
+-- how a connection is left: done where it is over, blocked where it is stuck
 abbrev pub Leaves : Pump → Bool → Option ConnectionState → Type 0
 Leaves Again ended connection = Unit {0}
-Leaves Blocked ended connection = (waiting_of connection ≡ []) ⊎ (UNSENT_MARK ≤ length (output_of connection))
+Leaves Blocked ended connection = IsStuck ended connection
 Leaves Done ended connection = IsOver ended connection
 Leaves Failed ended connection = Unit {0}
 
@@ -26,5 +31,5 @@ pub record Pumps (number moment : ℕ) (pump : Pump) (old new : ServerState) (un
   pub came : List ℕ
   pub went : List ℕ
   pub stretch : Stretch number moment old new came went
-  pub carried : CarriesUnlessFailed pump unread unread' written written' ended ended' came went
+  pub carried : CarriesBy pump unread unread' written written' ended ended' came went
   pub left : Leaves pump ended' (connection_at new number)

@@ -1,9 +1,8 @@
 -- What the parts of a round do.
-use Rattle.std.specs.Prelude.{◌≡◌, ℕ, ◌<◌, ◌≤◌, Bool, true, List, [], length, Option, Result, Ok, Err}
-use Rattle.std.specs.Io.KnownBytes.{Appends}
+use Rattle.std.specs.Prelude.{◌≡◌, ℕ, ◌<◌, ◌≤◌, Bool, true, false, not, List, [], length, Option, Result, Ok, Err}
 use Rattle.mc_server.specs.ServerState.{ConnectionState, ServerState, connection_at, output_of}
 use Rattle.mc_server.specs.Turns.{waiting_of, is_closed_at}
-use Rattle.mc_stream.specs.Sides.{Brings, HowItWent}
+use Rattle.mc_stream.specs.Sides.{HowItCame, HowItWent}
 use Rattle.mc_pump.specs.Stretches.{Stretch}
 use Rattle.mc_pump.specs.declared.limits.TheConstants.{UNSENT_MARK}
 use Rattle.mc_stream.specs.declared.outcomes.Pump.{Pump}
@@ -13,9 +12,21 @@ use Rattle.mc_pump.specs.declared.rounds.Stop.TheVariants.{Idle, Closing, Marked
 
 -- why the turns of a round stopped
 abbrev pub StopsAt : Stop → Option ConnectionState → Type 0
-StopsAt Idle connection = (waiting_of connection ≡ []) × (length (output_of connection) < UNSENT_MARK)
+StopsAt Idle connection = (waiting_of connection ≡ []) × (length (output_of connection) < UNSENT_MARK) × (is_closed_at connection ≡ false)
 StopsAt Closing connection = (waiting_of connection ≡ []) × (is_closed_at connection ≡ true)
 StopsAt Marked connection = UNSENT_MARK ≤ length (output_of connection)
+
+-- whether nothing more will come, where the turns stopped so: the input has ended, or is read no further
+abbrev pub ends_by : Stop → (ended : Bool) → Bool
+ends_by Idle ended = ended
+ends_by Closing ended = true
+ends_by Marked ended = false
+
+-- whether the input is read on
+abbrev pub reads_by : Stop → (ended : Bool) → Bool
+reads_by Idle ended = not ended
+reads_by Closing ended = false
+reads_by Marked ended = false
 
 -- a connection of which some was sent: all else of it is as it was
 pub record IsSentOf (old new : Option ConnectionState) : Type 0 where
@@ -27,14 +38,14 @@ pub record IsSentOf (old new : Option ConnectionState) : Type 0 where
 pub record Sends (number moment : ℕ) (side : Result Bool Pump) (old new : ServerState) (written written' : Option (List ℕ)) : Type 0 where
   pub went : List ℕ
   pub stretch : Stretch number moment old new [] went
-  pub how : HowItWent side (Appends written written' went) (new ≡ old)
+  pub how : HowItWent side written written' went (new ≡ old)
   pub same : IsSentOf (connection_at old number) (connection_at new number)
 
 -- a read, of which the connection is fed
 pub record Receives (number moment : ℕ) (side : Result Bool Pump) (old new : ServerState) (unread unread' : Option (List ℕ)) (ended' : Bool) : Type 0 where
   pub came : List ℕ
   pub stretch : Stretch number moment old new came []
-  pub how : HowItWent side (Brings unread unread' ended' came) (new ≡ old)
+  pub how : HowItCame side unread unread' ended' came (new ≡ old)
 
 -- a round that does not stop goes on as a pump that may be called again
 abbrev pub pump_of : Result (Unit {0}) Pump → Pump

@@ -1,10 +1,10 @@
 //! A round: turns, a write, a read.
-ghost use Rattle.std.specs.Prelude.{◌≡◌, ◌<◌, ◌^◌, ℕ, List, [], Option, false, length, IfOk, IsSome};
+ghost use Rattle.std.specs.Prelude.{◌≡◌, ◌<◌, ◌^◌, ◌==◌, ◌&&◌, ℕ, List, [], Option, false, length, IfOk, IsSome};
 ghost use Rattle.mc_server.specs.ServerState.{connection_at, output_of};
-ghost use Rattle.mc_server.specs.Turns.{waiting_of};
+ghost use Rattle.mc_server.specs.Turns.{is_closed_at, waiting_of};
 ghost use Rattle.mc_pump.specs.Stretches.{Stretch};
 ghost use Rattle.mc_pump.specs.Pumps.{Pumps};
-ghost use Rattle.mc_pump.specs.Rounds.{Receives, Sends, StopsAt, pump_of};
+ghost use Rattle.mc_pump.specs.Rounds.{Receives, Sends, StopsAt, ends_by, pump_of, reads_by};
 
 use crate::limits::UNSENT_MARK;
 use mc_server::{Server, ServerError, Turn};
@@ -43,16 +43,44 @@ pub fn round<S: Store + Drop, R: Read, W: Write>(
         return Err(Pump::Failed);
     };
     let moved = send(server, number, writer)?;
-    let all_sent = server.output(number).is_empty();
+    if is_over(server, number, stop, *ended) {
+        return Err(Pump::Done);
+    }
+    if is_read(stop, *ended) {
+        let can_send = moved && !server.output(number).is_empty();
+        return listen(server, number, ended, reader, piece, can_send);
+    }
+    if moved {
+        return Ok(());
+    }
+    Err(Pump::Blocked)
+}
+
+/// Whether all is sent of a connection whose turns stopped so, and nothing more will come.
+fn is_over<S: Store + Drop>(server: &Server<S>, number: u64, stop: Stop, ended: bool) -> bool
+    ensures { result ≡ ((length (output_of (connection_at server.now number)) == 0) && ends_by stop ended) }
+{
+    server.output(number).is_empty() && ends(stop, ended)
+}
+
+/// Whether nothing more will come, where the turns stopped so.
+fn ends(stop: Stop, ended: bool) -> bool
+    ensures { result ≡ ends_by stop ended }
+{
     match stop {
-        Stop::Closing if all_sent => Err(Pump::Done),
-        Stop::Idle if *ended && all_sent => Err(Pump::Done),
-        Stop::Idle if !*ended => {
-            let can_send = moved && !all_sent;
-            listen(server, number, ended, reader, piece, can_send)
-        }
-        _ if moved => Ok(()),
-        _ => Err(Pump::Blocked),
+        Stop::Idle => ended,
+        Stop::Closing => true,
+        Stop::Marked => false,
+    }
+}
+
+/// Whether the input is read on, where the turns stopped so.
+fn is_read(stop: Stop, ended: bool) -> bool
+    ensures { result ≡ reads_by stop ended }
+{
+    match stop {
+        Stop::Idle => !ended,
+        Stop::Closing | Stop::Marked => false,
     }
 }
 
@@ -106,6 +134,7 @@ fn listen<S: Store + Drop, R: Read>(
     requires is_open { IsSome (connection_at server.old number) }
     requires none_waits { waiting_of (connection_at server.old number) ≡ [] }
     requires below { length (output_of (connection_at server.old number)) < UNSENT_MARK }
+    requires is_read { is_closed_at (connection_at server.old number) ≡ false }
     requires goes_on { ended.old ≡ false }
     requires piece { 0 < length piece.old }
     ensures { (moment : ℕ) (written : Option (List ℕ)) → Pumps number moment (pump_of result) server.old server.new

@@ -3,7 +3,7 @@ use Rattle.std.proofs.Common.{◌≡◌, ◌∙◌, ◌<◌, inl, inr, ℕ, Bool
 use Rattle.std.proofs.lemmas.List.{append-nil}
 use Rattle.std.proofs.KnownBytes.{Appends-nil, Appends-trans, Consumes-nil, Consumes-trans}
 use Rattle.std.specs.Io.KnownBytes.{Appends, Consumes, Keeps, IsAtEnd}
-use Rattle.mc_stream.specs.Sides.{IsAll, Carries, CarriesUnlessFailed, Brings, HowItWent, IsStopOfSide, UnlessFailed, MovesNothing, Reads, Writes}
+use Rattle.mc_stream.specs.Sides.{IsAll, Carries, CarriesBy, Brings, HowItCame, HowItWent, IsStopOfSide, StopsRead, MovesNothing, Reads, Writes}
 use Rattle.mc_stream.specs.declared.outcomes.Pump.{Pump}
 use Rattle.mc_stream.specs.declared.outcomes.Pump.TheVariants.{Again, Blocked, Done, Failed}
 
@@ -57,12 +57,14 @@ carries_then unread middle unread' written between written' ended later ended' c
 }
 
 pub carried_then : (pump : Pump) (unread middle unread' written between written' : Option (List ℕ)) (ended later ended' : Bool) (came more went yet : List ℕ)
-    → Carries unread middle written between ended later came went → CarriesUnlessFailed pump middle unread' between written' later ended' more yet
-    → CarriesUnlessFailed pump unread unread' written written' ended ended' (came ++ more) (went ++ yet)
+    → Carries unread middle written between ended later came went → CarriesBy pump middle unread' between written' later ended' more yet
+    → CarriesBy pump unread unread' written written' ended ended' (came ++ more) (went ++ yet)
 carried_then Again unread middle unread' written between written' ended later ended' came more went yet h k = carries_then unread middle unread' written between written' ended later ended' came more went yet h k
 carried_then Blocked unread middle unread' written between written' ended later ended' came more went yet h k = carries_then unread middle unread' written between written' ended later ended' came more went yet h k
 carried_then Done unread middle unread' written between written' ended later ended' came more went yet h k = carries_then unread middle unread' written between written' ended later ended' came more went yet h k
-carried_then Failed unread middle unread' written between written' ended later ended' came more went yet h k = tt
+carried_then Failed unread middle unread' written between written' ended later ended' came more went yet h k =
+    let P : List ℕ → Type 0 = λ bytes. Carries unread unread' written written' ended ended' bytes (went ++ yet) in
+    (k.0, subst P (sym (append_assoc came more k.0)) (carries_then unread middle unread' written between written' ended later ended' came (more ++ k.0) went yet h k.1))
 
 pub carries_none : (unread written : Option (List ℕ)) (ended : Bool) → Carries unread unread written written ended ended [] []
 carries_none unread written ended = record {
@@ -72,20 +74,15 @@ carries_none unread written ended = record {
   at_end = λ e. inl e;
 }
 
--- what was carried, however the pump ends
+-- what was carried, however the pump ends: nothing was lost
 pub carried_as : (pump : Pump) (unread unread' written written' : Option (List ℕ)) (ended ended' : Bool) (came went : List ℕ)
-    → UnlessFailed pump (Carries unread unread' written written' ended ended' came went) → CarriesUnlessFailed pump unread unread' written written' ended ended' came went
+    → Carries unread unread' written written' ended ended' came went → CarriesBy pump unread unread' written written' ended ended' came went
 carried_as Again unread unread' written written' ended ended' came went h = h
 carried_as Blocked unread unread' written written' ended ended' came went h = h
 carried_as Done unread unread' written written' ended ended' came went h = h
-carried_as Failed unread unread' written written' ended ended' came went h = tt
-
--- the same of what follows from it
-pub unless_failed : (pump : Pump) (P Q : Type 0) → (P → Q) → UnlessFailed pump P → UnlessFailed pump Q
-unless_failed Again P Q f h = f h
-unless_failed Blocked P Q f h = f h
-unless_failed Done P Q f h = f h
-unless_failed Failed P Q f h = tt
+carried_as Failed unread unread' written written' ended ended' came went h =
+    let P : List ℕ → Type 0 = λ bytes. Carries unread unread' written written' ended ended' bytes went in
+    ([], subst P (sym (append-nil came)) h)
 
 -- what a read brought
 pub carries_brought : (unread unread' written : Option (List ℕ)) (ended ended' : Bool) (came : List ℕ) → ended ≡ false → Brings unread unread' ended' came
@@ -96,6 +93,32 @@ carries_brought unread unread' written ended ended' came open_yet h = record {
   still_ended = λ e. let clash : true ≡ false = sym e ∙ open_yet in absurd cc;
   at_end = λ e. inr (h.at_end e);
 }
+
+-- what a read carried that stopped the pump
+pub carried_unheard : (pump : Pump) (unread unread' written : Option (List ℕ)) (ended ended' : Bool) (came : List ℕ) → ended ≡ false → StopsRead pump unread unread' ended' came
+    → CarriesBy pump unread unread' written written ended ended' came []
+carried_unheard Again unread unread' written ended ended' came open_yet h = carries_brought unread unread' written ended ended' came open_yet h
+carried_unheard Blocked unread unread' written ended ended' came open_yet h = absurd h
+carried_unheard Done unread unread' written ended ended' came open_yet h = absurd h
+carried_unheard Failed unread unread' written ended ended' came open_yet h = (h.0, carries_brought unread unread' written ended ended' (came ++ h.0) open_yet h.1)
+
+pub stop_of_read : (pump : Pump) (unread unread' : Option (List ℕ)) (ended' : Bool) (came : List ℕ) → StopsRead pump unread unread' ended' came → IsStopOfSide pump
+stop_of_read Again unread unread' ended' came h = tt
+stop_of_read Blocked unread unread' ended' came h = absurd h
+stop_of_read Done unread unread' ended' came h = absurd h
+stop_of_read Failed unread unread' ended' came h = tt
+
+-- what a read carried after which the pump goes on
+pub came_any : (moved : Bool) (unread unread' : Option (List ℕ)) (ended' : Bool) (came : List ℕ) (unmoved : Type 0) → HowItCame (Ok moved) unread unread' ended' came unmoved
+    → Brings unread unread' ended' came
+came_any true unread unread' ended' came unmoved h = h
+came_any false unread unread' ended' came unmoved h = h.0
+
+-- a read by which nothing came, and not the end
+pub came_false : (moved : Bool) (unread unread' : Option (List ℕ)) (ended' : Bool) (came : List ℕ) (unmoved : Type 0) → moved ≡ false
+    → HowItCame (Ok moved) unread unread' ended' came unmoved → (ended' ≡ false) × unmoved
+came_false true unread unread' ended' came unmoved e h = absurd cc
+came_false false unread unread' ended' came unmoved e h = (h.1, h.2)
 
 -- what a write carried
 pub carries_sent : (unread written written' : Option (List ℕ)) (ended : Bool) (went : List ℕ) → Appends written written' went → Carries unread unread written written' ended ended [] went
@@ -124,22 +147,20 @@ brings_bytes a b ended came open_yet consumed = record {
   at_end = λ e. let clash : true ≡ false = sym e ∙ open_yet in absurd cc;
 }
 
--- how a side went whose flag is known
-pub went_false : (moved : Bool) (carried unmoved : Type 0) → moved ≡ false → HowItWent (Ok moved) carried unmoved → unmoved
-went_false true carried unmoved e h = absurd cc
-went_false false carried unmoved e h = h.1
+-- what a write carried, whether any or none
+pub went_any : (moved : Bool) (written written' : Option (List ℕ)) (went : List ℕ) (unmoved : Type 0) → HowItWent (Ok moved) written written' went unmoved → Appends written written' went
+went_any true written written' went unmoved h = h
+went_any false written written' went unmoved h = h.0
 
--- a side that stopped the pump carried nothing
-pub side_stops : (pump : Pump) (carried unmoved : Type 0) → IsStopOfSide pump → carried → HowItWent (Err pump) carried unmoved
-side_stops Again carried unmoved h c = (tt, c)
-side_stops Blocked carried unmoved h c = absurd h
-side_stops Done carried unmoved h c = absurd h
-side_stops Failed carried unmoved h c = (tt, tt)
+-- a write of which nothing went
+pub went_false : (moved : Bool) (written written' : Option (List ℕ)) (went : List ℕ) (unmoved : Type 0) → moved ≡ false → HowItWent (Ok moved) written written' went unmoved → unmoved
+went_false true written written' went unmoved e h = absurd cc
+went_false false written written' went unmoved e h = h.1
 
--- a side by which nothing moved, or the end came
-pub side_rests : (moved : Bool) (carried unmoved : Type 0) → carried → unmoved → HowItWent (Ok moved) carried unmoved
-side_rests true carried unmoved c u = c
-side_rests false carried unmoved c u = (c, u)
+-- a read by which nothing came, or the end
+pub came_none : (unread unread' : Option (List ℕ)) (ended' : Bool) (unmoved : Type 0) → Brings unread unread' ended' [] → unmoved → HowItCame (Ok ended') unread unread' ended' [] unmoved
+came_none unread unread' true unmoved h u = h
+came_none unread unread' false unmoved h u = (h, refl, u)
 
 -- a write by whose error nothing went
 pub writes_nothing : (side : Result ℕ Pump) (output : List ℕ) (written written' : Option (List ℕ)) → MovesNothing side → Keeps written written' → Writes side output written written'
@@ -153,13 +174,19 @@ reads_nothing (Ok count) piece' ended' unread unread' h open_yet kept =
 reads_nothing (Err pump) piece' ended' unread unread' h open_yet kept = (h, open_yet, kept)
 
 -- a read that stopped the pump
-pub read_stops : (pump : Pump) (piece' : List ℕ) (ended' : Bool) (unread unread' : Option (List ℕ)) (unmoved : Type 0) → Reads (Err pump) piece' ended' unread unread' → HowItWent (Err pump) (Brings unread unread' ended' []) unmoved
-read_stops pump piece' ended' unread unread' unmoved h =
-    side_stops pump (Brings unread unread' ended' []) unmoved h.0 (brings_bytes unread unread' ended' [] h.1 (keeps_consumes unread unread' h.2))
+unheard : (pump : Pump) (unread unread' : Option (List ℕ)) (ended' : Bool) → IsStopOfSide pump → Brings unread unread' ended' [] → StopsRead pump unread unread' ended' []
+unheard Again unread unread' ended' h brings = brings
+unheard Blocked unread unread' ended' h brings = absurd h
+unheard Done unread unread' ended' h brings = absurd h
+unheard Failed unread unread' ended' h brings = ([], brings)
+
+pub read_stops : (pump : Pump) (piece' : List ℕ) (ended' : Bool) (unread unread' : Option (List ℕ)) → Reads (Err pump) piece' ended' unread unread' → StopsRead pump unread unread' ended' []
+read_stops pump piece' ended' unread unread' h =
+    unheard pump unread unread' ended' h.0 (brings_bytes unread unread' ended' [] h.1 (keeps_consumes unread unread' h.2))
 
 -- a write that stopped the pump
-pub write_stops : (pump : Pump) (output : List ℕ) (written written' : Option (List ℕ)) (unmoved : Type 0) → Writes (Err pump) output written written' → HowItWent (Err pump) (Appends written written' []) unmoved
-write_stops pump output written written' unmoved h = side_stops pump (Appends written written' []) unmoved h.0 (keeps_appends written written' h.1)
+pub write_stops : (pump : Pump) (output : List ℕ) (written written' : Option (List ℕ)) (unmoved : Type 0) → Writes (Err pump) output written written' → HowItWent (Err pump) written written' [] unmoved
+write_stops pump output written written' unmoved h = (h.0, keeps_appends written written' h.1)
 
 -- a write and a read by which nothing moved
 pub wrote_none : (count : ℕ) (output : List ℕ) (written written' : Option (List ℕ)) → count ≡ 0 → Writes (Ok count) output written written' → Appends written written' []

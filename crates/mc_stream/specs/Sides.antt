@@ -1,6 +1,6 @@
--- What the two sides of a stream carry, and how a call of one of them goes. Nothing here knows what is behind the stream:
+-- What the two sides of a stream carry, and how a call of one of them goes. Nothing here knows what the stream serves:
 -- this project's own; `Consumes`, `Appends` and `Keeps` are std's.
-use Rattle.std.specs.Prelude.{◌≡◌, ℕ, ◌≤◌, ◌⊎◌, Bool, true, false, List, length, take, Option, Some, None, Result, Ok, Err}
+use Rattle.std.specs.Prelude.{◌≡◌, ℕ, ◌≤◌, ◌⊎◌, Bool, true, false, List, ◌++◌, length, take, Option, Some, None, Result, Ok, Err}
 use Rattle.std.specs.Io.KnownBytes.{Appends, Consumes, Keeps}
 use Rattle.mc_stream.specs.declared.outcomes.Pump.{Pump}
 use Rattle.mc_stream.specs.declared.outcomes.Pump.TheVariants.{Again, Blocked, Done, Failed}
@@ -18,12 +18,12 @@ pub record Carries (unread unread' written written' : Option (List ℕ)) (ended 
   pub still_ended : ended ≡ true → ended' ≡ true
   pub at_end : ended' ≡ true → (ended ≡ true) ⊎ IsAll unread came
 
--- the same, but where the stream or a call failed
-abbrev pub CarriesUnlessFailed : Pump → Option (List ℕ) → Option (List ℕ) → Option (List ℕ) → Option (List ℕ) → Bool → Bool → List ℕ → List ℕ → Type 0
-CarriesUnlessFailed Again unread unread' written written' ended ended' came went = Carries unread unread' written written' ended ended' came went
-CarriesUnlessFailed Blocked unread unread' written written' ended ended' came went = Carries unread unread' written written' ended ended' came went
-CarriesUnlessFailed Done unread unread' written written' ended ended' came went = Carries unread unread' written written' ended ended' came went
-CarriesUnlessFailed Failed unread unread' written written' ended ended' came went = Unit {0}
+-- The same by how a pump ends. Where it failed, bytes that the reader gave may be lost: those that came are the first of them.
+abbrev pub CarriesBy : Pump → Option (List ℕ) → Option (List ℕ) → Option (List ℕ) → Option (List ℕ) → Bool → Bool → List ℕ → List ℕ → Type 0
+CarriesBy Again unread unread' written written' ended ended' came went = Carries unread unread' written written' ended ended' came went
+CarriesBy Blocked unread unread' written written' ended ended' came went = Carries unread unread' written written' ended ended' came went
+CarriesBy Done unread unread' written written' ended ended' came went = Carries unread unread' written written' ended ended' came went
+CarriesBy Failed unread unread' written written' ended ended' came went = (lost : List ℕ) × Carries unread unread' written written' ended ended' (came ++ lost) went
 
 -- how a side stops the pump: it was interrupted, or it failed
 abbrev pub IsStopOfSide : Pump → Type 0
@@ -32,28 +32,34 @@ IsStopOfSide Blocked = ⊥
 IsStopOfSide Done = ⊥
 IsStopOfSide Failed = Unit {0}
 
--- what holds but where a pump failed
-abbrev pub UnlessFailed : Pump → Type 0 → Type 0
-UnlessFailed Again P = P
-UnlessFailed Blocked P = P
-UnlessFailed Done P = P
-UnlessFailed Failed P = Unit {0}
-
--- how a side went: whether anything moved, or how it stops the pump
-abbrev pub HowItWent : Result Bool Pump → (carried unmoved : Type 0) → Type 0
-HowItWent (Ok true) carried unmoved = carried
-HowItWent (Ok false) carried unmoved = carried × unmoved
-HowItWent (Err pump) carried unmoved = IsStopOfSide pump × UnlessFailed pump carried
-
 -- an error of a side moves nothing
 abbrev pub MovesNothing : Result ℕ Pump → Type 0
 MovesNothing (Ok count) = count ≡ 0
 MovesNothing (Err pump) = IsStopOfSide pump
 
--- what a read carried: bytes, or the end, behind which all have come
+-- what a read carried: bytes, or the end, after which all have come
 pub record Brings (unread unread' : Option (List ℕ)) (ended' : Bool) (came : List ℕ) : Type 0 where
   pub consumed : Consumes unread unread' came
   pub at_end : ended' ≡ true → IsAll unread came
+
+-- what a read carried that stops the pump; where something failed, what it brought may be lost
+abbrev pub StopsRead : Pump → (unread unread' : Option (List ℕ)) (ended' : Bool) (came : List ℕ) → Type 0
+StopsRead Again unread unread' ended' came = Brings unread unread' ended' came
+StopsRead Blocked unread unread' ended' came = ⊥
+StopsRead Done unread unread' ended' came = ⊥
+StopsRead Failed unread unread' ended' came = (lost : List ℕ) × Brings unread unread' ended' (came ++ lost)
+
+-- how a write went: whether the writer took anything, or how it stops the pump
+abbrev pub HowItWent : Result Bool Pump → (written written' : Option (List ℕ)) (went : List ℕ) (unmoved : Type 0) → Type 0
+HowItWent (Ok true) written written' went unmoved = Appends written written' went
+HowItWent (Ok false) written written' went unmoved = Appends written written' went × unmoved
+HowItWent (Err pump) written written' went unmoved = IsStopOfSide pump × Appends written written' went
+
+-- how a read went, of which something is fed: whether anything came, or the end, or how it stops the pump
+abbrev pub HowItCame : Result Bool Pump → (unread unread' : Option (List ℕ)) (ended' : Bool) (came : List ℕ) (unmoved : Type 0) → Type 0
+HowItCame (Ok true) unread unread' ended' came unmoved = Brings unread unread' ended' came
+HowItCame (Ok false) unread unread' ended' came unmoved = Brings unread unread' ended' came × (ended' ≡ false) × unmoved
+HowItCame (Err pump) unread unread' ended' came unmoved = StopsRead pump unread unread' ended' came
 
 -- one write of an output: the first bytes of it, so many, went; where it stops the pump, none did
 abbrev pub Writes : Result ℕ Pump → (output : List ℕ) (written written' : Option (List ℕ)) → Type 0

@@ -1,5 +1,6 @@
 //! The two sides of a stream that does not wait: one write, one read. Nothing here knows what is behind the stream.
-ghost use Rattle.std.specs.Prelude.{◌≡◌, ◌<◌, false, length};
+ghost use Rattle.std.specs.Prelude.{◌≡◌, ◌≢◌, ◌<◌, ◌==◌, false, length, Ok, Err, IfOk, IfErr};
+ghost use Rattle.std.specs.IoError.{error_kind};
 ghost use Rattle.mc_stream.specs.Sides.{MovesNothing, Reads, Writes};
 
 use crate::outcomes::Pump;
@@ -32,19 +33,30 @@ pub fn read_once<R: Read>(reader: &mut R, piece: &mut [u8], ended: &mut bool) ->
     requires goes_on { ended.old ≡ false }
     ensures { Reads result piece.new ended.new (R.remaining reader.old) (R.remaining reader.new) }
 {
-    match reader.read(piece) {
-        Ok(0) => {
-            *ended = true;
-            Ok(0)
+    told(reader.read(piece), ended)
+}
+
+/// What a read into a piece says: how many bytes came, where 0 is the end, which `ended` then says; or what its error says.
+fn told(read: Result<usize, Error>, ended: &mut bool) -> Result<usize, Pump>
+    requires goes_on { ended.old ≡ false }
+    ensures came { IfOk read (λ count. (result ≡ Ok count) × (ended.new ≡ (count == 0))) }
+    ensures error { IfErr read (λ error. MovesNothing result × (ended.new ≡ false)) }
+{
+    match read {
+        Ok(count) => {
+            *ended = count == 0;
+            Ok(count)
         }
-        Ok(count) => Ok(count),
         Err(error) => moved_nothing(&error),
     }
 }
 
 /// What an error of a read or a write says: that nothing moved, or how the pump stops.
 fn moved_nothing(error: &Error) -> Result<usize, Pump>
-    ensures { MovesNothing result }
+    ensures nothing { MovesNothing result }
+    ensures waits { error_kind error.now ≡ ErrorKind.WouldBlock → result ≡ Ok 0 }
+    ensures interrupted { error_kind error.now ≡ ErrorKind.Interrupted → result ≡ Err Pump.Again }
+    ensures failed { error_kind error.now ≢ ErrorKind.WouldBlock → error_kind error.now ≢ ErrorKind.Interrupted → result ≡ Err Pump.Failed }
 {
     match error.kind() {
         ErrorKind::WouldBlock => Ok(0),

@@ -1,13 +1,12 @@
-use Rattle.std.proofs.Common.{◌≡◌, inl, rules, sym, subst, Result, Err, [], None}
-use Rattle.mc_proxy.specs.ProxyState.{session_at}
-use Rattle.mc_proxy.specs.Turns.{waiting_of}
-use Rattle.mc_stream.specs.Sides.{Brings}
+use Rattle.std.proofs.Common.{◌≡◌, rules, sym, subst, Result, Err}
+use Rattle.mc_proxy.specs.ProxyState.{ProxyState, session_at}
 use Rattle.mc_stream.specs.declared.outcomes.Pump.{Pump}
 use Rattle.mc_stream.specs.declared.outcomes.Pump.TheVariants.{Again, Blocked}
-use Rattle.mc_stream.proofs.SideLemmas.{went_false}
-use Rattle.mc_proxy_pump.specs.Clients.{PumpsClient, emitted_at}
+use Rattle.mc_stream.proofs.SideLemmas.{came_false}
+use Rattle.mc_proxy_pump.specs.Clients.{IsStuck, PumpsClient}
 use Rattle.mc_proxy_pump.specs.Rounds.{pump_of}
 use Rattle.mc_proxy_pump.proofs.PumpLemmas.{pumps_heard, pumps_unheard}
+use Rattle.mc_proxy_pump.proofs.RoundLemmas.{unheard}
 use Rattle.mc_proxy_pump.proofs.clients.listen.Goals as goal
 
 pub returns-in_err-moved : goal.returns-in_err-moved
@@ -23,7 +22,7 @@ returns-then-moved g c = λ written.
 pub returns : goal.returns
 returns g c = λ written.
     let received = c.in_ok-moved.ensures in
-    let kept : c.receive.new.proxy ≡ c.args.proxy.now = went_false c.in_ok-moved.moved (Brings (g.R.Read.remaining c.args.reader.now) (g.R.Read.remaining c.receive.new.reader) c.receive.new.ended received.came) (c.receive.new.proxy ≡ c.args.proxy.now) c.if-moved.false received.how in
-    let none : waiting_of (session_at c.receive.new.proxy c.args.session) ≡ [] = rw kept c.requires.none_waits in
-    let unknown : emitted_at (session_at c.receive.new.proxy c.args.session) ≡ None = rw kept c.requires.none_known in
-    pumps_heard c.args.session c.in_ok-moved.moved Blocked c.args.proxy.now c.receive.new.proxy _ _ written c.args.ended.now c.receive.new.ended c.requires.goes_on received (record { taken = inl none; answered = inl unknown })
+    let still = came_false c.in_ok-moved.moved (g.R.Read.remaining c.args.reader.now) (g.R.Read.remaining c.receive.new.reader) c.receive.new.ended received.came (c.receive.new.proxy ≡ c.args.proxy.now) c.if-moved.false received.how in
+    let P : ProxyState → Type 0 = λ p. IsStuck c.receive.new.ended p (session_at p c.args.session) in
+    pumps_heard c.args.session c.in_ok-moved.moved Blocked c.args.proxy.now c.receive.new.proxy _ _ written c.args.ended.now c.receive.new.ended c.requires.goes_on received
+    (subst P (sym still.1) (unheard c.receive.new.ended c.args.proxy.now (session_at c.args.proxy.now c.args.session) c.requires.none_waits c.requires.none_known c.requires.is_read still.0))

@@ -1,10 +1,10 @@
 use Rattle.std.proofs.Common.{◌≡◌, rules, sym, subst, Result, Ok, Err}
 use Rattle.mc_session.specs.SessionState.{link_at}
 use Rattle.mc_stream.specs.declared.outcomes.Pump.{Pump}
-use Rattle.mc_stream.specs.declared.outcomes.Pump.TheVariants.{Again, Blocked, Failed}
+use Rattle.mc_stream.specs.declared.outcomes.Pump.TheVariants.{Again, Blocked, Done}
 use Rattle.mc_proxy_pump.specs.Links.{LeavesLink, PumpsLink}
 use Rattle.mc_proxy_pump.specs.Rounds.{pump_of}
-use Rattle.mc_proxy_pump.proofs.LinkLemmas.{link_pumps_sent, link_pumps_then, link_pumps_unheard, link_pumps_unsent, link_round}
+use Rattle.mc_proxy_pump.proofs.LinkLemmas.{absurd_done, link_pumps_sent, link_pumps_then, link_pumps_unheard, link_pumps_unsent, link_round}
 use Rattle.mc_proxy_pump.proofs.links.round.Goals as goal
 
 pub returns-in_err-sent : goal.returns-in_err-sent
@@ -28,19 +28,19 @@ returns-in_err-take_replies g c =
     let Q : Pump → Type 0 = λ pump. LeavesLink pump (link_at c.take_replies.new.proxy.links c.args.server) in
     subst P (sym same) (
     link_round c.args.server c.in_err-take_replies.field-0.0 c.in_ok-sent.sent c.in_ok-came.came (Err c.in_err-take_replies.field-0.0) c.args.proxy.now c.send.new.proxy c.receive.new.proxy c.take_replies.new.proxy (g.R.Read.remaining c.args.reader.now) (g.R.Read.remaining c.receive.new.reader) (g.W.Write.contents c.args.writer.now) (g.W.Write.contents c.send.new.writer) c.receive.new.ended c.args.woken.now.items c.take_replies.new.woken.items
-    c.in_ok-sent.ensures c.in_ok-came.ensures c.in_err-take_replies.ensures (subst Q (sym c.in_err-take_replies.ensures.how) tt))
+    c.in_ok-sent.ensures c.in_ok-came.ensures c.in_err-take_replies.ensures (λ e. absurd_done c.in_err-take_replies.field-0.0 c.in_err-take_replies.ensures.how e) (subst Q (sym c.in_err-take_replies.ensures.how) tt))
 
 pub returns-then-ended : goal.returns-then-ended
 returns-then-ended g c =
-    link_round c.args.server Failed c.in_ok-sent.sent c.in_ok-came.came (Ok c.in_ok-take_replies.field-0) c.args.proxy.now c.send.new.proxy c.receive.new.proxy c.take_replies.new.proxy (g.R.Read.remaining c.args.reader.now) (g.R.Read.remaining c.receive.new.reader) (g.W.Write.contents c.args.writer.now) (g.W.Write.contents c.send.new.writer) c.receive.new.ended c.args.woken.now.items c.take_replies.new.woken.items
-    c.in_ok-sent.ensures c.in_ok-came.ensures c.in_ok-take_replies.ensures tt
+    link_round c.args.server Done c.in_ok-sent.sent c.in_ok-came.came (Ok c.in_ok-take_replies.field-0) c.args.proxy.now c.send.new.proxy c.receive.new.proxy c.take_replies.new.proxy (g.R.Read.remaining c.args.reader.now) (g.R.Read.remaining c.receive.new.reader) (g.W.Write.contents c.args.writer.now) (g.W.Write.contents c.send.new.writer) c.receive.new.ended c.args.woken.now.items c.take_replies.new.woken.items
+    c.in_ok-sent.ensures c.in_ok-came.ensures c.in_ok-take_replies.ensures (λ e. c.if-ended.true) c.in_ok-take_replies.ensures.how
 
 pub returns-then-came : goal.returns-then-came
 returns-then-came g c =
     link_round c.args.server Again c.in_ok-sent.sent c.in_ok-came.came (Ok c.in_ok-take_replies.field-0) c.args.proxy.now c.send.new.proxy c.receive.new.proxy c.take_replies.new.proxy (g.R.Read.remaining c.args.reader.now) (g.R.Read.remaining c.receive.new.reader) (g.W.Write.contents c.args.writer.now) (g.W.Write.contents c.send.new.writer) c.receive.new.ended c.args.woken.now.items c.take_replies.new.woken.items
-    c.in_ok-sent.ensures c.in_ok-came.ensures c.in_ok-take_replies.ensures c.in_ok-take_replies.ensures.how.0
+    c.in_ok-sent.ensures c.in_ok-came.ensures c.in_ok-take_replies.ensures (λ e. absurd cc) c.in_ok-take_replies.ensures.how.0
 
 pub returns : goal.returns
 returns g c =
     link_round c.args.server Blocked c.in_ok-sent.sent c.in_ok-came.came (Ok c.in_ok-take_replies.field-0) c.args.proxy.now c.send.new.proxy c.receive.new.proxy c.take_replies.new.proxy (g.R.Read.remaining c.args.reader.now) (g.R.Read.remaining c.receive.new.reader) (g.W.Write.contents c.args.writer.now) (g.W.Write.contents c.send.new.writer) c.receive.new.ended c.args.woken.now.items c.take_replies.new.woken.items
-    c.in_ok-sent.ensures c.in_ok-came.ensures c.in_ok-take_replies.ensures c.in_ok-take_replies.ensures.how
+    c.in_ok-sent.ensures c.in_ok-came.ensures c.in_ok-take_replies.ensures (λ e. absurd cc) c.in_ok-take_replies.ensures.how

@@ -1,13 +1,12 @@
-use Rattle.std.proofs.Common.{◌≡◌, inl, rules, sym, subst, Result, Err, []}
-use Rattle.mc_server.specs.ServerState.{connection_at}
-use Rattle.mc_server.specs.Turns.{waiting_of}
-use Rattle.mc_pump.specs.Pumps.{Pumps}
-use Rattle.mc_stream.specs.Sides.{Brings}
+use Rattle.std.proofs.Common.{◌≡◌, rules, sym, subst, Result, Err}
+use Rattle.mc_server.specs.ServerState.{ServerState, connection_at}
+use Rattle.mc_pump.specs.Pumps.{IsStuck, Pumps}
 use Rattle.mc_pump.specs.Rounds.{pump_of}
 use Rattle.mc_stream.specs.declared.outcomes.Pump.{Pump}
 use Rattle.mc_stream.specs.declared.outcomes.Pump.TheVariants.{Again, Blocked}
 use Rattle.mc_pump.proofs.PumpLemmas.{pumps_heard, pumps_unheard}
-use Rattle.mc_stream.proofs.SideLemmas.{went_false}
+use Rattle.mc_stream.proofs.SideLemmas.{came_false}
+use Rattle.mc_pump.proofs.RoundLemmas.{unheard}
 use Rattle.mc_pump.proofs.rounds.listen.Goals as goal
 
 pub returns-in_err-moved : goal.returns-in_err-moved
@@ -23,6 +22,7 @@ returns-then-moved g c = λ moment written.
 pub returns : goal.returns
 returns g c = λ moment written.
     let received = c.in_ok-moved.ensures moment in
-    let kept : c.receive.new.server ≡ c.args.server.now = went_false c.in_ok-moved.moved (Brings (g.R.Read.remaining c.args.reader.now) (g.R.Read.remaining c.receive.new.reader) c.receive.new.ended received.came) (c.receive.new.server ≡ c.args.server.now) c.if-moved.false received.how in
-    let none : waiting_of (connection_at c.receive.new.server c.args.number) ≡ [] = rw kept c.requires.none_waits in
-    pumps_heard c.args.number moment c.in_ok-moved.moved Blocked c.args.server.now c.receive.new.server _ _ written c.args.ended.now c.receive.new.ended c.requires.goes_on received (inl none)
+    let still = came_false c.in_ok-moved.moved (g.R.Read.remaining c.args.reader.now) (g.R.Read.remaining c.receive.new.reader) c.receive.new.ended received.came (c.receive.new.server ≡ c.args.server.now) c.if-moved.false received.how in
+    let P : ServerState → Type 0 = λ s. IsStuck c.receive.new.ended (connection_at s c.args.number) in
+    pumps_heard c.args.number moment c.in_ok-moved.moved Blocked c.args.server.now c.receive.new.server _ _ written c.args.ended.now c.receive.new.ended c.requires.goes_on received
+    (subst P (sym still.1) (unheard c.receive.new.ended (connection_at c.args.server.now c.args.number) c.requires.none_waits c.requires.is_read still.0))

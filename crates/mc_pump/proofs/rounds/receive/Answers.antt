@@ -4,7 +4,7 @@ use Rattle.mc_pump.specs.Rounds.{Receives}
 use Rattle.mc_stream.specs.declared.outcomes.Pump.{Pump}
 use Rattle.mc_stream.specs.declared.outcomes.Pump.TheVariants.{Failed}
 use Rattle.mc_pump.proofs.StretchLemmas.{stretch_fed}
-use Rattle.mc_stream.proofs.SideLemmas.{read_stops, read_none, side_rests}
+use Rattle.mc_stream.proofs.SideLemmas.{came_none, read_none, read_stops}
 use Rattle.mc_pump.proofs.RoundLemmas.{receives_still}
 use Rattle.mc_pump.proofs.rounds.receive.Goals as goal
 
@@ -13,12 +13,12 @@ returns-in_err-count g c = λ moment.
     let same : c.from_residual.result ≡ Err c.in_err-count.field-0.0 = search rules in
     let P : Result Bool Pump → Type 0 = λ side. Receives c.args.number moment side c.args.server.now c.args.server.now (g.R.Read.remaining c.args.reader.now) (g.R.Read.remaining c.read_once.new.reader) c.read_once.new.ended in
     subst P (sym same) (receives_still c.args.number moment (Err c.in_err-count.field-0.0) c.args.server.now _ _ c.read_once.new.ended c.requires.is_open
-    (read_stops c.in_err-count.field-0.0 c.read_once.new.piece _ _ _ (c.args.server.now ≡ c.args.server.now) c.in_err-count.ensures))
+    (read_stops c.in_err-count.field-0.0 c.read_once.new.piece _ _ _ c.in_err-count.ensures))
 
 pub returns-then-count-eq0 : goal.returns-then-count-eq0
 returns-then-count-eq0 g c = λ moment.
     receives_still c.args.number moment (Ok c.read_once.new.ended) c.args.server.now _ _ c.read_once.new.ended c.requires.is_open
-    (side_rests c.read_once.new.ended _ _ (read_none c.in_ok-count.count c.read_once.new.piece _ _ _ c.if-count-eq0.true c.in_ok-count.ensures) refl)
+    (came_none _ _ c.read_once.new.ended _ (read_none c.in_ok-count.count c.read_once.new.piece _ _ _ c.if-count-eq0.true c.in_ok-count.ensures) refl)
 
 pub returns-in-Ok : goal.returns-in-Ok
 returns-in-Ok g c = λ moment. record {
@@ -32,4 +32,5 @@ returns-in-Err g c = λ moment.
     let kept : c.args.server.now ≡ c.feed.new.self = sym c.in-Err.ensures.err in
     let P : ServerState → Type 0 = λ s. Receives c.args.number moment (Err Failed) c.args.server.now s (g.R.Read.remaining c.args.reader.now) (g.R.Read.remaining c.read_once.new.reader) c.read_once.new.ended in
     subst P kept
-    (receives_still c.args.number moment (Err Failed) c.args.server.now _ _ c.read_once.new.ended c.requires.is_open (tt, tt))
+    (receives_still c.args.number moment (Err Failed) c.args.server.now _ _ c.read_once.new.ended c.requires.is_open
+    (c.split_at.result.0.now, rw c.split_at.ensures.front c.in_ok-count.ensures.2))

@@ -1,13 +1,12 @@
-use Rattle.std.proofs.Common.{◌≡◌, ◌∙◌, inl, inr, rules, arith, sym, subst, Result, Err, [], length}
+use Rattle.std.proofs.Common.{◌≡◌, ◌∙◌, rules, arith, sym, subst, Result, Err, []}
 use Rattle.mc_server.specs.ServerState.{connection_at}
 use Rattle.mc_pump.specs.Pumps.{Pumps}
-use Rattle.mc_pump.specs.Rounds.{StopsAt, pump_of}
+use Rattle.mc_pump.specs.Rounds.{pump_of}
 use Rattle.mc_stream.specs.declared.outcomes.Pump.{Pump}
 use Rattle.mc_stream.specs.declared.outcomes.Pump.TheVariants.{Again, Blocked, Done}
-use Rattle.mc_pump.specs.declared.rounds.Stop.TheVariants.{Idle, Closing}
 use Rattle.mc_pump.proofs.PumpLemmas.{pumps_then, pumps_turns, pumps_unsent, stopped}
 use Rattle.mc_stream.proofs.SideLemmas.{went_false}
-use Rattle.mc_pump.proofs.RoundLemmas.{stays_open, over, blocked, no_length}
+use Rattle.mc_pump.proofs.RoundLemmas.{over, read_on, stays_open, stuck}
 use Rattle.mc_pump.proofs.rounds.round.Goals as goal
 
 pub send-requires : goal.send-requires
@@ -27,46 +26,40 @@ listen-requires-clause-is_open g c =
     let sent = c.in_ok-moved.ensures c.args.moment in
     stays_open c.args.number c.args.moment c.take_turns.new.server c.send.new.server [] sent.went sent.stretch
 
+pub returns-then-is_over : goal.returns-then-is_over
+returns-then-is_over g c =
+    let sent = c.in_ok-moved.ensures c.args.moment in
+    stopped c.args.number c.args.moment c.in_ok-moved.moved Done c.args.server.now c.take_turns.new.server c.send.new.server (g.R.Read.remaining c.args.reader.now) _ _ c.args.ended.now c.in-Ok.ensures.turns sent
+    (over c.in-Ok.stop c.args.ended.now _ _ _ c.in-Ok.ensures.stop sent.same c.is_over.ensures c.if-is_over.true)
+
 pub listen-requires-clause-none_waits : goal.listen-requires-clause-none_waits
 listen-requires-clause-none_waits g c =
-    let stop : StopsAt Idle (connection_at c.take_turns.new.server c.args.number) = rw c.in-Idle.is at c.in-Ok.ensures.stop in
-    (c.in_ok-moved.ensures c.args.moment).same.waits ∙ stop.0
+    let on = read_on c.in-Ok.stop c.args.ended.now _ _ c.in-Ok.ensures.stop c.is_read.ensures c.if-is_read.true in
+    (c.in_ok-moved.ensures c.args.moment).same.waits ∙ on.0.0
 
 pub listen-requires-clause-below : goal.listen-requires-clause-below
 listen-requires-clause-below g c =
-    let stop : StopsAt Idle (connection_at c.take_turns.new.server c.args.number) = rw c.in-Idle.is at c.in-Ok.ensures.stop in
-    omega (arith, (c.in_ok-moved.ensures c.args.moment).same.fewer, stop.1)
+    let on = read_on c.in-Ok.stop c.args.ended.now _ _ c.in-Ok.ensures.stop c.is_read.ensures c.if-is_read.true in
+    omega (arith, (c.in_ok-moved.ensures c.args.moment).same.fewer, on.0.1)
 
-pub returns-in-Closing : goal.returns-in-Closing
-returns-in-Closing g c =
-    let sent = c.in_ok-moved.ensures c.args.moment in
-    let stop : StopsAt Closing (connection_at c.take_turns.new.server c.args.number) = rw c.in-Closing.is at c.in-Ok.ensures.stop in
-    let empty : length c.output.result.now ≡ 0 = no_length _ (c.if-all_sent.ensures) in
-    stopped c.args.number c.args.moment c.in_ok-moved.moved Done c.args.server.now c.take_turns.new.server c.send.new.server (g.R.Read.remaining c.args.reader.now) _ _ c.args.ended.now c.in-Ok.ensures.turns sent
-    (over c.args.ended.now _ _ c.output.result.now stop.0 sent.same c.output.ensures empty (inr stop.1))
+pub listen-requires-clause-is_read : goal.listen-requires-clause-is_read
+listen-requires-clause-is_read g c =
+    let on = read_on c.in-Ok.stop c.args.ended.now _ _ c.in-Ok.ensures.stop c.is_read.ensures c.if-is_read.true in
+    (c.in_ok-moved.ensures c.args.moment).same.closed ∙ on.0.2
 
-pub returns-in-Idle : goal.returns-in-Idle
-returns-in-Idle g c =
-    let sent = c.in_ok-moved.ensures c.args.moment in
-    let stop : StopsAt Idle (connection_at c.take_turns.new.server c.args.number) = rw c.in-Idle.is at c.in-Ok.ensures.stop in
-    let empty : length c.output.result.now ≡ 0 = no_length _ (c.if-all_sent-2.ensures) in
-    stopped c.args.number c.args.moment c.in_ok-moved.moved Done c.args.server.now c.take_turns.new.server c.send.new.server (g.R.Read.remaining c.args.reader.now) _ _ c.args.ended.now c.in-Ok.ensures.turns sent
-    (over c.args.ended.now _ _ c.output.result.now stop.0 sent.same c.output.ensures empty (inl c.if-ended.true))
-
-pub returns-after-moved : goal.returns-after-moved
-returns-after-moved g c =
-    let sent = c.in_ok-moved.ensures c.args.moment in
-    let before = stopped c.args.number c.args.moment c.in_ok-moved.moved Again c.args.server.now c.take_turns.new.server c.send.new.server (g.R.Read.remaining c.args.reader.now) (g.W.Write.contents c.args.writer.now) (g.W.Write.contents c.send.new.writer) c.args.ended.now c.in-Ok.ensures.turns sent tt in
+pub returns-then-is_read : goal.returns-then-is_read
+returns-then-is_read g c =
+    let before = stopped c.args.number c.args.moment c.in_ok-moved.moved Again c.args.server.now c.take_turns.new.server c.send.new.server (g.R.Read.remaining c.args.reader.now) (g.W.Write.contents c.args.writer.now) (g.W.Write.contents c.send.new.writer) c.args.ended.now c.in-Ok.ensures.turns (c.in_ok-moved.ensures c.args.moment) tt in
     pumps_then c.args.number c.args.moment (pump_of c.listen.result) c.args.server.now c.send.new.server c.listen.new.server _ _ _ _ _ _ c.args.ended.now c.args.ended.now c.listen.new.ended
     before (c.listen.ensures c.args.moment (g.W.Write.contents c.send.new.writer))
 
-pub returns-in_default-stop : goal.returns-in_default-stop
-returns-in_default-stop g c =
+pub returns-then-moved-2 : goal.returns-then-moved-2
+returns-then-moved-2 g c =
     stopped c.args.number c.args.moment c.in_ok-moved.moved Again c.args.server.now c.take_turns.new.server c.send.new.server (g.R.Read.remaining c.args.reader.now) _ _ c.args.ended.now c.in-Ok.ensures.turns (c.in_ok-moved.ensures c.args.moment) tt
 
-pub returns-in_default-2 : goal.returns-in_default-2
-returns-in_default-2 g c =
+pub returns : goal.returns
+returns g c =
     let sent = c.in_ok-moved.ensures c.args.moment in
-    let kept : c.send.new.server ≡ c.take_turns.new.server = went_false c.in_ok-moved.moved _ _ c.if-moved-2.false sent.how in
+    let kept : c.send.new.server ≡ c.take_turns.new.server = went_false c.in_ok-moved.moved _ _ _ _ c.if-moved-2.false sent.how in
     stopped c.args.number c.args.moment c.in_ok-moved.moved Blocked c.args.server.now c.take_turns.new.server c.send.new.server (g.R.Read.remaining c.args.reader.now) _ _ c.args.ended.now c.in-Ok.ensures.turns sent
-    (rw kept (blocked c.in-Ok.stop (connection_at c.take_turns.new.server c.args.number) c.in-Ok.ensures.stop))
+    (stuck c.in-Ok.stop c.args.ended.now _ (connection_at c.send.new.server c.args.number) (rw kept c.in-Ok.ensures.stop) c.is_over.ensures c.if-is_over.false (sym c.is_read.ensures ∙ c.if-is_read.false))
