@@ -4,7 +4,8 @@
 Usage: pool.py PROXY SERVER [--servers N]      (2 servers)
 
 PROXY is the built mc_proxyd, SERVER the built mc_serverd. It waits until it is interrupted (Ctrl-C) or told to end, or one of them
-has ended by itself; then it ends the others, and nothing is left running. Its status is 1 where one ended by itself.
+has ended by itself; then it ends the others, and nothing is left running. What interrupts it while it ends the others is passed
+over. Its status is 1 where one ended by itself.
 """
 
 import argparse
@@ -25,7 +26,16 @@ def tell(proxy, servers):
     print("Ctrl-C ends all of them.", flush=True)
 
 
+INTERRUPTS = signal.SIGINT, signal.SIGTERM
+
+
+def hear(handler):
+    for each in INTERRUPTS:
+        signal.signal(each, handler)
+
+
 def interrupt(*_):
+    hear(lambda *_: None)
     raise KeyboardInterrupt
 
 
@@ -35,8 +45,9 @@ def main():
     words.add_argument("server", metavar="SERVER")
     words.add_argument("--servers", type=int, default=2)
     asked = words.parse_args()
-    signal.signal(signal.SIGTERM, interrupt)
+    hear(interrupt)
     with contextlib.ExitStack() as stack:
+        stack.callback(hear, signal.SIG_IGN)  # Once all are ended: the interpreter would else die of one more.
         try:
             servers = [stack.enter_context(Server(asked.server)) for _ in range(asked.servers)]
             proxy = stack.enter_context(Proxy(asked.proxy, [server.address for server in servers]))
