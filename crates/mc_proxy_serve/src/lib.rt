@@ -18,7 +18,6 @@ mod options;
 mod pools;
 mod serving;
 mod settings;
-mod uptimes;
 
 pub use options::{ListError, Options, command};
 pub use serving::serve;

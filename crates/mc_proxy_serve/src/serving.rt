@@ -3,9 +3,8 @@
 use crate::entrances::Entrance;
 use crate::hosts::Host;
 use crate::settings::ProxySettings;
-use crate::uptimes::Uptime;
 use mc_ring::Ring;
-use mc_socket::{Door, PATIENCE};
+use mc_socket::{Door, PATIENCE, Uptime};
 use mc_stream::ServeError;
 use mio::net::TcpListener;
 use mio::{Events, Poll, Token};
