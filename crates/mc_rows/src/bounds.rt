@@ -31,7 +31,7 @@ const WHOLE: Said = Said {
     part: usize::MAX,
 };
 
-const DIALOGUES: [Dialogue; 6] = [
+const DIALOGUES: [Dialogue; 7] = [
     Dialogue {
         name: "numbers_used_up",
         server: Setup {
@@ -89,6 +89,12 @@ const DIALOGUES: [Dialogue; 6] = [
                 ..WHOLE
             },
             Said {
+                sent: b"get a\r\n",
+                turns: &[Took, Idle],
+                output: b"VALUE a 0 1\r\nx\r\nEND\r\n",
+                ..WHOLE
+            },
+            Said {
                 sent: b"set c 0 0 1\r\nz\r\nadd c 0 0 1 noreply\r\nz\r\n",
                 output: b"SERVER_ERROR out of memory storing object\r\nSERVER_ERROR out of memory storing object\r\n",
                 ..WHOLE
@@ -96,6 +102,35 @@ const DIALOGUES: [Dialogue; 6] = [
             Said {
                 sent: b"set b 0 0 1\r\nz\r\ngets a b c\r\n",
                 output: b"STORED\r\nVALUE a 0 1 1\r\nx\r\nVALUE b 0 1 3\r\nz\r\nEND\r\n",
+                ..WHOLE
+            },
+        ],
+    },
+    // With room for three: of `a`, `b` and `d`, `a` was used last. A refused key leaves this order, so that what grows `d` by
+    // a byte takes `b` away.
+    Dialogue {
+        name: "a_refused_key_leaves_the_order",
+        server: Setup {
+            budget: 198,
+            keys: 3,
+            ..WIDE
+        },
+        said: &[
+            Said {
+                sent: b"set d 0 0 1\r\nw\r\nset a 0 0 1\r\nx\r\nset b 0 0 1\r\ny\r\nget a\r\n",
+                turns: &[Took, Took, Took, Took, Idle],
+                output: b"STORED\r\nSTORED\r\nSTORED\r\nVALUE a 0 1\r\nx\r\nEND\r\n",
+                ..WHOLE
+            },
+            Said {
+                sent: b"set c 0 0 1\r\nz\r\nappend d 0 0 1\r\nw\r\n",
+                output: b"SERVER_ERROR out of memory storing object\r\nSTORED\r\n",
+                ..WHOLE
+            },
+            Said {
+                sent: b"get a b c d\r\n",
+                turns: &[Took, Idle],
+                output: b"VALUE a 0 1\r\nx\r\nVALUE d 0 2\r\nww\r\nEND\r\n",
                 ..WHOLE
             },
         ],
