@@ -10,7 +10,9 @@ the servers: so it sees what each is sent, and answers what it likes. All that i
 """
 
 import contextlib
+import os
 import pathlib
+import resource
 import select
 import signal
 import socket
@@ -22,6 +24,7 @@ import time
 
 from checks import (
     PATIENCE,
+    UNKNOWN_HOSTS,
     Program,
     Wrong,
     are_built,
@@ -45,6 +48,7 @@ LOST = b"SERVER_ERROR link lost\r\n"
 LINK_MARK = 8_388_608  # as many unsent bytes on a link stop the requests that need it
 SECONDS_TO_RETURN = 2  # a lost link is tried again at least once a second
 QUIET = 0.1  # seconds in which nothing comes where nothing is to come
+IDLE, PROCESSOR = 3, 0.1  # in as many seconds of doing nothing a proxy has as many of the processor at most
 
 DIALOGUES = {
     "expiry": (
@@ -339,12 +343,167 @@ def a_proxy_starts_before_its_servers():
     with Pool() as pool:
         addresses = [server.address for server in pool.servers]
         pool.servers[1].stop()
-        with Proxy(PROXY.path, addresses) as proxy, proxy.connected() as client:
+        with Proxy(PROXY.path, addresses, stderr=subprocess.PIPE) as proxy, proxy.connected() as client:
             gets = [b"get %s\r\n" % pool.ring.key(place) for place in (0, 1)]
             asked(client, gets[0] + gets[1], b"END\r\n" + LOST)
+            is_said(proxy, f"{addresses[1]} refused: connection refused")
             pool.restart(1)
-            time.sleep(SECONDS_TO_RETURN)
+            is_said(proxy, f"{addresses[1]} back")
             asked(client, gets[0] + gets[1], b"END\r\n" * 2)
+
+
+def is_said(proxy, *lines):
+    """Sees that these lines come next on the proxy's standard error."""
+    stream, came, deadline = proxy.process.stderr, b"", time.monotonic() + PATIENCE
+    wanted = b"".join(b"mc_proxyd: %s\n" % line.encode() for line in lines)
+    while len(came) < len(wanted) and select.select([stream], [], [], max(0, deadline - time.monotonic()))[0]:
+        piece = os.read(stream.fileno(), len(wanted) - len(came))
+        if not piece:
+            break
+        came += piece
+    want(came, wanted)
+
+
+def nothing_is_said(proxy):
+    want(select.select([proxy.process.stderr], [], [], QUIET)[0], [])
+
+
+def idle_costs_little(proxy):
+    """A proxy that nobody asks takes little of the processor."""
+    before = sum(proxy.user_and_system())
+    time.sleep(IDLE)
+    want_at_most(sum(proxy.user_and_system()) - before, PROCESSOR)
+
+
+def idle_before_a_server_that_refuses():
+    gone = f"{HOST}:{free_port()}"
+    with Server(SERVER) as server, Proxy(PROXY.path, [gone, server.address], stderr=subprocess.PIPE) as proxy:
+        is_said(proxy, f"{gone} refused: connection refused")
+        idle_costs_little(proxy)
+        nothing_is_said(proxy)
+
+
+def idle_before_an_unknown_server():
+    unknown = UNKNOWN_HOSTS[1]
+    with Server(SERVER) as server, Proxy(PROXY.path, [unknown, server.address], stderr=subprocess.PIPE) as proxy:
+        is_said(proxy, f"{unknown} refused: unknown host")
+        idle_costs_little(proxy)
+        nothing_is_said(proxy)
+
+
+def idle_before_a_server_that_was_killed():
+    """Also with clients: one that has ended its input while it waits for another server, and one that does nothing."""
+    with Pool() as pool, pool.connected() as client, pool.connected() as half:
+        keys = [pool.ring.key(place) for place in (0, 1)]
+        for key in keys:
+            asked(client, *stored(key)[:2])
+        pool.servers[1].process.send_signal(signal.SIGSTOP)
+        half.sendall(b"get %s\r\n" % keys[1])
+        half.shutdown(socket.SHUT_WR)
+        pool.servers[0].stop()
+        asked(client, b"get %s\r\n" % keys[0], LOST)
+        gone = pool.servers[0].address
+        is_said(pool, f"{gone} lost: connection ended", f"{gone} refused: connection refused")
+        idle_costs_little(pool)
+        nothing_is_said(pool)
+        pool.restart(0)
+        is_said(pool, f"{gone} back")
+        pool.servers[1].process.send_signal(signal.SIGCONT)
+        want(received_to_the_end(half), stored(keys[1])[3])
+
+
+def a_strange_reply_is_said():
+    with Played() as pool, pool.connected() as client:
+        address = pool.servers[0].address
+        pool.links[0].sendall(b"END\r\n")
+        is_said(pool, f"{address} lost: strange reply")
+        pool.lost(0, client)
+        is_said(pool, f"{address} back")
+        nothing_is_said(pool)
+
+
+def a_server_that_takes_no_connection_is_said():
+    """Its system answers nobody, as all places before it are taken."""
+    with contextlib.ExitStack() as stack:
+        busy = stack.enter_context(socket.create_server((HOST, free_port()), backlog=0))
+        for _ in range(4):
+            other = stack.enter_context(socket.socket())
+            other.setblocking(False)
+            other.connect_ex(busy.getsockname())
+        address = f"{HOST}:{busy.getsockname()[1]}"
+        proxy = stack.enter_context(Proxy(PROXY.path, [address], stderr=subprocess.PIPE))
+        is_said(proxy, f"{address} refused: timed out")
+        nothing_is_said(proxy)
+
+
+def allow_memory(proxy, most):
+    resource.prlimit(proxy.process.pid, resource.RLIMIT_AS, (most, resource.RLIM_INFINITY))
+
+
+def a_reply_without_memory_is_said():
+    """The link is lost by it, and comes back."""
+    with Played() as pool, pool.connected() as client:
+        address = pool.servers[0].address
+        _, _, get, shown = stored(b"a", b"v" * 1_000_000)
+        client.sendall(get)
+        want(received(pool.links[0], len(get)), get)
+        allow_memory(pool, pool.memory("VmSize"))
+        with contextlib.suppress(ConnectionResetError):
+            pool.links[0].sendall(shown)
+        want(received(client, len(LOST)), LOST)
+        is_said(pool, f"{address} lost: out of memory")
+        allow_memory(pool, resource.RLIM_INFINITY)
+        pool.lost(0, client)
+        is_said(pool, f"{address} back")
+        is_asked_and_answers(pool.links[0], client, b"a")
+
+
+def a_join_that_is_refused_is_said_and_tried_again():
+    """With the next client: until then the ring is as it was."""
+    with contextlib.ExitStack() as stack:
+        servers = [stack.enter_context(Played.Server()) for _ in range(61)]
+        *addresses, joins = [server.address for server in servers]
+        words = ["--join", joins, "--join-after", "1"]
+        proxy = stack.enter_context(Proxy(PROXY.path, addresses, words, stderr=subprocess.PIPE))
+        allow_memory(proxy, proxy.memory("VmSize"))
+        first = stack.enter_context(proxy.connected())
+        is_said(proxy, f"{joins} not joined: out of memory")
+        allow_memory(proxy, resource.RLIM_INFINITY)
+        is_served(first)
+        is_served(stack.enter_context(proxy.connected()))
+        is_said(proxy, f"{joins} joined")
+        key = Ring([*addresses, joins]).key(60)
+        is_asked_and_answers(stack.enter_context(servers[60].accept()), first, key)
+
+
+def at_most_one_line_is_said_in_a_second():
+    """Of a server whose link is lost by its first bytes, each time that it is back."""
+    with Played() as pool:
+        address, seconds = pool.servers[0].address, 4
+        deadline = time.monotonic() + seconds
+        pool.servers[0].listener.settimeout(QUIET)
+        while time.monotonic() < deadline:
+            with contextlib.suppress(OSError):
+                pool.links[0].sendall(b"?\r\n")
+            with contextlib.suppress(TimeoutError):
+                pool.links[0] = pool.stack.enter_context(pool.servers[0].accept())
+        pool.proxy.process.kill()
+        said = pool.proxy.process.stderr.read().decode().splitlines()
+        lost, back = (f"mc_proxyd: {address} {what}" for what in ("lost: strange reply", "back"))
+        want(said, ([lost, back] * seconds)[: len(said)])
+        want(2 <= len(said) <= seconds + 1, True)
+
+
+def nothing_is_said_where_it_cannot_be():
+    """Standard error is full, or closed: clients are served all the same."""
+    read, write = os.pipe()
+    os.close(read)
+    with open("/dev/full", "wb") as full, open(write, "wb") as closed:
+        for errors in (full, closed):
+            with Proxy(PROXY.path, [f"{HOST}:{free_port()}"], stderr=errors) as proxy, proxy.connected() as client:
+                asked(client, b"get a\r\n", LOST)
+                time.sleep(SECONDS_TO_RETURN)
+                is_served(client)
 
 
 def losses_leave_nothing_behind():
@@ -615,6 +774,15 @@ def checks():
         a_server_that_is_gone_is_told_and_used_again,
         commands_that_wait_are_told,
         a_proxy_starts_before_its_servers,
+        idle_before_a_server_that_refuses,
+        idle_before_an_unknown_server,
+        idle_before_a_server_that_was_killed,
+        a_strange_reply_is_said,
+        a_server_that_takes_no_connection_is_said,
+        a_reply_without_memory_is_said,
+        a_join_that_is_refused_is_said_and_tried_again,
+        at_most_one_line_is_said_in_a_second,
+        nothing_is_said_where_it_cannot_be,
         losses_leave_nothing_behind,
         a_server_joins,
         a_server_joins_that_is_not_there,

@@ -1,6 +1,7 @@
 //! How clients come to a proxy.
 
 use crate::hosts::Host;
+use crate::notices::{Notice, Notices, tell};
 use mc_ring::Address;
 use mc_socket::{Door, Waiting};
 use mio::Registry;
@@ -10,12 +11,16 @@ use std::net::Net;
 /// The most clients that are let in in a round.
 const MAX_ACCEPTS: u32 = 64;
 
-/// A listener, the client that waits behind it until each line was tried, and the server that joins with one of them.
+/// A listener, the client that waits until each line was tried, and the server that joins with a client.
 #[derive(Drop)]
 pub struct Entrance<'a> {
     door: Door,
     next: Option<TcpStream>,
     join: &'a Option<(Address, u64)>,
+    /// Whether that server has joined.
+    joined: bool,
+    /// What is to be said of it.
+    notices: Notices,
 }
 
 impl<'a> Entrance<'a> {
@@ -25,6 +30,8 @@ impl<'a> Entrance<'a> {
             door,
             next: None,
             join,
+            joined: false,
+            notices: Notices::new(Notice::Joined),
         }
     }
 
@@ -48,6 +55,24 @@ impl<'a> Entrance<'a> {
         self.door.is_shut() && self.next.is_none()
     }
 
+    /// Whether something is to be said of the server that joins.
+    pub fn is_due(&self) -> bool {
+        self.notices.is_due()
+    }
+
+    /// Says on standard error how the server that joins has fared.
+    pub fn tell<R: Eprint>(&mut self, rt: &R, second: u64) {
+        let Some((server, _)) = self.join else {
+            return;
+        };
+        if let (Some(notice), Ok(server)) = (
+            self.notices.take(second),
+            str::from_utf8(server.as_bytes()),
+        ) {
+            tell(rt, server, notice);
+        }
+    }
+
     /// Lets clients in while each line of the host was tried. With the client that the settings name a server joins, and that
     /// client is let in once the line to it was tried.
     pub fn let_in<R: Net>(&mut self, host: &mut Host, rt: &R, registry: &Registry, second: u64) {
@@ -65,12 +90,25 @@ impl<'a> Entrance<'a> {
             if self.next.is_none() {
                 return;
             }
-            if let Some((server, with)) = self.join {
-                if self.door.accepted() == *with {
-                    host.join(server);
-                    host.keep(rt, registry, second);
-                }
+            self.join(host, rt, registry, second);
+        }
+    }
+
+    /// Has the server join, once the client has come with which it joins. Where it cannot, it is tried again with the next client.
+    fn join<R: Net>(&mut self, host: &mut Host, rt: &R, registry: &Registry, second: u64) {
+        let Some((server, with)) = self.join else {
+            return;
+        };
+        if self.joined || self.door.accepted() < *with {
+            return;
+        }
+        match host.join(server) {
+            Ok(()) => {
+                self.joined = true;
+                self.notices.note(Notice::Joined);
+                host.keep(rt, registry, second);
             }
+            Err(cause) => self.notices.note(Notice::NotJoined(cause)),
         }
     }
 }

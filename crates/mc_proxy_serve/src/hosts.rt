@@ -3,6 +3,7 @@ ghost use Rattle.std.specs.Prelude.{◌<◌, vec_len};
 
 use crate::clients::Client;
 use crate::limits::MAX_PASSES;
+use crate::notices::Cause;
 use crate::pools::Pool;
 use mc_proxy::{MAX_SESSIONS, Proxy};
 use mc_proxy_pump::Pump;
@@ -70,9 +71,10 @@ impl Host {
         !self.settled || !self.queue.is_empty() || self.pool.is_stirred()
     }
 
-    /// Whether something is to be done in a second: a line is to be tried again, or a client is to rest.
+    /// Whether something is to be done in a second: a line is to be tried again, something is to be said of one, or a client is to
+    /// rest.
     pub fn is_busy(&self) -> bool {
-        self.busy || !self.pool.is_up()
+        self.busy || !self.pool.is_calm()
     }
 
     /// Whether each line was tried.
@@ -85,9 +87,14 @@ impl Host {
         self.pool.keep(rt, registry, second);
     }
 
-    /// Has a server join, whose line was not tried. Where it cannot, nothing changes.
-    pub fn join(&mut self, server: &Address) {
-        self.pool.join(&mut self.proxy, server);
+    /// Says on standard error what is new of the servers, of each at most once in a second.
+    pub fn tell<R: Eprint>(&mut self, rt: &R, second: u64) {
+        self.pool.tell(rt, second);
+    }
+
+    /// Has a server join, whose line was not tried. At an error nothing has changed.
+    pub fn join(&mut self, server: &Address) -> Result<(), Cause> {
+        self.pool.join(&mut self.proxy, server)
     }
 
     /// Takes a client in. One for whom there is no place or no memory is closed at once.

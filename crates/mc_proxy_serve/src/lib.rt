@@ -4,7 +4,10 @@
 //! there: each is tried once before the first client is accepted, and while it is down at most once in a second. Connecting
 //! waits for nobody. [`ProxySettings`] says when it ends, and which server joins. Its bodies are
 //! [`mc_proxy_pump::pump_client`] and [`mc_proxy_pump::pump_link`], which have the law of a client's stream and of a
-//! server's. [`command`] and [`Options`] are the command line of the program `mc_proxyd`.
+//! server's. [`command`] and [`Options`] are the command line of [`PROGRAM`].
+//!
+//! On standard error it says what becomes of its servers: a line `mc_proxyd: <server> <what>` where that is another than was said
+//! of the server last, and in each second at most one of each. Of a server that is there at first nothing is said.
 //!
 //! [`serve`] waits for its sockets, and may wait for ever; no other call does. What a socket carries, no contract says.
 #![tactic(auto)]
@@ -14,11 +17,12 @@ mod entrances;
 mod hosts;
 mod limits;
 mod lines;
+mod notices;
 mod options;
 mod pools;
 mod serving;
 mod settings;
 
-pub use options::{ListError, Options, command};
+pub use options::{ListError, Options, PROGRAM, command};
 pub use serving::serve;
 pub use settings::ProxySettings;

@@ -1,7 +1,8 @@
-//! The line to a server: its socket, if there is one, and how far the connection stands.
+//! The line to a server: its socket, if there is one, how far the connection is, and what is to be said of it.
 ghost use Rattle.std.specs.Prelude.{◌<◌, length};
 
 use crate::limits::CONNECT_SECONDS;
+use crate::notices::{Cause, Notice, Notices, tell};
 use mc_proxy::Proxy;
 use mc_proxy_pump::{Pump, pump_link};
 use mc_socket::{Edge, Input};
@@ -11,14 +12,14 @@ use mio::{Interest, Registry, Token};
 use std::mem;
 use std::net::{Net, SocketAddr, ToSocketAddrs};
 
-/// How far the connection to a server stands.
+/// How far the connection to a server is.
 #[derive(Drop)]
 enum State {
     /// There is none.
     Down,
     /// It was begun, and no event has told how it went.
     Connecting(TcpStream),
-    /// It stands, and the proxy's link is up.
+    /// It is there, and the proxy's link is up.
     Up(TcpStream),
 }
 
@@ -30,11 +31,12 @@ pub struct Line {
     state: State,
     /// In which second a connection was begun last.
     begun: Option<u64>,
-    /// Whether the first connection that was begun stood, or failed.
+    /// Whether the first connection that was begun came to be, or failed.
     tried: bool,
     edge: Edge,
-    /// Whether its socket may have something for it.
+    /// Whether its socket may have something for it: only where it is up.
     stirred: bool,
+    notices: Notices,
 }
 
 impl Line {
@@ -47,15 +49,16 @@ impl Line {
             tried: false,
             edge: Edge::new(),
             stirred: false,
+            notices: Notices::new(Notice::Back),
         }
     }
 
-    /// Whether its first connection stood, or failed.
+    /// Whether its first connection came to be, or failed.
     pub fn is_tried(&self) -> bool {
         self.tried
     }
 
-    /// Whether the connection stands.
+    /// Whether the connection is there.
     pub fn is_up(&self) -> bool {
         matches!(self.state, State::Up(_))
     }
@@ -65,7 +68,19 @@ impl Line {
         self.stirred
     }
 
-    /// Begins a connection where there is none and none was begun in this second; one that does not stand after
+    /// Whether something is to be said of it.
+    pub fn is_due(&self) -> bool {
+        self.notices.is_due()
+    }
+
+    /// Says on standard error what is new of its server, where nothing was said in this second.
+    pub fn tell<R: Eprint>(&mut self, rt: &R, second: u64) {
+        if let Some(notice) = self.notices.take(second) {
+            tell(rt, self.address.as_str(), notice);
+        }
+    }
+
+    /// Begins a connection where there is none and none was begun in this second; one that is not there after
     /// [`CONNECT_SECONDS`] is let go first.
     pub fn keep<R: Net>(&mut self, rt: &R, registry: &Registry, token: Token, second: u64) {
         let begun = self.begun;
@@ -76,63 +91,62 @@ impl Line {
                     true,
                     |begun| second.saturating_sub(begun) >= CONNECT_SECONDS,
                 ) {
-                    self.let_go();
+                    self.refuse(Cause::TimedOut);
                 }
             }
             State::Down => {
                 if begun != Some(second) {
                     self.begun = Some(second);
-                    if !self.connect(rt, registry, token) {
-                        self.tried = true;
+                    if let Err(cause) = self.connect(rt, registry, token) {
+                        self.refuse(cause);
                     }
                 }
             }
         }
     }
 
-    /// Begins a connection to the first IPv4 address that the server's host has, and says whether it could.
-    fn connect<R: Net>(&mut self, rt: &R, registry: &Registry, token: Token) -> bool {
-        let Ok(found) = self.address.as_str().to_socket_addrs(rt) else {
-            return false;
-        };
-        for address in found {
-            if address.is_ipv4() {
-                let Ok(mut stream) = TcpStream::connect(rt, address) else {
-                    return false;
-                };
-                let both = Interest::READABLE | Interest::WRITABLE;
-                if registry.register(&mut stream, token, both).is_err() {
-                    return false;
-                }
-                // A server whose commands may come late is used all the same.
-                let _ = stream.set_nodelay(true);
-                self.edge = Edge::new();
-                self.state = State::Connecting(stream);
-                return true;
-            }
-        }
-        false
+    /// Begins a connection to the first IPv4 address that the server's host has. The error is why it could not.
+    fn connect<R: Net>(&mut self, rt: &R, registry: &Registry, token: Token) -> Result<(), Cause> {
+        let address = address_of(rt, self.address.as_str())?;
+        let mut stream = TcpStream::connect(rt, address)?;
+        registry.register(&mut stream, token, Interest::READABLE | Interest::WRITABLE)?;
+        // A server whose commands may come late is used all the same.
+        let _ = stream.set_nodelay(true);
+        self.edge = Edge::new();
+        self.state = State::Connecting(stream);
+        Ok(())
     }
 
-    /// Notes what an event says. Of a connection that was begun it tells whether it stands, or has failed.
+    /// Notes what an event says. Of a connection that was begun it tells whether it is there, or has failed.
     pub fn note(&mut self, event: &Event, proxy: &mut Proxy, server: usize) {
         self.edge.note(event);
-        self.stirred = true;
-        match mem::replace(&mut self.state, State::Down) {
-            State::Connecting(stream) => {
-                if has_failed(&stream, event) {
-                    self.tried = true;
-                } else if stream.peer_addr().is_err() {
-                    self.state = State::Connecting(stream);
-                } else if proxy.back(server).is_ok() {
-                    self.tried = true;
-                    self.state = State::Up(stream);
-                } else {
-                    self.tried = true;
-                }
+        if let State::Connecting(stream) = &self.state {
+            match arrival(stream, event) {
+                Ok(false) => {}
+                Ok(true) => self.arrive(proxy, server),
+                Err(cause) => self.refuse(cause),
             }
-            state => self.state = state,
         }
+        self.stirred = self.is_up();
+    }
+
+    /// A connection that was begun is there, and the link is up.
+    fn arrive(&mut self, proxy: &mut Proxy, server: usize) {
+        match mem::replace(&mut self.state, State::Down) {
+            State::Connecting(stream) if proxy.back(server).is_ok() => {
+                self.tried = true;
+                self.state = State::Up(stream);
+                self.notices.note(Notice::Back);
+            }
+            _ => self.refuse(Cause::Ended),
+        }
+    }
+
+    /// There is no connection now: one that was begun is let go.
+    fn refuse(&mut self, cause: Cause) {
+        self.state = State::Down;
+        self.tried = true;
+        self.notices.note(Notice::Refused(cause));
     }
 
     /// Carries its bytes, and gives commands their replies. The sessions that were answered are put behind `woken`.
@@ -159,15 +173,47 @@ impl Line {
         pumped
     }
 
-    /// Lets the connection go, whether it stands or was only begun.
-    pub fn let_go(&mut self) {
+    /// Lets the connection go, and loses the link if it is still up.
+    pub fn lose(&mut self, proxy: &mut Proxy, server: usize) {
+        let cause = self.cause_of_loss(proxy, server);
+        // A strange reply has lost the link before.
+        let _ = proxy.lost(server);
         self.state = State::Down;
-        self.tried = true;
         self.stirred = false;
+        self.notices.note(Notice::Lost(cause));
+    }
+
+    /// Why its pump has failed: where the link is lost by a strange reply, where not the connection is over, and else there was
+    /// no memory.
+    fn cause_of_loss(&self, proxy: &Proxy, server: usize) -> Cause {
+        match &self.state {
+            _ if !proxy.is_up(server) => Cause::Strange,
+            State::Up(stream) if !is_over(stream) => Cause::Memory,
+            _ => Cause::Ended,
+        }
     }
 }
 
-/// Whether a connection that was begun has failed, by an event of it.
-fn has_failed(stream: &TcpStream, event: &Event) -> bool {
-    event.is_error() || event.is_write_closed() || !matches!(stream.take_error(), Ok(None))
+/// The first IPv4 address of `<host>:<port>`.
+fn address_of<R: Net>(rt: &R, server: &str) -> Result<SocketAddr, Cause> {
+    let mut found = server.to_socket_addrs(rt).map_err(|_| Cause::UnknownHost)?;
+    found
+        .find(|address| address.is_ipv4())
+        .ok_or(Cause::UnknownHost)
+}
+
+/// Whether a connection that was begun is there, by an event of it. The error is why it has failed.
+fn arrival(stream: &TcpStream, event: &Event) -> Result<bool, Cause> {
+    if let Some(error) = stream.take_error()? {
+        return Err(Cause::from(error));
+    }
+    if event.is_error() || event.is_write_closed() {
+        return Err(Cause::Ended);
+    }
+    Ok(stream.peer_addr().is_ok())
+}
+
+/// Whether a connection is over: the system has no peer of it any more, or the peer has ended it and all is read.
+fn is_over(stream: &TcpStream) -> bool {
+    stream.peer_addr().is_err() || matches!(stream.peek(&mut [0]), Ok(0))
 }

@@ -7,6 +7,9 @@ use mc_ring::{Address, Ring, RingError};
 use std::alloc::{AllocError, Global};
 use thiserror::Error;
 
+/// The program's name.
+pub const PROGRAM: &str = "mc_proxyd";
+
 /// What a command line asks for.
 #[derive(Drop)]
 pub struct Options<'a> {
@@ -90,7 +93,7 @@ fn joining(
 
 /// The command of a proxy program, with the meaning, the default and the limits of each option.
 pub fn command<'a>(alloc: Global) -> Result<Command<'a>, AllocError> {
-    Command::new(alloc, "mc_proxyd")
+    Command::new(alloc, PROGRAM)
         .about("A memcached proxy: spreads keys over servers by libketama's ring")
         .arg(listen(alloc))?
         .arg(accept(alloc))?

@@ -2,6 +2,7 @@
 ghost use Rattle.std.specs.Prelude.{◌<◌, length};
 
 use crate::lines::Line;
+use crate::notices::Cause;
 use mc_proxy::{LINK_MARK, MAX_SESSIONS, Proxy, ProxyError};
 use mc_proxy_pump::Pump;
 use mc_ring::{Address, Ring};
@@ -33,9 +34,9 @@ impl Pool {
         self.lines.iter().all(|line| line.is_tried())
     }
 
-    /// Whether each line stands.
-    pub fn is_up(&self) -> bool {
-        self.lines.iter().all(|line| line.is_up())
+    /// Whether each line is up, and nothing is to be said of any.
+    pub fn is_calm(&self) -> bool {
+        self.lines.iter().all(|line| line.is_up() && !line.is_due())
     }
 
     /// Whether the socket of a line may have something for it.
@@ -50,13 +51,19 @@ impl Pool {
         }
     }
 
-    /// Has a server join, whose line was not tried. Where it cannot, nothing changes.
-    pub fn join(&mut self, proxy: &mut Proxy, server: &Address) {
-        // Where there is no memory the pool stays as it is, and serves on.
-        let _ = self.try_join(proxy, server);
+    /// Says on standard error what is new of the servers, of each at most once in a second.
+    pub fn tell<R: Eprint>(&mut self, rt: &R, second: u64) {
+        for line in self.lines.iter_mut() {
+            line.tell(rt, second);
+        }
     }
 
-    /// The same, and says where there was no memory, or no place in the ring.
+    /// Has a server join, whose line was not tried. At an error nothing has changed.
+    pub fn join(&mut self, proxy: &mut Proxy, server: &Address) -> Result<(), Cause> {
+        Ok(self.try_join(proxy, server)?)
+    }
+
+    /// The same, in the proxy's words.
     fn try_join(&mut self, proxy: &mut Proxy, server: &Address) -> Result<(), ProxyError> {
         let line = line_to(self.alloc, server)?;
         let address = server.clone()?;
@@ -94,9 +101,7 @@ impl Pool {
                 Pump::Again => {}
                 Pump::Blocked => proxy.link_give_back(place, KEPT_ROOM),
                 Pump::Done | Pump::Failed => {
-                    // A strange reply has lost the link before.
-                    let _ = proxy.lost(place);
-                    line.let_go();
+                    line.lose(proxy, place);
                     others = true;
                 }
             }

@@ -24,8 +24,9 @@ const MAX_EVENTS: usize = 1024;
 ///
 /// Each server is tried once before the first client is let in, and while its line is down at most once in a second. It
 /// answers once as many clients as the settings say were accepted and all of them are gone; without such a limit it serves for
-/// ever. A client or a line that fails is closed, and the others go on.
-pub fn serve<R: Net + Clock + Wait>(
+/// ever. A client or a line that fails is closed, and the others go on. What becomes of servers is said on standard error; where
+/// that fails nothing else changes, and a write to it that waits holds all clients up.
+pub fn serve<R: Net + Clock + Wait + Eprint>(
     rt: &R,
     alloc: Global,
     listener: TcpListener,
@@ -43,7 +44,7 @@ pub fn serve<R: Net + Clock + Wait>(
 }
 
 /// Goes round until the entrance is shut and nobody is served any more.
-fn rounds<R: Net + Clock + Wait>(
+fn rounds<R: Net + Clock + Wait + Eprint>(
     rt: &R,
     poll: &mut Poll,
     events: &mut Events,
@@ -55,6 +56,8 @@ fn rounds<R: Net + Clock + Wait>(
     for _ in rt.forever() {
         let second = uptime.seconds(rt);
         host.keep(rt, poll.registry(), second);
+        host.tell(rt, second);
+        entrance.tell(rt, second);
         let patience = patience(entrance, host);
         poll.poll(events, patience).map_err(|_| ServeError::Listen)?;
         host.go_on();
@@ -83,7 +86,7 @@ fn patience(entrance: &Entrance<'_>, host: &Host) -> Option<Duration> {
     if host.goes_on() || (entrance.is_awaited() && host.is_settled()) {
         return Some(Duration::from_millis(0));
     }
-    if host.is_busy() || entrance.is_refused() {
+    if host.is_busy() || entrance.is_refused() || entrance.is_due() {
         return Some(Duration::from_millis(PATIENCE));
     }
     None

@@ -6,7 +6,7 @@
 #![tactic(auto)]
 
 use mc_program::{Failure, exit_status, read_words};
-use mc_proxy_serve::{ListError, Options, command, serve};
+use mc_proxy_serve::{ListError, Options, PROGRAM, command, serve};
 use mc_ring::Ring;
 use mc_socket::bind;
 use mc_stream::ServeError;
@@ -18,7 +18,7 @@ use std::sync::Wait;
 fn main(rt: HostRuntime) -> ExitCode {
     let served = run(&rt);
     if let Err(failure) = &served {
-        failure.tell(&rt, "mc_proxyd");
+        failure.tell(&rt, PROGRAM);
     }
     ExitCode::from(exit_status(&served))
 }
@@ -26,7 +26,7 @@ fn main(rt: HostRuntime) -> ExitCode {
 /// Reads the words, and then prints how large the ring is, or serves.
 fn run<R>(rt: &R) -> Result<(), Failure>
 where
-    R: Env + Clock + Print + Net + Wait + AllocGlobal,
+    R: Env + Clock + Print + Eprint + Net + Wait + AllocGlobal,
 {
     let alloc = rt.alloc();
     let words = read_words(rt)?;

@@ -1,0 +1,142 @@
+//! What a proxy says of its servers on standard error.
+ghost use Rattle.std.specs.Prelude.{◌≡◌, ◌≢◌, Some, None, IfSome, IfNone};
+
+use crate::options::PROGRAM;
+use mc_proxy::ProxyError;
+use std::fmt::{Display, Formatter};
+use std::io::ErrorKind;
+use std::{fmt, io};
+use thiserror::Error;
+
+/// Why a server is not connected.
+#[derive(Clone, Copy, Debug, PartialEq, Eq, Error)]
+pub enum Cause {
+    /// The system knows no IPv4 address of the host's name.
+    #[error("unknown host")]
+    UnknownHost,
+    /// The system refused the connection, and calls it so.
+    #[error("{0}")]
+    Connect(ErrorKind),
+    /// The connection was not there after [`CONNECT_SECONDS`](crate::limits::CONNECT_SECONDS).
+    #[error("timed out")]
+    TimedOut,
+    /// What came is no reply to the command that waits longest, or no command waited.
+    #[error("strange reply")]
+    Strange,
+    /// The connection has ended or failed.
+    #[error("connection ended")]
+    Ended,
+    /// No memory for what came, or for one more server.
+    #[error("out of memory")]
+    Memory,
+    /// The ring has the server already, or as many as it may have.
+    #[error("no place in the ring")]
+    NoPlace,
+}
+
+impl From<ProxyError> for Cause {
+    fn from(error: ProxyError) -> Cause {
+        match error {
+            ProxyError::RingFull | ProxyError::AlreadyThere => Cause::NoPlace,
+            _ => Cause::Memory,
+        }
+    }
+}
+
+impl From<io::Error> for Cause {
+    fn from(error: io::Error) -> Cause {
+        Cause::Connect(error.kind())
+    }
+}
+
+/// What became of a server, as it is said: `back`, `refused: <cause>`, `lost: <cause>`, `joined`, `not joined: <cause>`.
+#[derive(Clone, Copy, Debug, PartialEq, Eq)]
+pub enum Notice {
+    /// It is connected.
+    Back,
+    /// It cannot be connected to.
+    Refused(Cause),
+    /// It was connected, and is not any more.
+    Lost(Cause),
+    /// It has joined the ring.
+    Joined,
+    /// It could not join the ring.
+    NotJoined(Cause),
+}
+
+impl Display for Notice {
+    fn fmt<W: fmt::Write>(&self, f: &mut Formatter<W>) -> fmt::Result {
+        match self {
+            Notice::Back => f.write_str("back"),
+            Notice::Refused(cause) => write!(f, "refused: {cause}"),
+            Notice::Lost(cause) => write!(f, "lost: {cause}"),
+            Notice::Joined => f.write_str("joined"),
+            Notice::NotJoined(cause) => write!(f, "not joined: {cause}"),
+        }
+    }
+}
+
+/// Says on standard error what became of a server.
+pub fn tell<R: Eprint>(rt: &R, server: &str, notice: Notice) {
+    // Where it cannot be said, all are served all the same.
+    let _ = eprintln!(rt; "{PROGRAM}: {server} {notice}");
+}
+
+/// What was said of a server, and what is to be said: only what is new, and in a second no more than one notice.
+#[derive(Clone, Copy, Debug)]
+pub struct Notices {
+    /// What was said last.
+    pub said: Notice,
+    /// What became of the server since, where that is something else.
+    pub due: Option<Notice>,
+    /// In which second something was said last.
+    pub second: Option<u64>,
+}
+
+impl Notices {
+    /// Nothing was said of a server, of which this is taken to be known.
+    pub fn new(said: Notice) -> Notices
+        ensures { result ≡ record { said = said; due = None; second = None } }
+    {
+        Notices {
+            said,
+            due: None,
+            second: None,
+        }
+    }
+
+    /// Notes what became of the server. What was due before is not said any more.
+    pub fn note(&mut self, notice: Notice)
+        ensures due { IfSome self.new.due (λ due. due ≡ notice) }
+        ensures said { self.new.said ≡ self.old.said }
+        ensures second { self.new.second ≡ self.old.second }
+    {
+        self.due = if notice == self.said {
+            None
+        } else {
+            Some(notice)
+        };
+    }
+
+    /// Whether something is to be said.
+    pub fn is_due(&self) -> bool {
+        self.due.is_some()
+    }
+
+    /// What is to be said in this second, which is then said.
+    pub fn take(&mut self, second: u64) -> Option<Notice>
+        ensures once { self.old.second ≡ Some second → result ≡ None }
+        ensures due { self.old.second ≢ Some second → result ≡ self.old.due }
+        ensures taken { IfSome result (λ notice. self.new ≡ record { said = notice; due = None; second = Some second }) }
+        ensures nothing { IfNone result (self.new ≡ self.old) }
+    {
+        if self.second == Some(second) {
+            return None;
+        }
+        let notice = self.due?;
+        self.said = notice;
+        self.due = None;
+        self.second = Some(second);
+        Some(notice)
+    }
+}
