@@ -463,13 +463,15 @@ def a_join_that_is_refused_is_said_and_tried_again():
     with contextlib.ExitStack() as stack:
         servers = [stack.enter_context(Played.Server()) for _ in range(61)]
         *addresses, joins = [server.address for server in servers]
-        words = ["--join", joins, "--join-after", "1"]
+        words = ["--join", joins, "--join-after", "2"]
         proxy = stack.enter_context(Proxy(PROXY.path, addresses, words, stderr=subprocess.PIPE))
-        allow_memory(proxy, proxy.memory("VmSize"))
         first = stack.enter_context(proxy.connected())
+        is_served(first)
+        allow_memory(proxy, proxy.memory("VmSize"))
+        second = stack.enter_context(proxy.connected())
         is_said(proxy, f"{joins} not joined: out of memory")
         allow_memory(proxy, resource.RLIM_INFINITY)
-        is_served(first)
+        is_served(second)
         is_served(stack.enter_context(proxy.connected()))
         is_said(proxy, f"{joins} joined")
         key = Ring([*addresses, joins]).key(60)
