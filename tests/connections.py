@@ -13,8 +13,8 @@ import time
 
 from checks import KILOBYTE, PATIENCE, Wrong, asked, is_served, received, received_to_the_end, want, want_at_most
 
-QUIET_MISS = b"mg b v q\r\n"
-QUIET_MISSES = QUIET_MISS * (128 * KILOBYTE)
+# Requests that nobody answers and that take a server longer than they take a client: each copies a value of 10,000 bytes and more.
+APPENDS = b"set k 0 0 10000 noreply\r\n%s\r\n" % bytes(10_000) + b"append k 0 0 1 noreply\r\nx\r\n" * 2_000
 MOST_SENT = 256 * KILOBYTE * KILOBYTE  # as much a client that sends without end sends at most
 
 # Dialogues: what a client of a new cache sends, and what it is answered.
@@ -165,10 +165,10 @@ class Sender(threading.Thread):
         connection.settimeout(0.1)
 
     def run(self):
-        requests = memoryview(QUIET_MISSES)
+        requests = memoryview(APPENDS * 16)
         while not self.told.is_set() and self.sent < MOST_SENT:
             try:
-                self.sent += self.connection.send(requests[self.sent % len(QUIET_MISS) :])
+                self.sent += self.connection.send(requests[self.sent % len(APPENDS) :])
             except TimeoutError:
                 pass
 
