@@ -6,9 +6,8 @@ use crate::limits::MAX_PASSES;
 use crate::notices::Cause;
 use crate::pools::Pool;
 use mc_proxy::{MAX_SESSIONS, Proxy};
-use mc_proxy_pump::Pump;
-use mc_ring::{Address, Ring};
-use mc_socket::{KEPT_ROOM, PIECE_LEN};
+use mc_ring::{Address, Ring, SERVER_LIMIT};
+use mc_socket::{KEPT_ROOM, PIECE_LEN, Step, step_after};
 use mc_stream::ServeError;
 use mio::event::Event;
 use mio::net::TcpStream;
@@ -36,6 +35,8 @@ pub struct Host {
     going_on: Vec<usize>,
     /// The sessions whose commands were answered in this pass.
     woken: Vec<u64>,
+    /// The places of the links that came below their mark in this pass.
+    freed: Vec<usize>,
     /// Whether all that clients sent was carried to servers, and all that came from these to clients, as far as it goes.
     settled: bool,
     /// Whether a client was busy since the last rest.
@@ -56,6 +57,7 @@ impl Host {
             queue: Vec::with_capacity(alloc, MAX_SESSIONS)?,
             going_on: Vec::with_capacity(alloc, MAX_SESSIONS)?,
             woken: Vec::with_capacity(alloc, MAX_SESSIONS)?,
+            freed: Vec::with_capacity(alloc, SERVER_LIMIT)?,
             settled: true,
             busy: false,
         })
@@ -146,19 +148,35 @@ impl Host {
     /// came together, so that it goes out together.
     pub fn settle(&mut self) {
         for _ in 0..MAX_PASSES {
-            let others = self
-                .pool
-                .carry(&mut self.proxy, &mut self.piece, &mut self.woken);
-            self.settled = !others && self.woken.is_empty();
+            let others = self.pool.carry(
+                &mut self.proxy,
+                &mut self.piece,
+                &mut self.woken,
+                &mut self.freed,
+            );
+            self.settled = !others && self.woken.is_empty() && self.freed.is_empty();
             if self.settled {
                 return;
             }
             if others {
                 self.serve_all();
             } else {
+                self.let_on();
                 self.answer();
             }
         }
+    }
+
+    /// Serves the clients whose requests wait for a link that came below its mark.
+    fn let_on(&mut self) {
+        for key in 0..MAX_SESSIONS {
+            if let Some(client) = self.clients.get(key) {
+                if waits_for_any(&self.proxy, client.session(), self.freed.as_slice()) {
+                    self.serve(key);
+                }
+            }
+        }
+        self.freed.clear();
     }
 
     /// Serves the clients whose commands were answered.
@@ -179,6 +197,7 @@ impl Host {
     /// Serves all clients.
     fn serve_all(&mut self) {
         self.woken.clear();
+        self.freed.clear();
         for key in 0..MAX_SESSIONS {
             self.serve(key);
         }
@@ -207,10 +226,11 @@ impl Host {
             return;
         };
         self.busy = true;
-        match client.pump(&mut self.proxy, &mut self.piece) {
-            Pump::Again => self.enqueue(key),
-            Pump::Blocked => self.proxy.give_back(client.session(), KEPT_ROOM),
-            Pump::Done | Pump::Failed => self.close(key),
+        let pumped = client.pump(&mut self.proxy, &mut self.piece);
+        match step_after(pumped) {
+            Step::GoOn => self.enqueue(key),
+            Step::Wait => self.proxy.give_back(client.session(), KEPT_ROOM),
+            Step::Close => self.close(key),
         }
     }
 
@@ -231,4 +251,14 @@ impl Host {
             let _ = self.proxy.gone(client.session());
         }
     }
+}
+
+/// Whether the next request of a session waits for one of the links to the servers of some places.
+fn waits_for_any(proxy: &Proxy, session: u64, places: &[usize]) -> bool {
+    for place in places {
+        if proxy.waits_for(session, *place) {
+            return true;
+        }
+    }
+    false
 }

@@ -4,9 +4,8 @@ ghost use Rattle.std.specs.Prelude.{◌<◌, length};
 use crate::lines::Line;
 use crate::notices::Cause;
 use mc_proxy::{LINK_MARK, MAX_SESSIONS, Proxy, ProxyError};
-use mc_proxy_pump::Pump;
 use mc_ring::{Address, Ring};
-use mc_socket::KEPT_ROOM;
+use mc_socket::{KEPT_ROOM, Step, step_after};
 use mio::event::Event;
 use mio::{Registry, Token};
 use std::alloc::{AllocError, Global};
@@ -85,10 +84,16 @@ impl Pool {
     }
 
     /// Carries the bytes of the lines that have something to send, or may have received something. The sessions that were
-    /// answered are put behind `woken`; the result says whether any other session may go on, since a line was lost, or is at
-    /// its mark no more. A line that fails is let go and its link is lost: the commands that wait on it are lost, and it is
-    /// tried again.
-    pub fn carry(&mut self, proxy: &mut Proxy, piece: &mut [u8], woken: &mut Vec<u64>) -> bool
+    /// answered are put after `woken`, and the places whose links are at their mark no more after `freed`. The result says
+    /// whether any other session may go on, since a line was lost. A line that fails is let go and its link is lost: the commands
+    /// that wait on it are lost, and it is tried again.
+    pub fn carry(
+        &mut self,
+        proxy: &mut Proxy,
+        piece: &mut [u8],
+        woken: &mut Vec<u64>,
+        freed: &mut Vec<usize>,
+    ) -> bool
         requires piece { 0 < length piece.old }
     {
         let mut others = false;
@@ -97,15 +102,18 @@ impl Pool {
                 continue;
             }
             let was_marked = is_marked(proxy, place);
-            match line.pump(proxy, place, piece, woken) {
-                Pump::Again => {}
-                Pump::Blocked => proxy.link_give_back(place, KEPT_ROOM),
-                Pump::Done | Pump::Failed => {
+            let pumped = line.pump(proxy, place, piece, woken);
+            match step_after(pumped) {
+                Step::GoOn => {}
+                Step::Wait => proxy.link_give_back(place, KEPT_ROOM),
+                Step::Close => {
                     line.lose(proxy, place);
                     others = true;
                 }
             }
-            others |= was_marked && !is_marked(proxy, place);
+            if was_marked && !is_marked(proxy, place) {
+                others |= freed.push(place).is_err();
+            }
         }
         others
     }
