@@ -68,8 +68,30 @@ fn play(
     Ok((last, made, sink.taken))
 }
 
-/// Whether an exchange, played to a new server by calls one of which ends its connection, fails, and what was sent until
-/// then is right; and whether the server's next connection is then served whole.
+/// What one connection stores, and what a later one is answered of it.
+const OLDER: Exchange = Exchange {
+    sent: b"set older 5 0 5\r\nfirst\r\n",
+    answers: b"STORED\r\n",
+};
+const KEPT: Exchange = Exchange {
+    sent: b"get older\r\n",
+    answers: b"VALUE older 5 5\r\nfirst\r\nEND\r\n",
+};
+
+/// Whether an exchange is answered whole by a server.
+fn is_whole(
+    alloc: Global,
+    server: &mut Server<MeagreStore>,
+    exchange: &Exchange,
+    calm: Sides,
+) -> Result<bool, Fail> {
+    let (last, _, taken) = play(alloc, server, exchange.sent, calm)?;
+    Ok(last == Pump::Done && taken.as_slice() == exchange.answers)
+}
+
+/// Whether an exchange, played to a server that holds an older key, by calls one of which ends its connection, fails, and
+/// what was sent until then is right; and whether the server then still holds the older key, and its next connection is
+/// served whole.
 fn fails_alone(
     alloc: Global,
     exchange: &Exchange,
@@ -78,14 +100,12 @@ fn fails_alone(
     sides: Sides,
 ) -> Result<bool, Fail> {
     let mut server = new_server(alloc, WIDE)?;
+    let is_stored = is_whole(alloc, &mut server, &OLDER, calm)?;
     let (failed, _, before) = play(alloc, &mut server, exchange.sent, sides)?;
-    let (done, _, whole) = play(alloc, &mut server, next.sent, calm)?;
-    Ok(
-        failed == Pump::Failed
-            && exchange.answers.starts_with(before.as_slice())
-            && done == Pump::Done
-            && whole.as_slice() == next.answers,
-    )
+    let is_kept = is_whole(alloc, &mut server, &KEPT, calm)?;
+    let is_served = is_whole(alloc, &mut server, next, calm)?;
+    let has_failed = failed == Pump::Failed && exchange.answers.starts_with(before.as_slice());
+    Ok(is_stored && has_failed && is_kept && is_served)
 }
 
 /// The calls that an exchange takes which is answered whole by a server of its own, if it is.
@@ -115,8 +135,9 @@ fn fail_alone(
     Ok(is_so)
 }
 
-/// Each exchange is answered whole under each pair of scripts. Then each single call of such a run ends the connection: the
-/// next one of the same server, which is sent the first exchange, is answered as if nothing had been.
+/// Each exchange is answered whole under each pair of scripts. Then each single call of such a run ends the connection, a
+/// write alone too: what an older connection stored is still there, and the next one of the same server, which is sent the
+/// first exchange, is answered as if nothing had been.
 #[test]
 fn pump_never_works(rt: HostRuntime) -> Result<(), Fail> {
     let alloc = rt.alloc();
