@@ -5,7 +5,7 @@ use mc_fixtures::{
     Call, Calls, MANY, MOMENT, MeagreStore, SCRIPTS, Sides, Sink, Source, WIDE, new_server,
     with_value,
 };
-use mc_pump::{Pump, UNSENT_MARK, pump};
+use mc_pump::{MAX_ROUNDS, Pump, UNSENT_MARK, pump};
 use mc_server::Server;
 use std::alloc::{AllocError, Global};
 use std::test::Fail;
@@ -73,6 +73,7 @@ const OLDER: Exchange = Exchange {
     sent: b"set older 5 0 5\r\nfirst\r\n",
     answers: b"STORED\r\n",
 };
+
 const KEPT: Exchange = Exchange {
     sent: b"get older\r\n",
     answers: b"VALUE older 5 5\r\nfirst\r\nEND\r\n",
@@ -219,5 +220,27 @@ fn unsent_answers_stop_reads(rt: HostRuntime) -> Result<(), Fail> {
     let last = pumped(&mut server, number, &mut source, &mut sink);
     let is_done = last == Pump::Done && are_repeated(&sink.taken, &answer, 20);
     assert!(rt; is_stopped && is_done);
+    Ok(())
+}
+
+/// A pump of a client that always sends ends after its rounds, so that others are served.
+#[test]
+fn a_pump_ends_though_more_comes(rt: HostRuntime) -> Result<(), Fail> {
+    let alloc = rt.alloc();
+    let mut server = new_server(alloc, WIDE)?;
+    let number = server.admit()?;
+    let mut source = Source::new(alloc, &[b'x'; 1_000], Calls::new(&[Moves(1)], None))?;
+    let mut sink = Sink::new(alloc, Calls::new(&[Moves(1)], None));
+    let mut piece = [0u8; 16];
+    let last = pump(
+        &mut server,
+        number,
+        &mut false,
+        &mut source,
+        &mut sink,
+        &mut piece,
+        MOMENT,
+    );
+    assert!(rt; last == Pump::Again && source.calls.made == MAX_ROUNDS as usize);
     Ok(())
 }
