@@ -9,6 +9,7 @@ use std::alloc::Global;
 use std::test::Fail;
 
 /// A step of a dialogue, with what it is to bring.
+#[derive(Drop)]
 enum Step {
     /// A client sends bytes.
     Asks(u64, &'static [u8]),
@@ -16,7 +17,7 @@ enum Step {
     Turn(u64, Turn),
     /// So much is to be sent to a server, and is.
     Sends(usize, &'static [u8]),
-    /// A server's bytes come, one at a time, with a turn of the link behind each; the last turn answers this.
+    /// A server's bytes come, one at a time, with a turn of the link after each; the last turn answers this.
     Hears(usize, &'static [u8], LinkTurn),
     /// An answer is put out, if one is known.
     Emit(u64, Emit),
@@ -240,6 +241,55 @@ const DIALOGUES: [&[Step]; 10] = [
     ],
 ];
 
+/// Where one server owns every key. Its link is up, and two clients are there.
+const DIALOGUES_OF_ONE: [&[Step]; 2] = [
+    // where the only link is down each request is told so, also a quiet one, and nothing is kept for when it is back
+    &[
+        Loses(0, b""),
+        Asks(0, b"set a 0 0 1 noreply\r\nx\r\nget a b\r\nversion\r\n"),
+        Step::Turn(0, Turn::Took),
+        Step::Turn(0, Turn::Took),
+        Step::Turn(0, Turn::Took),
+        Step::Emit(0, Emit::Done),
+        Step::Emit(0, Emit::Done),
+        Step::Emit(0, Emit::Done),
+        Tells(
+            0,
+            b"SERVER_ERROR link lost\r\nSERVER_ERROR link lost\r\nVERSION 1.6.0\r\n",
+        ),
+        Returns(0, 2),
+        Sends(0, b""),
+    ],
+    // a quiet meta get is sent without what the proxy answers itself: a hit is shown as it was asked, a miss is hidden
+    &[
+        Asks(0, b"mg abc v k q O1\r\nmg abc v k q O1\r\n"),
+        Step::Turn(0, Turn::Took),
+        Sends(0, b"mg YWJj b v\r\n"),
+        Hears(0, b"VA 1\r\nx\r\n", LinkTurn::Took),
+        Step::Emit(0, Emit::Done),
+        Tells(0, b"VA 1 kabc O1\r\nx\r\n"),
+        Step::Turn(0, Turn::Took),
+        Sends(0, b"mg YWJj b v\r\n"),
+        Hears(0, b"EN\r\n", LinkTurn::Took),
+        Step::Emit(0, Emit::Done),
+        Tells(0, b""),
+    ],
+];
+
+/// Requests, and bytes that come for each and are no reply to it: with the last of them that is known.
+const STRANGE: [(&'static [u8], &'static [u8]); 8] = [
+    (b"get a\r\n", b"VALUE b"),
+    (b"get a\r\n", b"ER"),
+    (b"get a\r\n", b"VALUE a 0 1048577"),
+    (b"get a\r\n", b"VALUE a 0 1\r\nxy"),
+    (b"set a 0 0 1\r\nx\r\n", b"STORED\n"),
+    (b"incr a 1\r\n", b"00"),
+    (b"incr a 1\r\n", b"18446744073709551616"),
+    (b"mg a v\r\n", b"VA 1 t"),
+];
+
+const LOST: &[u8] = b"SERVER_ERROR link lost\r\n";
+
 /// Why a dialogue could not be played.
 #[derive(Debug, Drop)]
 pub enum Stopped {
@@ -297,14 +347,14 @@ pub fn pool(alloc: Global, points: &[Point]) -> Result<Proxy, Stopped> {
     Ok(proxy)
 }
 
-/// A pool of two servers; where one is refused memory, another.
-fn pool_of_two(alloc: Global) -> Result<Proxy, Stopped> {
+/// The same; where one is refused memory, another.
+fn pool_again(alloc: Global, points: &[Point]) -> Result<Proxy, Stopped> {
     for _ in 0..TRIES {
-        if let Ok(proxy) = pool(alloc, &TWO) {
+        if let Ok(proxy) = pool(alloc, points) {
             return Ok(proxy);
         }
     }
-    pool(alloc, &TWO)
+    pool(alloc, points)
 }
 
 /// How often a call is made again where it is refused memory.
@@ -410,9 +460,9 @@ fn hears(proxy: &mut Proxy, server: usize, bytes: &[u8]) -> Result<LinkTurn, Pro
     Ok(last)
 }
 
-/// Whether each step of a dialogue brings what it is to bring.
-fn goes_on_so(alloc: Global, steps: &[Step]) -> Result<bool, Stopped> {
-    let mut proxy = pool_of_two(alloc)?;
+/// Whether each step of a dialogue brings what it is to bring, over servers of these points.
+fn goes_on_so(alloc: Global, points: &[Point], steps: &[Step]) -> Result<bool, Stopped> {
+    let mut proxy = pool_again(alloc, points)?;
     for step in steps {
         if !goes_so(alloc, &mut proxy, step)? {
             return Ok(false);
@@ -421,13 +471,39 @@ fn goes_on_so(alloc: Global, steps: &[Step]) -> Result<bool, Stopped> {
     Ok(true)
 }
 
+/// Whether such bytes lose the link: what waits on it, for whichever client, is told so, and the link can come back.
+fn lose_the_link(
+    alloc: Global,
+    asked: &'static [u8],
+    strange: &'static [u8],
+) -> Result<bool, Stopped> {
+    let steps = [
+        Asks(0, asked),
+        Asks(1, b"get b\r\n"),
+        Step::Turn(0, Turn::Took),
+        Step::Turn(1, Turn::Took),
+        Hears(0, strange, LinkTurn::Strange),
+        Step::Emit(0, Emit::Done),
+        Step::Emit(1, Emit::Done),
+        Tells(0, LOST),
+        Tells(1, LOST),
+        Returns(0, 2),
+    ];
+    goes_on_so(alloc, &ONE, &steps)
+}
+
 fn go_so(alloc: Global) -> Result<bool, Stopped> {
+    let mut are_so = true;
     for steps in DIALOGUES {
-        if !goes_on_so(alloc, steps)? {
-            return Ok(false);
-        }
+        are_so &= goes_on_so(alloc, &TWO, steps)?;
     }
-    Ok(true)
+    for steps in DIALOGUES_OF_ONE {
+        are_so &= goes_on_so(alloc, &ONE, steps)?;
+    }
+    for (asked, strange) in STRANGE {
+        are_so &= lose_the_link(alloc, asked, strange)?;
+    }
+    Ok(are_so)
 }
 
 #[test]

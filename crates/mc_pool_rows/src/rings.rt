@@ -1,11 +1,11 @@
 //! Rings against figures that others compute.
 
-use mc_ring::{Address, Ring, RingError};
+use mc_ring::{Address, Point, Ring, RingError};
 use mc_text::Key;
 use std::alloc::Global;
 use std::test::Fail;
 
-/// What is known of the ring of `127.0.0.1:11211` and the ports behind it, and of the owners of `k0` to `k999`. The
+/// What is known of the ring of `127.0.0.1:11211` and the next ports, and of the owners of `k0` to `k999`. The
 /// figures are those of Python's hashlib.
 struct Known {
     servers: usize,
@@ -85,6 +85,76 @@ fn points_and_owners_are_those_of_others(rt: HostRuntime) -> Result<(), Fail> {
         }
         assert_eq!(rt; owners, known.owners, "{} servers", known.servers);
     }
+    Ok(())
+}
+
+/// Points of a ring of the first servers, and how many of the keys go to the next one where it joins.
+const JOINS: [(&'static [Point], usize); 2] = [
+    (
+        &[Point {
+            point: 0xb975_c10c,
+            place: 0,
+        }],
+        1_000,
+    ),
+    (
+        &[
+            Point {
+                point: 0x9850_0190,
+                place: 0,
+            },
+            Point {
+                point: 0xb975_c10c,
+                place: 1,
+            },
+        ],
+        990,
+    ),
+];
+
+/// How many of them go to the fourth server, where it joins the first three, each with its 160 points.
+const TO_THE_FOURTH: usize = 231;
+
+fn servers(alloc: Global, count: usize) -> Result<Vec<Address>, RingError> {
+    let mut servers = Vec::new(alloc);
+    for number in 0..count {
+        servers.push(server(alloc, number)?)?;
+    }
+    Ok(servers)
+}
+
+/// How many of the keys go to the next server where it joins a ring; nothing where one goes anywhere else.
+fn moved(alloc: Global, ring: &Ring) -> Result<Option<usize>, RingError> {
+    let place = ring.servers().len();
+    let wider = ring.with_server(alloc, server(alloc, place)?)?;
+    let mut count = 0usize;
+    for number in 0..KEYS {
+        let text = format!(in alloc; "k{number}")?;
+        let owner = wider.owner_of_bytes(text.as_bytes());
+        if owner == place {
+            count = count.saturating_add(1);
+        } else if owner != ring.owner_of_bytes(text.as_bytes()) {
+            return Ok(None);
+        }
+    }
+    Ok(Some(count))
+}
+
+/// How many go where a server joins a ring of these points.
+fn moved_from_points(alloc: Global, points: &[Point]) -> Result<Option<usize>, RingError> {
+    let servers = servers(alloc, points.len())?;
+    moved(alloc, &Ring::of_points(alloc, servers.as_slice(), points)?)
+}
+
+#[test]
+fn a_server_that_joins_takes_keys_and_others_trade_none(rt: HostRuntime) -> Result<(), Fail> {
+    let alloc = rt.alloc();
+    let mut are_so = true;
+    for (points, count) in &JOINS {
+        are_so &= moved_from_points(alloc, points)? == Some(*count);
+    }
+    let three = Ring::new(alloc, servers(alloc, 3)?.as_slice())?;
+    assert!(rt; are_so && moved(alloc, &three)? == Some(TO_THE_FOURTH));
     Ok(())
 }
 
