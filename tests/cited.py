@@ -6,8 +6,8 @@ Usage: cited.py      (README.md, docs/*.md, bench/RESULTS.md, and the `//!` and 
 A word in backquotes is a path where it has a slash, or ends as a source, a script or a document does (`.rt`, `.antt`, `.edit`,
 `.py`, `.sh`, `.md`). It is looked for from the top, among the crates, and beside the document. What is cited as `src/..` or
 `specs/..` is in a crate: that of the comment, or one that the paragraph names; in a document whose paragraph names none, the
-one that was named last. A folder of all crates (`specs/`) and a file without a folder may be anywhere. Words in capitals stand
-for any name (`tests/examples/NAME.txt`). The targets of a document's links are looked for from its folder.
+one that was named last. A folder of all crates (`specs/`) and a file without a folder may be anywhere. The words NAME and
+CRATE are any name (`tests/examples/NAME.txt`). The targets of a document's links are looked for from its folder.
 
 It prints a line for each path that is not there; the last line is 'N passed, M failed', one for each document and crate.
 """
@@ -21,7 +21,7 @@ ENDINGS = (".rt", ".antt", ".edit", ".py", ".sh", ".md")
 QUOTED = re.compile(r"`([^`\s]+)`")
 LINK = re.compile(r"\]\(([^()\s]+)\)")
 CRATE = re.compile(r"\bmc_[a-z_]+\b")
-ANY_NAME = re.compile(r"\b[A-Z]{2,}(?=\b|_)")
+ANY_NAME = re.compile(r"\b(?:NAME|CRATE)\b")
 
 # What is no file of this repository: memcached's own document, what a build leaves in the folders out/, and what the system has.
 ELSEWHERE = re.compile(r"doc/protocol\.txt$|(.*/)?out(/|$)|/")
