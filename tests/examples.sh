@@ -1,6 +1,6 @@
 #!/usr/bin/env bash
 # Plays each script of tests/examples/ to mc_sim and compares what is printed with what stands beside it: the examples of
-# README.md and docs/PROTOCOL.md, and the worked examples over all crates.
+# docs/SCRIPTS.md and docs/PROTOCOL.md, and the worked examples over all crates.
 #
 # Usage: examples.sh [PROGRAM]      (mc_sim, as each compiler built it; tests/model.py can stand in its place)
 #
