@@ -160,10 +160,12 @@ impl Host {
             }
             if others {
                 self.serve_all();
-            } else {
-                self.let_on();
-                self.answer();
+                continue;
             }
+            if !self.freed.is_empty() {
+                self.let_on();
+            }
+            self.answer();
         }
     }
 
