@@ -1,14 +1,21 @@
 //! What commands do by the definitions of `mc_cache`: laws of its step, and commands one after another worked out by hand.
 //!
-//! No program stands on this crate. Its functions do nothing: their contracts are the laws, and the examples that are computed
-//! when the crate is proved. So a definition of `mc_cache` that says something else is refused here. `specs/Laws.antt` has the
-//! statements of the laws, `specs/Examples.antt` the short forms of the commands in the examples.
+//! No program uses this crate. Its functions do nothing: their contracts are the laws, and the examples that are computed
+//! when the crate is proved. So a definition of `mc_cache` that says something else is refused here. `specs/Laws.antt`
+//! and `specs/GoodCaches.antt` have the statements of the laws, `specs/Examples.antt` the short forms of the commands in the
+//! examples.
 #![tactic(auto)]
 
+mod good_caches;
+mod good_rows;
 mod laws;
 mod meta_rows;
 mod rows;
 
+pub use good_caches::{
+    good_caches_stay_good, heads_tell_of_replies, replies_are_ones_that_commands_can_have,
+};
+pub use good_rows::{a_cache_of_no_items_shows_no_number, a_late_expiry_is_not_shown};
 pub use laws::{
     commands_join, meta_updates_are_updates, other_keys_stay, stored_is_shown,
     stored_is_shown_by_meta,
