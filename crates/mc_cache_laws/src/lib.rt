@@ -1,15 +1,18 @@
 //! What commands do by the definitions of `mc_cache`: laws of its step, and commands one after another worked out by hand.
 //!
 //! No program uses this crate. Its functions do nothing: their contracts are the laws, and the examples that are computed
-//! when the crate is proved. So a definition of `mc_cache` that says something else is refused here. `specs/Laws.antt`
-//! and `specs/GoodCaches.antt` have the statements of the laws, `specs/Examples.antt` the short forms of the commands in the
-//! examples.
+//! when the crate is proved. So a definition of `mc_cache` that says something else is refused here. `specs/Laws.antt`,
+//! `specs/GoodCaches.antt`, `specs/MapLaws.antt` and `specs/Pools.antt` have the statements of the laws, `specs/OneMap.antt`
+//! the map that caches are compared with. `specs/Examples.antt` and `specs/MapExamples.antt` have the short forms of the
+//! commands in the examples.
 #![tactic(auto)]
 
 mod good_caches;
 mod good_rows;
 mod laws;
+mod map_rows;
 mod meta_rows;
+mod one_map;
 mod rows;
 
 pub use good_caches::{
@@ -20,9 +23,16 @@ pub use laws::{
     commands_join, meta_updates_are_updates, other_keys_stay, stored_is_shown,
     stored_is_shown_by_meta,
 };
+pub use map_rows::{
+    evicted_items_are_missed, one_client_fills_the_map, two_servers_answer_as_the_map,
+};
 pub use meta_rows::{
     nothing_becomes_stale_without_a_number, numbers_are_compared, numbers_are_made,
     one_client_is_sent, the_expiry_is_set_last,
+};
+pub use one_map::{
+    caches_step_as_maps, pools_act_as_one_map, servers_replay_their_own_commands,
+    wide_caches_evict_nothing,
 };
 pub use rows::{
     cas_compares_the_number, evicts_beyond_the_limit, evicts_by_last_use, faults_come_in_order,
