@@ -1,5 +1,5 @@
 -- What clients were answered, by where a proxy stands.
-use Rattle.std.proofs.Common.{◌≡◌, ◌∙◌, ℕ, ◌+◌, true, List, ◌++◌, length, take, Option, Some, None, refl, ap, arith}
+use Rattle.std.proofs.Common.{◌≡◌, ◌∙◌, ℕ, ◌+◌, true, List, ◌++◌, length, take, Option, Some, None, refl, ap, subst, arith}
 use Rattle.std.specs.List.{list_all}
 use Rattle.std.proofs.lemmas.List.{length-append, length-map}
 use Rattle.std.proofs.Math.Seq.{take-append_seam}
@@ -37,3 +37,9 @@ was_answered number order text sent (Some session) h =
 pub stands-answered : (texts sent : ℕ → List ℕ) (order : Order) (lanes : ℕ → Lane) (now : ProxyState) → ProxyStands texts sent order lanes now
     → (number : ℕ) → WasAnswered number order (sent number) (session_at now number)
 stands-answered texts sent order lanes now h number = was_answered number order (texts number) (sent number) (session_at now number) (h.sessions number)
+
+-- of an open session: what was put out
+pub open_answered : (texts sent : ℕ → List ℕ) (order : Order) (lanes : ℕ → Lane) (now : ProxyState) → ProxyStands texts sent order lanes now
+    → (number : ℕ) (session : SessionState) → session_at now number ≡ Some session → AreAnswers number order (answered session) (sent number) session.output
+open_answered texts sent order lanes now h number session is =
+    subst (λ (s : Option SessionState). WasAnswered number order (sent number) s) is (stands-answered texts sent order lanes now h number)

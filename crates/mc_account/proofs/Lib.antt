@@ -8,3 +8,9 @@ pub mod SessionLemmas
 pub mod StandsLemmas
 pub mod LinkLemmas
 pub mod AnsweredLemmas
+pub mod CountLemmas
+pub mod LookupLemmas
+pub mod StayingLemmas
+pub mod WithinLemmas
+pub mod RisingLemmas
+pub mod ThereLemmas

@@ -43,7 +43,7 @@ grown-nothing number other count bytes =
     (eqb_tells number other)
 
 -- where an open session of a proxy stands
-stood : (texts sent : ℕ → List ℕ) (order : Order) (lanes : ℕ → Lane) (proxy : ProxyState) (number : ℕ) (session : SessionState)
+pub stood : (texts sent : ℕ → List ℕ) (order : Order) (lanes : ℕ → Lane) (proxy : ProxyState) (number : ℕ) (session : SessionState)
     → ProxyStands texts sent order lanes proxy → session_at proxy number ≡ Some session → SessionStands number order (texts number) (sent number) session
 stood texts sent order lanes proxy number session h was =
     subst (λ (s : Option SessionState). SessionStandsAt number order (texts number) (sent number) s) was (h.sessions number)

@@ -1,7 +1,9 @@
 -- What clients were answered.
 use Rattle.std.specs.Prelude.{ℕ, ◌≡◌, ◌≤◌, true, List, ◌++◌, length, take, Option, Some, None}
 use Rattle.std.specs.List.{list_all}
+use Rattle.std.specs.Option.{option_map}
 use Rattle.mc_session.specs.SessionState.{SessionState, answered}
+use Rattle.mc_proxy.specs.ProxyState.{ProxyState, session_at}
 use Rattle.mc_account.specs.Orders.{Order, answers_of, entries_of, is_settled}
 
 -- So many of a session's first requests are settled, and the bytes that were taken out, with those that were put out and not
@@ -16,3 +18,7 @@ pub record AreAnswers (number : ℕ) (order : Order) (count : ℕ) (sent unsent 
 abbrev pub WasAnswered : ℕ → Order → List ℕ → Option SessionState → Type 0
 WasAnswered number order sent None = (count : ℕ) × (unsent : List ℕ) × AreAnswers number order count sent unsent
 WasAnswered number order sent (Some session) = AreAnswers number order (answered session) sent session.output
+
+-- how many requests of the session of a number are answered, if it is open
+abbrev pub answered_at : ProxyState → ℕ → Option ℕ
+answered_at proxy number = option_map answered (session_at proxy number)

@@ -1,13 +1,17 @@
 //! How each call of a proxy keeps its account. The functions do nothing: their contracts are the laws.
-ghost use Rattle.std.specs.Prelude.{◌≡◌, ◌≢◌, ◌+◌, ◌<◌, ◌≤◌, ℕ, Bool, true, false, List, [], ◌∷◌, ◌++◌, Some, None, length, map, drop, take, replicate};
+ghost use Rattle.std.specs.Prelude.{◌≡◌, ◌≢◌, ◌+◌, ◌<◌, ◌≤◌, ℕ, Bool, true, false, List, [], ◌∷◌, ◌++◌, Some, None, All, length, map, drop, take, replicate, slice_get};
 ghost use Rattle.std.specs.List.{list_all};
+ghost use Rattle.mc_request.specs.declared.parts.Atom.{Atom};
 ghost use Rattle.mc_ring.specs.Rings.{RingState};
-ghost use Rattle.mc_route.specs.Routes.{route_of_taken};
-ghost use Rattle.mc_route.specs.declared.outcomes.Outcome.TheVariants.{Lost, Reply};
-ghost use Rattle.mc_link.specs.LinkState.{can_come_back, down_link, up_link};
-ghost use Rattle.mc_session.specs.Emits.{IsEmit};
+ghost use Rattle.mc_route.specs.Routes.{route_of_taken, to_place};
+ghost use Rattle.mc_route.specs.declared.outcomes.Outcome.{Outcome};
+ghost use Rattle.mc_route.specs.declared.outcomes.Outcome.TheVariants.{Awaited, Lost, Reply};
+ghost use Rattle.mc_route.specs.declared.routes.Routed.{Routed};
+ghost use Rattle.mc_link.specs.LinkState.{Waiting, can_come_back, down_link, up_link};
+ghost use Rattle.mc_link.specs.declared.turns.Tag.{Tag};
+ghost use Rattle.mc_session.specs.Emits.{IsEmit, is_told};
 ghost use Rattle.mc_session.specs.Sending.{at_once};
-ghost use Rattle.mc_session.specs.SessionState.{link_at, with_link};
+ghost use Rattle.mc_session.specs.SessionState.{SessionState, answered, link_at, with_link};
 ghost use Rattle.mc_session.specs.Turns.{IsFed, IsTurn};
 ghost use Rattle.mc_session.specs.declared.turns.Emit.TheVariants as emits;
 ghost use Rattle.mc_session.specs.declared.turns.Turn.{Turn};
@@ -17,8 +21,9 @@ ghost use Rattle.mc_proxy.specs.LinkTurns.{Answers, lost_at};
 ghost use Rattle.mc_proxy.specs.ProxyState.{ProxyState, output_of, sent_by, session_at, with_fresh, without};
 ghost use Rattle.mc_proxy.specs.Turns.{Alone, Steps};
 ghost use Rattle.mc_account.specs.Lanes.{Lane, fresh_lane};
-ghost use Rattle.mc_account.specs.Orders.{Order, is_settled, note, note_all};
-ghost use Rattle.mc_account.specs.Answered.{WasAnswered};
+ghost use Rattle.mc_account.specs.Lookups.{AreAwaited, IsAwaited, IsBefore, IsRoutedWithin, command_at, outcome_at};
+ghost use Rattle.mc_account.specs.Orders.{AreInOrder, Entry, IsSized, Order, Tagged, commands_to, entries_of, is_settled, note, note_all, outcomes_to};
+ghost use Rattle.mc_account.specs.Answered.{AreAnswers, WasAnswered, answered_at};
 ghost use Rattle.mc_account.specs.Stands.{ProxyStands, changed, grown};
 
 /// A proxy that was just made stands where nothing was taken.
@@ -155,4 +160,131 @@ pub fn nothing_awaited_is_settled()
     ensures { (texts sent : ℕ → List ℕ) (order : Order) (lanes : ℕ → Lane) (now : ProxyState)
         → ProxyStands texts sent order lanes now → ((place : ℕ) → (link_at now.links place).waiting ≡ [])
         → list_all is_settled order ≡ true }
+{}
+
+/// Of an open session: the bytes that were taken out, and then its output, are the answers to the requests that are answered.
+pub fn open_sessions_are_answered()
+    ensures { (texts sent : ℕ → List ℕ) (order : Order) (lanes : ℕ → Lane) (now : ProxyState)
+        → ProxyStands texts sent order lanes now → (number : ℕ) (session : SessionState) → session_at now number ≡ Some session
+        → AreAnswers number order (answered session) (sent number) session.output }
+{}
+
+/// Only an `emit` that puts an answer out answers a request, and it answers one. After all other calls as many are answered of
+/// each session as before.
+pub fn answered_requests_are_counted()
+    ensures emit { (texts sent : ℕ → List ℕ) (order : Order) (lanes : ℕ → Lane) (number : ℕ) (old new : ProxyState)
+        → ProxyStands texts sent order lanes old → (step : Steps number old new (Alone (IsEmit emits.Done)))
+        → answered step.after ≡ answered step.before + 1 }
+    ensures idle { (number : ℕ) (old new : ProxyState) → Steps number old new (Alone (IsEmit emits.Idle))
+        → (other : ℕ) → answered_at new other ≡ answered_at old other }
+    ensures turn { (number : ℕ) (turn : Turn) (ring : RingState) (old new : ProxyState) → Steps number old new (IsTurn number turn ring)
+        → (other : ℕ) → answered_at new other ≡ answered_at old other }
+    ensures fed { (number : ℕ) (piece : List ℕ) (old new : ProxyState) → Steps number old new (Alone (IsFed piece))
+        → (other : ℕ) → answered_at new other ≡ answered_at old other }
+    ensures sent { (number count : ℕ) (old : ProxyState) (other : ℕ)
+        → answered_at (sent_by number count (session_at old number) old) other ≡ answered_at old other }
+    ensures replied { (place : ℕ) (old new : ProxyState) → Answers place old new
+        → (other : ℕ) → answered_at new other ≡ answered_at old other }
+    ensures lost { (place : ℕ) (old : ProxyState) (other : ℕ) → answered_at (lost_at place old) other ≡ answered_at old other }
+{}
+
+/// Where a link is up, the reply to each command that waits on it is awaited: also where the same is noted of all of them, one
+/// after another, and of the command that gets its reply.
+pub fn waiting_commands_are_awaited()
+    ensures each { (texts sent : ℕ → List ℕ) (order : Order) (lanes : ℕ → Lane) (now : ProxyState)
+        → ProxyStands texts sent order lanes now → (place : ℕ) → (link_at now.links place).up ≡ true
+        → (index : ℕ) (waiting : Waiting) → slice_get (link_at now.links place).waiting index ≡ Some waiting
+        → IsAwaited place order waiting }
+    ensures all { (texts sent : ℕ → List ℕ) (order : Order) (lanes : ℕ → Lane) (now : ProxyState)
+        → ProxyStands texts sent order lanes now → (place : ℕ) → (link_at now.links place).up ≡ true
+        → (outcome : Outcome) → is_told outcome ≡ true
+        → AreAwaited (map (λ waiting. waiting.1) (link_at now.links place).waiting) outcome order }
+    ensures replied { (texts sent : ℕ → List ℕ) (order : Order) (lanes : ℕ → Lane) (place : ℕ) (old new : ProxyState)
+        → ProxyStands texts sent order lanes old → (link_at old.links place).up ≡ true → (answers : Answers place old new)
+        → outcome_at order answers.tag ≡ Some Awaited }
+{}
+
+/// A command whose reply is awaited is of no request that is answered.
+pub fn awaited_commands_are_not_answered()
+    ensures { (number : ℕ) (order : Order) (count : ℕ) (sent unsent : List ℕ) (tag : Tag)
+        → AreAnswers number order count sent unsent → outcome_at order tag ≡ Some Awaited → tag.session ≡ number
+        → count ≤ tag.request }
+{}
+
+/// What a client was answered stays its answer, whether its session is open or was left: where a request is taken, where what was
+/// awaited is noted, and where bytes are taken out.
+pub fn answers_stay()
+    ensures taken { (number : ℕ) (order : Order) (e : Entry) (count : ℕ) (sent unsent : List ℕ)
+        → AreAnswers number order count sent unsent → AreAnswers number (order ++ e ∷ []) count sent unsent }
+    ensures noted { (number : ℕ) (order : Order) (tag : Tag) (outcome : Outcome) (count : ℕ) (sent unsent : List ℕ)
+        → AreInOrder (entries_of number order) → outcome_at order tag ≡ Some Awaited
+        → AreAnswers number order count sent unsent → AreAnswers number (note tag outcome order) count sent unsent }
+    ensures all_noted { (number : ℕ) (tags : List Tag) (outcome : Outcome) (order : Order) (count : ℕ) (sent unsent : List ℕ)
+        → ((session : ℕ) → AreInOrder (entries_of session order)) → AreAwaited tags outcome order
+        → AreAnswers number order count sent unsent → AreAnswers number (note_all tags outcome order) count sent unsent }
+    ensures sent { (number : ℕ) (order : Order) (count : ℕ) (sent unsent : List ℕ) (bytes : ℕ)
+        → AreAnswers number order count sent unsent → AreAnswers number order count (sent ++ take bytes unsent) (drop bytes unsent) }
+{}
+
+/// So it does after a `link_turn` that took a reply, and where a link is lost.
+pub fn answers_stay_at_links()
+    ensures replied { (texts sent : ℕ → List ℕ) (order : Order) (lanes : ℕ → Lane) (place : ℕ) (old new : ProxyState)
+        → ProxyStands texts sent order lanes old → (link_at old.links place).up ≡ true → (answers : Answers place old new)
+        → (number count : ℕ) (out unsent : List ℕ) → AreAnswers number order count out unsent
+        → AreAnswers number (note answers.tag (Reply answers.reply) order) count out unsent }
+    ensures lost { (texts sent : ℕ → List ℕ) (order : Order) (lanes : ℕ → Lane) (place : ℕ) (old : ProxyState)
+        → ProxyStands texts sent order lanes old → (link_at old.links place).up ≡ true
+        → (number count : ℕ) (out unsent : List ℕ) → AreAnswers number order count out unsent
+        → AreAnswers number (note_all (map (λ waiting. waiting.1) (link_at old.links place).waiting) Lost order) count out unsent }
+{}
+
+/// Where each entry was routed by a ring of at most so many servers, each command goes to one of so many places.
+pub fn commands_stay_within()
+    ensures { (places : ℕ) (order : Order) → All (IsRoutedWithin places) order
+        → (tag : Tag) (routed : Routed) → command_at order tag ≡ Some routed → routed.server < places }
+{}
+
+/// Of one session the commands to a place rise: by request, and then by their number in it.
+pub fn commands_rise()
+    ensures { (place : ℕ) (order : Order) → ((number : ℕ) → AreInOrder (entries_of number order))
+        → (i j : ℕ) (first second : Tagged) → slice_get (commands_to place order) i ≡ Some first
+        → slice_get (commands_to place order) j ≡ Some second → i < j → first.1.session ≡ second.1.session
+        → IsBefore first.1 second.1 }
+{}
+
+/// A command that a look-up finds is among those to its place.
+pub fn found_commands_are_there()
+    ensures { (place : ℕ) (order : Order) → ((number : ℕ) → AreInOrder (entries_of number order)) → (tag : Tag) (atom : Atom (List ℕ))
+        → command_at order tag ≡ Some (to_place place atom)
+        → (i : ℕ) × (slice_get (commands_to place order) i ≡ Some (atom, tag)) }
+{}
+
+/// Each of those commands, with its outcome, is what look-ups by its tag find.
+pub fn commands_are_found()
+    ensures { (place : ℕ) (order : Order) → ((number : ℕ) → AreInOrder (entries_of number order)) → All IsSized order
+        → (i : ℕ) (command : Tagged) (outcome : Outcome) → slice_get (commands_to place order) i ≡ Some command
+        → slice_get (outcomes_to place order) i ≡ Some outcome
+        → (command_at order command.1 ≡ Some (to_place place command.0)) × (outcome_at order command.1 ≡ Some outcome) }
+{}
+
+/// Of one session a command to a place of which it is known what became was asked before all that wait on its link, and those
+/// wait in the order in which they were asked.
+pub fn known_commands_come_first()
+    ensures known { (texts sent : ℕ → List ℕ) (order : Order) (lanes : ℕ → Lane) (now : ProxyState)
+        → ProxyStands texts sent order lanes now → (place : ℕ) → (link_at now.links place).up ≡ true
+        → (i : ℕ) (command : Tagged) (outcome : Outcome) → slice_get (commands_to place order) i ≡ Some command
+        → outcome_at order command.1 ≡ Some outcome → is_told outcome ≡ true
+        → (k : ℕ) (waiting : Waiting) → slice_get (link_at now.links place).waiting k ≡ Some waiting
+        → command.1.session ≡ waiting.1.session → IsBefore command.1 waiting.1 }
+    ensures named { (texts sent : ℕ → List ℕ) (order : Order) (lanes : ℕ → Lane) (now : ProxyState)
+        → ProxyStands texts sent order lanes now → (place : ℕ) → (link_at now.links place).up ≡ true
+        → (tag : Tag) (atom : Atom (List ℕ)) (outcome : Outcome) → command_at order tag ≡ Some (to_place place atom)
+        → outcome_at order tag ≡ Some outcome → is_told outcome ≡ true
+        → (k : ℕ) (waiting : Waiting) → slice_get (link_at now.links place).waiting k ≡ Some waiting
+        → tag.session ≡ waiting.1.session → IsBefore tag waiting.1 }
+    ensures waiting { (texts sent : ℕ → List ℕ) (order : Order) (lanes : ℕ → Lane) (now : ProxyState)
+        → ProxyStands texts sent order lanes now → (place : ℕ) → (link_at now.links place).up ≡ true
+        → (k l : ℕ) (first second : Waiting) → slice_get (link_at now.links place).waiting k ≡ Some first
+        → slice_get (link_at now.links place).waiting l ≡ Some second → k < l → first.1.session ≡ second.1.session
+        → IsBefore first.1 second.1 }
 {}

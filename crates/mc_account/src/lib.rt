@@ -4,7 +4,8 @@
 //! says what passed over a link since it came up, `specs/Stands.antt` where all of it leaves a proxy (`ProxyStands`): what was
 //! put on each link is the joined spellings of that order's commands to its server, what came is the joined spellings of the
 //! replies taken and the unread bytes, and each client's output is the answers to its first requests. No server and no socket
-//! stands in it.
+//! stands in it. `specs/Lookups.antt` finds a command and what became of it by its tag, and `specs/Answered.antt` says which
+//! bytes are answers.
 //!
 //! Each function is a law; all of them do nothing. Most say how a call of [`mc_proxy::Proxy`] keeps it, by what the call's contract
 //! says. [`clients_are_answered`] and [`nothing_awaited_is_settled`] say what follows from it.
@@ -13,8 +14,12 @@
 mod laws;
 
 pub use laws::{
-    a_proxy_opens, admitted_sessions_stand, answers_put_out_stand, bytes_sent_to_clients_stand,
-    bytes_sent_to_servers_stand, clients_are_answered, idle_calls_stand, joined_servers_stand,
-    lost_links_stand, nothing_awaited_is_settled, pieces_stand, replies_stand,
+    a_proxy_opens, admitted_sessions_stand, answered_requests_are_counted, answers_put_out_stand,
+    answers_stay, answers_stay_at_links, awaited_commands_are_not_answered,
+    bytes_sent_to_clients_stand, bytes_sent_to_servers_stand, clients_are_answered,
+    commands_are_found, commands_rise, commands_stay_within, found_commands_are_there,
+    idle_calls_stand, joined_servers_stand, known_commands_come_first, lost_links_stand,
+    nothing_awaited_is_settled, open_sessions_are_answered, pieces_stand, replies_stand,
     returned_links_stand, server_bytes_stand, sessions_gone_stand, taken_requests_stand,
+    waiting_commands_are_awaited,
 };

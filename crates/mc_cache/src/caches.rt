@@ -330,4 +330,13 @@ impl<S: Store + Drop> Cache<S> {
     {
         self.store.longest()
     }
+
+    /// The store as it is, with the items that the cache holds. It takes no memory, and may still hold one item more than
+    /// the cache's limit.
+    pub fn into_store(self) -> S
+        ensures items { S.items result ≡ self.items }
+        ensures room { HasRoom self.limit (S.most result) }
+    {
+        self.store
+    }
 }

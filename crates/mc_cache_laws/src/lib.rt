@@ -15,9 +15,7 @@ mod meta_rows;
 mod one_map;
 mod rows;
 
-pub use good_caches::{
-    good_caches_stay_good, heads_tell_of_replies, replies_are_ones_that_commands_can_have,
-};
+pub use good_caches::{good_caches_stay_good, replies_are_ones_that_commands_can_have};
 pub use good_rows::{a_cache_of_no_items_shows_no_number, a_late_expiry_is_not_shown};
 pub use laws::{
     commands_join, meta_updates_are_updates, other_keys_stay, stored_is_shown,

@@ -2,3 +2,4 @@ pub mod PlaceLemmas
 pub mod SessionLemmas
 pub mod LinkLemmas
 pub mod NotingLemmas
+pub mod StepLemmas

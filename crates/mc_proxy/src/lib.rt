@@ -12,14 +12,17 @@
 //!
 //! What a link is to send is [`Proxy::link_output`], taken out by [`Proxy::link_taken_out`]; what its server sent comes in
 //! by [`Proxy::link_feed`], and a turn of the link ([`Proxy::link_turn`]) gives the oldest command that waits its reply. A
-//! link whose bytes are no reply is lost. A command that was lost is never sent again. [`Proxy::waits_for`] says whether what a
-//! session has to take next needs a link, so whom to call once that has room again, or is lost.
+//! link whose bytes are no reply is lost. A command that was lost is never sent again. [`Proxy::ready`] says whether a session
+//! has something to take, and [`Proxy::waits_for`] whether what it has to take next needs a link, so whom to call once that has
+//! room again, or is lost.
 //!
 //! `specs/Turns.antt` says what a turn does, and `specs/LinkTurns.antt` what a turn of a link and its loss do. How an answer
-//! is put out is `mc_session`'s `specs/Emits.antt`. No call waits.
+//! is put out is `mc_session`'s `specs/Emits.antt`. A step that leaves its session and the links as they were changes nothing
+//! ([`steps_that_change_nothing_are_still`]). No call waits.
 #![tactic(auto)]
 
 mod errors;
+mod laws;
 mod limits;
 mod linked;
 mod proxies;
@@ -27,6 +30,7 @@ mod table;
 mod turns;
 
 pub use errors::ProxyError;
+pub use laws::steps_that_change_nothing_are_still;
 pub use limits::MAX_SESSIONS;
 pub use mc_session::{Emit, LINK_MARK, MAX_UNANSWERED, Turn, UNSENT_MARK};
 pub use proxies::Proxy;

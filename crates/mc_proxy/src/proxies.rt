@@ -1,5 +1,5 @@
 //! The proxy: sessions over links.
-ghost use Rattle.std.specs.Prelude.{◌≡◌, ◌≢◌, ◌+◌, ◌-◌, ◌^◌, ◌<◌, ◌≤◌, ◌↔◌, ◌⊎◌, [], None, Some, length, replicate, IsErrOf, IsOkUnless, IfOk, IfErr, IfSome, OnOk, OnErr};
+ghost use Rattle.std.specs.Prelude.{◌≡◌, ◌≢◌, ◌+◌, ◌-◌, ◌^◌, ◌<◌, ◌≤◌, ◌↔◌, ◌⊎◌, [], None, Some, length, replicate, IsErrOf, IsTrue, IsOkUnless, IfOk, IfErr, IfSome, OnOk, OnErr};
 
 use crate::errors::ProxyError;
 use crate::limits::MAX_SESSIONS;
@@ -137,6 +137,17 @@ impl Proxy {
                 Ok(session.turn(self.alloc, number, &self.ring, links, &mut self.queue)?)
             }
             None => Err(ProxyError::NoSession),
+        }
+    }
+
+    /// Whether a whole request or fault of a session has come that was not taken. It is false where the session is not open.
+    /// It takes no memory.
+    pub fn ready(&self, number: u64) -> bool
+        ensures { IsTrue result ↔ (0 < length (waiting_of (session_at self.now number))) }
+    {
+        match place_of(self.sessions.as_slice(), self.recent, number) {
+            Some(place) => self.sessions[place].1.ready(),
+            None => false,
         }
     }
 

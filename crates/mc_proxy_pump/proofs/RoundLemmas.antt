@@ -21,7 +21,8 @@ use Rattle.mc_stream.specs.declared.outcomes.Pump.{Pump}
 use Rattle.mc_proxy_pump.specs.Calls.{Fed, Turned, Emitted, Sent, Stretch}
 use Rattle.mc_proxy_pump.specs.Clients.{IsHeldUpAt, IsOver, IsStuck, emitted_at, is_closed_at}
 use Rattle.mc_proxy_pump.specs.Rounds.{HasAnswered, HowMany, IsSentOf, Receives, Sends, StopsAt, ends_by, reads_by, work_of}
-use Rattle.mc_proxy_pump.proofs.StretchLemmas.{is_open, sent_at, steps_at, steps_still, stretch_none, stretch_one, the_open}
+use Rattle.mc_proxy.proofs.StepLemmas.{sent_at, steps_at, steps_still}
+use Rattle.mc_proxy_pump.proofs.StretchLemmas.{is_open, stretch_none, stretch_one, the_open}
 
 -- a turn is a call
 pub stretch_turned : (number : ℕ) (turn : Turn) (old new : ProxyState) → Steps number old new (IsTurn number turn old.ring) → Stretch number old new [] []

@@ -1,5 +1,5 @@
 -- What is read for a command, by its head, is what is spelled.
-use Rattle.std.proofs.Common.{◌≡◌, ℕ, ℤ, ◌+◌, ◌-◌, ◌<◌, ◌≤◌, Bool, true, false, List, [], ◌++◌, length, take, append-nil, ◌⊎◌, inl, inr, Option, Some, None, Ok, Err, refl, subst, arith}
+use Rattle.std.proofs.Common.{◌≡◌, ◌≢◌, ◌∙◌, ℕ, ℤ, ◌+◌, ◌-◌, ◌<◌, ◌≤◌, Bool, true, false, List, [], ◌++◌, length, take, append-nil, ◌⊎◌, inl, inr, Option, Some, None, Ok, Err, refl, sym, ap, subst, arith}
 use Rattle.std.proofs.lemmas.List.{length-append}
 use Rattle.std.specs.Option.{is_some}
 use Rattle.mc_forms.specs.Forms.{Form, Or, or_if, read, text_at, number_at}
@@ -124,16 +124,26 @@ get_begins key exptime with_cas = reply_begun (atoms.Get key exptime with_cas) [
 pub update_begins : (update : Update (List ℕ) (Unit {0})) → IsBegun (atoms.Update update) []
 update_begins update = reply_begun (atoms.Update update) [] (update_needs update)
 
+-- a reply to a meta command may begin, or no line can ask for it and it has no reply
+abbrev MayBegin : MetaCommand (List ℕ) (Unit {0}) → Type 0
+MayBegin command = IsBegun (atoms.Meta command) [] ⊎ ((is_askable command ≡ false) × ((r : Answer) → can_have (atoms.Meta command) r ≡ true → ⊥))
+
+meta_may_begin : (command : MetaCommand (List ℕ) (Unit {0})) → MayBegin command
+meta_may_begin (metas.Get key get) = inl (reply_begun (atoms.Meta (metas.Get key get)) [] (or_needs true get.show (or_if (is_some get.create) store_faults (code_line replies.Miss))))
+meta_may_begin (metas.Update (updates.Store mode compare key flags exptime block) show) =
+    inl (reply_begun (atoms.Meta (metas.Update (updates.Store mode compare key flags exptime block) show)) [] (or_needs false show (Or (code_line replies.NotStored) (Or unmet_form store_faults))))
+meta_may_begin (metas.Update (updates.Delete key compare invalidate) show) =
+    inl (reply_begun (atoms.Meta (metas.Update (updates.Delete key compare invalidate) show)) [] (or_needs false show (or_if invalidate (update_line (replies.Fault CasUsedUp)) unmet_form)))
+meta_may_begin (metas.Update (updates.Count key counting) show) =
+    inl (reply_begun (atoms.Meta (metas.Update (updates.Count key counting) show)) [] (or_needs false show (Or unmet_form count_faults)))
+meta_may_begin (metas.Update (updates.Touch key exptime) show) = inr (refl, λ r can. absurd (cc))
+meta_may_begin (metas.Update (updates.FlushAll delay) show) = inr (refl, λ r can. absurd (cc))
+
 pub meta_begins : (command : MetaCommand (List ℕ) (Unit {0})) → is_askable command ≡ true → IsBegun (atoms.Meta command) []
-meta_begins (metas.Get key get) is = reply_begun (atoms.Meta (metas.Get key get)) [] (or_needs true get.show (or_if (is_some get.create) store_faults (code_line replies.Miss)))
-meta_begins (metas.Update (updates.Store mode compare key flags exptime block) show) is =
-    reply_begun (atoms.Meta (metas.Update (updates.Store mode compare key flags exptime block) show)) [] (or_needs false show (Or (code_line replies.NotStored) (Or unmet_form store_faults)))
-meta_begins (metas.Update (updates.Delete key compare invalidate) show) is =
-    reply_begun (atoms.Meta (metas.Update (updates.Delete key compare invalidate) show)) [] (or_needs false show (or_if invalidate (update_line (replies.Fault CasUsedUp)) unmet_form))
-meta_begins (metas.Update (updates.Count key counting) show) is =
-    reply_begun (atoms.Meta (metas.Update (updates.Count key counting) show)) [] (or_needs false show (Or unmet_form count_faults))
-meta_begins (metas.Update (updates.Touch key exptime) show) is = absurd (cc)
-meta_begins (metas.Update (updates.FlushAll delay) show) is = absurd (cc)
+meta_begins command is = elim (meta_may_begin command) [
+  | inl begun ↦ begun
+  | inr never ↦ let clash : true ≡ false = sym is ∙ never.0 in absurd (cc)
+]
 
 -- a command without its block asks to be shown the same
 askable_head : (command : MetaCommand (List ℕ) (List ℕ)) → is_askable command ≡ true → is_askable (meta_map (λ key. key) (λ _. tt {0}) command) ≡ true
@@ -150,3 +160,22 @@ atom_begins (atoms.Update update) is = update_begins (update_map (λ key. key) (
 atom_begins (atoms.Meta command) is =
     meta_begins (meta_map (λ key. key) (λ _. tt) command)
     (askable_head command (two_of (is_askable command) (is_good_meta is_byte_key is_good_block command) is).0)
+
+-- before a byte has come a reply has only begun, where the command has one; so none is spelled by no bytes
+begins_if : (head : Head) (r : Answer) → can_have head r ≡ true → IsBegun head []
+begins_if (atoms.Get key exptime with_cas) r can = get_begins key exptime with_cas
+begins_if (atoms.Update update) r can = update_begins update
+begins_if (atoms.Meta command) r can = elim (meta_may_begin command) [
+  | inl begun ↦ begun
+  | inr never ↦ absurd (never.1 r can)
+]
+
+pub not_nothing : (head : Head) (r : Answer) → can_have head r ≡ true → spelling_of head r ≢ []
+not_nothing head r can none =
+    let begun = begins_if head r can in
+    let both : spelling_of head r ++ spelling_of head begun.reply ≡ spelling_of head begun.reply ++ [] =
+    ap (λ (bytes : List ℕ). bytes ++ spelling_of head begun.reply) none ∙ sym (append-nil (spelling_of head begun.reply)) in
+    let same : r ≡ begun.reply = (replies_apart head r begun.reply (spelling_of head begun.reply) [] can begun.can both).0 in
+    let more : begun.more ≡ [] = begun.spelled ∙ ap (λ (reply : Answer). spelling_of head reply) (sym same) ∙ none in
+    let size : length begun.more ≡ 0 = ap (λ (bytes : List ℕ). length bytes) more in
+    omega (arith, begun.missing, size)

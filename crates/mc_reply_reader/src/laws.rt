@@ -1,5 +1,5 @@
 //! Laws of replies and their spellings. The functions do nothing: their contracts are the laws.
-ghost use Rattle.std.specs.Prelude.{◌≡◌, ℕ, ℤ, Bool, true, List, [], ◌++◌, Option};
+ghost use Rattle.std.specs.Prelude.{◌≡◌, ◌≢◌, ℕ, ℤ, Bool, true, List, [], ◌++◌, Option};
 ghost use Rattle.mc_request.specs.Atoms.{head_of};
 ghost use Rattle.mc_spelling.specs.Spellings.{is_askable, is_good_atom};
 ghost use Rattle.mc_request.specs.declared.meta.MetaCommand.{MetaCommand};
@@ -26,4 +26,9 @@ pub fn nothing_is_a_beginning()
     ensures update { (update : Update (List ℕ) (Unit {0})) → IsBegun (AnUpdate update) [] }
     ensures meta { (command : MetaCommand (List ℕ) (Unit {0})) → is_askable command ≡ true → IsBegun (Meta command) [] }
     ensures atom { (atom : Atom (List ℕ)) → is_good_atom atom ≡ true → IsBegun (head_of atom) [] }
+{}
+
+/// No reply that a command can have is spelled by no bytes.
+pub fn spellings_are_not_empty()
+    ensures { (head : Atom (Unit {0})) → (reply : Reply (List ℕ)) → can_have head reply ≡ true → spelling_of head reply ≢ [] }
 {}

@@ -9,7 +9,7 @@
 //! A reader stands for a function: from the text still to come to the requests and faults that it will give.
 //! `feed`, `next` and `consume` are proved to keep that function, so how the text is cut never matters: see
 //! `specs/Reader.antt` for the function, and `specs/Requests.antt` of `mc_request` for the requests of a text. Its laws stand
-//! here ([`requests_begin`], [`requests_go_on`], [`requests_are_well_formed`]).
+//! here ([`requests_begin`], [`requests_go_on`], [`requests_are_well_formed`], [`requests_are_no_more_than_bytes`]).
 //!
 //! Of the calls, `feed` and `next` take memory; all others take none, and cannot fail.
 #![tactic(auto)]
@@ -22,7 +22,9 @@ mod searched;
 mod steps;
 mod unread;
 
-pub use laws::{requests_are_well_formed, requests_begin, requests_go_on};
+pub use laws::{
+    requests_are_no_more_than_bytes, requests_are_well_formed, requests_begin, requests_go_on,
+};
 pub use peeks::{Front, Peek, REQUEST_LIMIT};
 pub use reader::{Next, Reader};
 pub use rows::{

@@ -1,5 +1,5 @@
 //! A session: what a client sends, and what it is answered.
-ghost use Rattle.std.specs.Prelude.{◌≡◌, ◌≢◌, ◌≤◌, ◌<◌, ◌&&◌, ◌==◌, [], None, drop, length, IfOk, IsOkUnless, OnOk, OnErr};
+ghost use Rattle.std.specs.Prelude.{◌≡◌, ◌≢◌, ◌≤◌, ◌<◌, ◌&&◌, ◌==◌, ◌↔◌, [], None, drop, length, IsTrue, IfOk, IsOkUnless, OnOk, OnErr};
 ghost use Rattle.mc_session.specs.SessionState.{states};
 
 use crate::errors::SessionError;
@@ -125,6 +125,13 @@ impl Session {
             .push_back_reserved(Unanswered::new(kept, outcomes));
         self.taken += 1;
         Ok(Turn::Took)
+    }
+
+    /// Whether a whole request or fault has come that was not taken. It takes no memory.
+    pub fn ready(&self) -> bool
+        ensures { IsTrue result ↔ (0 < length (rest_of self.now.reader [])) }
+    {
+        self.reader.ready()
     }
 
     /// Whether the first request or fault that has come whole has a command for the server of a place of the ring. It takes no

@@ -9,3 +9,4 @@ pub mod SpelledTextLemmas
 pub mod AskLemmas
 pub mod SayLemmas
 pub mod CanonicalLemmas
+pub mod HeadLemmas

@@ -1,7 +1,7 @@
 //! Laws of canonical spellings. The functions do nothing: their contracts are the laws.
 ghost use Rattle.std.specs.Prelude.{◌≡◌, ◌<◌, ℕ, List, [], ◌∷◌, ◌++◌, length, map, Some, true, codes};
 ghost use Rattle.std.specs.List.{All, list_all};
-ghost use Rattle.mc_request.specs.Atoms.{atoms_of};
+ghost use Rattle.mc_request.specs.Atoms.{atoms_of, head_of};
 ghost use Rattle.mc_request.specs.declared.parts.Atom.{Atom};
 ghost use Rattle.mc_request.specs.Requests.{next_request, requests_of};
 ghost use Rattle.mc_reply.specs.declared.replies.Reply.{Reply};
@@ -52,4 +52,10 @@ pub fn commands_of_texts_can_be_spelled()
 pub fn canonical_answers()
     ensures { (atom : Atom (List ℕ)) → (reply : Reply (List ℕ)) → is_good_atom atom ≡ true → can_have atom reply ≡ true
         → answer_of (request_of atom) (reply ∷ []) ≡ spelling_of atom reply }
+{}
+
+/// What a command can have, and how it is spelled, its head tells: a data block plays no part.
+pub fn heads_tell_of_replies()
+    ensures can_have { (atom : Atom (List ℕ)) → (reply : Reply (List ℕ)) → can_have (head_of atom) reply ≡ can_have atom reply }
+    ensures spelling { (atom : Atom (List ℕ)) → (reply : Reply (List ℕ)) → spelling_of (head_of atom) reply ≡ spelling_of atom reply }
 {}

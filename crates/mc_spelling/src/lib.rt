@@ -9,7 +9,8 @@
 //! ([`commands_of_texts_can_be_spelled`]). The laws say that it is read as that command and no other, whatever follows it
 //! ([`spelled_commands_are_read`], [`spelled_command_is_one`], [`quit_behind_commands_is_read`]), that no spelling begins
 //! another ([`spellings_stand_apart`]), and that a server answers it by the canonical spelling of its reply
-//! ([`canonical_answers`]).
+//! ([`canonical_answers`]). Which replies a command can have, and how they are spelled, its head alone tells
+//! ([`heads_tell_of_replies`]).
 //!
 //! `write_atom` takes memory where there is not room enough, and appends nothing where it gives up.
 #![tactic(auto)]
@@ -21,7 +22,8 @@ mod spelled_words;
 mod spellings;
 
 pub use laws::{
-    canonical_answers, commands_of_texts_can_be_spelled, quit_behind_commands_is_read,
-    spelled_command_is_one, spelled_commands_are_read, spellings_stand_apart,
+    canonical_answers, commands_of_texts_can_be_spelled, heads_tell_of_replies,
+    quit_behind_commands_is_read, spelled_command_is_one, spelled_commands_are_read,
+    spellings_stand_apart,
 };
 pub use spellings::{spelled_len, write_atom};
