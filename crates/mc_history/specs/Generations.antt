@@ -1,0 +1,46 @@
+-- One generation of a link: what is said of it where its proxy's lane and its server's connection are joined.
+use Rattle.std.specs.Prelude.{ℕ, ◌≡◌, Bool, true, List, ◌++◌, length, map, drop}
+use Rattle.std.specs.List.{list_all}
+use Rattle.mc_request.specs.Requests.{requests_of}
+use Rattle.mc_request_reader.specs.Reader.{rest_of}
+use Rattle.mc_reply.specs.declared.replies.Reply.{Reply as AReply}
+use Rattle.mc_spelling.specs.Spellings.{is_good_atom}
+use Rattle.mc_link.specs.LinkState.{LinkState}
+use Rattle.mc_link.specs.Turns.{HasStrange}
+use Rattle.mc_server.specs.ServerState.{ConnectionState}
+use Rattle.mc_server.specs.Stands.{Stands}
+use Rattle.mc_cache.specs.CacheState.{CacheState}
+use Rattle.mc_account.specs.Lanes.{CanHave, Lane, LaneStands, told}
+use Rattle.mc_account.specs.Orders.{Order, Tagged, commands_to}
+use Rattle.mc_history.specs.Made.{AreMade, Made, commands_on, read_as, replies_on, taking_of}
+
+-- whether a command can be spelled
+abbrev pub is_good : Tagged → Bool
+is_good command = is_good_atom command.0
+
+-- the commands that were sent on a lane
+abbrev pub commands_of_lane : ℕ → Order → Lane → List Tagged
+commands_of_lane place order lane = commands_to place (drop lane.since order)
+
+-- What was told first of some commands is the first of what is told: the same replies, and the bytes behind them tell the later ones.
+pub record IsFront (commands : List Tagged) (replies all : List (AReply (List ℕ))) (bytes : List ℕ) : Type 0 where
+  pub later : List (AReply (List ℕ))
+  pub all_is : all ≡ replies ++ later
+  pub bytes_are : bytes ≡ told (drop (length replies) commands) later
+  pub can : CanHave (drop (length replies) commands) later
+
+-- A link that is up and the server's connection at its other end, by what the server made of the commands that came and which others
+-- were sent: the bytes that came are those that left, both ways.
+pub record AreJoined (place : ℕ) (order : Order) (passed : Lane) (link : LinkState) (opening : CacheState) (all : List Made) (number : ℕ) (end : ConnectionState) (others : List Tagged) : Type 0 where
+  pub lane : LaneStands place order passed link
+  pub connection : Stands opening number passed.out (map taking_of all) passed.came end
+  pub made : AreMade opening all
+  pub commands : commands_of_lane place order passed ≡ commands_on number all ++ others
+  pub good : list_all is_good (commands_of_lane place order passed) ≡ true
+
+-- So the server reads the others next, in order, and nothing else before what follows; the replies that the proxy took are the first
+-- that the server gave to these commands, and what is on its way back tells the later ones; and none of it is strange.
+pub record IsCarried (place : ℕ) (order : Order) (lane : Lane) (link : LinkState) (made : List Made) (number : ℕ) (connection : ConnectionState) (others : List Tagged) : Type 0 where
+  pub reads : (more : List ℕ) → rest_of connection.reader (link.output ++ more) ≡ map read_as others ++ requests_of more
+  pub front : IsFront (commands_of_lane place order lane) lane.replies (replies_on number made) (link.unread ++ connection.output)
+  pub never_strange : HasStrange link.waiting link.unread → ⊥

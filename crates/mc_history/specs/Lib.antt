@@ -1,0 +1,4 @@
+pub mod Histories
+pub mod Made
+pub mod Named
+pub mod Generations

@@ -1,0 +1,34 @@
+//! Laws of what servers made of commands that were spelled to them. The functions do nothing: their contracts are the laws.
+ghost use Rattle.std.specs.Prelude.{ℕ, ◌≡◌, true, List};
+ghost use Rattle.mc_request.specs.Faults.{fault_line};
+ghost use Rattle.mc_request.specs.declared.faults.Fault.TheVariants.{OutOfMemory};
+ghost use Rattle.mc_request.specs.declared.parts.Atom.{Atom};
+ghost use Rattle.mc_request.specs.declared.parts.Taken.TheVariants.{Whole};
+ghost use Rattle.mc_reply.specs.CanHave.{can_have};
+ghost use Rattle.mc_spelling.specs.Spellings.{is_good_atom, request_of};
+ghost use Rattle.mc_link.specs.LinkState.{LinkState};
+ghost use Rattle.mc_cache.specs.CacheState.{CacheState};
+ghost use Rattle.mc_cache.specs.Step.{step_of};
+ghost use Rattle.mc_server.specs.Served.{Entry as Taking, IsLegalAt, answer_after};
+ghost use Rattle.mc_server.specs.ServerState.{ConnectionState};
+ghost use Rattle.mc_account.specs.Lanes.{Lane};
+ghost use Rattle.mc_account.specs.Orders.{Order, Tagged};
+ghost use Rattle.mc_history.specs.Generations.{AreJoined, IsCarried};
+ghost use Rattle.mc_history.specs.Made.{Made};
+
+/// Where the bytes that came are those that left, both ways, a server takes the commands that were sent, in order, and the replies that
+/// the proxy takes are those that the server gave to them; what comes back is never strange.
+pub fn generations_carry()
+    ensures { (place : ℕ) (order : Order) (lane : Lane) (link : LinkState) (opening : CacheState) (made : List Made) (number : ℕ)
+        (connection : ConnectionState) (others : List Tagged)
+        → AreJoined place order lane link opening made number connection others → IsCarried place order lane link made number connection others }
+{}
+
+/// Memory was refused to a command that was spelled to a server exactly where it is answered by the line for want of memory, if its reply
+/// is one that it can have.
+pub fn refusals_are_told_by_their_line()
+    ensures refused { (s : CacheState) (e : Taking) (atom : Atom (List ℕ)) → e.what ≡ Whole (request_of atom) → is_good_atom atom ≡ true
+        → can_have atom (step_of s atom e.moment e.refused).1 ≡ true → IsLegalAt s e → answer_after s e ≡ fault_line OutOfMemory → e.refused ≡ true }
+    ensures line { (s : CacheState) (e : Taking) (atom : Atom (List ℕ)) → e.what ≡ Whole (request_of atom) → is_good_atom atom ≡ true
+        → can_have atom (step_of s atom e.moment e.refused).1 ≡ true → IsLegalAt s e → e.refused ≡ true → answer_after s e ≡ fault_line OutOfMemory }
+{}

@@ -1,0 +1,59 @@
+-- The account of a run.
+use Rattle.std.proofs.Common.{◌≡◌, ◌∙◌, ℕ, List, [], ◌∷◌, map, refl, sym, ap, subst, arith}
+use Rattle.std.proofs.lemmas.Option.{none-some}
+use Rattle.std.proofs.lemmas.List.Elements.{All-nil}
+use Rattle.mc_request.specs.Requests.{requests_of, requests_within}
+use Rattle.mc_ring.specs.Rings.{RingState}
+use Rattle.mc_reply.specs.Spelling.{spelling_of}
+use Rattle.mc_reply.specs.declared.replies.Reply.{Reply as AReply}
+use Rattle.mc_link.specs.LinkState.{LinkState}
+use Rattle.mc_cache.specs.CacheState.{CacheState}
+use Rattle.mc_cache.specs.Refusals.{is_refusal}
+use Rattle.mc_cache.specs.Step.{step_of}
+use Rattle.mc_account.specs.Lanes.{Lane}
+use Rattle.mc_account.specs.Orders.{Entry as Asked, IsSized, Order}
+use Rattle.mc_history.specs.declared.entries.Entry.{Entry}
+use Rattle.mc_world.specs.Accounts.{Accounts}
+use Rattle.mc_history.specs.Histories.{IsLegal}
+use Rattle.mc_history.specs.Made.{AreMade, Each, Made, entry_of}
+use Rattle.mc_world.specs.Sites.{SiteStands}
+use Rattle.mc_world.specs.WorldState.{SiteState}
+use Rattle.mc_history.specs.Named.{IsNamed}
+
+no_requests : requests_of [] ≡ []
+unfolding requests_of requests_within
+no_requests = refl
+
+-- what a server made of named commands is a legal history
+pub legal_history : (place : ℕ) (order : Order) (s : CacheState) (made : List Made) → AreMade s made → Each (λ (m : Made). IsNamed place order m.command) made
+    → IsLegal order place s (map entry_of made)
+legal_history place order s [] h named = tt
+legal_history place order s (m ∷ ms) h named = (
+  m.command.0,
+  named.0,
+  record { legal = h.0.legal; refused = h.0.told ∙ ap (λ (r : AReply (List ℕ)). is_refusal r) h.0.reply; reply = ap (λ (r : AReply (List ℕ)). spelling_of m.command.0 r) h.0.reply },
+  legal_history place order (step_of s m.command.0 m.moment m.refused).0 ms h.1 named.1,
+)
+
+pub legal_site : (place : ℕ) (order : Order) (lane : Lane) (link : LinkState) (opening : CacheState) (site : SiteState) → SiteStands place order lane link opening site
+    → IsLegal order place opening site.history
+legal_site place order lane link opening site h =
+    subst (λ (es : List Entry). IsLegal order place opening es) (sym h.history) (legal_history place order opening h.made h.answers h.named)
+
+pub nothing_accounts : (ring : RingState) (opening : CacheState) → Accounts ring opening [] (λ _. []) (λ _. []) (λ _. []) []
+nothing_accounts ring opening = record {
+  asked = λ client. ([], sym no_requests);
+  turns = λ client. refl;
+  rings = λ client request e at. absurd (none-some e at);
+  sized = All-nil IsSized;
+  legal = λ place. tt;
+  once = λ r s j k d e at. absurd (none-some d at);
+  replied = λ tag place atom reply at. absurd (none-some _ at);
+  lost = λ tag place atom at. absurd (none-some _ at);
+  ordered = λ place j k d e r q at. absurd (none-some d at);
+  answered = λ client. refl;
+  put = λ client. refl;
+  few = λ client. omega arith;
+  moments = λ place. refl;
+  placed = λ place k e at. absurd (none-some e at);
+}

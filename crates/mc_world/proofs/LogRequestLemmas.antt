@@ -1,0 +1,120 @@
+-- The requests that were taken and the answers that were put out after an event that is logged.
+use Rattle.std.proofs.Common.{◌≡◌, ◌≢◌, ◌∙◌, ⊎_elim, ℕ, ◌<◌, inl, inr, true, false, List, [], ◌∷◌, ◌++◌, length, Some, sym, ap, subst, append-nil, arith}
+use Rattle.std.specs.Prelude.{All}
+use Rattle.std.proofs.lemmas.Bool.Decides.{eqb_tells}
+use Rattle.std.proofs.lemmas.List.{length_push}
+use Rattle.std.proofs.lemmas.List.Elements.{All-push}
+use Rattle.std.proofs.lemmas.Option.{same_Some}
+use Rattle.mc_ring.specs.Rings.{RingState}
+use Rattle.mc_session.specs.Emits.{IsEmit}
+use Rattle.mc_session.specs.SessionState.{SessionState, answered}
+use Rattle.mc_session.specs.declared.turns.Emit.TheVariants as emits
+use Rattle.mc_proxy.specs.ProxyState.{ProxyState, session_at}
+use Rattle.mc_proxy.specs.Turns.{Alone, Steps}
+use Rattle.mc_account.specs.Answered.{AreAnswers}
+use Rattle.mc_account.specs.Lanes.{Lane}
+use Rattle.mc_account.specs.Lookups.{IsRoutedWithin, asked_at}
+use Rattle.mc_account.specs.Orders.{Entry as Asked, Order, entries_of}
+use Rattle.mc_account.specs.Stands.{ProxyStands}
+use Rattle.mc_account.proofs.AnsweredLemmas.{open_answered}
+use Rattle.mc_account.proofs.CountLemmas.{answered-emitted, steps_other, steps_own}
+use Rattle.mc_account.proofs.OrderLemmas.{entries_push_other, entries_push_own}
+use Rattle.mc_world.specs.LogStands.{AnswersStand, RequestsStand}
+use Rattle.mc_world.specs.Logs.{IsRingAfter, Log, before, number_of, puts, takes}
+use Rattle.mc_world.specs.declared.events.Logged.{Logged}
+use Rattle.mc_world.proofs.LogEntryLemmas.{asked_pushed, got_inside}
+use Rattle.mc_world.proofs.LogLemmas.{before-last, before-stays, number-none, number-one}
+use Rattle.mc_world.proofs.LogOutcomeLemmas.{Goes}
+
+-- the ring of a request that was taken is that of then
+ring_stays : (opening : RingState) (places : ℕ) (order : Order) (log : Log) (e : Logged) (client request : ℕ) (d : Asked) → RequestsStand opening places order log
+    → asked_at order client request ≡ Some d → IsRingAfter opening (before (takes client) request (log ++ e ∷ [])) d.ring
+ring_stays opening places order log e client request d h at =
+    let early : request < number_of (takes client) log = omega (arith, got_inside (entries_of client order) request d at, h.taken client) in
+    subst (λ (l : Log). IsRingAfter opening l d.ring) (sym (before-stays (takes client) request log e early)) (h.rings client request d at)
+
+-- where no request is taken
+pub requests_go : (opening : RingState) (places now : ℕ) (order order' : Order) (log : Log) (e : Logged) → now ≡ places → ((client : ℕ) → takes client e ≡ false) → Goes order order'
+    → RequestsStand opening places order log → RequestsStand opening now order' (log ++ e ∷ [])
+requests_go opening places now order order' log e as_many none goes h = record {
+  taken = λ client. goes.sizes client ∙ h.taken client ∙ sym (number-none (takes client) log e (none client));
+  rings = λ client request d at.
+      let old = goes.rings client request d at in
+      subst (λ (r : RingState). IsRingAfter opening (before (takes client) request (log ++ e ∷ [])) r) (sym old.2)
+      (ring_stays opening places order log e client request old.0 h old.1);
+  inside = goes.inside now (subst (λ (n : ℕ). All (IsRoutedWithin n) order) (sym as_many) h.inside);
+}
+
+-- where one is
+pub requests_take : (opening : RingState) (places now : ℕ) (order : Order) (asked : Asked) (log : Log) (e : Logged) → now ≡ places
+    → takes asked.session e ≡ true → ((other : ℕ) → asked.session ≢ other → takes other e ≡ false) → IsRingAfter opening log asked.ring → IsRoutedWithin places asked
+    → RequestsStand opening places order log → RequestsStand opening now (order ++ asked ∷ []) (log ++ e ∷ [])
+requests_take opening places now order asked log e as_many own none ring routed h = record {
+  taken = λ client. ⊎_elim
+      (λ same.
+      let one = number-one (takes client) log e (subst (λ (n : ℕ). takes n e ≡ true) same.1 own) in
+      let size : length (entries_of client (order ++ asked ∷ [])) ≡ length (entries_of client order ++ asked ∷ []) = ap (λ (es : Order). length es) (entries_push_own client order asked same.1) in
+      omega (arith, one, size, length_push (entries_of client order) asked, h.taken client))
+      (λ differ. ap (λ (es : Order). length es) (entries_push_other client order asked differ.1) ∙ h.taken client ∙ sym (number-none (takes client) log e (none client differ.1)))
+      (eqb_tells asked.session client);
+  rings = λ client request d at. elim (asked_pushed order asked client request d at) [
+    | inl k ↦ ring_stays opening places order log e client request d h k
+    | inr k ↦ (
+        let last : before (takes client) request (log ++ e ∷ []) ≡ log =
+        ap (λ (n : ℕ). before (takes client) n (log ++ e ∷ [])) (k.1 ∙ h.taken client)
+        ∙ before-last (takes client) log e (subst (λ (n : ℕ). takes n e ≡ true) k.0 own) in
+        subst (λ (r : RingState). IsRingAfter opening (before (takes client) request (log ++ e ∷ [])) r) (ap (λ (x : Asked). x.ring) (sym k.2))
+        (subst (λ (l : Log). IsRingAfter opening l asked.ring) (sym last) ring))
+  ];
+  inside = subst (λ (n : ℕ). All (IsRoutedWithin n) (order ++ asked ∷ [])) (sym as_many) (All-push (IsRoutedWithin places) order asked h.inside routed);
+}
+
+-- an open session that was open, and of which as many are answered
+abbrev pub WasOpen : ProxyState → ProxyState → Type 0
+WasOpen old new =
+    (client : ℕ) (session : SessionState) → session_at new client ≡ Some session → (first : SessionState) × (session_at old client ≡ Some first) × (answered session ≡ answered first)
+
+-- where no answer is put out
+pub answers_go : (order order' : Order) (outs : ℕ → List ℕ) (log : Log) (e : Logged) (old new : ProxyState) → ((client : ℕ) → puts client e ≡ false)
+    → ((client count : ℕ) (out : List ℕ) → AreAnswers client order count out [] → AreAnswers client order' count out []) → WasOpen old new
+    → AnswersStand order outs log old → AnswersStand order' outs (log ++ e ∷ []) new
+answers_go order order' outs log e old new none kept open_ones h = record {
+  put = λ client.
+      subst (λ (n : ℕ). AreAnswers client order' n (outs client) []) (sym (number-none (puts client) log e (none client)))
+      (kept client (number_of (puts client) log) (outs client) (h.put client));
+  unanswered = λ client session at.
+      let first = open_ones client session at in
+      first.2 ∙ h.unanswered client first.0 first.1 ∙ sym (number-none (puts client) log e (none client));
+}
+
+-- where one is
+pub answers_put : (texts sent : ℕ → List ℕ) (order : Order) (lanes : ℕ → Lane) (client : ℕ) (outs outs' : ℕ → List ℕ) (log : Log) (e : Logged) (old new : ProxyState)
+    → puts client e ≡ true → ((other : ℕ) → client ≢ other → puts other e ≡ false) → ProxyStands texts sent order lanes old → ProxyStands texts sent order lanes new
+    → (steps : Steps client old new (Alone (IsEmit emits.Done))) → ((other : ℕ) → client ≢ other → outs' other ≡ outs other) → outs' client ≡ sent client ++ steps.after.output
+    → AnswersStand order outs log old → AnswersStand order outs' (log ++ e ∷ []) new
+answers_put texts sent order lanes client outs outs' log e old new own none was is steps others out h =
+    let now_at = steps_own client old new steps.before steps.after steps.was steps.is in
+    let one = number-one (puts client) log e own in
+    let count : answered steps.after ≡ number_of (puts client) (log ++ e ∷ []) =
+    omega (arith, one, answered-emitted texts sent order lanes client old new was steps, h.unanswered client steps.before steps.was) in
+    let all = open_answered texts sent order lanes new is client steps.after now_at in
+    let mine : AreAnswers client order (answered steps.after) (outs' client) [] = record {
+      within = all.within;
+      settled = all.settled;
+      answers = append-nil (outs' client) ∙ out ∙ all.answers;
+    } in
+    record {
+      put = λ n. ⊎_elim
+          (λ same. subst (λ (m : ℕ). AreAnswers m order (number_of (puts m) (log ++ e ∷ [])) (outs' m) []) same.1
+          (subst (λ (c : ℕ). AreAnswers client order c (outs' client) []) count mine))
+          (λ differ. subst (λ (c : ℕ). AreAnswers n order c (outs' n) []) (sym (number-none (puts n) log e (none n differ.1)))
+          (subst (λ (bytes : List ℕ). AreAnswers n order (number_of (puts n) log) bytes []) (sym (others n differ.1)) (h.put n)))
+          (eqb_tells client n);
+      unanswered = λ n session at. ⊎_elim
+          (λ same. let whose : session_at new client ≡ Some session = ap (λ (m : ℕ). session_at new m) same.1 ∙ at in
+          let after_is : steps.after ≡ session = same_Some steps.after session (sym now_at ∙ whose) in
+          ap (λ (s : SessionState). answered s) (sym after_is) ∙ count ∙ ap (λ (m : ℕ). number_of (puts m) (log ++ e ∷ [])) same.1)
+          (λ differ. let whose : session_at old n ≡ Some session = sym (steps_other client n old new steps.after steps.is differ.1) ∙ at in
+          h.unanswered n session whose ∙ sym (number-none (puts n) log e (none n differ.1)))
+          (eqb_tells client n);
+    }

@@ -1,0 +1,166 @@
+-- A server and its ways stand after the loss and the return of its link, and after what happens on a lost generation.
+use Rattle.std.proofs.Common.{◌≡◌, ◌≢◌, ◌∙◌, ℕ, zero, suc, ◌+◌, ◌⊎◌, inl, inr, true, List, [], ◌∷◌, ◌++◌, length, map, drop, Some, None, slice_get, refl, sym, ap, ap₂, subst, append-nil, arith}
+use Rattle.std.specs.List.{list_all}
+use Rattle.std.proofs.lemmas.List.{drop-drop, drop-map, drop_all, length-map, map-append}
+use Rattle.std.proofs.lemmas.Option.{none-some, same_Some}
+use Rattle.std.proofs.Math.Seq.{drop-append_seam}
+use Rattle.mc_link.specs.LinkState.{LinkState, Waiting}
+use Rattle.mc_link.specs.declared.turns.Tag.{Tag}
+use Rattle.mc_cache.specs.CacheState.{CacheState}
+use Rattle.mc_server.specs.ServerState.{ServerState, connection_at, fresh_connection, with_fresh}
+use Rattle.mc_server.specs.Stands.{ServerStands}
+use Rattle.mc_server.proofs.PlaceLemmas.{fresh_last, fresh_other}
+use Rattle.mc_server.proofs.StandsLemmas.{ServerStands-admitted, given}
+use Rattle.mc_account.specs.Lanes.{Lane, LaneStands, fresh_lane, spelled}
+use Rattle.mc_account.specs.Orders.{Order, Tagged, commands_to}
+use Rattle.mc_history.specs.Generations.{commands_of_lane, is_good}
+use Rattle.mc_history.specs.Made.{Each, Made, commands_on, read_as, taking_of}
+use Rattle.mc_world.specs.Sites.{IsLostWay, SiteStands}
+use Rattle.mc_world.specs.WorldState.{SiteState, WayState}
+use Rattle.mc_history.proofs.MadeLemmas.{taken_on}
+use Rattle.mc_history.proofs.OutcomeLemmas.{NoNews, replied_kept}
+use Rattle.mc_world.proofs.CountLemmas.{untaken-push}
+use Rattle.mc_world.proofs.MoveLemmas.{lost_kept, made_kept}
+use Rattle.mc_history.proofs.NamedLemmas.{Keeps, each_back, kept_named, named_since}
+use Rattle.mc_world.proofs.SiteLemmas.{get_none, good_since, tags_wait}
+use Rattle.mc_history.specs.Named.{IsNamed, tags_of, times}
+
+-- what stands in a list with one more behind
+get_pushed : (ways : List WayState) (way : WayState) (i : ℕ) (w : WayState) → slice_get (ways ++ way ∷ []) i ≡ Some w
+    → (slice_get ways i ≡ Some w) ⊎ ((i ≡ length ways) × (w ≡ way))
+get_pushed [] way zero w e = inr (refl, sym (same_Some way w e))
+get_pushed [] way (suc i) w e = absurd (none-some w (sym (get_none i) ∙ e))
+get_pushed (x ∷ xs) way zero w e = inl e
+get_pushed (x ∷ xs) way (suc i) w e = elim (get_pushed xs way i w e) [
+  | inl h ↦ inl h
+  | inr h ↦ inr (ap suc h.0, h.1)
+]
+
+-- so many commands behind the first
+drop_front : (front back : List Tagged) (count ahead : ℕ) → ahead + count ≡ length front
+    → drop ahead (drop count (map (λ (c : Tagged). c.1) (front ++ back))) ≡ map (λ (c : Tagged). c.1) back
+drop_front front back count ahead h =
+    let size : count + ahead ≡ length (map (λ (c : Tagged). c.1) front) = omega (arith, h, length-map front (λ (c : Tagged). c.1)) in
+    drop-drop ahead count (map (λ (c : Tagged). c.1) (front ++ back))
+    ∙ ap₂ (λ (n : ℕ) (ts : List Tag). drop n ts) size (map-append (λ (c : Tagged). c.1) front back)
+    ∙ drop-append_seam (map (λ (c : Tagged). c.1) front) (map (λ (c : Tagged). c.1) back)
+
+-- the link is lost: its bytes go on their way, and whose the commands are that the server has not taken is kept with them
+pub site_lost : (place : ℕ) (order order' : Order) (lane : Lane) (link link' : LinkState) (opening : CacheState) (site : SiteState) (generation : ℕ)
+    → link.up ≡ true → link'.up ≢ true → Keeps order order' → NoNews place order order' → commands_to place order' ≡ commands_to place order → LaneStands place order lane link
+    → SiteStands place order lane link opening site
+    → SiteStands place order' lane link' opening (record site {
+      lost = site.lost ++ (record {
+        generation = generation;
+        connection = site.connection;
+        going = link.output;
+        untaken = drop site.ahead (map (λ (w : Waiting). w.1) link.waiting);
+      }) ∷ [];
+    })
+site_lost place order order' lane link link' opening site generation up down keeps news commands stands h =
+    let living = h.living up in
+    let same_times : (t : Tag) → times t (tags_of (commands_to place order')) ≡ times t (tags_of (commands_to place order)) = λ t. ap (λ (cs : List Tagged). times t (tags_of cs)) commands in
+    let way : WayState = record { generation = generation; connection = site.connection; going = link.output; untaken = drop site.ahead (map (λ (w : Waiting). w.1) link.waiting) } in
+    let sent : commands_of_lane place order lane ≡ commands_on site.connection h.made ++ living.others = living.commands in
+    let own : IsLostWay place order h.made h.texts site.server way = record {
+      end = living.end;
+      is_open = living.is_open;
+      others = living.others;
+      put = ap (λ (bytes : List ℕ). bytes ++ link.output) living.out ∙ stands.put ∙ ap (λ (cs : List Tagged). spelled cs) living.commands;
+      good = ap (λ (cs : List Tagged). list_all is_good cs) (sym living.commands) ∙ good_since place lane.since order h.good;
+      untaken =
+          ap (λ (ws : List Waiting). drop site.ahead (map (λ (w : Waiting). w.1) ws)) stands.waiting
+          ∙ ap (λ (ts : List Tag). drop site.ahead ts) (tags_wait (drop (length lane.replies) (commands_of_lane place order lane)) ∙ sym (drop-map (λ (c : Tagged). c.1) (length lane.replies) (commands_of_lane place order lane)))
+          ∙ ap (λ (cs : List Tagged). drop site.ahead (drop (length lane.replies) (map (λ (c : Tagged). c.1) cs))) living.commands
+          ∙ drop_front (commands_on site.connection h.made) living.others (length lane.replies) site.ahead living.ahead;
+      named = each_back (IsNamed place order) (commands_on site.connection h.made) living.others
+          (subst (λ (cs : List Tagged). Each (IsNamed place order) cs) living.commands (named_since place lane.since order h.all_named));
+    } in
+    record {
+      made = h.made;
+      texts = h.texts;
+      sent = h.sent;
+      server = h.server;
+      good_cache = h.good_cache;
+      answers = h.answers;
+      history = h.history;
+      good = ap (λ (cs : List Tagged). list_all is_good cs) commands ∙ h.good;
+      named = made_kept place order order' h.made keeps h.named;
+      all_named = subst (λ (cs : List Tagged). Each (IsNamed place order') cs) (sym commands) (kept_named place order order' (commands_to place order) keeps h.all_named);
+      replied = replied_kept place order order' site.history news h.replied;
+      once = λ t. let more = untaken-push t site.lost way in let same : times t way.untaken ≡ times t (tags_of living.others) = ap (λ (ts : List Tag). times t ts) own.untaken in
+          omega (arith, living.once t, same_times t, more, same);
+      living = λ is. absurd (down is);
+      lost = λ i w at. elim (get_pushed site.lost way i w at) [
+        | inl k ↦ lost_kept place order order' h.made h.texts site.server w keeps (h.lost i w k)
+        | inr k ↦ lost_kept place order order' h.made h.texts site.server w keeps (subst (λ (x : WayState). IsLostWay place order h.made h.texts site.server x) (sym k.1) own)
+      ];
+      apart = λ i j v w at_v at_w differ. elim (get_pushed site.lost way i v at_v) [
+        | inl k ↦ (elim (get_pushed site.lost way j w at_w) [
+          | inl l ↦ h.apart i j v w k l differ
+          | inr l ↦ λ same. h.apart_living up i v k (sym (same ∙ ap (λ (x : WayState). x.connection) l.1))
+        ])
+        | inr k ↦ (elim (get_pushed site.lost way j w at_w) [
+          | inl l ↦ λ same. h.apart_living up j w l (sym (ap (λ (x : WayState). x.connection) k.1) ∙ same)
+          | inr l ↦ λ same. differ (k.0 ∙ sym l.0)
+        ])
+      ];
+      apart_living = λ is. absurd (down is);
+    }
+
+no_commands : (cs : List Tagged) → map read_as cs ≡ [] → cs ≡ []
+no_commands [] e = refl
+no_commands (c ∷ cs) e = absurd cc
+
+-- of a number that was not given yet nothing was made
+none_made : (opening : CacheState) (made : List Made) (texts sent : ℕ → List ℕ) (server : ServerState) → ServerStands opening texts sent (map taking_of made) server
+    → commands_on server.admitted made ≡ []
+none_made opening made texts sent server h =
+    let none : map read_as (commands_on server.admitted made) ≡ [] = sym (taken_on server.admitted made) ∙ (h.unused server.admitted (omega arith)).nothing_taken in
+    no_commands (commands_on server.admitted made) none
+
+-- the link is back: the server has admitted a connection for it
+pub site_back : (place : ℕ) (order : Order) (lane : Lane) (link link' : LinkState) (opening : CacheState) (site : SiteState) (generation : ℕ)
+    → connection_at site.server site.server.admitted ≡ None
+    → SiteStands place order lane link opening site
+    → SiteStands place order (fresh_lane (length order)) link' opening (record site { server = with_fresh site.server; generation = generation; connection = site.server.admitted; ahead = 0 })
+site_back place order lane link link' opening site generation closed h =
+    let unused = h.server.unused site.server.admitted (omega arith) in
+    let none = none_made opening h.made h.texts h.sent site.server h.server in
+    let differs : (i : ℕ) (way : WayState) → slice_get site.lost i ≡ Some way → site.server.admitted ≢ way.connection =
+    λ i way at. let w = h.lost i way at in let below = given opening h.texts h.sent (map taking_of h.made) site.server way.connection w.end h.server w.is_open in λ same. omega (arith, below, same) in
+    record {
+      made = h.made;
+      texts = h.texts;
+      sent = h.sent;
+      server = ServerStands-admitted opening h.texts h.sent (map taking_of h.made) site.server h.server;
+      good_cache = h.good_cache;
+      answers = h.answers;
+      history = h.history;
+      good = h.good;
+      named = h.named;
+      all_named = h.all_named;
+      once = h.once;
+      replied = h.replied;
+      living = λ _. record {
+        end = fresh_connection;
+        is_open = fresh_last site.server.connections site.server.admitted fresh_connection closed;
+        out = unused.nothing_came;
+        came = unused.nothing_sent;
+        others = [];
+        commands = ap (λ (es : Order). commands_to place es) (drop_all (length order) order (omega arith)) ∙ sym (append-nil (commands_on site.server.admitted h.made) ∙ none);
+        ahead = sym (ap (λ (cs : List Tagged). length cs) none);
+        once = λ t. omega (arith, h.once t);
+      };
+      lost = λ i way at. let w = h.lost i way at in record {
+        end = w.end;
+        is_open = fresh_other site.server.connections site.server.admitted way.connection fresh_connection (differs i way at) ∙ w.is_open;
+        others = w.others;
+        put = w.put;
+        good = w.good;
+        untaken = w.untaken;
+        named = w.named;
+      };
+      apart = h.apart;
+      apart_living = λ _ i way at. differs i way at;
+    }

@@ -1,0 +1,48 @@
+-- A course stands after every list of events and joins of servers, and so gives account.
+use Rattle.std.proofs.Common.{◌≡◌, ℕ, List, [], ◌∷◌, inl, inr, sym, subst, arith}
+use Rattle.mc_ring.specs.Rings.{IsRing, RingState}
+use Rattle.mc_cache.specs.CacheState.{CacheState, IsWithinBounds, opening_cache}
+use Rattle.mc_cache_laws.specs.GoodCaches.{IsGoodCache}
+use Rattle.mc_cache_laws.proofs.GoodStepLemmas.{opening_is_good}
+use Rattle.mc_world.specs.Accounts.{Account}
+use Rattle.mc_world.specs.CourseStands.{CourseStands}
+use Rattle.mc_world.specs.Runs.{Call, Calls, Join, Step}
+use Rattle.mc_world.specs.Worlds.{CourseState, history_of, opening_world, put_out_of, taken_by, text_of}
+use Rattle.mc_world.specs.declared.events.Event.{Event}
+use Rattle.mc_world.proofs.DoneLemmas.{course_done}
+use Rattle.mc_world.proofs.JoinLemmas.{course_joins}
+use Rattle.mc_world.proofs.LogAccountLemmas.{log_accounts}
+use Rattle.mc_world.proofs.WorldOpeningLemmas.{course_opens}
+
+-- a course that stands gives account
+pub course_accounts : (ring : RingState) (opening : CacheState) (c : CourseState) → CourseStands ring opening c
+    → Account ring opening (text_of c) (put_out_of c) (history_of c) c.log
+course_accounts ring opening c h =
+    (h.order, log_accounts ring opening (text_of c) (taken_by c) h.order h.lanes (put_out_of c) c.log c.pool h.pool h.log)
+
+-- and so it does after every list of calls
+pub course_called : (ring : RingState) (opening : CacheState) (calls : List Call) (old new : CourseState) → IsGoodCache opening → CourseStands ring opening old
+    → Calls opening calls old new → CourseStands ring opening new
+course_called ring opening [] old new good h run = subst (λ (c : CourseState). CourseStands ring opening c) (sym run) h
+course_called ring opening (Step event ∷ calls) old new good h run =
+    course_called ring opening calls run.0 new good
+    (elim run.1 [
+      | inl done ↦ course_done ring opening event old run.0 h done
+      | inr same ↦ subst (λ (c : CourseState). CourseStands ring opening c) (sym same) h
+    ]) run.2
+course_called ring opening (Join address ∷ calls) old new good h run =
+    course_called ring opening calls run.0 new good
+    (elim run.1 [
+      | inl joined ↦ course_joins ring opening address old run.0 good h joined
+      | inr same ↦ subst (λ (c : CourseState). CourseStands ring opening c) (sym same) h
+    ]) run.2
+
+-- every list of calls
+pub calls_account : (ring : RingState) (clients budget items : ℕ) (calls : List Call) (c : CourseState) → IsRing ring → IsWithinBounds budget items
+    → Calls (opening_cache budget items 0) calls (opening_world ring clients budget items).course c
+    → Account ring (opening_cache budget items 0) (text_of c) (put_out_of c) (history_of c) c.log
+calls_account ring clients budget items calls c is_ring bounds run =
+    course_accounts ring (opening_cache budget items 0) c
+    (course_called ring (opening_cache budget items 0) calls (opening_world ring clients budget items).course c
+    (opening_is_good budget items 0 bounds.some_items (omega arith))
+    (course_opens ring clients budget items is_ring bounds.some_items) run)

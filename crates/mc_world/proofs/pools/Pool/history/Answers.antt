@@ -1,0 +1,21 @@
+use Rattle.std.proofs.Common.{rules, ◌≡◌, ◌≢◌, ◌∙◌, ◌+◌, ◌-◌, ◌^◌, ◌<◌, ◌≤◌, ◌++◌, ◌∷◌, [], ℕ, true, false, List, Some, None, length, map, drop, take, min, slice_get, slice_set, refl, sym, ap, subst, arith}
+use Rattle.std.proofs.lemmas.Option.{none-some, same_Some, slice_get_read}
+use Rattle.mc_session.specs.SessionState.{link_at}
+use Rattle.mc_world.specs.Serving.{PoolServes}
+use Rattle.mc_world.specs.WorldState.{PoolState, SiteState, WayState}
+use Rattle.std.proofs.lemmas.Option.{slice_get_past}
+use Rattle.mc_world.proofs.AppliesLemmas.{history_here, history_nowhere}
+use Rattle.mc_world.proofs.pools.Pool.history.Goals as goal
+
+pub returns-in-Some : goal.returns-in-Some
+returns-in-Some g c =
+    let at : slice_get c.self.inside.sites.items c.args.place ≡ Some c.in-Some.site.now =
+    ap (λ (ss : List SiteState). slice_get ss c.args.place) (sym c.deref.ensures.value)
+    ∙ slice_get_read c.deref.result.now _ c.args.place c.in-Some.site.now refl c.in-Some.ensures.lookup.3.0 c.in-Some.ensures.lookup.1 in
+    rw (← c.self.view_is) (c.history.ensures ∙ sym (history_here c.self.inside.sites.items c.args.place c.in-Some.site.now at))
+
+pub returns-in-None : goal.returns-in-None
+returns-in-None g c =
+    let none : slice_get c.self.inside.sites.items c.args.place ≡ None =
+    ap (λ (ss : List SiteState). slice_get ss c.args.place) (sym c.deref.ensures.value) ∙ slice_get_past c.deref.result.now c.args.place c.in-None.ensures.lookup.3 in
+    rw (← c.self.view_is) (sym (history_nowhere c.self.inside.sites.items c.args.place none))

@@ -1,0 +1,23 @@
+use Rattle.std.proofs.Common.{rules, ◌≡◌, ◌≢◌, ◌∙◌, ◌+◌, ◌-◌, ◌^◌, ◌<◌, ◌≤◌, ◌++◌, ◌∷◌, [], ℕ, true, false, List, Some, None, length, map, drop, take, min, slice_get, slice_set, refl, sym, ap, subst, arith}
+use Rattle.std.proofs.lemmas.Option.{none-some, same_Some, slice_get_read}
+use Rattle.mc_session.specs.SessionState.{link_at}
+use Rattle.mc_world.specs.Serving.{PoolServes}
+use Rattle.mc_world.specs.WorldState.{PoolState, SiteState, WayState}
+use Rattle.mc_world.proofs.AppliesLemmas.{it_applies, reached_proxy}
+use Rattle.mc_world.proofs.pools.Pool.reach_proxy.Goals as goal
+
+pub returns-clause-reaches : goal.returns-clause-reaches
+returns-clause-reaches g c =
+    let inside = c.in-Some.ensures.variant.0 refl in
+    let kept = c.self.inside.sites.ok in
+    let at : slice_get c.self.inside.sites.items c.args.place ≡ Some c.in-Some.site.now = slice_get_read _ _ c.args.place c.in-Some.site.now refl (omega (arith, inside, kept)) (search rules) in
+    let up : (link_at c.self.inside.proxy.links c.args.place).up ≡ true = search rules in
+    rw (← c.self.view_is) (reached_proxy c.args.place c.args.count c.self.inside.proxy c.link_feed.new.self c.self.inside.sites.items c.in-Some.site.now c.give.new.self at up (search rules) (search rules))
+
+pub returns-clause-applies : goal.returns-clause-applies
+returns-clause-applies g c =
+    let inside = c.in-Some.ensures.variant.0 refl in
+    let kept = c.self.inside.sites.ok in
+    let at : slice_get c.self.inside.sites.items c.args.place ≡ Some c.in-Some.site.now = slice_get_read _ _ c.args.place c.in-Some.site.now refl (omega (arith, inside, kept)) (search rules) in
+    let up : (link_at c.self.inside.proxy.links c.args.place).up ≡ true = search rules in
+    rw (← c.self.view_is) (it_applies (record { site = c.in-Some.site.now; at = at; up = up; moves = search rules }))

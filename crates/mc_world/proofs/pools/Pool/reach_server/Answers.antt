@@ -1,0 +1,15 @@
+use Rattle.std.proofs.Common.{rules, ◌≡◌, ◌≢◌, ◌∙◌, ◌+◌, ◌-◌, ◌^◌, ◌<◌, ◌≤◌, ◌++◌, ◌∷◌, [], ℕ, true, false, List, Some, None, length, map, drop, take, min, slice_get, slice_set, refl, sym, ap, subst, arith}
+use Rattle.std.proofs.lemmas.Option.{none-some, same_Some, slice_get_read}
+use Rattle.mc_session.specs.SessionState.{link_at}
+use Rattle.mc_world.specs.Serving.{PoolServes}
+use Rattle.mc_world.specs.WorldState.{PoolState, SiteState, WayState}
+use Rattle.mc_world.proofs.AppliesLemmas.{reached_server}
+use Rattle.mc_world.proofs.pools.Pool.reach_server.Goals as goal
+
+pub returns-clause-reaches : goal.returns-clause-reaches
+returns-clause-reaches g c =
+    let inside = c.in-Some.ensures.variant.0 refl in
+    let kept = c.self.inside.sites.ok in
+    let at : slice_get c.self.inside.sites.items c.args.place ≡ Some c.in-Some.site.now = slice_get_read _ _ c.args.place c.in-Some.site.now refl (omega (arith, inside, kept)) (search rules) in
+    let up : (link_at c.self.inside.proxy.links c.args.place).up ≡ true = search rules in
+    rw (← c.self.view_is) (reached_server c.args.place c.args.count c.self.inside.proxy c.link_taken_out.new.self c.self.inside.sites.items c.in-Some.site.now c.arrive.new.self at up (search rules) (search rules))

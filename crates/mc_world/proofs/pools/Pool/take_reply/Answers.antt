@@ -1,0 +1,61 @@
+use Rattle.std.proofs.Common.{rules, ◌≡◌, ◌≢◌, ◌∙◌, ◌+◌, ◌-◌, ◌^◌, ◌<◌, ◌≤◌, ◌++◌, ◌∷◌, [], ℕ, true, false, List, Some, None, length, map, drop, take, min, slice_get, slice_set, refl, sym, ap, subst, arith}
+use Rattle.std.proofs.lemmas.Option.{none-some, same_Some, slice_get_read}
+use Rattle.mc_session.specs.SessionState.{link_at}
+use Rattle.mc_world.specs.Serving.{PoolServes}
+use Rattle.mc_world.specs.WorldState.{PoolState, SiteState, WayState}
+use Rattle.mc_proxy.specs.LinkTurns.{Answers, IsLinkTurn}
+use Rattle.mc_proxy.specs.declared.turns.LinkTurn.{LinkTurn}
+use Rattle.mc_world.proofs.AppliesLemmas.{it_applies, it_does_not, not_whole, pool_of, rests, site_there}
+use Rattle.mc_world.proofs.MoveLemmas.{get_some}
+use Rattle.mc_world.proofs.StillLemmas.{same_pool}
+use Rattle.mc_world.proofs.pools.Pool.take_reply.Goals as goal
+
+pub returns-in_default : goal.returns-in_default
+returns-in_default g c =
+    let serves : PoolServes (pool_of c.self.inside.proxy c.self.inside.sites.items) = subst PoolServes (sym c.self.view_is) c.requires.serves in
+    let up : (link_at c.self.inside.proxy.links c.args.place).up ≡ true = search rules in
+    let there : c.args.place < length c.self.inside.sites.items = site_there c.args.place (pool_of c.self.inside.proxy c.self.inside.sites.items) serves up in
+    let found = get_some c.self.inside.sites.items c.args.place there in
+    let own = serves.sites c.args.place found.0 found.1 in
+    let rest = rests c.args.place _ c.self.inside.proxy c.link_turn.new.self c.in_default.not-Took (own.never_strange up) c.in_ok-link_turn.ensures.turn in
+    record {
+      takes = rw (← c.self.view_is) (same_pool _ _ _ rest.same);
+      applies = rw (← c.self.view_is) (it_does_not (λ can. not_whole (link_at c.self.inside.proxy.links c.args.place) can.tag can.reply can.after rest.idle can.takes));
+      err = tt;
+    }
+
+pub index_mut-requires : goal.index_mut-requires
+index_mut-requires g c =
+    let serves : PoolServes (pool_of c.self.inside.proxy c.self.inside.sites.items) = subst PoolServes (sym c.self.view_is) c.requires.serves in
+    let up : (link_at c.self.inside.proxy.links c.args.place).up ≡ true = search rules in
+    let there : c.args.place < length c.self.inside.sites.items = site_there c.args.place (pool_of c.self.inside.proxy c.self.inside.sites.items) serves up in
+    let kept = c.self.inside.sites.ok in
+    omega (arith, there, kept)
+
+pub replied-requires : goal.replied-requires
+replied-requires g c =
+    let serves : PoolServes (pool_of c.self.inside.proxy c.self.inside.sites.items) = subst PoolServes (sym c.self.view_is) c.requires.serves in
+    let up : (link_at c.self.inside.proxy.links c.args.place).up ≡ true = search rules in
+    let answers : Answers c.args.place c.self.inside.proxy c.link_turn.new.self =
+    subst (λ (t : LinkTurn). IsLinkTurn c.args.place t c.self.inside.proxy c.link_turn.new.self) c.in-Took.is c.in_ok-link_turn.ensures.turn in
+    let there : c.args.place < length c.self.inside.sites.items = site_there c.args.place (pool_of c.self.inside.proxy c.self.inside.sites.items) serves up in
+    let kept = c.self.inside.sites.ok in
+    let at : slice_get c.self.inside.sites.items c.args.place ≡ Some c.index_mut.result.now = slice_get_read _ _ c.args.place c.index_mut.result.now refl (omega (arith, there, kept)) (search rules) in
+    let own = serves.sites c.args.place c.index_mut.result.now at in
+    own.replied answers.tag answers.reply answers.link up answers.takes
+
+pub returns-clause-takes : goal.returns-clause-takes
+returns-clause-takes g c =
+    let serves : PoolServes (pool_of c.self.inside.proxy c.self.inside.sites.items) = subst PoolServes (sym c.self.view_is) c.requires.serves in
+    let up : (link_at c.self.inside.proxy.links c.args.place).up ≡ true = search rules in
+    let answers : Answers c.args.place c.self.inside.proxy c.link_turn.new.self =
+    subst (λ (t : LinkTurn). IsLinkTurn c.args.place t c.self.inside.proxy c.link_turn.new.self) c.in-Took.is c.in_ok-link_turn.ensures.turn in
+    let there : c.args.place < length c.self.inside.sites.items = site_there c.args.place (pool_of c.self.inside.proxy c.self.inside.sites.items) serves up in
+    let kept = c.self.inside.sites.ok in
+    let at : slice_get c.self.inside.sites.items c.args.place ≡ Some c.index_mut.result.now = slice_get_read _ _ c.args.place c.index_mut.result.now refl (omega (arith, there, kept)) (search rules) in
+    let own = serves.sites c.args.place c.index_mut.result.now at in
+    rw (← c.self.view_is) (record {
+      there = record { site = c.index_mut.result.now; now = c.replied.new.self; at = at; up = up; sites = refl };
+      answers = answers;
+      counts = search rules;
+    })

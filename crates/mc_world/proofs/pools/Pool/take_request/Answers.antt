@@ -1,0 +1,26 @@
+use Rattle.std.proofs.Common.{rules, ◌≡◌, ◌≢◌, ◌∙◌, ◌+◌, ◌-◌, ◌^◌, ◌<◌, ◌≤◌, ◌++◌, ◌∷◌, [], ℕ, true, false, List, Some, None, length, map, drop, take, min, slice_get, slice_set, refl, sym, ap, subst, arith}
+use Rattle.std.proofs.lemmas.Option.{none-some, same_Some, slice_get_read}
+use Rattle.mc_session.specs.SessionState.{link_at}
+use Rattle.mc_world.specs.Serving.{PoolServes}
+use Rattle.mc_world.specs.WorldState.{PoolState, SiteState, WayState}
+use Rattle.mc_session.specs.Turns.{IsTurn}
+use Rattle.mc_session.specs.declared.turns.Turn.{Turn}
+use Rattle.mc_session.specs.declared.turns.Turn.TheVariants as turns
+use Rattle.mc_proxy.specs.Turns.{Steps}
+use Rattle.mc_world.proofs.AppliesLemmas.{it_applies, it_does_not, not_ready, pool_of, was_ready}
+use Rattle.mc_world.proofs.StillLemmas.{same_pool, turn_still}
+use Rattle.mc_world.proofs.pools.Pool.take_request.Goals as goal
+
+pub returns-in_default : goal.returns-in_default
+returns-in_default g c =
+    record {
+      takes = rw (← c.self.view_is) (same_pool _ _ _ (turn_still c.args.client _ c.self.inside.proxy c.turn.new.self c.in_default.not-Took c.in-Ok.ensures.turn));
+      applies = rw (← c.self.view_is) (it_does_not (λ can. not_ready c.args.client _ c.self.inside.proxy c.turn.new.self c.in_default.not-Took c.in-Ok.ensures.turn can.0 can.1 can.2));
+      err = tt;
+    }
+
+pub returns-clause-applies : goal.returns-clause-applies
+returns-clause-applies g c =
+    let steps : Steps c.args.client c.self.inside.proxy c.turn.new.self (IsTurn c.args.client turns.Took c.self.inside.proxy.ring) =
+    subst (λ (t : Turn). Steps c.args.client c.self.inside.proxy c.turn.new.self (IsTurn c.args.client t c.self.inside.proxy.ring)) c.in-Took.is c.in-Ok.ensures.turn in
+    rw (← c.self.view_is) (it_applies (was_ready c.args.client c.self.inside.proxy c.turn.new.self c.self.inside.sites.items steps))

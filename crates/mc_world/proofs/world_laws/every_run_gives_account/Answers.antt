@@ -1,0 +1,5 @@
+use Rattle.mc_world.proofs.RunLemmas.{calls_account}
+use Rattle.mc_world.proofs.world_laws.every_run_gives_account.Goals as goal
+
+pub returns : goal.returns
+returns c = calls_account

@@ -1,0 +1,87 @@
+-- The account of a run: this project's own.
+use Rattle.std.specs.Prelude.{ℕ, ◌≡◌, ◌≢◌, ◌<◌, ◌≤◌, ◌⊎◌, true, false, List, ◌++◌, length, map, take, Some, slice_get, All}
+use Rattle.std.specs.List.{list_all}
+use Rattle.mc_request.specs.declared.parts.Atom.{Atom}
+use Rattle.mc_request.specs.declared.parts.Taken.{Taken}
+use Rattle.mc_request.specs.Requests.{requests_of}
+use Rattle.mc_reply.specs.declared.replies.Reply.{Reply as AReply}
+use Rattle.mc_reply.specs.Spelling.{spelling_of}
+use Rattle.mc_ring.specs.Rings.{RingState}
+use Rattle.mc_route.specs.Routes.{to_place}
+use Rattle.mc_route.specs.declared.outcomes.Outcome.TheVariants.{Lost, Reply}
+use Rattle.mc_link.specs.declared.turns.Tag.{Tag}
+use Rattle.mc_cache.specs.CacheState.{CacheState}
+use Rattle.mc_account.specs.Orders.{Entry as Asked, IsSized, Order, answers_of, entries_of, is_settled, taken_of}
+use Rattle.mc_history.specs.declared.entries.Entry.{Entry}
+use Rattle.mc_world.specs.Logs.{IsRingAfter, Log, before, is_up, loses, moments_of, number_of, puts, serves, takes}
+use Rattle.mc_history.specs.Histories.{HasNone, HasReply, IsBefore, IsLegal, tag_in}
+use Rattle.mc_account.specs.Lookups.{asked_at, command_at, outcome_at}
+
+-- at a place of the log, a request was taken, and was not answered yet
+abbrev pub WasTaken : Tag → Log → Type 0
+WasTaken tag log = tag.request < number_of (takes tag.session) log
+
+abbrev pub NotAnswered : Tag → Log → Type 0
+NotAnswered tag log = number_of (puts tag.session) log ≤ tag.request
+
+-- the link to a server was up, or down, when a request was taken
+abbrev pub up_when_taken : ℕ → Tag → Log → Type 0
+up_when_taken place tag log = is_up place (before (takes tag.session) tag.request log) ≡ true
+
+abbrev pub down_when_taken : ℕ → Tag → Log → Type 0
+down_when_taken place tag log = is_up place (before (takes tag.session) tag.request log) ≡ false
+
+-- a link was lost where a request had been taken and was not answered
+abbrev pub WasLost : ℕ → Tag → Log → Type 0
+WasLost place tag log =
+    (loss : ℕ) × (loss < number_of (loses place) log)
+    × WasTaken tag (before (loses place) loss log) × NotAnswered tag (before (loses place) loss log)
+
+-- what a log tells of a command that is lost: it was never sent, since its link was down when it was taken, or its link was lost
+-- before it was answered
+abbrev pub IsToldLost : ℕ → Tag → List Entry → Log → Type 0
+IsToldLost place tag history log = (down_when_taken place tag log × HasNone history tag) ⊎ (up_when_taken place tag log × WasLost place tag log)
+
+-- What a run gives account of, by an order in which the requests were taken with what became of each command: the clients' texts,
+-- what was put out to them, the servers' histories, all by number, and the log.
+pub record Accounts (ring : RingState) (opening : CacheState) (order : Order) (texts outs : ℕ → List ℕ) (histories : ℕ → List Entry) (log : Log) : Type 0 where
+  -- each client's requests were taken in order, one by each turn, and routed by the ring of then; each of their commands has its outcome
+  pub asked : (client : ℕ) → (untaken : List Taken) × (taken_of client order ++ untaken ≡ requests_of (texts client))
+  pub turns : (client : ℕ) → length (entries_of client order) ≡ number_of (takes client) log
+  pub rings : (client request : ℕ) (e : Asked) → asked_at order client request ≡ Some e → IsRingAfter ring (before (takes client) request log) e.ring
+  pub sized : All IsSized order
+  -- each history is legal, and no command has two entries in all of them
+  pub legal : (place : ℕ) → IsLegal order place opening (histories place)
+  pub once : (r s j k : ℕ) (d e : Entry) → slice_get (histories r) j ≡ Some d → slice_get (histories s) k ≡ Some e → tag_in d ≡ tag_in e
+      → (r ≡ s) × (j ≡ k)
+  -- a reply is that of its server's history
+  pub replied : (tag : Tag) (place : ℕ) (atom : Atom (List ℕ)) (reply : AReply (List ℕ)) → command_at order tag ≡ Some (to_place place atom)
+      → outcome_at order tag ≡ Some (Reply reply) → HasReply (histories place) tag (spelling_of atom reply)
+  -- what is lost was never sent, or its link was lost before it was answered
+  pub lost : (tag : Tag) (place : ℕ) (atom : Atom (List ℕ)) → command_at order tag ≡ Some (to_place place atom) → outcome_at order tag ≡ Some Lost
+      → IsToldLost place tag (histories place) log
+  -- in a history the commands of one client that were replied are in its order
+  pub ordered : (place j k : ℕ) (d e : Entry) (r q : AReply (List ℕ)) → slice_get (histories place) j ≡ Some d → slice_get (histories place) k ≡ Some e → j < k
+      → d.client ≡ e.client → outcome_at order (tag_in d) ≡ Some (Reply r) → outcome_at order (tag_in e) ≡ Some (Reply q) → IsBefore (tag_in d) (tag_in e)
+  -- what was put out to a client is the answers to its first requests, one for each put
+  pub answered : (client : ℕ) → list_all is_settled (take (number_of (puts client) log) (entries_of client order)) ≡ true
+  pub put : (client : ℕ) → outs client ≡ answers_of (take (number_of (puts client) log) (entries_of client order))
+  pub few : (client : ℕ) → number_of (puts client) log ≤ length (entries_of client order)
+  -- a history has one entry for each turn of its server, at its moment; its request was taken before, and answered after where it was replied
+  pub moments : (place : ℕ) → map (λ (e : Entry). e.moment) (histories place) ≡ moments_of place log
+  pub placed : (place k : ℕ) (e : Entry) → slice_get (histories place) k ≡ Some e
+      → WasTaken (tag_in e) (before (serves place) k log)
+      × ((reply : AReply (List ℕ)) → outcome_at order (tag_in e) ≡ Some (Reply reply) → NotAnswered (tag_in e) (before (serves place) k log))
+
+-- the account: there is such an order
+abbrev pub Account : RingState → CacheState → (ℕ → List ℕ) → (ℕ → List ℕ) → (ℕ → List Entry) → Log → Type 0
+Account ring opening texts outs histories log = (order : Order) × Accounts ring opening order texts outs histories log
+
+-- The clauses of the account that speak of no place of the log: each client's requests were taken in order, each command has its outcome,
+-- each history is legal, and no command has two entries in all of them.
+pub record AccountsForCommands (opening : CacheState) (order : Order) (texts : ℕ → List ℕ) (histories : ℕ → List Entry) : Type 0 where
+  pub asked : (client : ℕ) → (untaken : List Taken) × (taken_of client order ++ untaken ≡ requests_of (texts client))
+  pub sized : All IsSized order
+  pub legal : (place : ℕ) → IsLegal order place opening (histories place)
+  pub once : (r s j k : ℕ) (d e : Entry) → slice_get (histories r) j ≡ Some d → slice_get (histories s) k ≡ Some e → tag_in d ≡ tag_in e
+      → (r ≡ s) × (j ≡ k)

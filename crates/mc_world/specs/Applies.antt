@@ -1,0 +1,109 @@
+-- When an event applies to a pool: where it does not, nothing happens.
+use Rattle.std.specs.Prelude.{ℕ, ◌≡◌, ◌≢◌, ◌-◌, ◌^◌, ◌<◌, ◌==◌, true, List, length, Option, None, Some, position, slice_get}
+use Rattle.mc_reply.specs.declared.replies.Reply.{Reply as AReply}
+use Rattle.mc_link.specs.LinkState.{LinkState, can_come_back}
+use Rattle.mc_link.specs.Turns.{Takes}
+use Rattle.mc_link.specs.declared.turns.Tag.{Tag}
+use Rattle.mc_server.specs.ServerState.{ServerState, connection_at, output_of}
+use Rattle.mc_server.specs.Turns.{waiting_of}
+use Rattle.mc_server.specs.declared.servers.TheConstants.{MAX_CONNECTIONS}
+use Rattle.mc_session.specs.Emits.{emitted}
+use Rattle.mc_session.specs.Looks.{IsReady}
+use Rattle.mc_session.specs.SessionState.{SessionState, link_at}
+use Rattle.mc_proxy.specs.ProxyState.{output_of as output_at, session_at}
+use Rattle.mc_world.specs.WorldState.{PoolState, SiteState, WayState}
+
+-- bytes can be moved: there are some, and some are asked for
+abbrev pub CanMove : ℕ → List ℕ → Type 0
+CanMove count bytes = (0 < count) × (0 < length bytes)
+
+-- a client has not gone
+abbrev pub IsThere : ℕ → PoolState → Type 0
+IsThere client pool = session_at pool.proxy client ≢ None
+
+-- a client sends bytes: it has not gone, and there is a byte
+abbrev pub CanHear : ℕ → List ℕ → PoolState → Type 0
+CanHear client piece pool = IsThere client pool × (0 < length piece)
+
+-- the proxy takes a request of a client: one has come whole, and no mark is reached by it
+abbrev pub CanTakeRequest : ℕ → PoolState → Type 0
+CanTakeRequest client pool = (session : SessionState) × (session_at pool.proxy client ≡ Some session) × IsReady pool.proxy.ring pool.proxy.links session
+
+-- an answer is put out to a client: of each command of its oldest unanswered request it is known what became of it
+abbrev pub CanPutAnswer : ℕ → PoolState → Type 0
+CanPutAnswer client pool = (session : SessionState) × (session_at pool.proxy client ≡ Some session) × (emitted session ≢ None)
+
+-- a client takes bytes of those that were put out to it
+abbrev pub CanTakeBytes : ℕ → ℕ → PoolState → Type 0
+CanTakeBytes client count pool = CanMove count (output_at (session_at pool.proxy client))
+
+-- the link to a server is up
+abbrev pub IsUp : ℕ → PoolState → Type 0
+IsUp place pool = (link_at pool.proxy.links place).up ≡ true
+
+-- bytes arrive at a server: its link is up, and has some for it
+abbrev pub CanReachServer : ℕ → ℕ → PoolState → Type 0
+CanReachServer place count pool = IsUp place pool × CanMove count (link_at pool.proxy.links place).output
+
+-- a server takes a request of the living generation: its link is up, and one has come whole
+pub record CanServe (place : ℕ) (pool : PoolState) : Type 0 where
+  pub site : SiteState
+  pub at : slice_get pool.sites place ≡ Some site
+  pub up : IsUp place pool
+  pub waits : 0 < length (waiting_of (connection_at site.server site.connection))
+
+-- bytes come back to the proxy: the link is up, and the server has some for it
+pub record CanReachProxy (place count : ℕ) (pool : PoolState) : Type 0 where
+  pub site : SiteState
+  pub at : slice_get pool.sites place ≡ Some site
+  pub up : IsUp place pool
+  pub moves : CanMove count (output_of (connection_at site.server site.connection))
+
+-- the proxy takes a reply: the link is up, and a reply to the oldest command that waits has come whole
+pub record CanTakeReply (place : ℕ) (pool : PoolState) : Type 0 where
+  pub up : IsUp place pool
+  pub tag : Tag
+  pub reply : AReply (List ℕ)
+  pub after : LinkState
+  pub takes : Takes (link_at pool.proxy.links place) tag reply after
+
+-- a server can admit a connection
+abbrev pub CanAdmit : ServerState → Type 0
+CanAdmit server = (length server.connections < MAX_CONNECTIONS) × (server.admitted ≢ 2 ^ 64 - 1)
+
+-- a link is back: it is down, a generation is left, and its server can admit a connection
+pub record CanReturn (place : ℕ) (pool : PoolState) : Type 0 where
+  pub site : SiteState
+  pub at : slice_get pool.sites place ≡ Some site
+  pub can : can_come_back (link_at pool.proxy.links place) ≡ true
+  pub admits : CanAdmit site.server
+
+-- where a lost generation stands among those that are not ended: the first of its number
+abbrev pub way_of : ℕ → List WayState → Option ℕ
+way_of generation ways = position (λ way. way.generation == generation) ways
+
+-- a server has a lost generation of this number whose end it has not seen
+pub record HasLost (place generation : ℕ) (pool : PoolState) : Type 0 where
+  pub site : SiteState
+  pub at : slice_get pool.sites place ≡ Some site
+  pub i : ℕ
+  pub first : way_of generation site.lost ≡ Some i
+  pub way : WayState
+  pub way_at : slice_get site.lost i ≡ Some way
+
+-- bytes of it arrive: some are on their way
+pub record CanReachLate (place generation count : ℕ) (pool : PoolState) : Type 0 where
+  pub there : HasLost place generation pool
+  pub moves : CanMove count there.way.going
+
+-- its server takes a request of it: one has come whole
+pub record CanServeLate (place generation : ℕ) (pool : PoolState) : Type 0 where
+  pub there : HasLost place generation pool
+  pub waits : 0 < length (waiting_of (connection_at there.site.server there.way.connection))
+
+-- a generation lives: its link is up
+pub record Lives (place generation : ℕ) (pool : PoolState) : Type 0 where
+  pub site : SiteState
+  pub at : slice_get pool.sites place ≡ Some site
+  pub is : site.generation ≡ generation
+  pub up : IsUp place pool

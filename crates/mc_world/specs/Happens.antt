@@ -1,0 +1,93 @@
+-- What happens to a server and its ways, as its calls say it.
+use Rattle.std.specs.Prelude.{ℕ, ◌≡◌, ◌+◌, ◌-◌, Bool, List, [], ◌∷◌, ◌++◌, take, drop, None, Some, slice_get, slice_set, remove}
+use Rattle.mc_link.specs.declared.turns.Tag.{Tag}
+use Rattle.mc_server.specs.ServerState.{ServerState, closed, connection_at, sent_by, with_fresh}
+use Rattle.mc_server.specs.Turns.{Feeds, IsTurn, Steps}
+use Rattle.mc_server.specs.declared.turns.Turn.TheVariants.{Took}
+use Rattle.mc_world.specs.WorldState.{SiteState, WayState}
+use Rattle.mc_world.specs.declared.errors.Step.{Step}
+use Rattle.mc_world.specs.declared.errors.Step.TheVariants.{Done, Nothing}
+use Rattle.mc_history.specs.declared.entries.Entry.{Entry}
+
+-- what a step says, by whether it was done
+abbrev pub Does : Step → Type 0 → Type 0 → Type 0
+Does Done happens rests = happens
+Does Nothing happens rests = rests
+
+-- bytes arrive at the server of the living generation
+pub record Arrives (piece : List ℕ) (old new : SiteState) : Type 0 where
+  pub steps : Steps old.connection old.server new.server (Feeds piece)
+  pub all_else : new ≡ record old { server = new.server }
+
+-- bytes of it leave the server
+abbrev pub returned : ℕ → SiteState → SiteState
+returned count s = record s { server = sent_by s.connection count (connection_at s.server s.connection) s.server }
+
+-- a reply of it was taken
+abbrev pub taken_one : SiteState → SiteState
+taken_one s = record s { ahead = s.ahead - 1 }
+
+-- the entry of a command of this tag
+abbrev pub entry_of_tag : Tag → ℕ → Bool → List ℕ → Entry
+entry_of_tag tag moment refused reply = record {
+  client = tag.session;
+  request = tag.request;
+  atom = tag.atom;
+  moment = moment;
+  refused = refused;
+  reply = reply;
+}
+
+-- the server takes a request of it, which is the command of this tag: the history has it with the bytes that the server appended
+pub record Enters (moment : ℕ) (tag : Tag) (old new : SiteState) : Type 0 where
+  pub steps : Steps old.connection old.server new.server (IsTurn old.connection moment Took)
+  pub reply : List ℕ
+  pub appended : steps.after.output ≡ steps.before.output ++ reply
+  pub all_else : new ≡ record old {
+    server = new.server;
+    history = old.history ++ entry_of_tag tag moment steps.step.1.served.0 reply ∷ [];
+    ahead = old.ahead + 1;
+  }
+
+-- the server takes a request of a connection, which is the command of this tag: the history has it with the bytes that the server appended
+pub record EntersOn (number moment : ℕ) (tag : Tag) (old new : ServerState) (before after : List Entry) : Type 0 where
+  pub steps : Steps number old new (IsTurn number moment Took)
+  pub reply : List ℕ
+  pub appended : steps.after.output ≡ steps.before.output ++ reply
+  pub history : after ≡ before ++ entry_of_tag tag moment steps.step.1.served.0 reply ∷ []
+
+-- bytes of a lost generation arrive at the server, the first of those on their way
+pub record ArrivesLate (i count : ℕ) (old new : SiteState) : Type 0 where
+  pub way : WayState
+  pub way_at : slice_get old.lost i ≡ Some way
+  pub steps : Steps way.connection old.server new.server (Feeds (take count way.going))
+  pub all_else : new ≡ record old { server = new.server; lost = slice_set old.lost i (record way { going = drop count way.going }) }
+
+-- the server takes a request of a lost generation: that of the first command that was not taken
+pub record EntersLate (i moment : ℕ) (old new : SiteState) : Type 0 where
+  pub way : WayState
+  pub tag : Tag
+  pub tags : List Tag
+  pub reply : List ℕ
+  pub way_at : slice_get old.lost i ≡ Some way
+  pub untaken : way.untaken ≡ tag ∷ tags
+  pub steps : Steps way.connection old.server new.server (IsTurn way.connection moment Took)
+  pub appended : steps.after.output ≡ steps.before.output ++ reply
+  pub all_else : new ≡ record old {
+    server = new.server;
+    history = old.history ++ entry_of_tag tag moment steps.step.1.served.0 reply ∷ [];
+    lost = slice_set old.lost i (record way { untaken = tags });
+  }
+
+-- the server sees the end of a lost generation: its connection is closed, and its bytes are dropped
+pub record Ends (i : ℕ) (old new : SiteState) : Type 0 where
+  pub way : WayState
+  pub way_at : slice_get old.lost i ≡ Some way
+  pub closes : new.server ≡ record old.server { connections = closed way.connection old.server.connections }
+  pub not_open : connection_at new.server way.connection ≡ None
+  pub all_else : new ≡ record old { server = new.server; lost = remove old.lost i }
+
+-- the link is back, as this generation: the server has admitted a connection for it
+pub record ComesBack (generation : ℕ) (old new : SiteState) : Type 0 where
+  pub closed : connection_at old.server old.server.admitted ≡ None
+  pub all_else : new ≡ record old { server = with_fresh old.server; generation = generation; connection = old.server.admitted; ahead = 0 }

@@ -1,0 +1,15 @@
+pub mod Logs
+pub mod WorldState
+pub mod Accounts
+pub mod Happens
+pub mod Serving
+pub mod Sites
+pub mod Pools
+pub mod Applies
+pub mod LogStands
+pub mod Worlds
+pub mod Bare
+pub mod Courses
+pub mod CourseStands
+pub mod Joins
+pub mod Runs

@@ -1,0 +1,75 @@
+-- What was done, in order, and places in it: this project's own.
+use Rattle.std.specs.Prelude.{ℕ, ◌≡◌, zero, suc, ◌==◌, Bool, true, false, List, [], ◌∷◌, ◌++◌, length, if◌then◌else◌}
+use Rattle.mc_ring.specs.Points.{pairs_at, points_of}
+use Rattle.mc_ring.specs.Rings.{RingState, Shows}
+use Rattle.mc_world.specs.declared.events.Event.TheVariants.{Emit, LinkBack, LinkLost, ProxyTurn, ServerTurn}
+use Rattle.mc_world.specs.declared.events.Logged.{Logged}
+use Rattle.mc_world.specs.declared.events.Logged.TheVariants.{Happened, Joined}
+
+-- what was done, the oldest first, without the bytes of clients
+abbrev pub Log : Type 0
+Log = List Logged
+
+-- what does this: it takes a request of this client; puts one of its answers out; this server takes a request; its link is lost
+abbrev pub takes : ℕ → Logged → Bool
+takes client (Happened (ProxyTurn of)) = of == client
+takes client other = false
+
+abbrev pub puts : ℕ → Logged → Bool
+puts client (Happened (Emit of)) = of == client
+puts client other = false
+
+abbrev pub serves : ℕ → Logged → Bool
+serves server (Happened (ServerTurn at generation moment)) = at == server
+serves server other = false
+
+abbrev pub loses : ℕ → Logged → Bool
+loses server (Happened (LinkLost at)) = at == server
+loses server other = false
+
+-- how many there are
+abbrev pub number_of : (Logged → Bool) → Log → ℕ
+number_of is [] = 0
+number_of is (e ∷ es) = if is e then suc (number_of is es) else number_of is es
+
+-- the log before the one of a number, the first being number 0: the whole log where there is none
+abbrev pub before : (Logged → Bool) → ℕ → Log → Log
+before is number [] = []
+before is zero (e ∷ es) = if is e then [] else e ∷ before is zero es
+before is (suc number) (e ∷ es) = e ∷ before is (if is e then number else suc number) es
+
+-- the moments at which a server took its requests
+abbrev pub moment_of : ℕ → Logged → List ℕ
+moment_of server (Happened (ServerTurn at generation moment)) = if at == server then moment ∷ [] else []
+moment_of server other = []
+
+abbrev pub moments_of : ℕ → Log → List ℕ
+moments_of server [] = []
+moments_of server (e ∷ es) = moment_of server e ++ moments_of server es
+
+-- whether a link is up after this, by whether it was
+abbrev pub up_by : ℕ → Logged → Bool → Bool
+up_by server (Happened (LinkLost at)) up = if at == server then false else up
+up_by server (Happened (LinkBack at)) up = if at == server then true else up
+up_by server other up = up
+
+-- and after a log, by whether it was before
+abbrev pub up_from : ℕ → Bool → Log → Bool
+up_from server up [] = up
+up_from server up (e ∷ es) = up_from server (up_by server e up) es
+
+-- whether a link is up after a log: at first it is, and that of a server that joins is up from then on
+abbrev pub is_up : ℕ → Log → Bool
+is_up server log = up_from server true log
+
+-- a server has joined a ring at the last place: its points are beside those that were there
+pub record HasJoined (server : ℕ) (address : List ℕ) (old new : RingState) : Type 0 where
+  pub last : server ≡ length old.servers
+  pub servers : new.servers ≡ old.servers ++ address ∷ []
+  pub points : Shows (old.points ++ pairs_at server (points_of address)) new.points
+
+-- a ring by which requests are routed after a log, where they were routed by this one at first
+abbrev pub IsRingAfter : RingState → Log → RingState → Type 0
+IsRingAfter ring [] now = now ≡ ring
+IsRingAfter ring (Happened event ∷ es) now = IsRingAfter ring es now
+IsRingAfter ring (Joined server address ∷ es) now = (next : RingState) × HasJoined server address ring next × IsRingAfter next es now

@@ -1,0 +1,28 @@
+-- What lists of calls do to the course of a world.
+use Rattle.std.specs.Prelude.{ℕ, ◌≡◌, ◌⊎◌, List, [], ◌∷◌}
+use Rattle.mc_cache.specs.CacheState.{CacheState}
+use Rattle.mc_world.specs.Courses.{IsDone}
+use Rattle.mc_world.specs.Joins.{HasServerJoined}
+use Rattle.mc_world.specs.Worlds.{CourseState}
+use Rattle.mc_world.specs.declared.events.Event.{Event}
+
+-- an event is done, or nothing has changed: it did not apply, or memory was refused
+abbrev pub Goes : Event (List ℕ) → CourseState → CourseState → Type 0
+Goes event old new = IsDone event old new ⊎ (new ≡ old)
+
+-- a call of a world
+pub data Call : Type 0 where
+  -- an event, that is done where it applies
+  Step : Event (List ℕ) → Call
+  -- a server of this address joins
+  Join : List ℕ → Call
+
+-- what a call does, where this is the cache of a server that joins: nothing has changed where it does not apply, is refused, or memory was
+abbrev pub IsCalled : CacheState → Call → CourseState → CourseState → Type 0
+IsCalled opening (Step event) old new = Goes event old new
+IsCalled opening (Join address) old new = HasServerJoined address opening old new ⊎ (new ≡ old)
+
+-- calls of both kinds one after another, in any order
+abbrev pub Calls : CacheState → List Call → CourseState → CourseState → Type 0
+Calls opening [] old new = new ≡ old
+Calls opening (call ∷ calls) old new = (next : CourseState) × IsCalled opening call old next × Calls opening calls next new

@@ -1,0 +1,46 @@
+-- What the calls of a pool rest on: its servers serve a proxy.
+use Rattle.std.specs.Prelude.{ℕ, ◌≡◌, ◌<◌, ◌≤◌, true, List, length, Some, slice_get}
+use Rattle.mc_request.specs.declared.parts.Atom.{Atom}
+use Rattle.mc_request.specs.declared.parts.Taken.{Taken}
+use Rattle.mc_request.specs.declared.parts.Taken.TheVariants.{Whole}
+use Rattle.mc_request_reader.specs.Peeks.{IsFirst}
+use Rattle.mc_request_reader.specs.Reader.{ReaderState}
+use Rattle.mc_reply.specs.declared.replies.Reply.{Reply as AReply}
+use Rattle.mc_spelling.specs.Spellings.{is_good_atom, request_of}
+use Rattle.mc_link.specs.LinkState.{LinkState}
+use Rattle.mc_link.specs.Turns.{HasStrange, Takes}
+use Rattle.mc_link.specs.declared.turns.Tag.{Tag}
+use Rattle.mc_cache_laws.specs.GoodCaches.{IsGoodCache}
+use Rattle.mc_server.specs.ServerState.{ConnectionState, ServerState, connection_at}
+use Rattle.mc_server.specs.Turns.{waiting_of}
+use Rattle.mc_session.specs.SessionState.{link_at}
+use Rattle.mc_world.specs.WorldState.{PoolState, SiteState, WayState}
+
+-- a request is a command as a proxy spells it
+abbrev pub IsSpelled : Taken → Type 0
+IsSpelled what = (atom : Atom (List ℕ)) × (what ≡ Whole (request_of atom)) × (is_good_atom atom ≡ true)
+
+-- a server serves a proxy on a connection: that is open, what the server takes next of it is a command as a proxy spells it, and the
+-- cache's reply is one that the command can have
+pub record ServesProxy (number : ℕ) (server : ServerState) : Type 0 where
+  pub end : ConnectionState
+  pub is_open : connection_at server number ≡ Some end
+  pub spelled : (what : Taken) (after : ReaderState) → IsFirst end.reader what after → IsSpelled what
+  pub good_cache : IsGoodCache server.cache
+
+-- So it is at a site, whose link this is, of each generation: where a request is whole it is known whose it is; what comes back is never
+-- strange, and a reply is of a command that was taken.
+pub record SiteServes (link : LinkState) (site : SiteState) : Type 0 where
+  pub generation : site.generation ≡ link.generation
+  pub living : link.up ≡ true → ServesProxy site.connection site.server
+  pub waits : link.up ≡ true → 0 < length (waiting_of (connection_at site.server site.connection)) → site.ahead < length link.waiting
+  pub never_strange : link.up ≡ true → HasStrange link.waiting link.unread → ⊥
+  pub replied : (tag : Tag) (reply : AReply (List ℕ)) (after : LinkState) → link.up ≡ true → Takes link tag reply after → 1 ≤ site.ahead
+  pub lost : (i : ℕ) (way : WayState) → slice_get site.lost i ≡ Some way → ServesProxy way.connection site.server
+  pub untaken : (i : ℕ) (way : WayState) → slice_get site.lost i ≡ Some way → 0 < length (waiting_of (connection_at site.server way.connection))
+      → 0 < length way.untaken
+
+-- and at each site of a pool, one for each link
+pub record PoolServes (pool : PoolState) : Type 0 where
+  pub sited : length pool.sites ≡ length pool.proxy.links
+  pub sites : (place : ℕ) (site : SiteState) → slice_get pool.sites place ≡ Some site → SiteServes (link_at pool.proxy.links place) site

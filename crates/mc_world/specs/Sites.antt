@@ -1,0 +1,64 @@
+-- Where what a proxy took leaves a server and the ways to it.
+use Rattle.std.specs.Prelude.{ℕ, ◌≡◌, ◌≢◌, ◌+◌, ◌≤◌, true, List, [], ◌∷◌, ◌++◌, length, map, Some, slice_get}
+use Rattle.std.specs.List.{list_all}
+use Rattle.mc_link.specs.LinkState.{LinkState}
+use Rattle.mc_link.specs.declared.turns.Tag.{Tag}
+use Rattle.mc_cache.specs.CacheState.{CacheState}
+use Rattle.mc_cache_laws.specs.GoodCaches.{IsGoodCache}
+use Rattle.mc_server.specs.ServerState.{ConnectionState, ServerState, connection_at}
+use Rattle.mc_server.specs.Stands.{ServerStands}
+use Rattle.mc_account.specs.Lanes.{Lane, spelled}
+use Rattle.mc_account.specs.Orders.{Order, Tagged, commands_to}
+use Rattle.mc_history.specs.Generations.{commands_of_lane, is_good}
+use Rattle.mc_history.specs.Made.{AreMade, Each, Made, commands_on, entry_of, taking_of}
+use Rattle.mc_history.specs.Named.{AreReplied, IsNamed, tags_made, tags_of, times}
+use Rattle.mc_world.specs.WorldState.{SiteState, WayState}
+
+-- how often a tag is among those of lost generations whose commands were not taken
+abbrev pub untaken_times : Tag → List WayState → ℕ
+untaken_times tag [] = 0
+untaken_times tag (way ∷ ways) = times tag way.untaken + untaken_times tag ways
+
+-- The living generation: its connection is open; what left the one end came to the other, both ways; of the commands that were sent the
+-- server took the first, and of these the replies to the first were taken.
+pub record IsLiving (place : ℕ) (order : Order) (lane : Lane) (made : List Made) (texts sent : ℕ → List ℕ) (site : SiteState) : Type 0 where
+  pub end : ConnectionState
+  pub is_open : connection_at site.server site.connection ≡ Some end
+  pub out : texts site.connection ≡ lane.out
+  pub came : sent site.connection ≡ lane.came
+  pub others : List Tagged
+  pub commands : commands_of_lane place order lane ≡ commands_on site.connection made ++ others
+  pub ahead : site.ahead + length lane.replies ≡ length (commands_on site.connection made)
+  pub once : (tag : Tag) → times tag (tags_made made) + times tag (tags_of others) + untaken_times tag site.lost ≤ times tag (tags_of (commands_to place order))
+
+-- A lost generation: its connection is open; what came and what is on its way spells what the server took and what it has not.
+pub record IsLostWay (place : ℕ) (order : Order) (made : List Made) (texts : ℕ → List ℕ) (server : ServerState) (way : WayState) : Type 0 where
+  pub end : ConnectionState
+  pub is_open : connection_at server way.connection ≡ Some end
+  pub others : List Tagged
+  pub put : texts way.connection ++ way.going ≡ spelled (commands_on way.connection made ++ others)
+  pub good : list_all is_good (commands_on way.connection made ++ others) ≡ true
+  pub untaken : way.untaken ≡ map (λ command. command.1) others
+  pub named : Each (IsNamed place order) others
+
+-- A server stands where what it made leaves it, with each of its ways: its history tells what it made, and its cache is one whose replies
+-- can be had.
+pub record SiteStands (place : ℕ) (order : Order) (lane : Lane) (link : LinkState) (opening : CacheState) (site : SiteState) : Type 0 where
+  pub made : List Made
+  pub texts : ℕ → List ℕ
+  pub sent : ℕ → List ℕ
+  pub server : ServerStands opening texts sent (map taking_of made) site.server
+  pub good_cache : IsGoodCache site.server.cache
+  pub answers : AreMade opening made
+  pub history : site.history ≡ map entry_of made
+  pub good : list_all is_good (commands_to place order) ≡ true
+  pub named : Each (λ m. IsNamed place order m.command) made
+  pub all_named : Each (IsNamed place order) (commands_to place order)
+  pub replied : AreReplied place order site.history
+  -- each command that was sent was taken, or is still to be taken, once at most
+  pub once : (tag : Tag) → times tag (tags_made made) + untaken_times tag site.lost ≤ times tag (tags_of (commands_to place order))
+  pub living : link.up ≡ true → IsLiving place order lane made texts sent site
+  pub lost : (i : ℕ) (way : WayState) → slice_get site.lost i ≡ Some way → IsLostWay place order made texts site.server way
+  -- no two ways share a connection
+  pub apart : (i j : ℕ) (v w : WayState) → slice_get site.lost i ≡ Some v → slice_get site.lost j ≡ Some w → i ≢ j → v.connection ≢ w.connection
+  pub apart_living : link.up ≡ true → (i : ℕ) (way : WayState) → slice_get site.lost i ≡ Some way → site.connection ≢ way.connection

@@ -1,0 +1,40 @@
+-- A world, as contracts see it.
+use Rattle.std.specs.Prelude.{ℕ, zero, suc, List, [], ◌∷◌}
+use Rattle.mc_link.specs.declared.turns.Tag.{Tag}
+use Rattle.mc_cache.specs.CacheState.{CacheState}
+use Rattle.mc_server.specs.ServerState.{ServerState}
+use Rattle.mc_proxy.specs.ProxyState.{ProxyState}
+use Rattle.mc_history.specs.declared.entries.Entry.{Entry}
+
+-- a generation that was lost, and whose end its server has not seen: which it is, the number of the server's connection, the bytes on
+-- their way, and whose the commands are that the server has not taken
+pub record WayState : Type 0 where
+  pub generation : ℕ
+  pub connection : ℕ
+  pub going : List ℕ
+  pub untaken : List Tag
+
+-- a server with its ways: what it took; the living generation, its connection, and how many commands it took there whose replies the
+-- proxy has not taken; and the lost generations
+pub record SiteState : Type 0 where
+  pub server : ServerState
+  pub history : List Entry
+  pub generation : ℕ
+  pub connection : ℕ
+  pub ahead : ℕ
+  pub lost : List WayState
+
+-- the site of a server whose link is of the first generation, over its first connection
+abbrev pub with_server : ServerState → SiteState
+with_server server = record { server = server; history = []; generation = 1; connection = 0; ahead = 0; lost = [] }
+
+-- the proxy, and the servers by place
+pub record PoolState : Type 0 where
+  pub proxy : ProxyState
+  pub sites : List SiteState
+
+-- the histories of servers by their places: none where there is no server
+abbrev pub histories_of : List SiteState → ℕ → List Entry
+histories_of [] place = []
+histories_of (site ∷ sites) zero = site.history
+histories_of (site ∷ sites) (suc place) = histories_of sites place

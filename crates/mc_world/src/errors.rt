@@ -1,0 +1,66 @@
+//! Why a call of a world gives up.
+ghost use Rattle.std.specs.Prelude.{◌≡◌};
+ghost use Rattle.mc_world.specs.declared.errors.WorldError.TheVariants.{Memory};
+
+use mc_proxy::ProxyError;
+use mc_server::ServerError;
+use std::alloc::{AllocError, AllocFailed};
+use thiserror::Error;
+
+/// What a step did.
+#[derive(Clone, Copy, Debug, PartialEq, Eq)]
+pub enum Step {
+    /// What the event says has happened.
+    Done,
+    /// The event did not apply. Nothing has changed.
+    Nothing,
+}
+
+/// Why a call of a world gave up. Nothing has changed.
+#[derive(Debug, Drop, Error)]
+pub enum WorldError {
+    /// 1: no memory.
+    #[error("out of memory")]
+    Memory,
+    /// 2: more than 1,024 clients, bounds that no cache may have, or another number of stores than of servers.
+    #[error("bad world")]
+    BadWorld,
+    /// 3: the ring has 64 servers.
+    #[error("the ring is full")]
+    RingFull,
+    /// 4: the ring has a server of this address.
+    #[error("the server is there already")]
+    AlreadyThere,
+}
+
+impl From<AllocError> for WorldError {
+    ghost from_gives = { λ _ e. e ≡ Memory };
+
+    fn from(_e: AllocError) -> WorldError {
+        WorldError::Memory
+    }
+}
+
+impl<T: Drop> From<AllocFailed<T>> for WorldError {
+    ghost from_gives = { λ _ e. e ≡ Memory };
+
+    fn from(_e: AllocFailed<T>) -> WorldError {
+        WorldError::Memory
+    }
+}
+
+impl From<ProxyError> for WorldError {
+    ghost from_gives = { λ _ e. e ≡ Memory };
+
+    fn from(_e: ProxyError) -> WorldError {
+        WorldError::Memory
+    }
+}
+
+impl From<ServerError> for WorldError {
+    ghost from_gives = { λ _ e. e ≡ Memory };
+
+    fn from(_e: ServerError) -> WorldError {
+        WorldError::Memory
+    }
+}

@@ -1,0 +1,153 @@
+//! What can happen in a world, and how a log keeps it.
+
+ghost use Rattle.std.specs.Prelude.{◌≡◌};
+
+use mc_ring::Address;
+use mc_text::Block;
+
+/// What happens, in one step. `B` is the bytes of a client: a log keeps none.
+#[derive(Clone, Copy, Debug, PartialEq, Eq)]
+pub enum Event<B> {
+    /// A client sends bytes.
+    ClientBytes {
+        /// The client's number.
+        client: u64,
+        /// The bytes.
+        bytes: B,
+    },
+    /// A client goes.
+    ClientGone {
+        /// The client's number.
+        client: u64,
+    },
+    /// The proxy takes a request of a client.
+    ProxyTurn {
+        /// The client's number.
+        client: u64,
+    },
+    /// Bytes of a generation arrive at a server.
+    ToServer {
+        /// The server's place.
+        server: usize,
+        /// Which generation of its link.
+        generation: u64,
+        /// How many bytes, or all where fewer are on their way.
+        count: usize,
+    },
+    /// A server takes a request of a generation.
+    ServerTurn {
+        /// The server's place.
+        server: usize,
+        /// Which generation of its link.
+        generation: u64,
+        /// The moment: seconds since 1970, below 2^63.
+        moment: u64,
+    },
+    /// Bytes of a server come back to the proxy.
+    ToProxy {
+        /// The server's place.
+        server: usize,
+        /// How many bytes, or all where fewer are on their way.
+        count: usize,
+    },
+    /// The proxy takes a reply of a server.
+    ReplyTurn {
+        /// The server's place.
+        server: usize,
+    },
+    /// The answer to the oldest unanswered request of a client is put out.
+    Emit {
+        /// The client's number.
+        client: u64,
+    },
+    /// A client takes bytes.
+    ClientTakes {
+        /// The client's number.
+        client: u64,
+        /// How many bytes, or all where fewer were put out.
+        count: usize,
+    },
+    /// The link to a server is lost.
+    LinkLost {
+        /// The server's place.
+        server: usize,
+    },
+    /// The link to a server is back.
+    LinkBack {
+        /// The server's place.
+        server: usize,
+    },
+    /// A server sees the end of a generation that was lost.
+    ServerSeesEnd {
+        /// The server's place.
+        server: usize,
+        /// Which generation of its link.
+        generation: u64,
+    },
+}
+
+/// What was done, as a log keeps it.
+#[derive(Debug, Drop)]
+pub enum Logged {
+    /// An event that applied.
+    Happened(Event<()>),
+    /// A server that joined at the last place.
+    Joined {
+        /// The server's place.
+        server: usize,
+        /// Its address.
+        address: Address,
+    },
+}
+
+impl Event<Block> {
+    ghost use Rattle.mc_world.specs.Bare.{bare};
+
+    /// The event without the bytes of a client, as a log keeps it.
+    pub(crate) fn bare(&self) -> Event<()>
+        ensures { result ≡ bare self.now }
+    {
+        match self {
+            Event::ClientBytes { client, .. } => Event::ClientBytes {
+                client: *client,
+                bytes: (),
+            },
+            Event::ClientGone { client } => Event::ClientGone { client: *client },
+            Event::ProxyTurn { client } => Event::ProxyTurn { client: *client },
+            Event::ToServer {
+                server,
+                generation,
+                count,
+            } => Event::ToServer {
+                server: *server,
+                generation: *generation,
+                count: *count,
+            },
+            Event::ServerTurn {
+                server,
+                generation,
+                moment,
+            } => Event::ServerTurn {
+                server: *server,
+                generation: *generation,
+                moment: *moment,
+            },
+            Event::ToProxy { server, count } => Event::ToProxy {
+                server: *server,
+                count: *count,
+            },
+            Event::ReplyTurn { server } => Event::ReplyTurn { server: *server },
+            Event::Emit { client } => Event::Emit { client: *client },
+            Event::ClientTakes { client, count } => Event::ClientTakes {
+                client: *client,
+                count: *count,
+            },
+            Event::LinkLost { server } => Event::LinkLost { server: *server },
+            Event::LinkBack { server } => Event::LinkBack { server: *server },
+            Event::ServerSeesEnd { server, generation } => Event::ServerSeesEnd {
+                server: *server,
+                generation: *generation,
+            },
+        }
+    }
+}

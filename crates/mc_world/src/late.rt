@@ -1,0 +1,117 @@
+//! What happens on lost generations of a site, and the loss and the return of its link.
+ghost use Rattle.std.specs.Prelude.{◌≡◌, ◌+◌, ◌-◌, ◌<◌, ◌^◌, ◌↔◌, true, Some, length, slice_get, IfOk, OnOk, OnErr};
+
+use crate::errors::{Step, WorldError};
+use crate::sites::Site;
+use crate::tags::tags_from;
+use crate::turning::serve;
+use crate::ways::Way;
+use mc_proxy::Proxy;
+use mc_server::ServerError;
+use mc_store::Store;
+
+impl<S: Store + Drop> Site<S> {
+    ghost use Rattle.mc_server.specs.ServerState.{connection_at};
+    ghost use Rattle.mc_server.specs.Turns.{waiting_of};
+    ghost use Rattle.mc_session.specs.SessionState.{link_at};
+    ghost use Rattle.mc_proxy.specs.LinkTurns.{lost_at};
+    ghost use Rattle.mc_world.specs.Applies.{CanAdmit, way_of};
+    ghost use Rattle.mc_world.specs.Happens.{ArrivesLate, ComesBack, Does, EntersLate};
+    ghost use Rattle.mc_world.specs.Pools.{cut_off};
+    ghost use Rattle.mc_world.specs.Serving.{ServesProxy};
+    ghost use Rattle.mc_world.specs.WorldState.{WayState};
+
+    /// The lost generations whose end the server has not seen.
+    pub fn lost(&self) -> &[Way]
+        ensures { result.now ≡ self.now.lost }
+    {
+        self.lost.as_slice()
+    }
+
+    /// Where a lost generation is among them: the first of this number.
+    pub fn way(&self, generation: u64) -> Option<usize>
+        ensures { result ≡ way_of generation self.now.lost }
+    {
+        self.lost
+            .iter()
+            .position(|way| way.generation() == generation)
+    }
+
+    /// Bytes of a lost generation arrive, so many or all that are on their way.
+    pub(crate) fn arrive_late(&mut self, i: usize, count: usize) -> Result<(), WorldError>
+        requires { i < length self.old.lost }
+        ensures arrives { OnOk result (ArrivesLate i count self.old self.new) }
+        ensures err { OnErr result (self.new ≡ self.old) }
+    {
+        let way = &mut self.lost[i];
+        self.server.feed(way.connection(), way.first(count))?;
+        way.arrive(count);
+        Ok(())
+    }
+
+    /// The server takes a request of a lost generation, if one is whole.
+    pub(crate) fn turn_late(&mut self, i: usize, moment: u64) -> Result<Step, WorldError>
+        requires inside { i < length self.old.lost }
+        requires moment { moment < 2 ^ 63 }
+        requires serves { (way : WayState) → slice_get self.old.lost i ≡ Some way → ServesProxy way.connection self.old.server }
+        requires untaken { (way : WayState) → slice_get self.old.lost i ≡ Some way
+            → 0 < length (waiting_of (connection_at self.old.server way.connection)) → 0 < length way.untaken }
+        ensures enters { IfOk result (λ step. Does step (EntersLate i moment self.old self.new) (self.new ≡ self.old)) }
+        ensures applies { (way : WayState) → slice_get self.old.lost i ≡ Some way
+            → IfOk result (λ step. (step ≡ Step.Done) ↔ (0 < length (waiting_of (connection_at self.old.server way.connection)))) }
+        ensures err { OnErr result (self.new ≡ self.old) }
+    {
+        let way = &self.lost[i];
+        let connection = way.connection();
+        let Some(tag) = way.next() else {
+            return Ok(Step::Nothing);
+        };
+        let Step::Done = serve(
+            self.alloc,
+            &mut self.server,
+            &mut self.history,
+            connection,
+            tag,
+            moment,
+        )?
+        else {
+            return Ok(Step::Nothing);
+        };
+        self.lost[i].taken();
+        Ok(Step::Done)
+    }
+
+    /// The link to the server is lost: its bytes go on their way, and whose the commands are that the server has not taken is
+    /// kept with them.
+    pub(crate) fn cut_off(&mut self, proxy: &mut Proxy, place: usize) -> Result<(), WorldError>
+        requires { (link_at proxy.old.links place).up ≡ true }
+        ensures cut { OnOk result (self.new ≡ cut_off (link_at proxy.old.links place) self.old) }
+        ensures lost { OnOk result (proxy.new ≡ lost_at place proxy.old) }
+        ensures err { OnErr result (self.new ≡ self.old) }
+        ensures proxy_err { OnErr result (proxy.new ≡ proxy.old) }
+    {
+        self.lost.reserve(1)?;
+        let untaken = tags_from(self.alloc, proxy, place, self.ahead)?;
+        let bytes = proxy.lost(place)?;
+        self.lost
+            .push_reserved(Way::new(self.generation, self.connection, bytes, untaken));
+        Ok(())
+    }
+
+    /// The link to the server is back, as this generation, if the server can admit a connection for it.
+    pub(crate) fn come_back(&mut self, generation: u64) -> Result<Step, WorldError>
+        ensures back { IfOk result (λ step. Does step (ComesBack generation self.old self.new) (self.new ≡ self.old)) }
+        ensures applies { IfOk result (λ step. (step ≡ Step.Done) ↔ CanAdmit self.old.server) }
+        ensures err { OnErr result (self.new ≡ self.old) }
+    {
+        let connection = match self.server.admit() {
+            Ok(connection) => connection,
+            Err(ServerError::TooMany) => return Ok(Step::Nothing),
+            Err(_) => return Err(WorldError::Memory),
+        };
+        self.generation = generation;
+        self.connection = connection;
+        self.ahead = 0;
+        Ok(Step::Done)
+    }
+}

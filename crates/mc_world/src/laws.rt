@@ -1,0 +1,97 @@
+//! Laws of worlds. The functions do nothing: their contracts are the laws.
+ghost use Rattle.std.specs.Prelude.{◌≡◌, ◌∷◌, ◌++◌, ◌+◌, ◌^◌, ◌<◌, ℕ, Bool, List, [], All, Some, length, map, slice_get, take, true, if◌then◌else◌};
+ghost use Rattle.mc_ring.specs.Rings.{RingState};
+ghost use Rattle.mc_route.specs.declared.outcomes.Outcome.TheVariants.{Lost, Reply};
+ghost use Rattle.mc_cache.specs.CacheState.{CacheState};
+ghost use Rattle.mc_server.specs.ServerState.{connection_at, output_of};
+ghost use Rattle.mc_proxy.specs.ProxyState.{output_of as output_at, session_at};
+ghost use Rattle.mc_session.specs.SessionState.{link_at};
+ghost use Rattle.mc_account.specs.Lanes.{Lane, fresh_lane};
+ghost use Rattle.mc_account.specs.Orders.{Order, note, note_all};
+ghost use Rattle.mc_account.specs.Stands.{changed, grown};
+ghost use Rattle.mc_world.specs.Accounts.{Account, AccountsForCommands};
+ghost use Rattle.mc_world.specs.Logs.{Log, before, is_up, number_of, up_by};
+ghost use Rattle.mc_world.specs.declared.events.Logged.{Logged};
+ghost use Rattle.mc_world.specs.Pools.{ClientGoes, TakesBytes, EndSeen, LateBytes, LateTurn, LinkReturns, HearsClient, LosesLink, PoolStands, PutsAnswer, ReachesProxy, ReachesServer, ServerTakes, TakesReply, TakesRequest, asked_by};
+ghost use Rattle.mc_world.specs.WorldState.{PoolState, SiteState, histories_of};
+ghost use Rattle.mc_history.specs.Named.{AreReplied};
+
+/// Where nothing has happened, the account is given.
+pub fn nothing_gives_account()
+    ensures { (ring : RingState) (opening : CacheState) → Account ring opening (λ _. []) (λ _. []) (λ _. []) [] }
+{}
+
+/// What a client does, or the proxy for it, keeps a pool's standing.
+pub fn clients_keep_pools()
+    ensures hears { (opening : CacheState) (texts sent : ℕ → List ℕ) (order : Order) (lanes : ℕ → Lane) (client : ℕ) (piece : List ℕ) (old new : PoolState)
+        → ((number : ℕ) → All (λ b. b < 256) (grown client piece texts number)) → HearsClient client piece old new
+        → PoolStands opening texts sent order lanes old → PoolStands opening (grown client piece texts) sent order lanes new }
+    ensures takes { (opening : CacheState) (texts sent : ℕ → List ℕ) (order : Order) (lanes : ℕ → Lane) (client : ℕ) (old new : PoolState)
+        → (taking : TakesRequest client old new) → PoolStands opening texts sent order lanes old
+        → PoolStands opening texts sent (order ++ asked_by taking ∷ []) lanes new }
+    ensures takes_bytes { (opening : CacheState) (texts sent : ℕ → List ℕ) (order : Order) (lanes : ℕ → Lane) (client count : ℕ) (old new : PoolState)
+        → TakesBytes client count old new → PoolStands opening texts sent order lanes old
+        → PoolStands opening texts (grown client (take count (output_at (session_at old.proxy client))) sent) order lanes new }
+    ensures goes { (opening : CacheState) (texts sent : ℕ → List ℕ) (order : Order) (lanes : ℕ → Lane) (client : ℕ) (old new : PoolState)
+        → ClientGoes client old new → PoolStands opening texts sent order lanes old → PoolStands opening texts sent order lanes new }
+    ensures puts { (opening : CacheState) (texts sent : ℕ → List ℕ) (order : Order) (lanes : ℕ → Lane) (client : ℕ) (old new : PoolState)
+        → PutsAnswer client old new → PoolStands opening texts sent order lanes old → PoolStands opening texts sent order lanes new }
+{}
+
+/// So does what happens on a living generation, and its loss.
+pub fn living_ways_keep_pools()
+    ensures reaches_server { (opening : CacheState) (texts sent : ℕ → List ℕ) (order : Order) (lanes : ℕ → Lane) (place count : ℕ) (old new : PoolState)
+        → ReachesServer place count old new → PoolStands opening texts sent order lanes old
+        → PoolStands opening texts sent order
+        (changed place (record (lanes place) { out = (lanes place).out ++ take count (link_at old.proxy.links place).output }) lanes) new }
+    ensures server_takes { (opening : CacheState) (texts sent : ℕ → List ℕ) (order : Order) (lanes : ℕ → Lane) (place moment : ℕ) (old new : PoolState)
+        → (taking : ServerTakes place moment old new) → moment < 2 ^ 63
+        → PoolStands opening texts sent order lanes old → PoolStands opening texts sent order lanes new }
+    ensures reaches_proxy { (opening : CacheState) (texts sent : ℕ → List ℕ) (order : Order) (lanes : ℕ → Lane) (place count : ℕ) (old new : PoolState)
+        → (reach : ReachesProxy place count old new) → PoolStands opening texts sent order lanes old
+        → PoolStands opening texts sent order (changed place (record (lanes place) {
+          came = (lanes place).came ++ take count (output_of (connection_at reach.there.site.server reach.there.site.connection));
+        }) lanes) new }
+    ensures takes_reply { (opening : CacheState) (texts sent : ℕ → List ℕ) (order : Order) (lanes : ℕ → Lane) (place : ℕ) (old new : PoolState)
+        → (taking : TakesReply place old new) → PoolStands opening texts sent order lanes old
+        → PoolStands opening texts sent (note taking.answers.tag (Reply taking.answers.reply) order)
+        (changed place (record (lanes place) { replies = (lanes place).replies ++ taking.answers.reply ∷ [] }) lanes) new }
+    ensures loses { (opening : CacheState) (texts sent : ℕ → List ℕ) (order : Order) (lanes : ℕ → Lane) (place : ℕ) (old new : PoolState)
+        → LosesLink place old new → PoolStands opening texts sent order lanes old
+        → PoolStands opening texts sent (note_all (map (λ waiting. waiting.1) (link_at old.proxy.links place).waiting) Lost order) lanes new }
+{}
+
+/// So do late bytes and late turns of a lost generation, its end, and the return of a link.
+pub fn lost_ways_keep_pools()
+    ensures late_bytes { (opening : CacheState) (texts sent : ℕ → List ℕ) (order : Order) (lanes : ℕ → Lane) (place i count : ℕ) (old new : PoolState)
+        → LateBytes place i count old new → PoolStands opening texts sent order lanes old → PoolStands opening texts sent order lanes new }
+    ensures late_turn { (opening : CacheState) (texts sent : ℕ → List ℕ) (order : Order) (lanes : ℕ → Lane) (place i moment : ℕ) (old new : PoolState)
+        → (taking : LateTurn place i moment old new) → moment < 2 ^ 63
+        → PoolStands opening texts sent order lanes old → PoolStands opening texts sent order lanes new }
+    ensures end_seen { (opening : CacheState) (texts sent : ℕ → List ℕ) (order : Order) (lanes : ℕ → Lane) (place i : ℕ) (old new : PoolState)
+        → EndSeen place i old new → PoolStands opening texts sent order lanes old → PoolStands opening texts sent order lanes new }
+    ensures returns_link { (opening : CacheState) (texts sent : ℕ → List ℕ) (order : Order) (lanes : ℕ → Lane) (place : ℕ) (old new : PoolState)
+        → LinkReturns place old new → PoolStands opening texts sent order lanes old
+        → PoolStands opening texts sent order (changed place (fresh_lane (length order)) lanes) new }
+{}
+
+/// A pool that stands gives account of its commands: each client's requests were taken in order, each server's history is legal and of
+/// commands that were sent to it, and no command has two entries in all of them. A reply that is known of a command is that of its entry in
+/// the history of its server.
+pub fn pools_account_for_commands()
+    ensures commands { (opening : CacheState) (texts sent : ℕ → List ℕ) (order : Order) (lanes : ℕ → Lane) (pool : PoolState)
+        → PoolStands opening texts sent order lanes pool → AccountsForCommands opening order texts (histories_of pool.sites) }
+    ensures replied { (opening : CacheState) (texts sent : ℕ → List ℕ) (order : Order) (lanes : ℕ → Lane) (pool : PoolState) (place : ℕ) (site : SiteState)
+        → PoolStands opening texts sent order lanes pool → slice_get pool.sites place ≡ Some site → AreReplied place order site.history }
+{}
+
+/// A log that goes on: counts and links go by its last event, and the place before an event that was there stays.
+pub fn logs_go_on()
+    ensures counts { (is : Logged → Bool) (log : Log) (e : Logged)
+        → number_of is (log ++ e ∷ []) ≡ number_of is log + (if is e then 1 else 0) }
+    ensures links { (place : ℕ) (log : Log) (e : Logged) → is_up place (log ++ e ∷ []) ≡ up_by place e (is_up place log) }
+    ensures stays { (is : Logged → Bool) (number : ℕ) (log : Log) (e : Logged) → number < number_of is log
+        → before is number (log ++ e ∷ []) ≡ before is number log }
+    ensures last { (is : Logged → Bool) (log : Log) (e : Logged) → is e ≡ true
+        → before is (number_of is log) (log ++ e ∷ []) ≡ log }
+{}

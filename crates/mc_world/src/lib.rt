@@ -1,0 +1,40 @@
+//! A pool: a proxy, its servers, the ways between them, their clients, and all that can happen to them; and the account that it
+//! gives.
+//!
+//! [`every_run_gives_account`] is the theorem of the pool. Whatever list of events is done and whichever servers join, each as the
+//! contracts of the proxy's and the servers' own calls say it, each client's bytes are its requests' answers in order, without gap; each server's executed
+//! commands are one history that the abstract cache replays; each answered command is once in its owner's history, and each lost one
+//! at most once. The statement is the record `Accounts` of `specs/Accounts.antt`, over places in the log of what was done
+//! (`specs/Logs.antt`) and histories (`mc_history`). What each event does is `specs/Courses.antt`, with one record for each in
+//! `specs/Pools.antt`.
+//!
+//! Links are lost and come back in generations: bytes of a lost one may still arrive, and its server may still take what they
+//! ask, until it sees the end. [`courses_go_on`] says that where a pool is after all that was done (`CourseStands`) is kept by each event.
+//!
+//! Of a program that plays a pool there are a server with its ways ([`Site`]) and the calls of a [`Pool`] for clients and for links
+//! that live. No call waits.
+#![tactic(auto)]
+
+mod errors;
+mod events;
+mod late;
+mod laws;
+mod living;
+mod pools;
+mod sites;
+mod tags;
+mod turning;
+mod ways;
+mod world_laws;
+
+pub use errors::{Step, WorldError};
+pub use events::{Event, Logged};
+pub use laws::{
+    clients_keep_pools, living_ways_keep_pools, logs_go_on, lost_ways_keep_pools,
+    nothing_gives_account, pools_account_for_commands,
+};
+pub use mc_history::Entry;
+pub use pools::Pool;
+pub use sites::Site;
+pub use ways::Way;
+pub use world_laws::{courses_go_on, every_run_gives_account, opening_pools_stand};

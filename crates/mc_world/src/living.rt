@@ -1,0 +1,132 @@
+//! What happens on the living generations of a pool's links.
+ghost use Rattle.std.specs.Prelude.{◌≡◌, ◌<◌, ◌↔◌, IsTrue, IfOk, OnErr};
+
+use crate::errors::{Step, WorldError};
+use crate::pools::Pool;
+use mc_proxy::LinkTurn;
+use mc_store::Store;
+
+impl<S: Store + Drop> Pool<S> {
+    ghost use Rattle.mc_world.specs.Applies.{CanReachProxy, CanReachServer, CanReturn, CanTakeReply, IsUp, Lives};
+    ghost use Rattle.mc_world.specs.Happens.{Does};
+    ghost use Rattle.mc_world.specs.Pools.{LinkReturns, LosesLink, ReachesProxy, ReachesServer, TakesReply};
+    ghost use Rattle.mc_world.specs.Serving.{PoolServes};
+
+    /// Whether a generation lives.
+    pub fn lives(&self, place: usize, generation: u64) -> bool
+        ensures { IsTrue result ↔ Lives place generation self.now }
+    {
+        if !self.proxy.is_up(place) {
+            return false;
+        }
+        match self.sites.get(place) {
+            Some(site) => site.generation() == generation,
+            None => false,
+        }
+    }
+
+    /// Bytes of the living generation arrive at a server, so many or all.
+    pub fn reach_server(&mut self, place: usize, count: usize) -> Result<Step, WorldError>
+        requires serves { PoolServes self.old }
+        ensures reaches { IfOk result (λ step. Does step (ReachesServer place count self.old self.new) (self.new ≡ self.old)) }
+        ensures applies { IfOk result (λ step. (step ≡ Step.Done) ↔ CanReachServer place count self.old) }
+        ensures err { OnErr result (self.new ≡ self.old) }
+    {
+        let Some(site) = self.sites.get_mut(place) else {
+            return Ok(Step::Nothing);
+        };
+        if !self.proxy.is_up(place) {
+            return Ok(Step::Nothing);
+        }
+        let output = self.proxy.link_output(place);
+        let moved = count.min(output.len());
+        if moved == 0 {
+            return Ok(Step::Nothing);
+        }
+        let (piece, _) = output.split_at(moved);
+        site.arrive(piece)?;
+        self.proxy.link_taken_out(place, moved);
+        Ok(Step::Done)
+    }
+
+    /// Bytes of the living generation come back to the proxy, so many or all.
+    pub fn reach_proxy(&mut self, place: usize, count: usize) -> Result<Step, WorldError>
+        ensures reaches { IfOk result (λ step. Does step (ReachesProxy place count self.old self.new) (self.new ≡ self.old)) }
+        ensures applies { IfOk result (λ step. (step ≡ Step.Done) ↔ CanReachProxy place count self.old) }
+        ensures err { OnErr result (self.new ≡ self.old) }
+    {
+        let Some(site) = self.sites.get_mut(place) else {
+            return Ok(Step::Nothing);
+        };
+        if !self.proxy.is_up(place) {
+            return Ok(Step::Nothing);
+        }
+        let output = site.output();
+        let moved = count.min(output.len());
+        if moved == 0 {
+            return Ok(Step::Nothing);
+        }
+        let (piece, _) = output.split_at(moved);
+        self.proxy.link_feed(place, piece)?;
+        site.give(moved);
+        Ok(Step::Done)
+    }
+
+    /// The proxy takes a reply.
+    pub fn take_reply(&mut self, place: usize) -> Result<Step, WorldError>
+        requires serves { PoolServes self.old }
+        ensures takes { IfOk result (λ step. Does step (TakesReply place self.old self.new) (self.new ≡ self.old)) }
+        ensures applies { IfOk result (λ step. (step ≡ Step.Done) ↔ CanTakeReply place self.old) }
+        ensures err { OnErr result (self.new ≡ self.old) }
+    {
+        if !self.proxy.is_up(place) {
+            return Ok(Step::Nothing);
+        }
+        let LinkTurn::Took = self.proxy.link_turn(place)? else {
+            return Ok(Step::Nothing);
+        };
+        self.sites[place].replied();
+        Ok(Step::Done)
+    }
+
+    /// A link is lost.
+    pub fn lose_link(&mut self, place: usize) -> Result<Step, WorldError>
+        requires serves { PoolServes self.old }
+        ensures loses { IfOk result (λ step. Does step (LosesLink place self.old self.new) (self.new ≡ self.old)) }
+        ensures applies { IfOk result (λ step. (step ≡ Step.Done) ↔ IsUp place self.old) }
+        ensures err { OnErr result (self.new ≡ self.old) }
+    {
+        let Some(site) = self.sites.get_mut(place) else {
+            return Ok(Step::Nothing);
+        };
+        if !self.proxy.is_up(place) {
+            return Ok(Step::Nothing);
+        }
+        site.cut_off(&mut self.proxy, place)?;
+        Ok(Step::Done)
+    }
+
+    /// A link is back.
+    pub fn return_link(&mut self, place: usize) -> Result<Step, WorldError>
+        requires serves { PoolServes self.old }
+        ensures returns { IfOk result (λ step. Does step (LinkReturns place self.old self.new) (self.new ≡ self.old)) }
+        ensures applies { IfOk result (λ step. (step ≡ Step.Done) ↔ CanReturn place self.old) }
+        ensures err { OnErr result (self.new ≡ self.old) }
+    {
+        let Some(site) = self.sites.get_mut(place) else {
+            return Ok(Step::Nothing);
+        };
+        if self.proxy.is_up(place) {
+            return Ok(Step::Nothing);
+        }
+        if site.generation() == u64::MAX {
+            return Ok(Step::Nothing);
+        }
+        let generation = site.generation() + 1;
+        let Step::Done = site.come_back(generation)? else {
+            return Ok(Step::Nothing);
+        };
+        self.proxy.back(place).unwrap();
+        Ok(Step::Done)
+    }
+}

@@ -1,0 +1,150 @@
+//! A pool: a proxy, and its servers with their ways.
+ghost use Rattle.std.specs.Prelude.{◌≡◌, ◌↔◌, IfOk, OnErr};
+
+use crate::errors::{Step, WorldError};
+use crate::sites::Site;
+use mc_history::Entry;
+use mc_proxy::{Emit, Proxy, ProxyError, Turn};
+use mc_store::Store;
+use std::alloc::Global;
+use std::marker::Model;
+
+/// A proxy, and its servers with their ways, by the places of the ring.
+#[derive(Drop)]
+pub struct Pool<S: Store + Drop> {
+    pub(crate) alloc: Global,
+    pub(crate) proxy: Proxy,
+    pub(crate) sites: Vec<Site<S>>,
+}
+
+impl<S: Store + Drop> Model for Pool<S> {
+    ghost use Rattle.mc_world.specs.WorldState.{PoolState};
+
+    ghost Value = { PoolState };
+
+    ghost view = { λ p. record { proxy = p.proxy; sites = p.sites.items } };
+}
+
+impl<S: Store + Drop> Pool<S> {
+    ghost use Rattle.mc_proxy.specs.ProxyState.{output_of, session_at};
+    ghost use Rattle.mc_world.specs.Applies.{CanHear, CanPutAnswer, CanTakeBytes, CanTakeRequest, IsThere};
+    ghost use Rattle.mc_world.specs.Happens.{Does};
+    ghost use Rattle.mc_world.specs.Pools.{ClientGoes, HearsClient, PutsAnswer, TakesBytes, TakesRequest};
+    ghost use Rattle.mc_world.specs.WorldState.{histories_of};
+
+    /// A pool of a proxy and its servers.
+    pub fn new(alloc: Global, proxy: Proxy, sites: Vec<Site<S>>) -> Pool<S>
+        ensures { result ≡ record { proxy = proxy; sites = sites.items } }
+    {
+        Pool {
+            alloc,
+            proxy,
+            sites,
+        }
+    }
+
+    /// The proxy.
+    pub fn proxy(&self) -> &Proxy
+        ensures { result.now ≡ self.now.proxy }
+    {
+        &self.proxy
+    }
+
+    /// The servers with their ways, by the places of the ring.
+    pub fn sites(&self) -> &[Site<S>]
+        ensures { result.now ≡ self.now.sites }
+    {
+        self.sites.as_slice()
+    }
+
+    /// What was put out to a client and that it has not taken.
+    pub fn output(&self, client: u64) -> &[u8]
+        ensures { result.now ≡ output_of (session_at self.now.proxy client) }
+    {
+        self.proxy.output(client)
+    }
+
+    /// What the server of a place took, in order: nothing where there is none.
+    pub fn history(&self, place: usize) -> &[Entry]
+        ensures { result.now ≡ histories_of self.now.sites place }
+    {
+        match self.sites.get(place) {
+            Some(site) => site.history(),
+            None => &[],
+        }
+    }
+
+    /// A client's bytes are fed to its session.
+    pub fn hear(&mut self, client: u64, piece: &[u8]) -> Result<Step, WorldError>
+        ensures hears { IfOk result (λ step. Does step (HearsClient client piece.now self.old self.new) (self.new ≡ self.old)) }
+        ensures applies { IfOk result (λ step. (step ≡ Step.Done) ↔ CanHear client piece.now self.old) }
+        ensures err { OnErr result (self.new ≡ self.old) }
+    {
+        if piece.is_empty() {
+            return Ok(Step::Nothing);
+        }
+        match self.proxy.feed(client, piece) {
+            Ok(()) => Ok(Step::Done),
+            Err(ProxyError::NoSession) => Ok(Step::Nothing),
+            Err(_) => Err(WorldError::Memory),
+        }
+    }
+
+    /// The proxy takes a request of a client.
+    pub fn take_request(&mut self, client: u64) -> Result<Step, WorldError>
+        ensures takes { IfOk result (λ step. Does step (TakesRequest client self.old self.new) (self.new ≡ self.old)) }
+        ensures applies { IfOk result (λ step. (step ≡ Step.Done) ↔ CanTakeRequest client self.old) }
+        ensures err { OnErr result (self.new ≡ self.old) }
+    {
+        let turn = match self.proxy.turn(client) {
+            Ok(turn) => turn,
+            Err(ProxyError::NoSession) => return Ok(Step::Nothing),
+            Err(_) => return Err(WorldError::Memory),
+        };
+        let Turn::Took = turn else {
+            return Ok(Step::Nothing);
+        };
+        Ok(Step::Done)
+    }
+
+    /// The answer to the oldest unanswered request of a client is put out.
+    pub fn put_answer(&mut self, client: u64) -> Result<Step, WorldError>
+        ensures puts { IfOk result (λ step. Does step (PutsAnswer client self.old self.new) (self.new ≡ self.old)) }
+        ensures applies { IfOk result (λ step. (step ≡ Step.Done) ↔ CanPutAnswer client self.old) }
+        ensures err { OnErr result (self.new ≡ self.old) }
+    {
+        let emit = match self.proxy.emit(client) {
+            Ok(emit) => emit,
+            Err(ProxyError::NoSession) => return Ok(Step::Nothing),
+            Err(_) => return Err(WorldError::Memory),
+        };
+        let Emit::Done = emit else {
+            return Ok(Step::Nothing);
+        };
+        Ok(Step::Done)
+    }
+
+    /// A client takes the first of the bytes that were put out to it, so many or all. It takes no memory.
+    pub fn client_takes(&mut self, client: u64, count: usize) -> Step
+        ensures takes { Does result (TakesBytes client count self.old self.new) (self.new ≡ self.old) }
+        ensures applies { (result ≡ Step.Done) ↔ CanTakeBytes client count self.old }
+    {
+        let moved = count.min(self.proxy.output(client).len());
+        if moved == 0 {
+            return Step::Nothing;
+        }
+        self.proxy.taken_out(client, moved);
+        Step::Done
+    }
+
+    /// A client goes. It takes no memory.
+    pub fn client_goes(&mut self, client: u64) -> Step
+        ensures goes { Does result (ClientGoes client self.old self.new) (self.new ≡ self.old) }
+        ensures applies { (result ≡ Step.Done) ↔ IsThere client self.old }
+    {
+        match self.proxy.gone(client) {
+            Ok(()) => Step::Done,
+            Err(_) => Step::Nothing,
+        }
+    }
+}

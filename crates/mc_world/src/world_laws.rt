@@ -1,0 +1,34 @@
+//! Laws of the course of a world. The functions do nothing: their contracts are the laws.
+ghost use Rattle.std.specs.Prelude.{ℕ, [], List};
+ghost use Rattle.mc_ring.specs.Rings.{IsRing, RingState};
+ghost use Rattle.mc_cache.specs.CacheState.{CacheState, IsWithinBounds, opening_cache};
+ghost use Rattle.mc_cache_laws.specs.GoodCaches.{IsGoodCache};
+ghost use Rattle.mc_account.specs.Lanes.{fresh_lane};
+ghost use Rattle.mc_world.specs.Courses.{IsDone};
+ghost use Rattle.mc_world.specs.CourseStands.{CourseStands};
+ghost use Rattle.mc_world.specs.Pools.{PoolStands};
+ghost use Rattle.mc_world.specs.Accounts.{Account};
+ghost use Rattle.mc_world.specs.Runs.{Call, Calls};
+ghost use Rattle.mc_world.specs.Worlds.{CourseState, history_of, opening_pool, opening_world, put_out_of, text_of};
+ghost use Rattle.mc_world.specs.declared.events.Event.{Event};
+
+/// A pool that was just opened stands where nothing was taken: its links are up, and each server has taken nothing.
+pub fn opening_pools_stand()
+    ensures { (opening : CacheState) (ring : RingState) (clients : ℕ) → IsGoodCache opening
+        → PoolStands opening (λ _. []) (λ _. []) [] (λ _. fresh_lane 0) (opening_pool opening ring clients) }
+{}
+
+/// A course stands after each event that is done.
+pub fn courses_go_on()
+    ensures { (ring : RingState) (opening : CacheState) (event : Event (List ℕ)) (old new : CourseState)
+        → CourseStands ring opening old → IsDone event old new → CourseStands ring opening new }
+{}
+
+/// Whatever is done, in whatever order, and whichever servers join: each client's bytes are its requests' answers in order, without
+/// gap; each server's executed commands are one history that the abstract cache replays; each answered command is once in its
+/// owner's history, each lost one at most once. The owner is that of the moment at which the request was taken.
+pub fn every_run_gives_account()
+    ensures { (ring : RingState) (clients budget items : ℕ) (calls : List Call) (c : CourseState) → IsRing ring → IsWithinBounds budget items
+        → Calls (opening_cache budget items 0) calls (opening_world ring clients budget items).course c
+        → Account ring (opening_cache budget items 0) (text_of c) (put_out_of c) (history_of c) c.log }
+{}
