@@ -1,6 +1,6 @@
 -- When events apply to a pool, and what was done where they did.
 use Rattle.std.proofs.Common.{◌≡◌, ◌≢◌, ◌∙◌, ⊎_elim, ℕ, zero, suc, ◌+◌, ◌-◌, ◌^◌, ◌<◌, ◌≤◌, ◌==◌, ◌&&◌, ◌⊎◌, inl, inr, Bool, true, false, not, min, List, [], ◌∷◌, ◌++◌, length, map, drop, take, Option, Some, None, Result, Ok, Err, slice_get, slice_set, refl, sym, ap, subst, append_assoc, append-nil, arith}
-use Rattle.std.specs.Prelude.{IfErr, IsErrOf, IsTrue, nat_lt, slice_index_or}
+use Rattle.std.specs.Prelude.{IfErr, IsErrOf, IsOkUnless, IsTrue, nat_lt, slice_index_or}
 use Rattle.std.specs.Option.{option_map}
 use Rattle.std.specs.Result.{IsOk}
 use Rattle.std.proofs.lemmas.Bool.{and_from, and_parts, eqb-true, lt-ltb, ltb-true}
@@ -33,9 +33,11 @@ use Rattle.mc_proxy.specs.declared.turns.LinkTurn.TheVariants as replies
 use Rattle.mc_account.proofs.LaneLemmas.{up_is_there}
 use Rattle.mc_account.proofs.OpenSessions.{own_number}
 use Rattle.mc_server.specs.Turns.{waiting_of}
-use Rattle.mc_world.specs.Applies.{CanServe, CanTakeRequest, IsUp, Lives, way_of}
-use Rattle.mc_world.specs.Happens.{Arrives, ComesBack, returned}
-use Rattle.mc_world.specs.Pools.{LinkReturns, ReachesProxy, ReachesServer}
+use Rattle.mc_server.specs.declared.turns.ServerError.{ServerError}
+use Rattle.mc_server.specs.declared.turns.ServerError.TheVariants as reasons
+use Rattle.mc_world.specs.Applies.{CanServe, CanServeLate, CanTakeRequest, IsUp, Lives, way_of}
+use Rattle.mc_world.specs.Happens.{Arrives, ArrivesLate, ComesBack, Ends, EntersLate, returned}
+use Rattle.mc_world.specs.Pools.{EndSeen, LateBytes, LateTurn, LinkReturns, ReachesProxy, ReachesServer}
 use Rattle.mc_world.specs.Serving.{PoolServes}
 use Rattle.mc_world.specs.WorldState.{PoolState, SiteState, WayState, histories_of}
 use Rattle.mc_world.specs.declared.errors.Step.TheVariants.{Done, Nothing}
@@ -244,3 +246,78 @@ pub serves_if : (place : ℕ) (pool : PoolState) (site : SiteState) → slice_ge
     → 0 < length (waiting_of (connection_at site.server site.connection))
 serves_if place pool site at can =
     subst (λ (s : SiteState). 0 < length (waiting_of (connection_at s.server s.connection))) (same_Some can.site site (sym can.at ∙ at)) can.waits
+
+-- the way at a place is one
+pub same_way : (generation i : ℕ) (ways : List WayState) (found : FoundWay generation ways i) (way : WayState) → slice_get ways i ≡ Some way → way ≡ found.way
+same_way generation i ways found way at = same_Some way found.way (sym at ∙ found.at)
+
+-- bytes of a lost generation arrived
+pub reached_late : (place i count generation : ℕ) (proxy : ProxyState) (sites : List SiteState) (site now : SiteState) → slice_get sites place ≡ Some site
+    → FoundWay generation site.lost i → ArrivesLate i count site now
+    → (j : ℕ) × (h : LateBytes place j count (pool_of proxy sites) (pool_of proxy (slice_set sites place now))) × (h.way.generation ≡ generation)
+reached_late place i count generation proxy sites site now at found h = (
+  i,
+  record { site = site; now = now; way = h.way; at = at; way_at = h.way_at; steps = h.steps; now_is = h.all_else; sites = refl; proxy = refl },
+  ap (λ (w : WayState). w.generation) (same_way generation i site.lost found h.way h.way_at) ∙ found.is,
+)
+
+-- a server took a request of it
+pub served_late : (place i moment generation : ℕ) (proxy : ProxyState) (sites : List SiteState) (site now : SiteState) → slice_get sites place ≡ Some site
+    → FoundWay generation site.lost i → EntersLate i moment site now
+    → (j : ℕ) × (h : LateTurn place j moment (pool_of proxy sites) (pool_of proxy (slice_set sites place now))) × (h.way.generation ≡ generation)
+served_late place i moment generation proxy sites site now at found h = (
+  i,
+  record {
+    site = site;
+    now = now;
+    way = h.way;
+    tag = h.tag;
+    tags = h.tags;
+    reply = h.reply;
+    at = at;
+    way_at = h.way_at;
+    untaken = h.untaken;
+    steps = h.steps;
+    appended = h.appended;
+    now_is = h.all_else;
+    sites = refl;
+    proxy = refl;
+  },
+  ap (λ (w : WayState). w.generation) (same_way generation i site.lost found h.way h.way_at) ∙ found.is,
+)
+
+pub late_serves_if : (place generation i : ℕ) (pool : PoolState) (site : SiteState) (way : WayState) → slice_get pool.sites place ≡ Some site → way_of generation site.lost ≡ Some i
+    → slice_get site.lost i ≡ Some way → CanServeLate place generation pool → 0 < length (waiting_of (connection_at site.server way.connection))
+late_serves_if place generation i pool site way at first way_at can =
+    let same : can.there.site ≡ site = same_Some can.there.site site (sym can.there.at ∙ at) in
+    let place_is : can.there.i ≡ i = same_Some can.there.i i (sym can.there.first ∙ ap (λ (s : SiteState). way_of generation s.lost) same ∙ first) in
+    let way_is : can.there.way ≡ way = same_Some can.there.way way
+    (sym can.there.way_at ∙ ap (λ (s : SiteState). slice_get s.lost can.there.i) same ∙ ap (λ (n : ℕ). slice_get site.lost n) place_is ∙ way_at) in
+    subst (λ (w : WayState). 0 < length (waiting_of (connection_at site.server w.connection))) way_is
+    (subst (λ (s : SiteState). 0 < length (waiting_of (connection_at s.server can.there.way.connection))) same can.waits)
+
+-- its end was seen
+pub saw_end : (place i generation : ℕ) (proxy : ProxyState) (sites : List SiteState) (site now : SiteState) → slice_get sites place ≡ Some site
+    → FoundWay generation site.lost i → Ends i site now
+    → (j : ℕ) × (h : EndSeen place j (pool_of proxy sites) (pool_of proxy (slice_set sites place now))) × (h.way.generation ≡ generation)
+saw_end place i generation proxy sites site now at found h = (
+  i,
+  record {
+    site = site;
+    server = now.server;
+    way = h.way;
+    at = at;
+    way_at = h.way_at;
+    closes = h.closes;
+    not_open = h.not_open;
+    sites = ap (λ (s : SiteState). slice_set sites place s) h.all_else;
+    proxy = refl;
+  },
+  ap (λ (w : WayState). w.generation) (same_way generation i site.lost found h.way h.way_at) ∙ found.is,
+)
+
+-- a connection that is open can be closed
+pub closes : (r : Result (Unit {0}) ServerError) (end : ConnectionState) (at : Option ConnectionState) → at ≡ Some end → (IsErrOf r reasons.NoConnection → at ≡ None)
+    → IsOkUnless r reasons.NoConnection → IsOk r
+closes (Ok x) end at is gone only = refl
+closes (Err e) end at is gone only = absurd (none-some end (sym (gone (ap (λ (x : ServerError). Err x) only)) ∙ is))

@@ -22,7 +22,7 @@ use Rattle.mc_account.specs.Lanes.{Lane, fresh_lane}
 use Rattle.mc_account.specs.Orders.{Order, note, note_all}
 use Rattle.mc_account.specs.Stands.{ProxyStands, changed, grown}
 use Rattle.mc_account.proofs.StandsLemmas.{changed-other, changed-own}
-use Rattle.mc_world.specs.CourseStands.{CourseStands}
+use Rattle.mc_world.specs.CourseStands.{CourseStands, HaveOneGeneration}
 use Rattle.mc_world.specs.LogStands.{LogStands}
 use Rattle.mc_world.specs.Logs.{Log}
 use Rattle.mc_world.specs.Courses.{IsDone}
@@ -33,6 +33,7 @@ use Rattle.mc_world.specs.declared.events.Event.TheVariants.{ClientBytes, Client
 use Rattle.mc_world.specs.declared.events.Logged.TheVariants.{Happened}
 use Rattle.mc_world.specs.Worlds.{ClientState, CourseState, client_at, put_out_of, taken_by, text_of, with_client}
 use Rattle.mc_world.proofs.CourseLemmas.{read_changed, with_client-length}
+use Rattle.mc_world.proofs.GenerationStayLemmas.{generations_stay}
 use Rattle.mc_world.proofs.LogStandsLemmas.{log_client_goes, log_client_takes, log_end_seen, log_hears, log_late_bytes, log_loses, log_reaches_proxy, log_reaches_server, log_returns, log_takes_reply}
 use Rattle.mc_world.proofs.LogTurnLemmas.{log_late_turn, log_puts, log_server_takes, log_takes}
 use Rattle.mc_world.proofs.OutputLemmas.{sent_admitted, unsent, unsent_gone, unsent_kept, unsent_lost, unsent_noted, unsent_other, unsent_own, unsent_sent, unsent_sent_other, without_updated}
@@ -42,8 +43,8 @@ use Rattle.mc_world.proofs.PoolLemmas.{pool_client_goes, pool_client_takes, pool
 pub stood_as : (ring : RingState) (opening : CacheState) (order : Order) (lanes : ℕ → Lane) (new : CourseState) (texts sent outs : ℕ → List ℕ)
     → ((n : ℕ) → texts n ≡ text_of new n) → ((n : ℕ) → sent n ≡ taken_by new n) → ((n : ℕ) → outs n ≡ put_out_of new n)
     → PoolStands opening texts sent order lanes new.pool → LogStands ring order outs new.log new.pool → new.pool.proxy.admitted ≡ length new.clients
-    → CourseStands ring opening new
-stood_as ring opening order lanes new texts sent outs text_is sent_is out_is pool log numbered =
+    → HaveOneGeneration new.pool → CourseStands ring opening new
+stood_as ring opening order lanes new texts sent outs text_is sent_is out_is pool log numbered generations =
     let text_same : texts ≡ text_of new = λ i n. text_is n i in
     let sent_same : sent ≡ taken_by new = λ i n. sent_is n i in
     let out_same : outs ≡ put_out_of new = λ i n. out_is n i in
@@ -54,6 +55,7 @@ stood_as ring opening order lanes new texts sent outs text_is sent_is out_is poo
           (subst (λ (f : ℕ → List ℕ). PoolStands opening texts f order lanes new.pool) sent_same pool);
       log = subst (λ (f : ℕ → List ℕ). LogStands ring order f new.log new.pool) out_same log;
       numbered = numbered;
+      generations = generations;
     }
 
 -- where the clients are the same, and as much is put out to each and not taken
@@ -61,14 +63,14 @@ pub same_clients : (ring : RingState) (opening : CacheState) (order : Order) (la
     → new.clients ≡ old.clients → ((n : ℕ) → unsent new.pool.proxy.sessions n ≡ unsent old.pool.proxy.sessions n) → new.pool.proxy.admitted ≡ old.pool.proxy.admitted
     → old.pool.proxy.admitted ≡ length old.clients
     → PoolStands opening (text_of old) (taken_by old) order lanes new.pool → LogStands ring order (put_out_of old) new.log new.pool
-    → CourseStands ring opening new
-same_clients ring opening order lanes old new same outputs admitted numbered pool log =
+    → HaveOneGeneration new.pool → CourseStands ring opening new
+same_clients ring opening order lanes old new same outputs admitted numbered pool log generations =
     stood_as ring opening order lanes new (text_of old) (taken_by old) (put_out_of old)
     (λ n. ap (λ (cs : List ClientState). (client_at cs n).text) (sym same))
     (λ n. ap (λ (cs : List ClientState). (client_at cs n).taken) (sym same))
     (λ n. ap (λ (cs : List ClientState). (client_at cs n).taken ++ unsent old.pool.proxy.sessions n) (sym same)
     ∙ ap (λ (bytes : List ℕ). taken_by new n ++ bytes) (sym (outputs n)))
-    pool log (admitted ∙ numbered ∙ ap (λ (cs : List ClientState). length cs) (sym same))
+    pool log (admitted ∙ numbered ∙ ap (λ (cs : List ClientState). length cs) (sym same)) generations
 
 -- a client whose session is open is there
 pub is_there : (ring : RingState) (opening : CacheState) (c : CourseState) (client : ℕ) (session : SessionState) → CourseStands ring opening c
@@ -95,8 +97,8 @@ pub heard : (ring : RingState) (opening : CacheState) (order : Order) (lanes : �
     → ((n : ℕ) → unsent new.pool.proxy.sessions n ≡ unsent old.pool.proxy.sessions n) → new.pool.proxy.admitted ≡ old.pool.proxy.admitted
     → old.pool.proxy.admitted ≡ length old.clients
     → PoolStands opening (grown client bytes (text_of old)) (taken_by old) order lanes new.pool → LogStands ring order (put_out_of old) new.log new.pool
-    → CourseStands ring opening new
-heard ring opening order lanes old new client bytes inside is outputs admitted numbered pool log =
+    → HaveOneGeneration new.pool → CourseStands ring opening new
+heard ring opening order lanes old new client bytes inside is outputs admitted numbered pool log generations =
     let now : ClientState = record (client_at old.clients client) { text = (client_at old.clients client).text ++ bytes } in
     let taken_is : (n : ℕ) → taken_by old n ≡ taken_by new n = λ n.
     sym (ap (λ (cs : List ClientState). (client_at cs n).taken) is
@@ -108,7 +110,7 @@ heard ring opening order lanes old new client bytes inside is outputs admitted n
     taken_is
     (λ n. ap (λ (t : List ℕ). t ++ unsent old.pool.proxy.sessions n) (taken_is n) ∙ ap (λ (b : List ℕ). taken_by new n ++ b) (sym (outputs n)))
     pool log (admitted ∙ numbered ∙ sym (ap (λ (cs : List ClientState). length cs) is
-    ∙ with_client-length client (record (client_at old.clients client) { text = (client_at old.clients client).text ++ bytes }) old.clients))
+    ∙ with_client-length client (record (client_at old.clients client) { text = (client_at old.clients client).text ++ bytes }) old.clients)) generations
 
 -- a client has taken bytes: what was put out to it is the same
 pub took : (ring : RingState) (opening : CacheState) (order : Order) (lanes : ℕ → Lane) (old new : CourseState) (client : ℕ) (bytes : List ℕ)
@@ -118,8 +120,8 @@ pub took : (ring : RingState) (opening : CacheState) (order : Order) (lanes : �
     → ((n : ℕ) → client ≢ n → unsent new.pool.proxy.sessions n ≡ unsent old.pool.proxy.sessions n) → new.pool.proxy.admitted ≡ old.pool.proxy.admitted
     → old.pool.proxy.admitted ≡ length old.clients
     → PoolStands opening (text_of old) (grown client bytes (taken_by old)) order lanes new.pool → LogStands ring order (put_out_of old) new.log new.pool
-    → CourseStands ring opening new
-took ring opening order lanes old new client bytes inside is own others admitted numbered pool log =
+    → HaveOneGeneration new.pool → CourseStands ring opening new
+took ring opening order lanes old new client bytes inside is own others admitted numbered pool log generations =
     let text_is : (n : ℕ) → text_of old n ≡ text_of new n = λ n.
     sym (ap (λ (cs : List ClientState). (client_at cs n).text) is
     ∙ read_changed (λ (c : ClientState). c.text) client (record (client_at old.clients client) { taken = (client_at old.clients client).taken ++ bytes }) old.clients inside n
@@ -137,7 +139,7 @@ took ring opening order lanes old new client bytes inside is own others admitted
     ∙ ap (λ (b : List ℕ). taken_by new n ++ b) (sym (others n e.1)))
     (eqb_tells client n))
     pool log (admitted ∙ numbered ∙ sym (ap (λ (cs : List ClientState). length cs) is
-    ∙ with_client-length client (record (client_at old.clients client) { taken = (client_at old.clients client).taken ++ bytes }) old.clients))
+    ∙ with_client-length client (record (client_at old.clients client) { taken = (client_at old.clients client).taken ++ bytes }) old.clients)) generations
 
 -- the log has the event
 logged : (ring : RingState) (order : Order) (outs : ℕ → List ℕ) (pool : PoolState) (log log' : Log) → log' ≡ log → LogStands ring order outs log pool → LogStands ring order outs log' pool
@@ -175,6 +177,7 @@ course_done ring opening (ClientBytes client bytes) old new h e =
     (pool_hears opening (text_of old) (taken_by old) h.order h.lanes client bytes old.pool new.pool all hears h.pool)
     (logged ring h.order (put_out_of old) new.pool (old.log ++ Happened (ClientBytes client tt) ∷ []) new.log e.log
     (log_hears ring h.order (put_out_of old) old.log client bytes tt old.pool new.pool hears h.log))
+    (generations_stay (ClientBytes client bytes) old.pool new.pool e.pool h.generations)
 course_done ring opening (ClientGone client) old new h e =
     let goes = e.pool.1 in
     let out : List ℕ = output_of (session_at old.pool.proxy client) in
@@ -197,6 +200,7 @@ course_done ring opening (ClientGone client) old new h e =
     (subst (λ (bytes : List ℕ). PoolStands opening (text_of old) (grown client bytes (taken_by old)) h.order h.lanes new.pool) whole left)
     (logged ring h.order (put_out_of old) new.pool (old.log ++ Happened (ClientGone client) ∷ []) new.log e.log
     (log_client_goes ring h.order (put_out_of old) old.log client old.pool new.pool goes h.log))
+    (generations_stay (ClientGone client) old.pool new.pool e.pool h.generations)
 course_done ring opening (ProxyTurn client) old new h e =
     same_clients ring opening (h.order ++ asked_by e.pool ∷ []) h.lanes old new e.clients
     (unsent_kept client old.pool.proxy new.pool.proxy (IsTurn client turns.Took old.pool.proxy.ring) e.pool.steps e.pool.steps.step.1.output)
@@ -204,6 +208,7 @@ course_done ring opening (ProxyTurn client) old new h e =
     (pool_takes opening (text_of old) (taken_by old) h.order h.lanes client old.pool new.pool e.pool h.pool)
     (logged ring (h.order ++ asked_by e.pool ∷ []) (put_out_of old) new.pool (old.log ++ Happened (ProxyTurn client) ∷ []) new.log e.log
     (log_takes ring h.order (put_out_of old) old.log client old.pool new.pool e.pool h.log))
+    (generations_stay (ProxyTurn client) old.pool new.pool e.pool h.generations)
 course_done ring opening (ToServer server generation count) old new h e = elim e.pool [
   | inl here ↦
       same_clients ring opening h.order
@@ -212,12 +217,14 @@ course_done ring opening (ToServer server generation count) old new h e = elim e
       (pool_reaches_server opening (text_of old) (taken_by old) h.order h.lanes server count old.pool new.pool here.0 h.pool)
       (logged ring h.order (put_out_of old) new.pool (old.log ++ Happened (ToServer server generation count) ∷ []) new.log e.log
       (log_reaches_server ring h.order (put_out_of old) old.log server generation count count old.pool new.pool here.0 h.log))
+      (generations_stay (ToServer server generation count) old.pool new.pool e.pool h.generations)
   | inr late ↦
       same_clients ring opening h.order h.lanes old new e.clients
       (λ n. ap (λ (p : ProxyState). unsent p.sessions n) late.1.proxy) (ap (λ (p : ProxyState). p.admitted) late.1.proxy) h.numbered
       (pool_late_bytes opening (text_of old) (taken_by old) h.order h.lanes server late.0 count old.pool new.pool late.1 h.pool)
       (logged ring h.order (put_out_of old) new.pool (old.log ++ Happened (ToServer server generation count) ∷ []) new.log e.log
       (log_late_bytes ring h.order (put_out_of old) old.log server generation count late.0 count old.pool new.pool late.1 h.log))
+      (generations_stay (ToServer server generation count) old.pool new.pool e.pool h.generations)
 ]
 course_done ring opening (ServerTurn server generation moment) old new h e = elim e.pool.1 [
   | inl here ↦
@@ -226,12 +233,14 @@ course_done ring opening (ServerTurn server generation moment) old new h e = eli
       (pool_server_takes opening (text_of old) (taken_by old) h.order h.lanes server moment old.pool new.pool here.0 e.pool.0 h.pool)
       (logged ring h.order (put_out_of old) new.pool (old.log ++ Happened (ServerTurn server generation moment) ∷ []) new.log e.log
       (log_server_takes ring opening (text_of old) (taken_by old) h.order h.lanes (put_out_of old) old.log server generation moment old.pool new.pool here.0 h.pool h.log))
+      (generations_stay (ServerTurn server generation moment) old.pool new.pool e.pool h.generations)
   | inr late ↦
       same_clients ring opening h.order h.lanes old new e.clients
       (λ n. ap (λ (p : ProxyState). unsent p.sessions n) late.1.proxy) (ap (λ (p : ProxyState). p.admitted) late.1.proxy) h.numbered
       (pool_late_turn opening (text_of old) (taken_by old) h.order h.lanes server late.0 moment old.pool new.pool late.1 e.pool.0 h.pool)
       (logged ring h.order (put_out_of old) new.pool (old.log ++ Happened (ServerTurn server generation moment) ∷ []) new.log e.log
       (log_late_turn ring h.order (put_out_of old) old.log server generation late.0 moment old.pool new.pool late.1 h.log))
+      (generations_stay (ServerTurn server generation moment) old.pool new.pool e.pool h.generations)
 ]
 course_done ring opening (ToProxy server count) old new h e =
     same_clients ring opening h.order (changed server (record (h.lanes server) {
@@ -241,6 +250,7 @@ course_done ring opening (ToProxy server count) old new h e =
     (pool_reaches_proxy opening (text_of old) (taken_by old) h.order h.lanes server count old.pool new.pool e.pool h.pool)
     (logged ring h.order (put_out_of old) new.pool (old.log ++ Happened (ToProxy server count) ∷ []) new.log e.log
     (log_reaches_proxy ring h.order (put_out_of old) old.log server count count old.pool new.pool e.pool h.log))
+    (generations_stay (ToProxy server count) old.pool new.pool e.pool h.generations)
 course_done ring opening (ReplyTurn server) old new h e =
     let answers = e.pool.answers in
     same_clients ring opening (note answers.tag (Reply answers.reply) h.order)
@@ -250,6 +260,7 @@ course_done ring opening (ReplyTurn server) old new h e =
     (pool_takes_reply opening (text_of old) (taken_by old) h.order h.lanes server old.pool new.pool e.pool h.pool)
     (logged ring (note answers.tag (Reply answers.reply) h.order) (put_out_of old) new.pool (old.log ++ Happened (ReplyTurn server) ∷ []) new.log e.log
     (log_takes_reply ring (text_of old) (taken_by old) h.order h.lanes (put_out_of old) old.log server old.pool new.pool e.pool h.pool.proxy h.log))
+    (generations_stay (ReplyTurn server) old.pool new.pool e.pool h.generations)
 course_done ring opening (Emit client) old new h e =
     let stands = pool_puts opening (text_of old) (taken_by old) h.order h.lanes client old.pool new.pool e.pool h.pool in
     stood_as ring opening h.order h.lanes new (text_of old) (taken_by old) (put_out_of new)
@@ -264,6 +275,7 @@ course_done ring opening (Emit client) old new h e =
     ∙ ap (λ (o : Option SessionState). taken_by old client ++ output_of o) (unsent_own client old.pool.proxy new.pool.proxy (Alone (IsEmit emits.Done)) e.pool.steps))
     h.log))
     (e.pool.steps.admitted ∙ h.numbered ∙ ap (λ (cs : List ClientState). length cs) (sym e.clients))
+    (generations_stay (Emit client) old.pool new.pool e.pool h.generations)
 course_done ring opening (ClientTakes client count) old new h e =
     let takes = e.pool.1 in
     let inside = is_there ring opening old client e.pool.0.0 h e.pool.0.1 in
@@ -276,6 +288,7 @@ course_done ring opening (ClientTakes client count) old new h e =
     (pool_client_takes opening (text_of old) (taken_by old) h.order h.lanes client count old.pool new.pool takes h.pool)
     (logged ring h.order (put_out_of old) new.pool (old.log ++ Happened (ClientTakes client count) ∷ []) new.log e.log
     (log_client_takes ring h.order (put_out_of old) old.log client count count old.pool new.pool takes h.log))
+    (generations_stay (ClientTakes client count) old.pool new.pool e.pool h.generations)
 course_done ring opening (LinkLost server) old new h e =
     let tags : List Tag = map (λ (w : Waiting). w.1) (link_at old.pool.proxy.links server).waiting in
     same_clients ring opening (note_all tags Lost h.order) h.lanes old new e.clients
@@ -285,12 +298,14 @@ course_done ring opening (LinkLost server) old new h e =
     (logged ring (note_all (map (λ (w : Waiting). w.1) (link_at old.pool.proxy.links server).waiting) Lost h.order) (put_out_of old) new.pool
     (old.log ++ Happened (LinkLost server) ∷ []) new.log e.log
     (log_loses ring (text_of old) (taken_by old) h.order h.lanes (put_out_of old) old.log server old.pool new.pool e.pool h.pool.proxy h.log))
+    (generations_stay (LinkLost server) old.pool new.pool e.pool h.generations)
 course_done ring opening (LinkBack server) old new h e =
     same_clients ring opening h.order (changed server (fresh_lane (length h.order)) h.lanes) old new e.clients
     (λ n. ap (λ (p : ProxyState). unsent p.sessions n) e.pool.proxy) (ap (λ (p : ProxyState). p.admitted) e.pool.proxy) h.numbered
     (pool_returns opening (text_of old) (taken_by old) h.order h.lanes server old.pool new.pool e.pool h.pool)
     (logged ring h.order (put_out_of old) new.pool (old.log ++ Happened (LinkBack server) ∷ []) new.log e.log
     (log_returns ring h.order (put_out_of old) old.log server old.pool new.pool e.pool h.log))
+    (generations_stay (LinkBack server) old.pool new.pool e.pool h.generations)
 course_done ring opening (ServerSeesEnd server generation) old new h e =
     let ends = e.pool.1 in
     same_clients ring opening h.order h.lanes old new e.clients
@@ -298,3 +313,4 @@ course_done ring opening (ServerSeesEnd server generation) old new h e =
     (pool_end_seen opening (text_of old) (taken_by old) h.order h.lanes server e.pool.0 old.pool new.pool ends h.pool)
     (logged ring h.order (put_out_of old) new.pool (old.log ++ Happened (ServerSeesEnd server generation) ∷ []) new.log e.log
     (log_end_seen ring h.order (put_out_of old) old.log server generation e.pool.0 old.pool new.pool ends h.log))
+    (generations_stay (ServerSeesEnd server generation) old.pool new.pool e.pool h.generations)

@@ -27,7 +27,7 @@ use Rattle.mc_account.proofs.OpenSessions.{other_number}
 use Rattle.mc_account.proofs.StandsLemmas.{changed-other, changed-own}
 use Rattle.mc_account.proofs.WithinLemmas.{commands_within, within-more}
 use Rattle.mc_history.specs.Named.{AreReplied}
-use Rattle.mc_world.specs.CourseStands.{CourseStands}
+use Rattle.mc_world.specs.CourseStands.{CourseStands, HaveOneGeneration}
 use Rattle.mc_world.specs.Joins.{HasServerJoined, ServerJoins}
 use Rattle.mc_world.specs.LogStands.{LogStands, ServersStand}
 use Rattle.mc_world.specs.Logs.{HasJoined, IsRingAfter, Log, is_up}
@@ -181,6 +181,27 @@ log_joins ring order outs log address opening old new e h =
           (λ p tag has. untaken_joined opening old.sites p tag (subst (λ (ss : List SiteState). HasUntakenAt ss p tag) e.sites has)) h.commands;
     }
 
+-- the link of the place that is new
+link_new : (links : List LinkState) (link : LinkState) → link_at (links ++ link ∷ []) (length links) ≡ link
+link_new [] link = refl
+link_new (l ∷ ls) link = link_new ls link
+
+-- each site is of the generation of its link
+join_generations : (address : List ℕ) (opening : CacheState) (old new : PoolState) → ServerJoins address opening old new → length old.proxy.links ≡ length old.sites
+    → HaveOneGeneration old → HaveOneGeneration new
+join_generations address opening old new e same h other site at =
+    elim (got_pushed old.sites (first_site opening) other site (ap (λ (ss : List SiteState). slice_get ss other) (sym e.sites) ∙ at)) [
+      | inl there ↦ (
+          let below = got_inside old.sites other site there in
+          h other site there
+          ∙ ap (λ (l : LinkState). l.generation) (sym (ap (λ (ls : List LinkState). link_at ls other) e.proxy.links ∙ link_there old.proxy.links (up_link 1) other (omega (arith, below, same)))))
+      | inr last ↦ (
+          let is : length old.proxy.links ≡ other = same ∙ sym last.0 in
+          ap (λ (s : SiteState). s.generation) last.1
+          ∙ ap (λ (l : LinkState). l.generation) (sym (ap (λ (ls : List LinkState). link_at ls other) e.proxy.links
+          ∙ ap (λ (n : ℕ). link_at (old.proxy.links ++ up_link 1 ∷ []) n) (sym is) ∙ link_new old.proxy.links (up_link 1))))
+    ]
+
 -- the course stands
 pub course_joins : (ring : RingState) (opening : CacheState) (address : List ℕ) (old new : CourseState) → IsGoodCache opening → CourseStands ring opening old
     → HasServerJoined address opening old new → CourseStands ring opening new
@@ -190,3 +211,4 @@ course_joins ring opening address old new good h e =
     (pool_joins opening (text_of old) (taken_by old) h.order h.lanes address old.pool new.pool good e.pool h.log.servers.linked h.log.servers.sited h.log.requests.inside h.pool)
     (subst (λ (log : Log). LogStands ring h.order (put_out_of old) log new.pool) (sym e.log)
     (log_joins ring h.order (put_out_of old) old.log address opening old.pool new.pool e.pool h.log))
+    (join_generations address opening old.pool new.pool e.pool (h.log.servers.linked ∙ sym h.log.servers.sited) h.generations)

@@ -27,6 +27,8 @@ pub mod LogAccountLemmas
 pub mod WorldOpeningLemmas
 pub mod CourseLemmas
 pub mod OutputLemmas
+pub mod GenerationStayLemmas
 pub mod DoneLemmas
 pub mod JoinLemmas
 pub mod RunLemmas
+pub mod ServingLemmas

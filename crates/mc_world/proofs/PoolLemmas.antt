@@ -41,7 +41,7 @@ use Rattle.mc_world.proofs.SiteLemmas.{site_fed, site_turned}
 use Rattle.mc_account.specs.Lookups.{command_at}
 
 -- what stands at a place where the site of one place is another
-set_site : (sites : List SiteState) (i : ℕ) (now : SiteState) (j : ℕ) (s : SiteState) → slice_get (slice_set sites i now) j ≡ Some s
+pub set_site : (sites : List SiteState) (i : ℕ) (now : SiteState) (j : ℕ) (s : SiteState) → slice_get (slice_set sites i now) j ≡ Some s
     → ((i ≡ j) × (s ≡ now)) ⊎ ((i ≢ j) × (slice_get sites j ≡ Some s))
 set_site [] i now zero s e = absurd (none-some s e)
 set_site [] i now (suc j) s e = absurd (none-some s e)
@@ -384,7 +384,7 @@ pool_end_seen opening texts sent order lanes place i old new e h =
     }
 
 -- ClientTakes
-links_sent : (client count : ℕ) (session : Option SessionState) (p : ProxyState) → (sent_by client count session p).links ≡ p.links
+pub links_sent : (client count : ℕ) (session : Option SessionState) (p : ProxyState) → (sent_by client count session p).links ≡ p.links
 links_sent client count None p = refl
 links_sent client count (Some session) p = refl
 

@@ -208,6 +208,14 @@ nobody_there zero client = refl
 nobody_there (suc n) zero = refl
 nobody_there (suc n) (suc client) = nobody_there n client
 
+-- its sites and links are of the first generation
+opening_generations : (opening : CacheState) (n place : ℕ) (site : SiteState) → slice_get (replicate n (first_site opening)) place ≡ Some site
+    → site.generation ≡ (link_at (replicate n (up_link 1)) place).generation
+opening_generations opening zero zero site at = absurd (none-some site at)
+opening_generations opening zero (suc place) site at = absurd (none-some site at)
+opening_generations opening (suc n) zero site at = ap (λ (s : SiteState). s.generation) (sym (same_Some (first_site opening) site at))
+opening_generations opening (suc n) (suc place) site at = opening_generations opening n place site at
+
 -- a world that was just opened
 pub course_opens : (ring : RingState) (clients budget items : ℕ) → IsRing ring → 1 ≤ items
     → CourseStands ring (opening_cache budget items 0) (opening_world ring clients budget items).course
@@ -219,3 +227,4 @@ course_opens ring clients budget items is_ring some =
     (opening_pool_stands (opening_cache budget items 0) ring clients (opening_is_good budget items 0 some (omega arith)))
     (log_opens ring (opening_cache budget items 0) clients is_ring)
     (sym (length-replicate clients nobody))
+    (opening_generations (opening_cache budget items 0) (length ring.servers))

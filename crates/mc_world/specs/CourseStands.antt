@@ -1,21 +1,28 @@
 -- Where a world is, after all that was done.
-use Rattle.std.specs.Prelude.{ℕ, ◌≡◌, length}
+use Rattle.std.specs.Prelude.{ℕ, ◌≡◌, length, Some, slice_get}
 use Rattle.mc_ring.specs.Rings.{RingState}
 use Rattle.mc_cache.specs.CacheState.{CacheState, IsWithinBounds, opening_cache}
+use Rattle.mc_session.specs.SessionState.{link_at}
 use Rattle.mc_account.specs.Lanes.{Lane}
 use Rattle.mc_account.specs.Orders.{Order}
 use Rattle.mc_world.specs.LogStands.{LogStands}
 use Rattle.mc_world.specs.Pools.{PoolStands}
+use Rattle.mc_world.specs.WorldState.{PoolState, SiteState}
 use Rattle.mc_world.specs.Worlds.{CourseState, WorldState, put_out_of, taken_by, text_of}
 
+-- each site is of the generation of its link
+abbrev pub HaveOneGeneration : PoolState → Type 0
+HaveOneGeneration pool = (place : ℕ) (site : SiteState) → slice_get pool.sites place ≡ Some site → site.generation ≡ (link_at pool.proxy.links place).generation
+
 -- A course stands where its proxy took requests in some order, and that passed over its links: so its pool stands, and its log tells
--- of it. Each client has a session of its number.
+-- of it. Each client has a session of its number, and each site is of the generation of its link.
 pub record CourseStands (ring : RingState) (opening : CacheState) (c : CourseState) : Type 0 where
   pub order : Order
   pub lanes : ℕ → Lane
   pub pool : PoolStands opening (text_of c) (taken_by c) order lanes c.pool
   pub log : LogStands ring order (put_out_of c) c.log c.pool
   pub numbered : c.pool.proxy.admitted ≡ length c.clients
+  pub generations : HaveOneGeneration c.pool
 
 -- the same of a world, whose caches may have their bounds
 pub record WorldStands (w : WorldState) : Type 0 where

@@ -1,5 +1,5 @@
 //! What happens on lost generations of a site, and the loss and the return of its link.
-ghost use Rattle.std.specs.Prelude.{◌≡◌, ◌+◌, ◌-◌, ◌<◌, ◌^◌, ◌↔◌, true, Some, length, slice_get, IfOk, OnOk, OnErr};
+ghost use Rattle.std.specs.Prelude.{◌≡◌, ◌≢◌, ◌+◌, ◌-◌, ◌<◌, ◌^◌, ◌↔◌, true, None, Some, length, slice_get, IfOk, OnOk, OnErr};
 
 use crate::errors::{Step, WorldError};
 use crate::sites::Site;
@@ -16,7 +16,7 @@ impl<S: Store + Drop> Site<S> {
     ghost use Rattle.mc_session.specs.SessionState.{link_at};
     ghost use Rattle.mc_proxy.specs.LinkTurns.{lost_at};
     ghost use Rattle.mc_world.specs.Applies.{CanAdmit, way_of};
-    ghost use Rattle.mc_world.specs.Happens.{ArrivesLate, ComesBack, Does, EntersLate};
+    ghost use Rattle.mc_world.specs.Happens.{ArrivesLate, ComesBack, Does, Ends, EntersLate};
     ghost use Rattle.mc_world.specs.Pools.{cut_off};
     ghost use Rattle.mc_world.specs.Serving.{ServesProxy};
     ghost use Rattle.mc_world.specs.WorldState.{WayState};
@@ -79,6 +79,16 @@ impl<S: Store + Drop> Site<S> {
         };
         self.lost[i].taken();
         Ok(Step::Done)
+    }
+
+    /// The server sees the end of a lost generation.
+    pub(crate) fn end(&mut self, i: usize)
+        requires inside { i < length self.old.lost }
+        requires serves { (way : WayState) → slice_get self.old.lost i ≡ Some way → ServesProxy way.connection self.old.server }
+        ensures { Ends i self.old self.new }
+    {
+        self.server.close(self.lost[i].connection()).unwrap();
+        self.lost.remove(i);
     }
 
     /// The link to the server is lost: its bytes go on their way, and whose the commands are that the server has not taken is

@@ -11,8 +11,9 @@
 //! Links are lost and come back in generations: bytes of a lost one may still arrive, and its server may still take what they
 //! ask, until it sees the end. [`courses_go_on`] says that where a pool is after all that was done (`CourseStands`) is kept by each event.
 //!
-//! Of a program that plays a pool there are a server with its ways ([`Site`]) and the calls of a [`Pool`] for clients and for links
-//! that live. No call waits.
+//! [`Pool`] has a call for each event, over servers with their ways ([`Site`]): it does what the event's record says exactly where
+//! the event applies (`specs/Applies.antt`), and changes nothing else. What its calls rest on ([`courses_serve`]) holds wherever a course
+//! is. No call waits.
 #![tactic(auto)]
 
 mod errors;
@@ -20,6 +21,7 @@ mod events;
 mod late;
 mod laws;
 mod living;
+mod lost_ways;
 mod pools;
 mod sites;
 mod tags;
@@ -37,4 +39,4 @@ pub use mc_history::Entry;
 pub use pools::Pool;
 pub use sites::Site;
 pub use ways::Way;
-pub use world_laws::{courses_go_on, every_run_gives_account, opening_pools_stand};
+pub use world_laws::{courses_go_on, courses_serve, every_run_gives_account, opening_pools_stand};

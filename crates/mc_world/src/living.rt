@@ -1,5 +1,5 @@
 //! What happens on the living generations of a pool's links.
-ghost use Rattle.std.specs.Prelude.{◌≡◌, ◌<◌, ◌↔◌, IsTrue, IfOk, OnErr};
+ghost use Rattle.std.specs.Prelude.{◌≡◌, ◌<◌, ◌^◌, ◌↔◌, IsTrue, IfOk, OnErr};
 
 use crate::errors::{Step, WorldError};
 use crate::pools::Pool;
@@ -7,9 +7,9 @@ use mc_proxy::LinkTurn;
 use mc_store::Store;
 
 impl<S: Store + Drop> Pool<S> {
-    ghost use Rattle.mc_world.specs.Applies.{CanReachProxy, CanReachServer, CanReturn, CanTakeReply, IsUp, Lives};
+    ghost use Rattle.mc_world.specs.Applies.{CanReachProxy, CanReachServer, CanReturn, CanServe, CanTakeReply, IsUp, Lives};
     ghost use Rattle.mc_world.specs.Happens.{Does};
-    ghost use Rattle.mc_world.specs.Pools.{LinkReturns, LosesLink, ReachesProxy, ReachesServer, TakesReply};
+    ghost use Rattle.mc_world.specs.Pools.{LinkReturns, LosesLink, ReachesProxy, ReachesServer, ServerTakes, TakesReply};
     ghost use Rattle.mc_world.specs.Serving.{PoolServes};
 
     /// Whether a generation lives.
@@ -46,6 +46,32 @@ impl<S: Store + Drop> Pool<S> {
         let (piece, _) = output.split_at(moved);
         site.arrive(piece)?;
         self.proxy.link_taken_out(place, moved);
+        Ok(Step::Done)
+    }
+
+    /// A server takes a request of the living generation.
+    pub fn server_turn(&mut self, place: usize, moment: u64) -> Result<Step, WorldError>
+        requires moment { moment < 2 ^ 63 }
+        requires serves { PoolServes self.old }
+        ensures takes { IfOk result (λ step. Does step (ServerTakes place moment self.old self.new) (self.new ≡ self.old)) }
+        ensures applies { IfOk result (λ step. (step ≡ Step.Done) ↔ CanServe place self.old) }
+        ensures err { OnErr result (self.new ≡ self.old) }
+    {
+        let Some(site) = self.sites.get_mut(place) else {
+            return Ok(Step::Nothing);
+        };
+        if !self.proxy.is_up(place) {
+            return Ok(Step::Nothing);
+        }
+        if site.ahead() >= self.proxy.waiting(place) {
+            return Ok(Step::Nothing);
+        }
+        let Some(tag) = self.proxy.tag(place, site.ahead()) else {
+            return Ok(Step::Nothing);
+        };
+        let Step::Done = site.turn(tag, moment)? else {
+            return Ok(Step::Nothing);
+        };
         Ok(Step::Done)
     }
 

@@ -7,6 +7,7 @@ ghost use Rattle.mc_account.specs.Lanes.{fresh_lane};
 ghost use Rattle.mc_world.specs.Courses.{IsDone};
 ghost use Rattle.mc_world.specs.CourseStands.{CourseStands};
 ghost use Rattle.mc_world.specs.Pools.{PoolStands};
+ghost use Rattle.mc_world.specs.Serving.{PoolServes};
 ghost use Rattle.mc_world.specs.Accounts.{Account};
 ghost use Rattle.mc_world.specs.Runs.{Call, Calls};
 ghost use Rattle.mc_world.specs.Worlds.{CourseState, history_of, opening_pool, opening_world, put_out_of, text_of};
@@ -22,6 +23,11 @@ pub fn opening_pools_stand()
 pub fn courses_go_on()
     ensures { (ring : RingState) (opening : CacheState) (event : Event (List ℕ)) (old new : CourseState)
         → CourseStands ring opening old → IsDone event old new → CourseStands ring opening new }
+{}
+
+/// The servers of a course that stands serve its proxy, over each link and on each of its lost generations.
+pub fn courses_serve()
+    ensures { (ring : RingState) (opening : CacheState) (c : CourseState) → CourseStands ring opening c → PoolServes c.pool }
 {}
 
 /// Whatever is done, in whatever order, and whichever servers join: each client's bytes are its requests' answers in order, without

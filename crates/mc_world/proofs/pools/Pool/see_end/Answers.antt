@@ -1,0 +1,46 @@
+use Rattle.std.proofs.Common.{rules, ◌≡◌, ◌≢◌, ◌∙◌, ◌+◌, ◌-◌, ◌^◌, ◌<◌, ◌≤◌, ◌++◌, ◌∷◌, [], ℕ, true, false, List, Some, None, length, map, drop, take, min, slice_get, slice_set, refl, sym, ap, subst, arith}
+use Rattle.std.proofs.lemmas.Option.{none-some, same_Some, slice_get_read}
+use Rattle.mc_session.specs.SessionState.{link_at}
+use Rattle.mc_world.specs.Serving.{PoolServes}
+use Rattle.mc_world.specs.WorldState.{PoolState, SiteState, WayState}
+use Rattle.mc_world.specs.Applies.{HasLost, way_of}
+use Rattle.mc_world.specs.Happens.{ArrivesLate, Does, Ends, EntersLate}
+use Rattle.mc_world.specs.declared.errors.Step.{Step}
+use Rattle.mc_world.proofs.AppliesLemmas.{found_way, it_applies, it_does_not, late_serves_if, pool_of, reached_late, same_way, saw_end, served_late}
+use Rattle.mc_world.proofs.pools.Pool.see_end.Goals as goal
+
+pub end-requires-clause-inside : goal.end-requires-clause-inside
+end-requires-clause-inside g c =
+    let inside = c.in-Some.ensures.variant.0 refl in
+    let kept = c.self.inside.sites.ok in
+    let at : slice_get c.self.inside.sites.items c.args.place ≡ Some c.in-Some.site.now = slice_get_read _ _ c.args.place c.in-Some.site.now refl (omega (arith, inside, kept)) (search rules) in
+    let first : way_of c.args.generation c.in-Some.site.now.lost ≡ Some c.in-Some-way.i = sym c.way.ensures ∙ c.in-Some-way.is in
+    let found = found_way c.args.generation c.in-Some.site.now.lost c.in-Some-way.i first in
+    found.inside
+
+pub end-requires-clause-serves : goal.end-requires-clause-serves
+end-requires-clause-serves g c =
+    let inside = c.in-Some.ensures.variant.0 refl in
+    let kept = c.self.inside.sites.ok in
+    let at : slice_get c.self.inside.sites.items c.args.place ≡ Some c.in-Some.site.now = slice_get_read _ _ c.args.place c.in-Some.site.now refl (omega (arith, inside, kept)) (search rules) in
+    let serves : PoolServes (pool_of c.self.inside.proxy c.self.inside.sites.items) = subst PoolServes (sym c.self.view_is) c.requires.serves in
+    let own = serves.sites c.args.place c.in-Some.site.now at in
+    λ way is. own.lost c.in-Some-way.i way is
+
+pub returns-clause-ends : goal.returns-clause-ends
+returns-clause-ends g c =
+    let inside = c.in-Some.ensures.variant.0 refl in
+    let kept = c.self.inside.sites.ok in
+    let at : slice_get c.self.inside.sites.items c.args.place ≡ Some c.in-Some.site.now = slice_get_read _ _ c.args.place c.in-Some.site.now refl (omega (arith, inside, kept)) (search rules) in
+    let first : way_of c.args.generation c.in-Some.site.now.lost ≡ Some c.in-Some-way.i = sym c.way.ensures ∙ c.in-Some-way.is in
+    let found = found_way c.args.generation c.in-Some.site.now.lost c.in-Some-way.i first in
+    rw (← c.self.view_is) (saw_end c.args.place c.in-Some-way.i c.args.generation c.self.inside.proxy c.self.inside.sites.items c.in-Some.site.now c.end.new.self at found c.end.ensures)
+
+pub returns-clause-applies : goal.returns-clause-applies
+returns-clause-applies g c =
+    let inside = c.in-Some.ensures.variant.0 refl in
+    let kept = c.self.inside.sites.ok in
+    let at : slice_get c.self.inside.sites.items c.args.place ≡ Some c.in-Some.site.now = slice_get_read _ _ c.args.place c.in-Some.site.now refl (omega (arith, inside, kept)) (search rules) in
+    let first : way_of c.args.generation c.in-Some.site.now.lost ≡ Some c.in-Some-way.i = sym c.way.ensures ∙ c.in-Some-way.is in
+    let found = found_way c.args.generation c.in-Some.site.now.lost c.in-Some-way.i first in
+    rw (← c.self.view_is) (it_applies (record { site = c.in-Some.site.now; at = at; i = c.in-Some-way.i; first = first; way = found.way; way_at = found.at }))

@@ -1,0 +1,5 @@
+use Rattle.mc_world.proofs.ServingLemmas.{pool_serves}
+use Rattle.mc_world.proofs.world_laws.courses_serve.Goals as goal
+
+pub returns : goal.returns
+returns c = pool_serves
