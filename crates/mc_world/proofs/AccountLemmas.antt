@@ -11,7 +11,7 @@ use Rattle.mc_cache.specs.CacheState.{CacheState}
 use Rattle.mc_cache.specs.Refusals.{is_refusal}
 use Rattle.mc_cache.specs.Step.{step_of}
 use Rattle.mc_account.specs.Lanes.{Lane}
-use Rattle.mc_account.specs.Orders.{Entry as Asked, IsSized, Order}
+use Rattle.mc_account.specs.Orders.{IsSized, Order}
 use Rattle.mc_history.specs.declared.entries.Entry.{Entry}
 use Rattle.mc_world.specs.Accounts.{Accounts}
 use Rattle.mc_history.specs.Histories.{IsLegal}

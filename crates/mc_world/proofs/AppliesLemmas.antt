@@ -1,7 +1,6 @@
 -- When events apply to a pool, and what was done where they did.
-use Rattle.std.proofs.Common.{◌≡◌, ◌≢◌, ◌∙◌, ⊎_elim, ℕ, zero, suc, ◌+◌, ◌-◌, ◌^◌, ◌<◌, ◌≤◌, ◌==◌, ◌&&◌, ◌⊎◌, inl, inr, Bool, true, false, not, min, List, [], ◌∷◌, ◌++◌, length, map, drop, take, Option, Some, None, Result, Ok, Err, slice_get, slice_set, refl, sym, ap, subst, append_assoc, append-nil, arith}
+use Rattle.std.proofs.Common.{◌≡◌, ◌≢◌, ◌∙◌, ℕ, zero, suc, ◌+◌, ◌-◌, ◌^◌, ◌<◌, ◌≤◌, ◌==◌, ◌&&◌, ◌⊎◌, inl, inr, Bool, true, false, not, min, List, [], ◌∷◌, ◌++◌, length, drop, take, Option, Some, None, Result, Ok, Err, slice_get, slice_set, refl, sym, ap, subst, append_assoc, append-nil, arith}
 use Rattle.std.specs.Prelude.{IfErr, IsErrOf, IsOkUnless, IsTrue, nat_lt, slice_index_or}
-use Rattle.std.specs.Option.{option_map}
 use Rattle.std.specs.Result.{IsOk}
 use Rattle.std.proofs.lemmas.Bool.{and_from, and_parts, eqb-true, lt-ltb, ltb-true}
 use Rattle.std.proofs.lemmas.List.{drop_min, length-append, take_min}
@@ -23,7 +22,7 @@ use Rattle.mc_session.specs.SessionState.{SessionState, link_at, with_link}
 use Rattle.mc_session.specs.Turns.{IsTurn}
 use Rattle.mc_session.specs.declared.turns.Turn.{Turn}
 use Rattle.mc_session.specs.declared.turns.Turn.TheVariants as turns
-use Rattle.mc_proxy.specs.LinkTurns.{Answers, IsLinkTurn}
+use Rattle.mc_proxy.specs.LinkTurns.{IsLinkTurn}
 use Rattle.mc_proxy.specs.ProxyState.{ProxyState, session_at}
 use Rattle.mc_proxy.specs.Turns.{Steps}
 use Rattle.mc_proxy.specs.declared.errors.ProxyError.{ProxyError}

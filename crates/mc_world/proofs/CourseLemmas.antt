@@ -1,9 +1,9 @@
 -- The clients of a world, where one of them has changed.
-use Rattle.std.proofs.Common.{◌≡◌, ◌≢◌, ◌∙◌, ⊎_elim, ℕ, zero, suc, ◌<◌, List, [], ◌∷◌, ◌++◌, length, refl, sym, ap, subst, arith}
+use Rattle.std.proofs.Common.{◌≡◌, ◌≢◌, ◌∙◌, ⊎_elim, ℕ, zero, suc, ◌<◌, List, [], ◌∷◌, length, refl, sym, ap, subst, arith}
 use Rattle.std.proofs.lemmas.Bool.Decides.{eqb_tells}
-use Rattle.mc_account.specs.Stands.{changed, grown}
+use Rattle.mc_account.specs.Stands.{changed}
 use Rattle.mc_account.proofs.StandsLemmas.{changed-other, changed-own}
-use Rattle.mc_world.specs.Worlds.{ClientState, client_at, nobody, with_client}
+use Rattle.mc_world.specs.Worlds.{ClientState, client_at, with_client}
 
 -- the client of the number, and any other
 client_own : (number : ℕ) (client : ClientState) (clients : List ClientState) → number < length clients → client_at (with_client number client clients) number ≡ client

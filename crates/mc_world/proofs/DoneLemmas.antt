@@ -1,13 +1,13 @@
 -- A course stands after each event that is done.
-use Rattle.std.proofs.Common.{◌≡◌, ◌≢◌, ◌∙◌, ⊎_elim, ℕ, ◌+◌, ◌<◌, ◌≤◌, ◌⊎◌, inl, inr, Bool, true, false, List, [], ◌∷◌, ◌++◌, length, map, take, drop, Option, Some, None, refl, sym, ap, subst, append_assoc, append-nil, arith}
-use Rattle.std.specs.Prelude.{All, nat_lt}
+use Rattle.std.proofs.Common.{◌≡◌, ◌≢◌, ◌∙◌, ⊎_elim, ℕ, ◌<◌, inl, inr, List, [], ◌∷◌, ◌++◌, length, map, take, drop, Option, Some, None, refl, sym, ap, subst, append_assoc, append-nil, arith}
+use Rattle.std.specs.Prelude.{All}
 use Rattle.std.proofs.lemmas.Bool.{cases_lt}
 use Rattle.std.proofs.lemmas.Bool.Decides.{eqb_tells}
 use Rattle.std.proofs.lemmas.List.{take-append-drop, take_all}
 use Rattle.std.proofs.lemmas.List.Elements.{All-append}
 use Rattle.mc_ring.specs.Rings.{RingState}
 use Rattle.mc_cache.specs.CacheState.{CacheState}
-use Rattle.mc_link.specs.LinkState.{LinkState, Waiting}
+use Rattle.mc_link.specs.LinkState.{Waiting}
 use Rattle.mc_link.specs.declared.turns.Tag.{Tag}
 use Rattle.mc_route.specs.declared.outcomes.Outcome.TheVariants.{Lost, Reply}
 use Rattle.mc_server.specs.ServerState.{connection_at, output_of as connection_output}
@@ -17,16 +17,16 @@ use Rattle.mc_session.specs.Turns.{IsFed, IsTurn}
 use Rattle.mc_session.specs.declared.turns.Emit.TheVariants as emits
 use Rattle.mc_session.specs.declared.turns.Turn.TheVariants as turns
 use Rattle.mc_proxy.specs.ProxyState.{ProxyState, Sessions, output_of, sent_by, session_at, without}
-use Rattle.mc_proxy.specs.Turns.{Alone, Steps}
+use Rattle.mc_proxy.specs.Turns.{Alone}
 use Rattle.mc_account.specs.Lanes.{Lane, fresh_lane}
 use Rattle.mc_account.specs.Orders.{Order, note, note_all}
-use Rattle.mc_account.specs.Stands.{ProxyStands, changed, grown}
+use Rattle.mc_account.specs.Stands.{changed, grown}
 use Rattle.mc_account.proofs.StandsLemmas.{changed-other, changed-own}
 use Rattle.mc_world.specs.CourseStands.{CourseStands, HaveOneGeneration}
 use Rattle.mc_world.specs.LogStands.{LogStands}
 use Rattle.mc_world.specs.Logs.{Log}
 use Rattle.mc_world.specs.Courses.{IsDone}
-use Rattle.mc_world.specs.Pools.{ClientGoes, PoolStands, TakesBytes, asked_by}
+use Rattle.mc_world.specs.Pools.{ClientGoes, PoolStands, asked_by}
 use Rattle.mc_world.specs.WorldState.{PoolState}
 use Rattle.mc_world.specs.declared.events.Event.{Event}
 use Rattle.mc_world.specs.declared.events.Event.TheVariants.{ClientBytes, ClientGone, ClientTakes, Emit, LinkBack, LinkLost, ProxyTurn, ReplyTurn, ServerSeesEnd, ServerTurn, ToProxy, ToServer}

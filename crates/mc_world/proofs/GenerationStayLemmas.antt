@@ -1,5 +1,5 @@
 -- Each site is of the generation of its link, after each event that happens.
-use Rattle.std.proofs.Common.{◌≡◌, ◌∙◌, ⊎_elim, ℕ, ◌+◌, ◌⊎◌, inl, inr, true, false, if◌then◌else◌, List, [], ◌∷◌, ◌++◌, take, drop, Some, slice_get, slice_set, refl, sym, ap, subst}
+use Rattle.std.proofs.Common.{◌≡◌, ◌∙◌, ⊎_elim, ℕ, ◌+◌, inl, inr, true, false, if◌then◌else◌, List, [], ◌∷◌, ◌++◌, take, drop, Some, slice_get, slice_set, refl, sym, ap, subst}
 use Rattle.std.specs.Prelude.{remove}
 use Rattle.std.proofs.lemmas.Bool.Decides.{eqb_tells}
 use Rattle.mc_request.specs.declared.parts.Atom.{Atom}

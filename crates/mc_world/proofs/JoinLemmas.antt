@@ -1,5 +1,5 @@
 -- A course stands after a server has joined.
-use Rattle.std.proofs.Common.{◌≡◌, ◌≢◌, ◌∙◌, ⊎_elim, ℕ, zero, suc, ◌+◌, ◌<◌, ◌≤◌, ◌==◌, inl, inr, Bool, true, if◌then◌else◌, List, [], ◌∷◌, ◌++◌, length, Option, None, Some, slice_get, refl, sym, ap, subst, arith}
+use Rattle.std.proofs.Common.{◌≡◌, ◌∙◌, ⊎_elim, ℕ, zero, suc, ◌<◌, ◌≤◌, inl, inr, Bool, true, if◌then◌else◌, List, [], ◌∷◌, ◌++◌, length, Option, None, slice_get, refl, sym, ap, subst, arith}
 use Rattle.std.specs.Prelude.{All}
 use Rattle.std.proofs.lemmas.Bool.{cases_lt}
 use Rattle.std.proofs.lemmas.List.{get_or_append_left, get_or_push, length_push}
@@ -20,7 +20,7 @@ use Rattle.mc_session.specs.SessionState.{link_at}
 use Rattle.mc_proxy.specs.ProxyState.{Sessions, session_in}
 use Rattle.mc_account.specs.Lanes.{Lane, fresh_lane}
 use Rattle.mc_account.specs.Lookups.{IsRoutedWithin}
-use Rattle.mc_account.specs.Orders.{Entry as Asked, Order, Tagged, commands_from, commands_in, commands_to}
+use Rattle.mc_account.specs.Orders.{Order, Tagged, commands_from, commands_to}
 use Rattle.mc_account.specs.Stands.{changed}
 use Rattle.mc_account.proofs.LinkLemmas.{stands-joined}
 use Rattle.mc_account.proofs.OpenSessions.{other_number}
@@ -30,7 +30,7 @@ use Rattle.mc_history.specs.Named.{AreReplied}
 use Rattle.mc_world.specs.CourseStands.{CourseStands, HaveOneGeneration}
 use Rattle.mc_world.specs.Joins.{HasServerJoined, ServerJoins}
 use Rattle.mc_world.specs.LogStands.{LogStands, ServersStand}
-use Rattle.mc_world.specs.Logs.{HasJoined, IsRingAfter, Log, is_up}
+use Rattle.mc_world.specs.Logs.{HasJoined, IsRingAfter, Log}
 use Rattle.mc_world.specs.Pools.{PoolStands}
 use Rattle.mc_world.specs.Sites.{SiteStands}
 use Rattle.mc_world.specs.WorldState.{PoolState, SiteState, WayState, histories_of}

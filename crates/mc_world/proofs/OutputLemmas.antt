@@ -1,5 +1,5 @@
 -- What is put out to clients and not taken, where a pool goes on.
-use Rattle.std.proofs.Common.{◌≡◌, ◌≢◌, ◌∙◌, ⊎_elim, ℕ, zero, suc, ◌-◌, ◌==◌, Bool, true, false, if◌then◌else◌, List, [], ◌∷◌, ◌++◌, drop, Option, Some, None, refl, sym, ap, subst}
+use Rattle.std.proofs.Common.{◌≡◌, ◌≢◌, ◌∙◌, ⊎_elim, ℕ, zero, suc, ◌-◌, ◌==◌, true, false, if◌then◌else◌, List, [], ◌∷◌, drop, Option, Some, None, refl, sym, ap, subst}
 use Rattle.std.specs.Prelude.{nat_lt}
 use Rattle.std.specs.Option.{option_map}
 use Rattle.std.proofs.lemmas.Bool.Decides.{eqb_tells}
@@ -12,7 +12,7 @@ use Rattle.mc_session.specs.SessionState.{SessionState, answered}
 use Rattle.mc_proxy.specs.Noting.{all_lost, noted}
 use Rattle.mc_proxy.specs.ProxyState.{ProxyState, Sessions, output_of, sent_by, session_at, session_in, updated, without}
 use Rattle.mc_proxy.specs.Turns.{Steps}
-use Rattle.mc_account.proofs.OpenSessions.{at_each, noted_other, noted_own, updated_other, updated_own, without_other}
+use Rattle.mc_account.proofs.OpenSessions.{noted_other, noted_own, updated_other, updated_own, without_other}
 
 -- the output of the session of a number
 abbrev pub unsent : Sessions → ℕ → List ℕ

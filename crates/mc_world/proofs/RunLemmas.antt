@@ -1,5 +1,5 @@
 -- A course stands after every list of events and joins of servers, and so gives account.
-use Rattle.std.proofs.Common.{◌≡◌, ℕ, List, [], ◌∷◌, inl, inr, sym, subst, arith}
+use Rattle.std.proofs.Common.{ℕ, List, [], ◌∷◌, inl, inr, sym, subst, arith}
 use Rattle.mc_ring.specs.Rings.{IsRing, RingState}
 use Rattle.mc_cache.specs.CacheState.{CacheState, IsWithinBounds, opening_cache}
 use Rattle.mc_cache_laws.specs.GoodCaches.{IsGoodCache}
@@ -8,7 +8,6 @@ use Rattle.mc_world.specs.Accounts.{Account}
 use Rattle.mc_world.specs.CourseStands.{CourseStands}
 use Rattle.mc_world.specs.Runs.{Call, Calls, Join, Step}
 use Rattle.mc_world.specs.Worlds.{CourseState, history_of, opening_world, put_out_of, taken_by, text_of}
-use Rattle.mc_world.specs.declared.events.Event.{Event}
 use Rattle.mc_world.proofs.DoneLemmas.{course_done}
 use Rattle.mc_world.proofs.JoinLemmas.{course_joins}
 use Rattle.mc_world.proofs.LogAccountLemmas.{log_accounts}

@@ -1,6 +1,6 @@
 -- A world that was just opened stands.
-use Rattle.std.proofs.Common.{◌≡◌, ◌≢◌, ◌∙◌, ⊎_elim, ℕ, zero, suc, ◌+◌, ◌<◌, ◌≤◌, ◌==◌, ◌⊎◌, ◌^◌, inl, inr, Option, Bool, true, false, if◌then◌else◌, List, [], ◌∷◌, ◌++◌, length, Some, None, slice_get, refl, sym, ap, subst, arith}
-use Rattle.std.specs.Prelude.{All, replicate}
+use Rattle.std.proofs.Common.{◌≡◌, ◌∙◌, ⊎_elim, ℕ, zero, suc, ◌+◌, ◌<◌, ◌≤◌, ◌==◌, ◌⊎◌, inl, inr, Bool, true, false, if◌then◌else◌, List, [], ◌∷◌, ◌++◌, length, Some, None, slice_get, refl, sym, ap, subst, arith}
+use Rattle.std.specs.Prelude.{replicate}
 use Rattle.std.specs.List.{list_all}
 use Rattle.std.proofs.lemmas.List.Elements.{All-nil}
 use Rattle.std.proofs.lemmas.List.{drop_all, length-replicate}
@@ -11,7 +11,7 @@ use Rattle.mc_link.specs.LinkState.{LinkState, down_link, up_link}
 use Rattle.mc_cache.specs.CacheState.{CacheState, opening_cache}
 use Rattle.mc_cache_laws.specs.GoodCaches.{IsGoodCache}
 use Rattle.mc_cache_laws.proofs.GoodStepLemmas.{opening_is_good}
-use Rattle.mc_server.specs.ServerState.{ServerState, fresh_connection}
+use Rattle.mc_server.specs.ServerState.{fresh_connection}
 use Rattle.mc_server.proofs.StandsLemmas.{ServerStands-admitted, ServerStands-new}
 use Rattle.mc_session.specs.SessionState.{SessionState, answered, fresh_session, link_at}
 use Rattle.mc_proxy.specs.ProxyState.{ProxyState, Sessions, output_of, session_in, with_fresh}

@@ -3,7 +3,7 @@ use Rattle.std.specs.Prelude.{ℕ, ◌≡◌, ◌<◌, ◌^◌, ◌⊎◌, List,
 use Rattle.mc_session.specs.SessionState.{SessionState}
 use Rattle.mc_proxy.specs.ProxyState.{output_of, session_at}
 use Rattle.mc_world.specs.Bare.{bare}
-use Rattle.mc_world.specs.Applies.{CanAdmit, CanHear, CanPutAnswer, CanReachLate, CanReachProxy, CanReachServer, CanReturn, CanServe, CanServeLate, CanTakeBytes, CanTakeReply, CanTakeRequest, HasLost, IsThere, IsUp, Lives}
+use Rattle.mc_world.specs.Applies.{CanHear, CanPutAnswer, CanReachLate, CanReachProxy, CanReachServer, CanReturn, CanServe, CanServeLate, CanTakeBytes, CanTakeReply, CanTakeRequest, HasLost, IsThere, IsUp, Lives}
 use Rattle.mc_world.specs.Serving.{PoolServes}
 use Rattle.mc_world.specs.Pools.{ClientGoes, EndSeen, HearsClient, LateBytes, LateTurn, LinkReturns, LosesLink, PutsAnswer, ReachesProxy, ReachesServer, ServerTakes, TakesBytes, TakesReply, TakesRequest}
 use Rattle.mc_world.specs.WorldState.{PoolState}

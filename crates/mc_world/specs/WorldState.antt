@@ -1,7 +1,6 @@
 -- A world, as contracts see it.
 use Rattle.std.specs.Prelude.{ℕ, zero, suc, List, [], ◌∷◌}
 use Rattle.mc_link.specs.declared.turns.Tag.{Tag}
-use Rattle.mc_cache.specs.CacheState.{CacheState}
 use Rattle.mc_server.specs.ServerState.{ServerState}
 use Rattle.mc_proxy.specs.ProxyState.{ProxyState}
 use Rattle.mc_history.specs.declared.entries.Entry.{Entry}

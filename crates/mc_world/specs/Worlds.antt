@@ -1,10 +1,10 @@
 -- A world, as contracts see it, and what can be read of it.
-use Rattle.std.specs.Prelude.{ℕ, zero, suc, ◌+◌, List, [], ◌∷◌, ◌++◌, length, replicate, slice_index_or, slice_set}
+use Rattle.std.specs.Prelude.{ℕ, zero, suc, List, [], ◌∷◌, ◌++◌, length, replicate, slice_index_or, slice_set}
 use Rattle.mc_ring.specs.Rings.{RingState}
 use Rattle.mc_link.specs.LinkState.{up_link}
 use Rattle.mc_session.specs.SessionState.{fresh_session}
 use Rattle.mc_cache.specs.CacheState.{CacheState, opening_cache}
-use Rattle.mc_server.specs.ServerState.{ServerState, with_fresh}
+use Rattle.mc_server.specs.ServerState.{with_fresh}
 use Rattle.mc_proxy.specs.ProxyState.{ProxyState, Sessions, output_of, session_at}
 use Rattle.mc_history.specs.declared.entries.Entry.{Entry}
 use Rattle.mc_world.specs.Logs.{Log}

@@ -1,4 +1,4 @@
-use Rattle.std.proofs.Common.{rules, ◌≡◌, ◌∙◌, ◌≤◌, drop, length, ap, sym, subst, refl, List, ℕ, arith}
+use Rattle.std.proofs.Common.{rules, ◌≡◌, ◌∙◌, drop, length, ap, subst, List, ℕ, arith}
 use Rattle.mc_server.specs.ServerState.{connection_at, output_of}
 use Rattle.mc_server.specs.declared.turns.Turn.{Turn}
 use Rattle.mc_server.specs.declared.turns.Turn.TheVariants.{Took}

@@ -1,8 +1,6 @@
-use Rattle.std.proofs.Common.{rules, ◌≡◌, ◌≢◌, ◌∙◌, ◌+◌, ◌-◌, ◌^◌, ◌<◌, ◌≤◌, ◌++◌, ◌∷◌, [], ℕ, true, false, List, Some, None, length, map, drop, take, min, slice_get, slice_set, refl, sym, ap, subst, arith}
-use Rattle.std.proofs.lemmas.Option.{none-some, same_Some, slice_get_read}
-use Rattle.mc_session.specs.SessionState.{link_at}
-use Rattle.mc_world.specs.Serving.{PoolServes}
-use Rattle.mc_world.specs.WorldState.{PoolState, SiteState, WayState}
+use Rattle.std.proofs.Common.{◌≡◌, ◌∙◌, List, Some, None, slice_get, refl, sym, ap}
+use Rattle.std.proofs.lemmas.Option.{slice_get_read}
+use Rattle.mc_world.specs.WorldState.{SiteState}
 use Rattle.std.proofs.lemmas.Option.{slice_get_past}
 use Rattle.mc_world.proofs.AppliesLemmas.{history_here, history_nowhere}
 use Rattle.mc_world.proofs.pools.Pool.history.Goals as goal

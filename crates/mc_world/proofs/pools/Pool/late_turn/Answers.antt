@@ -1,12 +1,10 @@
-use Rattle.std.proofs.Common.{rules, ◌≡◌, ◌≢◌, ◌∙◌, ◌+◌, ◌-◌, ◌^◌, ◌<◌, ◌≤◌, ◌++◌, ◌∷◌, [], ℕ, true, false, List, Some, None, length, map, drop, take, min, slice_get, slice_set, refl, sym, ap, subst, arith}
-use Rattle.std.proofs.lemmas.Option.{none-some, same_Some, slice_get_read}
-use Rattle.mc_session.specs.SessionState.{link_at}
+use Rattle.std.proofs.Common.{rules, ◌≡◌, ◌∙◌, Some, slice_get, refl, sym, subst, arith}
+use Rattle.std.proofs.lemmas.Option.{slice_get_read}
 use Rattle.mc_world.specs.Serving.{PoolServes}
-use Rattle.mc_world.specs.WorldState.{PoolState, SiteState, WayState}
-use Rattle.mc_world.specs.Applies.{HasLost, way_of}
-use Rattle.mc_world.specs.Happens.{ArrivesLate, Does, Ends, EntersLate}
+use Rattle.mc_world.specs.Applies.{way_of}
+use Rattle.mc_world.specs.Happens.{Does, EntersLate}
 use Rattle.mc_world.specs.declared.errors.Step.{Step}
-use Rattle.mc_world.proofs.AppliesLemmas.{found_way, it_applies, it_does_not, late_serves_if, pool_of, reached_late, same_way, saw_end, served_late}
+use Rattle.mc_world.proofs.AppliesLemmas.{found_way, it_applies, it_does_not, late_serves_if, pool_of, served_late}
 use Rattle.mc_world.proofs.pools.Pool.late_turn.Goals as goal
 
 pub turn_late-requires-clause-inside : goal.turn_late-requires-clause-inside

@@ -1,10 +1,9 @@
-use Rattle.std.proofs.Common.{rules, ◌≡◌, ◌≢◌, ◌∙◌, ◌+◌, ◌-◌, ◌^◌, ◌<◌, ◌≤◌, ◌++◌, ◌∷◌, [], ℕ, true, false, List, Some, None, length, map, drop, take, min, slice_get, slice_set, refl, sym, ap, subst, arith}
-use Rattle.std.proofs.lemmas.Option.{none-some, same_Some, slice_get_read}
+use Rattle.std.proofs.Common.{rules, ◌≡◌, ◌∙◌, true, List, Some, None, slice_get, refl, sym, ap}
+use Rattle.std.proofs.lemmas.Option.{slice_get_read}
 use Rattle.mc_session.specs.SessionState.{link_at}
-use Rattle.mc_world.specs.Serving.{PoolServes}
-use Rattle.mc_world.specs.WorldState.{PoolState, SiteState, WayState}
+use Rattle.mc_world.specs.WorldState.{SiteState}
 use Rattle.std.proofs.lemmas.Option.{slice_get_past}
-use Rattle.mc_world.proofs.AppliesLemmas.{lives_by, lives_down, lives_nowhere, pool_of}
+use Rattle.mc_world.proofs.AppliesLemmas.{lives_by, lives_nowhere, pool_of}
 use Rattle.mc_world.proofs.pools.Pool.lives.Goals as goal
 
 pub returns-in-Some : goal.returns-in-Some

@@ -1,8 +1,3 @@
-use Rattle.std.proofs.Common.{rules, ◌≡◌, ◌≢◌, ◌∙◌, ◌+◌, ◌-◌, ◌^◌, ◌<◌, ◌≤◌, ◌++◌, ◌∷◌, [], ℕ, true, false, List, Some, None, length, map, drop, take, min, slice_get, slice_set, refl, sym, ap, subst, arith}
-use Rattle.std.proofs.lemmas.Option.{none-some, same_Some, slice_get_read}
-use Rattle.mc_session.specs.SessionState.{link_at}
-use Rattle.mc_world.specs.Serving.{PoolServes}
-use Rattle.mc_world.specs.WorldState.{PoolState, SiteState, WayState}
 use Rattle.mc_world.proofs.StillLemmas.{emit_still, same_pool}
 use Rattle.mc_world.proofs.pools.Pool.put_answer.Goals as goal
 

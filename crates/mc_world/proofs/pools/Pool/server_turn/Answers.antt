@@ -1,10 +1,7 @@
-use Rattle.std.proofs.Common.{rules, ◌≡◌, ◌≢◌, ◌∙◌, ◌+◌, ◌-◌, ◌^◌, ◌<◌, ◌≤◌, ◌++◌, ◌∷◌, [], ℕ, true, false, List, Some, None, length, map, drop, take, min, slice_get, slice_set, refl, sym, ap, subst, arith}
-use Rattle.std.proofs.lemmas.Option.{none-some, same_Some, slice_get_read}
+use Rattle.std.proofs.Common.{rules, ◌≡◌, ◌∙◌, ◌≤◌, ℕ, true, Some, None, length, slice_get, refl, sym, ap, subst, arith}
+use Rattle.std.proofs.lemmas.Option.{slice_get_read}
 use Rattle.mc_session.specs.SessionState.{link_at}
 use Rattle.mc_world.specs.Serving.{PoolServes}
-use Rattle.mc_world.specs.WorldState.{PoolState, SiteState, WayState}
-use Rattle.mc_server.specs.ServerState.{connection_at}
-use Rattle.mc_server.specs.Turns.{waiting_of}
 use Rattle.mc_world.specs.Happens.{Does, Enters}
 use Rattle.mc_world.specs.declared.errors.Step.{Step}
 use Rattle.mc_world.proofs.AppliesLemmas.{it_applies, it_does_not, pool_of, serves_if}

@@ -1,11 +1,10 @@
-use Rattle.std.proofs.Common.{rules, ◌≡◌, ◌≢◌, ◌∙◌, ◌+◌, ◌-◌, ◌^◌, ◌<◌, ◌≤◌, ◌++◌, ◌∷◌, [], ℕ, true, false, List, Some, None, length, map, drop, take, min, slice_get, slice_set, refl, sym, ap, subst, arith}
-use Rattle.std.proofs.lemmas.Option.{none-some, same_Some, slice_get_read}
+use Rattle.std.proofs.Common.{rules, ◌≡◌, ◌<◌, true, Some, length, slice_get, refl, sym, subst, arith}
+use Rattle.std.proofs.lemmas.Option.{slice_get_read}
 use Rattle.mc_session.specs.SessionState.{link_at}
 use Rattle.mc_world.specs.Serving.{PoolServes}
-use Rattle.mc_world.specs.WorldState.{PoolState, SiteState, WayState}
 use Rattle.mc_proxy.specs.LinkTurns.{Answers, IsLinkTurn}
 use Rattle.mc_proxy.specs.declared.turns.LinkTurn.{LinkTurn}
-use Rattle.mc_world.proofs.AppliesLemmas.{it_applies, it_does_not, not_whole, pool_of, rests, site_there}
+use Rattle.mc_world.proofs.AppliesLemmas.{it_does_not, not_whole, pool_of, rests, site_there}
 use Rattle.mc_world.proofs.MoveLemmas.{get_some}
 use Rattle.mc_world.proofs.StillLemmas.{same_pool}
 use Rattle.mc_world.proofs.pools.Pool.take_reply.Goals as goal

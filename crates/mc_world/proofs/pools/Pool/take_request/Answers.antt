@@ -1,13 +1,9 @@
-use Rattle.std.proofs.Common.{rules, ◌≡◌, ◌≢◌, ◌∙◌, ◌+◌, ◌-◌, ◌^◌, ◌<◌, ◌≤◌, ◌++◌, ◌∷◌, [], ℕ, true, false, List, Some, None, length, map, drop, take, min, slice_get, slice_set, refl, sym, ap, subst, arith}
-use Rattle.std.proofs.lemmas.Option.{none-some, same_Some, slice_get_read}
-use Rattle.mc_session.specs.SessionState.{link_at}
-use Rattle.mc_world.specs.Serving.{PoolServes}
-use Rattle.mc_world.specs.WorldState.{PoolState, SiteState, WayState}
+use Rattle.std.proofs.Common.{subst}
 use Rattle.mc_session.specs.Turns.{IsTurn}
 use Rattle.mc_session.specs.declared.turns.Turn.{Turn}
 use Rattle.mc_session.specs.declared.turns.Turn.TheVariants as turns
 use Rattle.mc_proxy.specs.Turns.{Steps}
-use Rattle.mc_world.proofs.AppliesLemmas.{it_applies, it_does_not, not_ready, pool_of, was_ready}
+use Rattle.mc_world.proofs.AppliesLemmas.{it_applies, it_does_not, not_ready, was_ready}
 use Rattle.mc_world.proofs.StillLemmas.{same_pool, turn_still}
 use Rattle.mc_world.proofs.pools.Pool.take_request.Goals as goal
 

@@ -1,4 +1,4 @@
-use Rattle.std.proofs.Common.{rules, ◌≡◌, ◌∙◌, ◌<◌, ℕ, Some, List, drop, length, ◌↔◌, refl, sym, ap, subst, slice_get, arith}
+use Rattle.std.proofs.Common.{rules, ◌≡◌, ◌∙◌, ◌<◌, ℕ, Some, drop, length, ◌↔◌, refl, sym, ap, subst, slice_get}
 use Rattle.std.proofs.lemmas.Option.{same_Some, slice_get_read}
 use Rattle.mc_server.specs.ServerState.{connection_at}
 use Rattle.mc_server.specs.Turns.{waiting_of}
