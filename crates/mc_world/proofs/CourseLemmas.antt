@@ -1,5 +1,5 @@
 -- The clients of a world, where one of them has changed.
-use Rattle.std.proofs.Common.{◌≡◌, ◌≢◌, ◌∙◌, ⊎_elim, ℕ, zero, suc, ◌<◌, List, [], ◌∷◌, length, refl, sym, ap, subst, arith}
+use Rattle.std.proofs.Common.{◌≡◌, ◌≢◌, ◌∙◌, ⊎_elim, ℕ, zero, suc, ◌<◌, List, [], ◌∷◌, ◌++◌, length, refl, sym, ap, subst, arith}
 use Rattle.std.proofs.lemmas.Bool.Decides.{eqb_tells}
 use Rattle.mc_account.specs.Stands.{changed}
 use Rattle.mc_account.proofs.StandsLemmas.{changed-other, changed-own}
@@ -33,3 +33,18 @@ pub with_client-length : (number : ℕ) (client : ClientState) (clients : List C
 with_client-length number client [] = refl
 with_client-length zero client (c ∷ cs) = refl
 with_client-length (suc number) client (c ∷ cs) = ap suc (with_client-length number client cs)
+
+-- a client whose text is longer, or that took more
+pub with_text : (clients : List ClientState) (number : ℕ) (longer text taken bytes : List ℕ) → longer ≡ text ++ bytes → record { text = text; taken = taken } ≡ client_at clients number
+    → with_client number (record { text = longer; taken = taken }) clients
+    ≡ with_client number (record (client_at clients number) { text = (client_at clients number).text ++ bytes }) clients
+with_text clients number longer text taken bytes is was =
+    ap (λ (t : List ℕ). with_client number (record { text = t; taken = taken }) clients) is
+    ∙ ap (λ (c : ClientState). with_client number (record { text = c.text ++ bytes; taken = c.taken }) clients) was
+
+pub with_taken : (clients : List ClientState) (number : ℕ) (more text taken bytes : List ℕ) → more ≡ taken ++ bytes → record { text = text; taken = taken } ≡ client_at clients number
+    → with_client number (record { text = text; taken = more }) clients
+    ≡ with_client number (record (client_at clients number) { taken = (client_at clients number).taken ++ bytes }) clients
+with_taken clients number more text taken bytes is was =
+    ap (λ (t : List ℕ). with_client number (record { text = text; taken = t }) clients) is
+    ∙ ap (λ (c : ClientState). with_client number (record { text = c.text; taken = c.taken ++ bytes }) clients) was

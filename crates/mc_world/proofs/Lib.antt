@@ -32,3 +32,7 @@ pub mod DoneLemmas
 pub mod JoinLemmas
 pub mod RunLemmas
 pub mod ServingLemmas
+pub mod RaisingLemmas
+pub mod StepLemmas
+pub mod WayLemmas
+pub mod OpeningLemmas

@@ -13,3 +13,6 @@ pub mod Courses
 pub mod CourseStands
 pub mod Joins
 pub mod Runs
+pub mod Refusals
+pub mod Openings
+pub mod Steps

@@ -1,6 +1,9 @@
 //! A pool: a proxy, its servers, the ways between them, their clients, and all that can happen to them; and the account that it
 //! gives.
 //!
+//! A [`World`] takes a list of events, one by one ([`World::step`], [`World::run`]), and servers that join ([`World::join_server`]).
+//! Whatever it took, it gives account ([`World::gives_account`]): that is its invariant, and in the contract of each of these calls.
+//!
 //! [`every_run_gives_account`] is the theorem of the pool. Whatever list of events is done and whichever servers join, each as the
 //! contracts of the proxy's and the servers' own calls say it, each client's bytes are its requests' answers in order, without gap; each server's executed
 //! commands are one history that the abstract cache replays; each answered command is once in its owner's history, and each lost one
@@ -13,21 +16,26 @@
 //!
 //! [`Pool`] has a call for each event, over servers with their ways ([`Site`]): it does what the event's record says exactly where
 //! the event applies (`specs/Applies.antt`), and changes nothing else. What its calls rest on ([`courses_serve`]) holds wherever a course
-//! is. No call waits.
+//! is. [`Pool::join`] lets a server join, or gives it back. No call waits.
 #![tactic(auto)]
 
+mod clients;
+mod courses;
 mod errors;
 mod events;
+mod joins;
 mod late;
 mod laws;
 mod living;
 mod lost_ways;
+mod openings;
 mod pools;
 mod sites;
 mod tags;
 mod turning;
 mod ways;
 mod world_laws;
+mod worlds;
 
 pub use errors::{Step, WorldError};
 pub use events::{Event, Logged};
@@ -39,4 +47,8 @@ pub use mc_history::Entry;
 pub use pools::Pool;
 pub use sites::Site;
 pub use ways::Way;
-pub use world_laws::{courses_go_on, courses_serve, every_run_gives_account, opening_pools_stand};
+pub use world_laws::{
+    courses_go_on, courses_serve, every_run_gives_account, every_world_gives_account,
+    opening_pools_stand,
+};
+pub use worlds::{MAX_CLIENTS, World};

@@ -1,7 +1,7 @@
 //! Laws of the course of a world. The functions do nothing: their contracts are the laws.
-ghost use Rattle.std.specs.Prelude.{ℕ, [], List};
+ghost use Rattle.std.specs.Prelude.{◌≡◌, ℕ, [], List, All, IfOk};
 ghost use Rattle.mc_ring.specs.Rings.{IsRing, RingState};
-ghost use Rattle.mc_cache.specs.CacheState.{CacheState, IsWithinBounds, opening_cache};
+ghost use Rattle.mc_cache.specs.CacheState.{CacheState, HasRoom, IsWithinBounds, opening_cache};
 ghost use Rattle.mc_cache_laws.specs.GoodCaches.{IsGoodCache};
 ghost use Rattle.mc_account.specs.Lanes.{fresh_lane};
 ghost use Rattle.mc_world.specs.Courses.{IsDone};
@@ -10,8 +10,17 @@ ghost use Rattle.mc_world.specs.Pools.{PoolStands};
 ghost use Rattle.mc_world.specs.Serving.{PoolServes};
 ghost use Rattle.mc_world.specs.Accounts.{Account};
 ghost use Rattle.mc_world.specs.Runs.{Call, Calls};
+ghost use Rattle.mc_world.specs.Steps.{RunsTo};
 ghost use Rattle.mc_world.specs.Worlds.{CourseState, history_of, opening_pool, opening_world, put_out_of, text_of};
 ghost use Rattle.mc_world.specs.declared.events.Event.{Event};
+
+use crate::errors::WorldError;
+use crate::events::Event;
+use crate::worlds::World;
+use mc_ring::Ring;
+use mc_store::Store;
+use mc_text::Block;
+use std::alloc::Global;
 
 /// A pool that was just opened stands where nothing was taken: its links are up, and each server has taken nothing.
 pub fn opening_pools_stand()
@@ -38,3 +47,24 @@ pub fn every_run_gives_account()
         → Calls (opening_cache budget items 0) calls (opening_world ring clients budget items).course c
         → Account ring (opening_cache budget items 0) (text_of c) (put_out_of c) (history_of c) c.log }
 {}
+
+/// The same on public calls alone: for any ring, clients, bounds, stores and list of events, the world that took them gives account.
+pub fn every_world_gives_account<S: Store + Drop>(
+    alloc: Global,
+    ring: Ring,
+    clients: usize,
+    budget: u64,
+    items: usize,
+    stores: Vec<S>,
+    events: &[Event<Block>],
+) -> Result<World<S>, WorldError>
+    requires empty { All (λ store. S.items store ≡ []) stores.items }
+    requires room { All (λ store. HasRoom items (S.most store)) stores.items }
+    ensures took { IfOk result (λ world. (refusals : ℕ) × RunsTo events.now (opening_world ring clients budget items).course world.course refusals) }
+    ensures account { IfOk result (λ world. Account ring (opening_cache budget items 0) (text_of world.course) (put_out_of world.course) (history_of world.course)
+        world.course.log) }
+{
+    let mut world = World::with_stores(alloc, ring, clients, budget, items, stores)?;
+    world.run(events);
+    Ok(world)
+}

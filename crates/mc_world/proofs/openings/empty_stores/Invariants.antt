@@ -1,0 +1,6 @@
+use Rattle.std.proofs.Common.{◌≡◌, [], replicate}
+use Rattle.mc_world.proofs.openings.empty_stores.Given as goal
+
+-- so many are there
+abbrev pub invariant-loop : goal.invariant-loop
+invariant-loop l = l.stores.items ≡ replicate l.counter []

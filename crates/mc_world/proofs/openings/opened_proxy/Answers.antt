@@ -1,0 +1,14 @@
+use Rattle.std.proofs.Common.{◌≡◌, ◌∙◌, ℕ, suc, ◌+◌, ap, arith}
+use Rattle.mc_proxy.specs.ProxyState.{ProxyState, with_fresh}
+use Rattle.mc_world.specs.Worlds.{opening_proxy}
+use Rattle.mc_world.proofs.WorldOpeningLemmas.{one_admitted}
+use Rattle.mc_world.proofs.openings.opened_proxy.Goals as goal
+
+-- one client more is admitted
+pub loop-preserved : goal.loop-preserved
+loop-preserved c =
+    let next : suc c.loop.counter ≡ c.loop.counter + 1 = omega arith in
+    c.in_ok-admit.ensures.admitted
+    ∙ ap (λ (p : ProxyState). with_fresh p) c.loop.invariant
+    ∙ one_admitted c.args.ring c.loop.counter
+    ∙ ap (λ (n : ℕ). opening_proxy c.args.ring n) next

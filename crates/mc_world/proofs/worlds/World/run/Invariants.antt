@@ -1,0 +1,11 @@
+use Rattle.std.proofs.Common.{◌≡◌, ◌≤◌, take}
+use Rattle.mc_world.specs.Steps.{RunsTo}
+use Rattle.mc_world.proofs.worlds.World.run.Given as goal
+
+-- the events so far were tried, and no more of them were refused
+abbrev pub invariant-loop-event : goal.invariant-loop-event
+invariant-loop-event g l = record {
+  runs : RunsTo (take l.event-index l.fn.events) l.fn.self.course l.self.course l.refused;
+  few : l.refused ≤ l.event-index;
+  opened : (l.self.opening ≡ l.fn.self.opening) × (l.self.budget ≡ l.fn.self.budget) × (l.self.items ≡ l.fn.self.items);
+}

@@ -1,0 +1,26 @@
+use Rattle.mc_cache.specs.CacheState.{opening_cache}
+use Rattle.mc_world.proofs.StepLemmas.{course_serves, course_stepped, stepped, world_accounts}
+use Rattle.mc_world.proofs.worlds.World.step.Goals as goal
+
+-- a course that holds serves
+pub step-requires : goal.step-requires
+step-requires g c = record { serves = course_serves c.self.inside.opening (opening_cache c.self.inside.budget c.self.inside.items 0) c.self.inside.course c.self.invariant.course }
+
+-- and holds after the step
+pub invariant_of-self : goal.invariant_of-self
+invariant_of-self g c = record {
+  bounds = c.self.invariant.bounds;
+  course = course_stepped c.self.inside.opening (opening_cache c.self.inside.budget c.self.inside.items 0) c.args.event.now c.step.result c.self.inside.course c.step.new.self
+      c.self.invariant.course c.step.ensures.done c.step.ensures.err;
+}
+
+pub returns-clause-steps : goal.returns-clause-steps
+returns-clause-steps g c = rw (← c.self.view_is) (stepped c.args.event.now c.step.result c.self.inside.course c.step.new.self c.step.ensures.done c.step.ensures.applies)
+
+pub returns-clause-account : goal.returns-clause-account
+returns-clause-account g c =
+    world_accounts (record { course = c.step.new.self; opening = c.self.inside.opening; budget = c.self.inside.budget; items = c.self.inside.items }) (record {
+      bounds = c.self.invariant.bounds;
+      course = course_stepped c.self.inside.opening (opening_cache c.self.inside.budget c.self.inside.items 0) c.args.event.now c.step.result c.self.inside.course c.step.new.self
+          c.self.invariant.course c.step.ensures.done c.step.ensures.err;
+    })

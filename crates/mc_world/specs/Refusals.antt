@@ -1,0 +1,24 @@
+-- Why a server cannot join. Want of memory is none of these causes.
+use Rattle.std.specs.Prelude.{ℕ, nat_le, List, length, Option, Some, None, Result, Ok, Err, if◌then◌else◌}
+use Rattle.mc_proxy.specs.Joins.{has_server}
+use Rattle.mc_world.specs.declared.errors.WorldError.{WorldError}
+use Rattle.mc_world.specs.declared.errors.WorldError.TheVariants.{AlreadyThere, BadWorld, Memory, RingFull}
+
+-- a cause other than memory
+abbrev pub cause_of : WorldError → Option WorldError
+cause_of Memory = None
+cause_of BadWorld = Some BadWorld
+cause_of RingFull = Some RingFull
+cause_of AlreadyThere = Some AlreadyThere
+
+-- why a join was refused, where it was for another cause than memory
+abbrev pub refusal_in : {T S : Type 0} → Result T (WorldError × S) → Option WorldError
+refusal_in (Ok value) = None
+refusal_in (Err refused) = cause_of refused.0
+
+-- why a server of an address cannot join these: there are 64, or one of this address
+abbrev pub refusal_of : List (List ℕ) → List ℕ → Option WorldError
+refusal_of servers address =
+    if nat_le 64 (length servers) then Some RingFull
+    else if has_server servers address then Some AlreadyThere
+    else None

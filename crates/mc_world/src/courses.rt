@@ -1,0 +1,218 @@
+//! The course of a world: its pool, its clients, and the log of what was done.
+ghost use Rattle.std.specs.Prelude.{◌≡◌, ◌<◌, ◌^◌, ◌↔◌, [], length, IfErr, IfOk, OnOk, OnErr};
+
+use crate::clients::Client;
+use crate::errors::{Step, WorldError};
+use crate::events::{Event, Logged};
+use crate::pools::Pool;
+use mc_ring::Address;
+use mc_server::Server;
+use mc_store::Store;
+use mc_text::Block;
+use std::alloc::Global;
+use std::marker::Model;
+use std::mem;
+
+/// A pool, its clients by the numbers of their sessions, and what was done. Contracts see all three.
+#[derive(Drop)]
+pub(crate) struct Course<S: Store + Drop> {
+    pub(crate) alloc: Global,
+    pub(crate) pool: Pool<S>,
+    pub(crate) clients: Vec<Client>,
+    pub(crate) log: Vec<Logged>,
+}
+
+impl<S: Store + Drop> Model for Course<S> {
+    ghost use Rattle.mc_world.specs.Worlds.{CourseState};
+
+    ghost Value = { CourseState };
+
+    ghost view = { λ c. record { pool = c.pool; clients = c.clients.items; log = c.log.items } };
+}
+
+impl<S: Store + Drop> Course<S> {
+    ghost use Rattle.mc_world.specs.Applies.{CanHear, CanReachLate, CanReachServer, CanServe, CanServeLate, CanTakeBytes, IsThere};
+    ghost use Rattle.mc_world.specs.Courses.{Applies, ByWay, CourseServes, HappensTo, IsDone};
+    ghost use Rattle.mc_world.specs.Happens.{Does};
+    ghost use Rattle.mc_world.specs.Joins.{HasServerJoined};
+    ghost use Rattle.mc_world.specs.Refusals.{refusal_in, refusal_of};
+    ghost use Rattle.mc_world.specs.declared.errors.Step.TheVariants.{Done};
+    ghost use Rattle.mc_world.specs.declared.events.Event.TheVariants.{ClientBytes, ClientGone, ClientTakes, ServerTurn, ToServer};
+
+    /// Does what an event says, where it applies, and puts it down in the log, in which there is room first: so the log is out of
+    /// reach of what happens. At an error nothing has changed.
+    pub(crate) fn step(&mut self, event: &Event<Block>) -> Result<Step, WorldError>
+        requires serves { CourseServes self.old }
+        ensures done { IfOk result (λ step. Does step (IsDone event.now self.old self.new) (self.new ≡ self.old)) }
+        ensures applies { IfOk result (λ step. (step ≡ Done) ↔ Applies event.now self.old.pool) }
+        ensures err { OnErr result (self.new ≡ self.old) }
+    {
+        self.log.reserve(1)?;
+        let log = mem::replace(&mut self.log, Vec::new(self.alloc));
+        let happened = self.happen(event);
+        self.log = log;
+        let Step::Done = happened? else {
+            return Ok(Step::Nothing);
+        };
+        self.log.push_reserved(Logged::Happened(event.bare()));
+        Ok(Step::Done)
+    }
+
+    /// A server that has admitted nobody joins at the last place, which is given. At an error nothing has changed, and the server is
+    /// given back with the cause.
+    pub(crate) fn join(
+        &mut self,
+        address: Address,
+        server: Server<S>,
+    ) -> Result<usize, (WorldError, Server<S>)>
+        requires fresh { server ≡ record { cache = server.cache; connections = []; admitted = 0 } }
+        ensures joined { OnOk result (HasServerJoined address server.cache self.old self.new) }
+        ensures place { IfOk result (λ place. place ≡ length self.old.pool.proxy.ring.servers) }
+        ensures refused { refusal_in result ≡ refusal_of self.old.pool.proxy.ring.servers address }
+        ensures given_back { IfErr result (λ refused. refused.1.cache ≡ server.cache) }
+        ensures err { OnErr result (self.new ≡ self.old) }
+    {
+        if let Some(cause) = self.pool.refusal(&address) {
+            return Err((cause, server));
+        }
+        let Ok(()) = self.log.reserve(1) else {
+            return Err((WorldError::Memory, server));
+        };
+        let Ok(copy) = address.clone() else {
+            return Err((WorldError::Memory, server));
+        };
+        let place = self.pool.join(address, server)?;
+        self.log.push_reserved(Logged::Joined {
+            server: place,
+            address: copy,
+        });
+        Ok(place)
+    }
+
+    /// Does it, but for the log.
+    fn happen(&mut self, event: &Event<Block>) -> Result<Step, WorldError>
+        requires serves { CourseServes self.old }
+        ensures happens { IfOk result (λ step. Does step (HappensTo event.now self.old self.new) (self.new ≡ self.old)) }
+        ensures applies { IfOk result (λ step. (step ≡ Done) ↔ Applies event.now self.old.pool) }
+        ensures err { OnErr result (self.new ≡ self.old) }
+    {
+        match event {
+            Event::ClientBytes { client, bytes } => self.hear(*client, bytes.as_slice()),
+            Event::ClientGone { client } => self.let_go(*client),
+            Event::ProxyTurn { client } => self.pool.take_request(*client),
+            Event::ToServer {
+                server,
+                generation,
+                count,
+            } => self.reach_server(*server, *generation, *count),
+            Event::ServerTurn {
+                server,
+                generation,
+                moment,
+            } => self.serve(*server, *generation, *moment),
+            Event::ToProxy { server, count } => self.pool.reach_proxy(*server, *count),
+            Event::ReplyTurn { server } => self.pool.take_reply(*server),
+            Event::Emit { client } => self.pool.put_answer(*client),
+            Event::ClientTakes { client, count } => self.give(*client, *count),
+            Event::LinkLost { server } => self.pool.lose_link(*server),
+            Event::LinkBack { server } => self.pool.return_link(*server),
+            Event::ServerSeesEnd { server, generation } => {
+                Ok(self.pool.see_end(*server, *generation))
+            }
+        }
+    }
+
+    /// A client sends bytes. Its text is made longer once its session has them.
+    fn hear(&mut self, number: u64, bytes: &[u8]) -> Result<Step, WorldError>
+        requires serves { CourseServes self.old }
+        ensures happens { IfOk result (λ step. Does step (HappensTo (ClientBytes number bytes.now) self.old self.new) (self.new ≡ self.old)) }
+        ensures applies { IfOk result (λ step. (step ≡ Done) ↔ CanHear number bytes.now self.old.pool) }
+        ensures err { OnErr result (self.new ≡ self.old) }
+    {
+        let Some(client) = self.clients.get_mut(number as usize) else {
+            return Ok(Step::Nothing);
+        };
+        client.text.reserve(bytes.len())?;
+        let Step::Done = self.pool.hear(number, bytes)? else {
+            return Ok(Step::Nothing);
+        };
+        client.text.extend_from_slice(bytes).unwrap();
+        Ok(Step::Done)
+    }
+
+    /// A client goes. What was put out to it and that it has not taken is kept with what it took.
+    fn let_go(&mut self, number: u64) -> Result<Step, WorldError>
+        requires serves { CourseServes self.old }
+        ensures happens { IfOk result (λ step. Does step (HappensTo (ClientGone number) self.old self.new) (self.new ≡ self.old)) }
+        ensures applies { IfOk result (λ step. (step ≡ Done) ↔ IsThere number self.old.pool) }
+        ensures err { OnErr result (self.new ≡ self.old) }
+    {
+        let Some(client) = self.clients.get_mut(number as usize) else {
+            return Ok(Step::Nothing);
+        };
+        let output = Vec::from_slice(self.alloc, self.pool.output(number))?;
+        client.taken.reserve(output.len())?;
+        let Step::Done = self.pool.client_goes(number) else {
+            return Ok(Step::Nothing);
+        };
+        client.taken.extend_from_slice(output.as_slice()).unwrap();
+        Ok(Step::Done)
+    }
+
+    /// A client takes the first of the bytes that were put out to it, so many or all.
+    fn give(&mut self, number: u64, count: usize) -> Result<Step, WorldError>
+        requires serves { CourseServes self.old }
+        ensures happens { IfOk result (λ step. Does step (HappensTo (ClientTakes number count) self.old self.new) (self.new ≡ self.old)) }
+        ensures applies { IfOk result (λ step. (step ≡ Done) ↔ CanTakeBytes number count self.old.pool) }
+        ensures err { OnErr result (self.new ≡ self.old) }
+    {
+        let Some(client) = self.clients.get_mut(number as usize) else {
+            return Ok(Step::Nothing);
+        };
+        let output = self.pool.output(number);
+        let (first, _) = output.split_at(count.min(output.len()));
+        let piece = Vec::from_slice(self.alloc, first)?;
+        client.taken.reserve(piece.len())?;
+        let Step::Done = self.pool.client_takes(number, count) else {
+            return Ok(Step::Nothing);
+        };
+        client.taken.extend_from_slice(piece.as_slice()).unwrap();
+        Ok(Step::Done)
+    }
+
+    /// Bytes of a generation arrive at its server.
+    fn reach_server(
+        &mut self,
+        server: usize,
+        generation: u64,
+        count: usize,
+    ) -> Result<Step, WorldError>
+        requires serves { CourseServes self.old }
+        ensures happens { IfOk result (λ step. Does step (HappensTo (ToServer server generation count) self.old self.new) (self.new ≡ self.old)) }
+        ensures applies { IfOk result (λ step. (step ≡ Done)
+            ↔ ByWay server generation self.old.pool (CanReachServer server count self.old.pool) (CanReachLate server generation count self.old.pool)) }
+        ensures err { OnErr result (self.new ≡ self.old) }
+    {
+        if self.pool.lives(server, generation) {
+            return self.pool.reach_server(server, count);
+        }
+        self.pool.late_bytes(server, generation, count)
+    }
+
+    /// A server takes a request of a generation.
+    fn serve(&mut self, server: usize, generation: u64, moment: u64) -> Result<Step, WorldError>
+        requires serves { CourseServes self.old }
+        ensures happens { IfOk result (λ step. Does step (HappensTo (ServerTurn server generation moment) self.old self.new) (self.new ≡ self.old)) }
+        ensures applies { IfOk result (λ step. (step ≡ Done)
+            ↔ ((moment < 2 ^ 63) × ByWay server generation self.old.pool (CanServe server self.old.pool) (CanServeLate server generation self.old.pool))) }
+        ensures err { OnErr result (self.new ≡ self.old) }
+    {
+        if moment >= 1 << 63 {
+            return Ok(Step::Nothing);
+        }
+        if self.pool.lives(server, generation) {
+            return self.pool.server_turn(server, moment);
+        }
+        self.pool.late_turn(server, generation, moment)
+    }
+}

@@ -1,0 +1,216 @@
+//! The world: what is done to a pool, and its account.
+ghost use Rattle.std.specs.Prelude.{◌≡◌, ◌↔◌, ◌≤◌, ◌⊎◌, [], length, All, IfErr, IfOk, IsErrOf, OnOk, OnErr};
+
+use crate::clients::Client;
+use crate::courses::Course;
+use crate::errors::{Step, WorldError};
+use crate::events::{Event, Logged};
+use crate::openings::{copy_of, empty_stores, opened_course};
+use mc_cache::{Cache, is_within_bounds};
+use mc_history::Entry;
+use mc_item::CasCounter;
+use mc_ring::{Address, Ring};
+use mc_server::Server;
+use mc_store::{ListStore, Store};
+use mc_text::Block;
+use std::alloc::Global;
+use std::marker::Model;
+
+/// The most clients of a world.
+pub const MAX_CLIENTS: usize = 1024;
+
+/// A proxy and its servers, the ways between them, their clients, and all that was done. Contracts see all of it, and that it gives
+/// account: each client's bytes are its requests' answers in order, each server's executed commands are one history that the
+/// abstract cache replays, each answered command is once in its owner's history, and each lost one at most once.
+#[derive(Drop)]
+pub struct World<S: Store + Drop> {
+    alloc: Global,
+    course: Course<S>,
+    /// The ring at first: servers that joined are not in it.
+    opening: Ring,
+    budget: u64,
+    items: usize,
+}
+
+impl<S: Store + Drop> Model for World<S> {
+    ghost use Rattle.mc_world.specs.CourseStands.{WorldStands};
+    ghost use Rattle.mc_world.specs.Worlds.{WorldState};
+
+    ghost Value = { WorldState };
+
+    ghost view = { λ w. record { course = w.course; opening = w.opening; budget = w.budget; items = w.items } };
+
+    ghost invariant = { λ w. WorldStands (record { course = w.course; opening = w.opening; budget = w.budget; items = w.items }) };
+}
+
+impl World<ListStore> {
+    ghost use Rattle.mc_world.specs.Openings.{CanOpen};
+    ghost use Rattle.mc_world.specs.Steps.{GivesAccount};
+    ghost use Rattle.mc_world.specs.Worlds.{opening_world};
+
+    /// A world over plain lists in which nothing has happened: its clients are admitted, and all links are up with the first
+    /// generation.
+    ///
+    /// `BadWorld` is answered for more than [`MAX_CLIENTS`] clients, and for bounds that no cache may have: 1 to 1,099,511,627,776
+    /// bytes, and 1 to 16,777,216 items.
+    pub fn new(
+        alloc: Global,
+        ring: Ring,
+        clients: usize,
+        budget: u64,
+        items: usize,
+    ) -> Result<World<ListStore>, WorldError>
+        ensures opened { IfOk result (λ world. world ≡ opening_world ring clients budget items) }
+        ensures bad { IsErrOf result WorldError.BadWorld ↔ (CanOpen ring clients budget items (length ring.servers) → ⊥) }
+        ensures only { IfErr result (λ e. (e ≡ WorldError.BadWorld) ⊎ (e ≡ WorldError.Memory)) }
+        ensures account { IfOk result GivesAccount }
+    {
+        if clients > MAX_CLIENTS || !is_within_bounds(budget, items) {
+            return Err(WorldError::BadWorld);
+        }
+        let stores = empty_stores(alloc, ring.servers().len())?;
+        World::with_stores(alloc, ring, clients, budget, items, stores)
+    }
+}
+
+impl<S: Store + Drop> World<S> {
+    ghost use Rattle.mc_cache.specs.CacheState.{HasRoom};
+    ghost use Rattle.mc_world.specs.Joins.{HasServerJoined};
+    ghost use Rattle.mc_world.specs.Refusals.{refusal_in, refusal_of};
+    ghost use Rattle.mc_world.specs.Openings.{CanOpen};
+    ghost use Rattle.mc_world.specs.Steps.{GivesAccount, RunsTo, StepsTo};
+    ghost use Rattle.mc_world.specs.Worlds.{cache_of, history_of, opening_world, put_out_of, text_of};
+
+    /// A world in which nothing has happened: its clients are admitted, and all links are up with the first generation. There is a
+    /// store for each server of the ring; each holds nothing, and may hold more items than the limit.
+    ///
+    /// `BadWorld` is answered for more than [`MAX_CLIENTS`] clients, for bounds that no cache may have, and for another number
+    /// of stores than of servers.
+    pub fn with_stores(
+        alloc: Global,
+        ring: Ring,
+        clients: usize,
+        budget: u64,
+        items: usize,
+        stores: Vec<S>,
+    ) -> Result<World<S>, WorldError>
+        requires empty { All (λ store. S.items store ≡ []) stores.items }
+        requires room { All (λ store. HasRoom items (S.most store)) stores.items }
+        ensures opened { IfOk result (λ world. world ≡ opening_world ring clients budget items) }
+        ensures bad { IsErrOf result WorldError.BadWorld ↔ (CanOpen ring clients budget items (length stores.items) → ⊥) }
+        ensures only { IfErr result (λ e. (e ≡ WorldError.BadWorld) ⊎ (e ≡ WorldError.Memory)) }
+        ensures account { IfOk result GivesAccount }
+    {
+        if clients > MAX_CLIENTS
+            || !is_within_bounds(budget, items)
+            || stores.len() != ring.servers().len()
+        {
+            return Err(WorldError::BadWorld);
+        }
+        let opening = copy_of(&ring)?;
+        let course = opened_course(alloc, ring, clients, budget, items, stores)?;
+        Ok(World {
+            alloc,
+            course,
+            opening,
+            budget,
+            items,
+        })
+    }
+
+    /// Does what an event says, where it applies. At `Memory` nothing has changed.
+    pub fn step(&mut self, event: &Event<Block>) -> Result<Step, WorldError>
+        ensures steps { IfOk result (λ step. StepsTo event.now step self.old.course self.new.course) }
+        ensures opened { (self.new.opening ≡ self.old.opening) × (self.new.budget ≡ self.old.budget) × (self.new.items ≡ self.old.items) }
+        ensures account { GivesAccount self.new }
+        ensures err { OnErr result (self.new ≡ self.old) }
+    {
+        self.course.step(event)
+    }
+
+    /// Does what events say, one after another, and gives how many were refused memory: those have changed nothing.
+    pub fn run(&mut self, events: &[Event<Block>]) -> usize
+        ensures runs { RunsTo events.now self.old.course self.new.course result }
+        ensures opened { (self.new.opening ≡ self.old.opening) × (self.new.budget ≡ self.old.budget) × (self.new.items ≡ self.old.items) }
+        ensures account { GivesAccount self.new }
+    {
+        let mut refused = 0;
+        for event in events {
+            if self.step(event).is_err() {
+                refused += 1;
+            }
+        }
+        self.gives_account();
+        refused
+    }
+
+    /// Each world gives account. The call does nothing: its contract is the law.
+    pub fn gives_account(&self)
+        ensures { GivesAccount self.now }
+    {
+        let _ = &self.alloc;
+    }
+
+    /// A server over this store joins at the last place, which is given, with the bounds of the others; its link is up. A request
+    /// that was taken before keeps its owners, and no item moves.
+    ///
+    /// `RingFull` is answered where the ring has 64 servers, else `AlreadyThere` where it has one of this address, else `Memory`
+    /// where there is none. Then nothing has changed, and the store is given back, as empty as it was.
+    pub fn join_server(&mut self, address: Address, store: S) -> Result<usize, (WorldError, S)>
+        requires empty { S.items store ≡ [] }
+        requires room { HasRoom self.old.items (S.most store) }
+        ensures joined { OnOk result (HasServerJoined address (cache_of self.old) self.old.course self.new.course) }
+        ensures place { IfOk result (λ place. place ≡ length self.old.course.pool.proxy.ring.servers) }
+        ensures opened { (self.new.opening ≡ self.old.opening) × (self.new.budget ≡ self.old.budget) × (self.new.items ≡ self.old.items) }
+        ensures account { GivesAccount self.new }
+        ensures refused { refusal_in result ≡ refusal_of self.old.course.pool.proxy.ring.servers address }
+        ensures given_back { IfErr result (λ refused. (S.items refused.1 ≡ []) × HasRoom self.old.items (S.most refused.1)) }
+        ensures err { OnErr result (self.new ≡ self.old) }
+    {
+        let counter = CasCounter::starting_at(0);
+        let cache = Cache::new(self.alloc, store, self.budget, self.items, counter);
+        match self.course.join(address, Server::new(self.alloc, cache)) {
+            Ok(place) => Ok(place),
+            Err((cause, server)) => Err((cause, server.into_store())),
+        }
+    }
+
+    /// The bytes that a client sent.
+    pub fn text(&self, client: u64) -> &[u8]
+        ensures { result.now ≡ text_of self.now.course client }
+    {
+        match self.course.clients.get(client as usize) {
+            Some(client) => client.text.as_slice(),
+            None => &[],
+        }
+    }
+
+    /// All that was put out to a client: what it took, and what it has not taken. When a client goes it takes all.
+    pub fn put_out(&self, client: u64) -> Result<Vec<u8>, WorldError>
+        ensures { IfOk result (λ bytes. bytes.items ≡ put_out_of self.now.course client) }
+    {
+        let taken: &[u8] = match self.course.clients.get(client as usize) {
+            Some(client) => client.taken.as_slice(),
+            None => &[],
+        };
+        let output = self.course.pool.output(client);
+        let mut bytes = Vec::with_capacity(self.alloc, taken.len().saturating_add(output.len()))?;
+        bytes.extend_from_slice(taken)?;
+        bytes.extend_from_slice(output)?;
+        Ok(bytes)
+    }
+
+    /// What the server of a place took, in order: nothing where there is none.
+    pub fn history(&self, server: usize) -> &[Entry]
+        ensures { result.now ≡ history_of self.now.course server }
+    {
+        self.course.pool.history(server)
+    }
+
+    /// What was done, the oldest first, without the bytes of clients.
+    pub fn log(&self) -> &[Logged]
+        ensures { result.now ≡ self.now.course.log }
+    {
+        self.course.log.as_slice()
+    }
+}
