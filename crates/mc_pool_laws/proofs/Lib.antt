@@ -1,0 +1,5 @@
+pub mod OneRing
+pub mod SentLemmas
+pub mod ToldLemmas
+pub mod LossLemmas
+pub mod PutLemmas

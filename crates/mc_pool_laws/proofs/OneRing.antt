@@ -1,0 +1,22 @@
+-- A log leaves one ring.
+use Rattle.std.proofs.Common.{◌≡◌, ◌∙◌, ℕ, List, [], ◌∷◌, ◌++◌, sym, ap₂, subst}
+use Rattle.mc_ring.specs.Points.{pairs_at, points_of}
+use Rattle.mc_ring.specs.Rings.{RingState}
+use Rattle.mc_ring.specs.declared.points.Point.{Point}
+use Rattle.mc_ring.proofs.ShownLemmas.{shown_one}
+use Rattle.mc_world.specs.Logs.{HasJoined, IsRingAfter, Log}
+use Rattle.mc_world.specs.declared.events.Logged.TheVariants.{Happened, Joined}
+
+abbrev ring_with : List (List ℕ) → List Point → RingState
+ring_with servers points = record { servers = servers; points = points }
+
+-- two rings that the same server joined
+joined_one : (server : ℕ) (address : List ℕ) (old a b : RingState) → HasJoined server address old a → HasJoined server address old b → a ≡ b
+joined_one server address old a b f g =
+    ap₂ ring_with (f.servers ∙ sym g.servers) (shown_one (old.points ++ pairs_at server (points_of address)) a.points b.points f.points g.points)
+
+pub ring_one : (ring a b : RingState) (log : Log) → IsRingAfter ring log a → IsRingAfter ring log b → a ≡ b
+ring_one ring a b [] f g = f ∙ sym g
+ring_one ring a b (Happened event ∷ es) f g = ring_one ring a b es f g
+ring_one ring a b (Joined server address ∷ es) f g =
+    ring_one f.0 a b es f.2 (subst (λ (r : RingState). IsRingAfter r es b) (joined_one server address ring g.0 f.0 g.1 f.1) g.2)

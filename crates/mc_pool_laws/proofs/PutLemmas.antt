@@ -1,0 +1,43 @@
+-- What is put out to a client for which nothing is put, or that sent nothing.
+use Rattle.std.proofs.Common.{◌≡◌, ◌∙◌, ℕ, zero, ◌≤◌, List, [], length, take, refl, ap, arith}
+use Rattle.mc_request.specs.Requests.{requests_of, requests_within}
+use Rattle.mc_ring.specs.Rings.{RingState}
+use Rattle.mc_cache.specs.CacheState.{CacheState}
+use Rattle.mc_account.specs.Orders.{Order, answers_of, entries_of}
+use Rattle.mc_history.specs.declared.entries.Entry.{Entry}
+use Rattle.mc_world.specs.Accounts.{Accounts}
+use Rattle.mc_world.specs.Logs.{Log, number_of, puts}
+use Rattle.mc_pool_laws.proofs.SentLemmas.{taken_few}
+
+nothing_in : requests_of [] ≡ []
+unfolding requests_of requests_within
+nothing_in = refl
+
+take_none : (order : Order) → take zero order ≡ []
+take_none order = refl
+
+pub nothing_put : (ring : RingState) (opening : CacheState) (order : Order) (texts outs : ℕ → List ℕ) (histories : ℕ → List Entry) (log : Log)
+    → Accounts ring opening order texts outs histories log → (client : ℕ) → number_of (puts client) log ≡ 0 → outs client ≡ []
+nothing_put ring opening order texts outs histories log h client none =
+    h.put client ∙ ap (λ (n : ℕ). answers_of (take n (entries_of client order))) none ∙ ap (λ (es : Order). answers_of es) (take_none (entries_of client order))
+
+-- no answer is put out where no request was sent
+pub puts_few : (ring : RingState) (opening : CacheState) (order : Order) (texts outs : ℕ → List ℕ) (histories : ℕ → List Entry) (log : Log)
+    → Accounts ring opening order texts outs histories log → (client : ℕ) → number_of (puts client) log ≤ length (requests_of (texts client))
+puts_few ring opening order texts outs histories log h client =
+    let asked = taken_few ring opening order texts outs histories log h client in
+    let few = h.few client in
+    let turns = h.turns client in
+    omega (arith, asked, few, turns)
+
+pub none_put : (ring : RingState) (opening : CacheState) (order : Order) (texts outs : ℕ → List ℕ) (histories : ℕ → List Entry) (log : Log)
+    → Accounts ring opening order texts outs histories log → (client : ℕ) → texts client ≡ [] → number_of (puts client) log ≡ 0
+none_put ring opening order texts outs histories log h client silent =
+    let few = puts_few ring opening order texts outs histories log h client in
+    let nothing : length (requests_of (texts client)) ≡ 0 = ap (λ (text : List ℕ). length (requests_of text)) silent ∙ ap length nothing_in in
+    omega (arith, few, nothing)
+
+pub nothing_asked : (ring : RingState) (opening : CacheState) (order : Order) (texts outs : ℕ → List ℕ) (histories : ℕ → List Entry) (log : Log)
+    → Accounts ring opening order texts outs histories log → (client : ℕ) → texts client ≡ [] → outs client ≡ []
+nothing_asked ring opening order texts outs histories log h client silent =
+    nothing_put ring opening order texts outs histories log h client (none_put ring opening order texts outs histories log h client silent)

@@ -1,0 +1,131 @@
+-- What the order of an account has is what clients sent, and the other way round.
+use Rattle.std.proofs.Common.{◌≡◌, ◌∙◌, ℕ, zero, suc, ◌<◌, ◌≤◌, List, [], ◌∷◌, ◌++◌, length, map, Option, None, Some, slice_get, refl, sym, ap, ap₂, subst, arith}
+use Rattle.std.proofs.lemmas.List.{length-append, length-map}
+use Rattle.std.proofs.lemmas.Option.{none-some, same_Some}
+use Rattle.mc_request.specs.declared.parts.Atom.{Atom}
+use Rattle.mc_request.specs.declared.parts.Taken.{Taken}
+use Rattle.mc_request.specs.Requests.{requests_of}
+use Rattle.mc_reply.specs.Spelling.{spelling_of}
+use Rattle.mc_ring.specs.Rings.{RingState}
+use Rattle.mc_route.specs.Routes.{route_of_taken, to_place}
+use Rattle.mc_route.specs.declared.routes.Routed.{Routed}
+use Rattle.mc_link.specs.declared.turns.Tag.{Tag}
+use Rattle.mc_cache.specs.CacheState.{CacheState}
+use Rattle.mc_cache.specs.Step.{step_of}
+use Rattle.mc_account.specs.Lookups.{asked_at, command_at, command_in}
+use Rattle.mc_account.specs.Orders.{Entry as Asked, Order, entries_of, taken_of}
+use Rattle.mc_history.specs.declared.entries.Entry.{Entry}
+use Rattle.mc_history.specs.Histories.{IsLegal, tag_in}
+use Rattle.mc_world.specs.Accounts.{Accounts}
+use Rattle.mc_world.specs.Logs.{Log, before, number_of, takes}
+use Rattle.mc_world.proofs.LogEntryLemmas.{got_inside, got_map, got_some, got_there}
+use Rattle.mc_pool_laws.specs.Sent.{IsReplayed, IsSent, IsTaken}
+use Rattle.mc_pool_laws.proofs.OneRing.{ring_one}
+
+-- no more requests were taken than a client sent
+pub taken_few : (ring : RingState) (opening : CacheState) (order : Order) (texts outs : ℕ → List ℕ) (histories : ℕ → List Entry) (log : Log)
+    → Accounts ring opening order texts outs histories log → (client : ℕ) → number_of (takes client) log ≤ length (requests_of (texts client))
+taken_few ring opening order texts outs histories log h client =
+    let asked = h.asked client in
+    let all : length (requests_of (texts client)) ≡ length (taken_of client order ++ asked.0) = ap (λ (ts : List Taken). length ts) (sym asked.1) in
+    let both = length-append (taken_of client order) asked.0 in
+    let mapped : length (taken_of client order) ≡ length (entries_of client order) = length-map (entries_of client order) (λ (e : Asked). e.what) in
+    let turns = h.turns client in
+    omega (arith, all, both, mapped, turns)
+
+-- what the order has of a client is the request of its number in the client's text
+sent_in_text : (ring : RingState) (opening : CacheState) (order : Order) (texts outs : ℕ → List ℕ) (histories : ℕ → List Entry) (log : Log)
+    → Accounts ring opening order texts outs histories log → (client request : ℕ) (e : Asked) → asked_at order client request ≡ Some e
+    → slice_get (requests_of (texts client)) request ≡ Some e.what
+sent_in_text ring opening order texts outs histories log h client request e at =
+    let asked = h.asked client in
+    ap (λ (ts : List Taken). slice_get ts request) (sym asked.1)
+    ∙ got_there (taken_of client order) asked.0 request e.what (got_map (λ (x : Asked). x.what) (entries_of client order) request e at)
+
+pub entry_taken : (ring : RingState) (opening : CacheState) (order : Order) (texts outs : ℕ → List ℕ) (histories : ℕ → List Entry) (log : Log)
+    → Accounts ring opening order texts outs histories log → (client request : ℕ) (e : Asked) → asked_at order client request ≡ Some e
+    → IsTaken ring texts log client request e.what e.ring
+entry_taken ring opening order texts outs histories log h client request e at =
+    let inside = got_inside (entries_of client order) request e at in
+    let turns = h.turns client in
+    record {
+      turn = omega (arith, inside, turns);
+      sent = sent_in_text ring opening order texts outs histories log h client request e at;
+      then = h.rings client request e at;
+    }
+
+-- each request that the log takes is in the order
+taken_entry : (ring : RingState) (opening : CacheState) (order : Order) (texts outs : ℕ → List ℕ) (histories : ℕ → List Entry) (log : Log)
+    → Accounts ring opening order texts outs histories log → (client request : ℕ) → request < number_of (takes client) log
+    → (e : Asked) × (asked_at order client request ≡ Some e)
+taken_entry ring opening order texts outs histories log h client request turn =
+    let turns = h.turns client in
+    got_some (entries_of client order) request (omega (arith, turn, turns))
+
+pub request_taken : (ring : RingState) (opening : CacheState) (order : Order) (texts outs : ℕ → List ℕ) (histories : ℕ → List Entry) (log : Log)
+    → Accounts ring opening order texts outs histories log → (client request : ℕ) → request < number_of (takes client) log
+    → (what : Taken) × (now : RingState) × IsTaken ring texts log client request what now
+request_taken ring opening order texts outs histories log h client request turn =
+    let e = taken_entry ring opening order texts outs histories log h client request turn in
+    (e.0.what, e.0.ring, entry_taken ring opening order texts outs histories log h client request e.0 e.1)
+
+-- a command that a look-up finds is one of a request that it finds
+pub in_request : (o : Option Asked) (atom : ℕ) (command : Routed) → command_in o atom ≡ Some command
+    → (e : Asked) × (o ≡ Some e) × (slice_get (route_of_taken e.ring e.what) atom ≡ Some command)
+in_request None atom command h = absurd (none-some command h)
+in_request (Some e) atom command h = (e, refl, h)
+
+-- a command of the order was sent
+pub command_sent : (ring : RingState) (opening : CacheState) (order : Order) (texts outs : ℕ → List ℕ) (histories : ℕ → List Entry) (log : Log)
+    → Accounts ring opening order texts outs histories log → (tag : Tag) (command : Routed) → command_at order tag ≡ Some command → IsSent ring texts log tag command
+command_sent ring opening order texts outs histories log h tag command at =
+    let found = in_request (asked_at order tag.session tag.request) tag.atom command at in
+    record {
+      what = found.0.what;
+      ring = found.0.ring;
+      taken = entry_taken ring opening order texts outs histories log h tag.session tag.request found.0 found.1;
+      routed = found.2;
+    }
+
+-- a command that was sent is in the order
+pub sent_command : (ring : RingState) (opening : CacheState) (order : Order) (texts outs : ℕ → List ℕ) (histories : ℕ → List Entry) (log : Log)
+    → Accounts ring opening order texts outs histories log → (tag : Tag) (command : Routed) → IsSent ring texts log tag command → command_at order tag ≡ Some command
+sent_command ring opening order texts outs histories log h tag command s =
+    let e = taken_entry ring opening order texts outs histories log h tag.session tag.request s.taken.turn in
+    let what_is : e.0.what ≡ s.what =
+    same_Some e.0.what s.what (sym (sent_in_text ring opening order texts outs histories log h tag.session tag.request e.0 e.1) ∙ s.taken.sent) in
+    let ring_is : e.0.ring ≡ s.ring =
+    ring_one ring e.0.ring s.ring (before (takes tag.session) tag.request log) (h.rings tag.session tag.request e.0 e.1) s.taken.then in
+    ap (λ (o : Option Asked). command_in o tag.atom) e.1
+    ∙ ap₂ (λ (r : RingState) (w : Taken). slice_get (route_of_taken r w) tag.atom) ring_is what_is ∙ s.routed
+
+-- a cache replays a history
+pub replayed : (ring : RingState) (opening : CacheState) (order : Order) (texts outs : ℕ → List ℕ) (histories : ℕ → List Entry) (log : Log)
+    → Accounts ring opening order texts outs histories log → (place : ℕ) (s : CacheState) (es : List Entry) → IsLegal order place s es
+    → IsReplayed ring texts log place s es
+replayed ring opening order texts outs histories log h place s [] legal = tt
+replayed ring opening order texts outs histories log h place s (e ∷ es) legal = (
+  legal.0,
+  command_sent ring opening order texts outs histories log h (tag_in e) (to_place place legal.0) legal.1,
+  legal.2,
+  replayed ring opening order texts outs histories log h place (step_of s legal.0 e.moment e.refused).0 es legal.3,
+)
+
+-- each entry of a legal history is of a command of its server
+pub legal_at : (order : Order) (place : ℕ) (s : CacheState) (es : List Entry) (k : ℕ) (e : Entry) → IsLegal order place s es → slice_get es k ≡ Some e
+    → (atom : Atom (List ℕ)) × (command_at order (tag_in e) ≡ Some (to_place place atom))
+legal_at order place s [] zero e legal at = absurd (none-some e at)
+legal_at order place s [] (suc k) e legal at = absurd (none-some e at)
+legal_at order place s (x ∷ xs) zero e legal at = (legal.0, ap (λ (d : Entry). command_at order (tag_in d)) (sym (same_Some x e at)) ∙ legal.1)
+legal_at order place s (x ∷ xs) (suc k) e legal at = legal_at order place (step_of s legal.0 x.moment x.refused).0 xs k e legal.3 at
+
+-- the first entry of a history is answered what the opening cache replies to its command
+pub first_reply : (ring : RingState) (opening : CacheState) (order : Order) (texts outs : ℕ → List ℕ) (histories : ℕ → List Entry) (log : Log)
+    → Accounts ring opening order texts outs histories log → (place : ℕ) (atom : Atom (List ℕ)) (e : Entry) (es : List Entry) → histories place ≡ e ∷ es
+    → IsSent ring texts log (tag_in e) (to_place place atom) → e.reply ≡ spelling_of atom (step_of opening atom e.moment e.refused).1
+first_reply ring opening order texts outs histories log h place atom e es is sent =
+    let legal = subst (λ (history : List Entry). IsLegal order place opening history) is (h.legal place) in
+    let known = sent_command ring opening order texts outs histories log h (tag_in e) (to_place place atom) sent in
+    let same : legal.0 ≡ atom =
+    ap (λ (command : Routed). command.atom) (same_Some (to_place place legal.0) (to_place place atom) (sym legal.1 ∙ known)) in
+    legal.2.reply ∙ ap (λ (a : Atom (List ℕ)). spelling_of a (step_of opening a e.moment e.refused).1) same

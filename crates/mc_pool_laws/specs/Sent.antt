@@ -1,0 +1,35 @@
+-- What a client's text and the log say of a command, by its tag. All of it is this project's own.
+use Rattle.std.specs.Prelude.{ℕ, ◌≡◌, ◌<◌, List, [], ◌∷◌, Some, slice_get}
+use Rattle.mc_request.specs.declared.parts.Atom.{Atom}
+use Rattle.mc_request.specs.declared.parts.Taken.{Taken}
+use Rattle.mc_request.specs.Requests.{requests_of}
+use Rattle.mc_ring.specs.Rings.{RingState}
+use Rattle.mc_route.specs.Routes.{route_of_taken, to_place}
+use Rattle.mc_route.specs.declared.routes.Routed.{Routed}
+use Rattle.mc_link.specs.declared.turns.Tag.{Tag}
+use Rattle.mc_cache.specs.CacheState.{CacheState}
+use Rattle.mc_cache.specs.Step.{step_of}
+use Rattle.mc_history.specs.declared.entries.Entry.{Entry}
+use Rattle.mc_history.specs.Histories.{IsAnswered, tag_in}
+use Rattle.mc_world.specs.Logs.{IsRingAfter, Log, before, number_of, takes}
+
+-- a request of a client was taken: it is the one of its number in the client's text, and this was the ring when it was taken
+pub record IsTaken (opening : RingState) (texts : ℕ → List ℕ) (log : Log) (client request : ℕ) (what : Taken) (ring : RingState) : Type 0 where
+  pub turn : request < number_of (takes client) log
+  pub sent : slice_get (requests_of (texts client)) request ≡ Some what
+  pub then : IsRingAfter opening (before (takes client) request log) ring
+
+-- a command of such a request, with the place of its server by that ring
+pub record IsSent (opening : RingState) (texts : ℕ → List ℕ) (log : Log) (tag : Tag) (command : Routed) : Type 0 where
+  pub what : Taken
+  pub ring : RingState
+  pub taken : IsTaken opening texts log tag.session tag.request what ring
+  pub routed : slice_get (route_of_taken ring what) tag.atom ≡ Some command
+
+-- A cache replays a history: each of its entries is of a command that its client sent to this server, and is answered what the cache
+-- replies there, which the entry before has left. Memory is refused only where that may be.
+abbrev pub IsReplayed : RingState → (ℕ → List ℕ) → Log → ℕ → CacheState → List Entry → Type 0
+IsReplayed opening texts log place s [] = Unit {0}
+IsReplayed opening texts log place s (e ∷ es) =
+    (atom : Atom (List ℕ)) × IsSent opening texts log (tag_in e) (to_place place atom) × IsAnswered s atom e
+    × IsReplayed opening texts log place (step_of s atom e.moment e.refused).0 es

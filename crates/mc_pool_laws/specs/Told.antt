@@ -1,0 +1,64 @@
+-- What became of a command, and what its client was answered, as the histories and the log tell it. All of it is this project's own.
+use Rattle.std.specs.Prelude.{ℕ, ◌≡◌, ◌<◌, suc, List, [], ◌∷◌, Some, slice_get}
+use Rattle.mc_request.specs.declared.parts.Taken.{Taken}
+use Rattle.mc_reply.specs.Spelling.{spelling_of}
+use Rattle.mc_ring.specs.Rings.{RingState}
+use Rattle.mc_route.specs.Routes.{route_of_taken}
+use Rattle.mc_route.specs.declared.outcomes.Outcome.{Outcome}
+use Rattle.mc_route.specs.declared.outcomes.Outcome.TheVariants.{Awaited, Lost, Reply}
+use Rattle.mc_route.specs.declared.routes.Routed.{Routed}
+use Rattle.mc_link.specs.declared.turns.Tag.{Tag}
+use Rattle.mc_session.specs.Emits.{answer_by}
+use Rattle.mc_session.specs.Sending.{tag_of}
+use Rattle.mc_history.specs.declared.entries.Entry.{Entry}
+use Rattle.mc_history.specs.Histories.{HasReply, tag_in}
+use Rattle.mc_world.specs.Accounts.{IsToldLost, WasLost}
+use Rattle.mc_world.specs.Logs.{Log, number_of, puts}
+use Rattle.mc_pool_laws.specs.Sent.{IsTaken}
+
+-- a request was answered
+abbrev pub WasAnswered : Tag → Log → Type 0
+WasAnswered tag log = tag.request < number_of (puts tag.session) log
+
+-- the link of a place was not lost between the turn that took a command's request and its answer
+abbrev pub LinkHeld : ℕ → Tag → Log → Type 0
+LinkHeld place tag log = WasLost place tag log → ⊥
+
+-- a history has an entry of a command
+abbrev pub HasEntry : List Entry → Tag → Type 0
+HasEntry history tag = (k : ℕ) × (e : Entry) × (slice_get history k ≡ Some e) × (tag_in e ≡ tag)
+
+-- the history of a place has an entry of a command, and none of them has another
+abbrev pub HasOneEntry : (ℕ → List Entry) → ℕ → Tag → Type 0
+HasOneEntry histories place tag =
+    (k : ℕ) × (e : Entry) × (slice_get (histories place) k ≡ Some e) × (tag_in e ≡ tag)
+    × ((other j : ℕ) (d : Entry) → slice_get (histories other) j ≡ Some d → tag_in d ≡ tag → (other ≡ place) × (j ≡ k))
+
+-- this became of a command: its server's history has its entry with this reply, or it is lost, and the log tells so
+abbrev pub IsToldBy : (ℕ → List Entry) → Log → Tag → Routed → Outcome → Type 0
+IsToldBy histories log tag command (Reply reply) = HasReply (histories command.server) tag (spelling_of command.atom reply)
+IsToldBy histories log tag command Lost = IsToldLost command.server tag (histories command.server) log
+IsToldBy histories log tag command Awaited = ⊥
+
+-- the same of commands of one request, one after another, the first of them being that of a number
+abbrev pub AreToldBy : (ℕ → List Entry) → Log → ℕ → ℕ → ℕ → List Routed → List Outcome → Type 0
+AreToldBy histories log client request at [] [] = Unit {0}
+AreToldBy histories log client request at [] (outcome ∷ outcomes) = ⊥
+AreToldBy histories log client request at (command ∷ commands) [] = ⊥
+AreToldBy histories log client request at (command ∷ commands) (outcome ∷ outcomes) =
+    IsToldBy histories log (tag_of client request at) command outcome × AreToldBy histories log client request (suc at) commands outcomes
+
+-- the answer to a client's request of a number, by what became of its commands
+pub record IsAnswerTo (opening : RingState) (texts : ℕ → List ℕ) (histories : ℕ → List Entry) (log : Log) (client request : ℕ) (answer : List ℕ) : Type 0 where
+  pub what : Taken
+  pub ring : RingState
+  pub taken : IsTaken opening texts log client request what ring
+  pub outcomes : List Outcome
+  pub told : AreToldBy histories log client request 0 (route_of_taken ring what) outcomes
+  pub bytes : answer ≡ answer_by what outcomes
+
+-- the answers to a client's requests, one after another, the first of them being that to the request of a number
+abbrev pub AreAnswersFrom : RingState → (ℕ → List ℕ) → (ℕ → List Entry) → Log → ℕ → ℕ → List (List ℕ) → Type 0
+AreAnswersFrom opening texts histories log client request [] = Unit {0}
+AreAnswersFrom opening texts histories log client request (answer ∷ answers) =
+    IsAnswerTo opening texts histories log client request answer × AreAnswersFrom opening texts histories log client (suc request) answers

@@ -1,0 +1,32 @@
+//! Laws of what is put out to clients. The functions do nothing: their contracts are the laws.
+ghost use Rattle.std.specs.Prelude.{ℕ, ◌≡◌, ◌≤◌, List, [], length};
+ghost use Rattle.std.specs.List.{concat};
+ghost use Rattle.mc_ring.specs.Rings.{RingState};
+ghost use Rattle.mc_cache.specs.CacheState.{CacheState};
+ghost use Rattle.mc_history.specs.declared.entries.Entry.{Entry};
+ghost use Rattle.mc_world.specs.Accounts.{Account};
+ghost use Rattle.mc_world.specs.Logs.{Log, number_of, puts, takes};
+ghost use Rattle.mc_pool_laws.specs.Told.{AreAnswersFrom};
+
+/// An answer is put out only to a request that was taken.
+pub fn answers_follow_requests()
+    ensures { (ring : RingState) (opening : CacheState) (texts outs : ℕ → List ℕ) (histories : ℕ → List Entry) (log : Log)
+        → Account ring opening texts outs histories log → (client : ℕ) → number_of (puts client) log ≤ number_of (takes client) log }
+{}
+
+/// What is put out to a client is one answer for each put of the log, to its first requests, in their order. Each is the answer by the
+/// replies that the servers' histories have of its commands, or says that one was lost, which the log then shows.
+pub fn answers_are_those_of_the_histories()
+    ensures { (ring : RingState) (opening : CacheState) (texts outs : ℕ → List ℕ) (histories : ℕ → List Entry) (log : Log)
+        → Account ring opening texts outs histories log → (client : ℕ)
+        → (answers : List (List ℕ)) × (length answers ≡ number_of (puts client) log) × (outs client ≡ concat answers)
+        × AreAnswersFrom ring texts histories log client 0 answers }
+{}
+
+/// Nothing is put out to a client where the log has no put for it, nor where it sent nothing.
+pub fn nothing_is_put_out_unasked()
+    ensures without_put { (ring : RingState) (opening : CacheState) (texts outs : ℕ → List ℕ) (histories : ℕ → List Entry) (log : Log)
+        → Account ring opening texts outs histories log → (client : ℕ) → number_of (puts client) log ≡ 0 → outs client ≡ [] }
+    ensures without_text { (ring : RingState) (opening : CacheState) (texts outs : ℕ → List ℕ) (histories : ℕ → List Entry) (log : Log)
+        → Account ring opening texts outs histories log → (client : ℕ) → texts client ≡ [] → outs client ≡ [] }
+{}

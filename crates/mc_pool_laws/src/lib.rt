@@ -1,0 +1,29 @@
+//! What an account of a pool promises to somebody who sees only texts, what was put out, histories and the log.
+//!
+//! No program uses this crate. Its functions do nothing: their contracts are the laws. Each is proved from `Account` of `mc_world` alone,
+//! whatever order it has. Each clause of the record `Accounts` has a law here that needs it: `docs/LAWS.md` has the table.
+//! `specs/Sent.antt` says what a client's text tells of a command, `specs/Told.antt` what the histories and the log tell of it.
+#![tactic(auto)]
+
+mod answers;
+mod histories;
+mod losses;
+mod refusals;
+mod requests;
+
+pub use answers::{
+    answers_are_those_of_the_histories, answers_follow_requests, nothing_is_put_out_unasked,
+};
+pub use histories::{
+    commands_are_executed_once, commands_are_executed_when_taken, histories_are_replayed,
+    histories_have_their_turns,
+};
+pub use losses::{
+    answered_commands_are_executed_or_lost, answers_come_after_their_turns,
+    clients_keep_their_order, without_losses_each_command_is_executed_once,
+};
+pub use refusals::{
+    no_answer_without_a_request, no_command_in_two_histories, no_entry_without_a_turn,
+    no_reply_of_another_cache,
+};
+pub use requests::{requests_are_taken_as_sent, rings_are_one};

@@ -1,0 +1,24 @@
+//! Laws of requests that were taken. The functions do nothing: their contracts are the laws.
+ghost use Rattle.std.specs.Prelude.{ℕ, ◌≡◌, ◌≤◌, ◌<◌, List, length};
+ghost use Rattle.mc_request.specs.Requests.{requests_of};
+ghost use Rattle.mc_request.specs.declared.parts.Taken.{Taken};
+ghost use Rattle.mc_ring.specs.Rings.{RingState};
+ghost use Rattle.mc_cache.specs.CacheState.{CacheState};
+ghost use Rattle.mc_history.specs.declared.entries.Entry.{Entry};
+ghost use Rattle.mc_world.specs.Accounts.{Account};
+ghost use Rattle.mc_world.specs.Logs.{IsRingAfter, Log, number_of, takes};
+ghost use Rattle.mc_pool_laws.specs.Sent.{IsTaken};
+
+/// A request is taken only where its client sent it whole, by the ring of that moment.
+pub fn requests_are_taken_as_sent()
+    ensures few { (ring : RingState) (opening : CacheState) (texts outs : ℕ → List ℕ) (histories : ℕ → List Entry) (log : Log)
+        → Account ring opening texts outs histories log → (client : ℕ) → number_of (takes client) log ≤ length (requests_of (texts client)) }
+    ensures each { (ring : RingState) (opening : CacheState) (texts outs : ℕ → List ℕ) (histories : ℕ → List Entry) (log : Log)
+        → Account ring opening texts outs histories log → (client request : ℕ) → request < number_of (takes client) log
+        → (what : Taken) × (now : RingState) × IsTaken ring texts log client request what now }
+{}
+
+/// A log leaves one ring: by it is known where each command went.
+pub fn rings_are_one()
+    ensures { (ring a b : RingState) (log : Log) → IsRingAfter ring log a → IsRingAfter ring log b → a ≡ b }
+{}
