@@ -1,2 +1,3 @@
 pub mod Sent
 pub mod Told
+pub mod Without

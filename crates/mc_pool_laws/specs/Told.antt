@@ -1,5 +1,5 @@
 -- What became of a command, and what its client was answered, as the histories and the log tell it. All of it is this project's own.
-use Rattle.std.specs.Prelude.{ℕ, ◌≡◌, ◌<◌, suc, List, [], ◌∷◌, Some, slice_get}
+use Rattle.std.specs.Prelude.{ℕ, ◌≡◌, ◌<◌, ◌⊎◌, suc, List, [], ◌∷◌, Some, slice_get}
 use Rattle.mc_request.specs.declared.parts.Taken.{Taken}
 use Rattle.mc_reply.specs.Spelling.{spelling_of}
 use Rattle.mc_ring.specs.Rings.{RingState}
@@ -14,7 +14,7 @@ use Rattle.mc_history.specs.declared.entries.Entry.{Entry}
 use Rattle.mc_history.specs.Histories.{HasReply, tag_in}
 use Rattle.mc_world.specs.Accounts.{IsToldLost, WasLost}
 use Rattle.mc_world.specs.Logs.{Log, number_of, puts}
-use Rattle.mc_pool_laws.specs.Sent.{IsTaken}
+use Rattle.mc_pool_laws.specs.Sent.{IsSent, IsTaken}
 
 -- a request was answered
 abbrev pub WasAnswered : Tag → Log → Type 0
@@ -33,6 +33,14 @@ abbrev pub HasOneEntry : (ℕ → List Entry) → ℕ → Tag → Type 0
 HasOneEntry histories place tag =
     (k : ℕ) × (e : Entry) × (slice_get (histories place) k ≡ Some e) × (tag_in e ≡ tag)
     × ((other j : ℕ) (d : Entry) → slice_get (histories other) j ≡ Some d → tag_in d ≡ tag → (other ≡ place) × (j ≡ k))
+
+-- a command of an answered request that was sent, and of which neither its server's history nor a loss in the log tells
+pub record IsUnaccounted (opening : RingState) (texts : ℕ → List ℕ) (histories : ℕ → List Entry) (log : Log) : Type 0 where
+  pub tag : Tag
+  pub command : Routed
+  pub sent : IsSent opening texts log tag command
+  pub answered : WasAnswered tag log
+  pub untold : HasEntry (histories command.server) tag ⊎ IsToldLost command.server tag (histories command.server) log → ⊥
 
 -- this became of a command: its server's history has its entry with this reply, or it is lost, and the log tells so
 abbrev pub IsToldBy : (ℕ → List Entry) → Log → Tag → Routed → Outcome → Type 0

@@ -8,6 +8,7 @@
 mod answers;
 mod histories;
 mod losses;
+mod needs;
 mod refusals;
 mod requests;
 
@@ -21,6 +22,10 @@ pub use histories::{
 pub use losses::{
     answered_commands_are_executed_or_lost, answers_come_after_their_turns,
     clients_keep_their_order, without_losses_each_command_is_executed_once,
+};
+pub use needs::{
+    answers_need_their_clauses, clauses_are_those_of_the_account, histories_need_their_clauses,
+    requests_need_their_clauses, the_order_needs_its_clause,
 };
 pub use refusals::{
     no_answer_without_a_request, no_command_in_two_histories, no_entry_without_a_turn,

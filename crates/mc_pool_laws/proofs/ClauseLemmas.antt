@@ -1,0 +1,54 @@
+-- The clauses that are left out one by one are those of the account.
+use Rattle.std.proofs.Common.{◌≡◌, ◌≢◌, ◌∙◌, ◌↔◌, ℕ, Bool, true, false, List, refl, sym, ap}
+use Rattle.std.proofs.lemmas.Bool.{true≢false}
+use Rattle.mc_ring.specs.Rings.{RingState}
+use Rattle.mc_cache.specs.CacheState.{CacheState}
+use Rattle.mc_account.specs.Orders.{Order}
+use Rattle.mc_history.specs.declared.entries.Entry.{Entry}
+use Rattle.mc_world.specs.Accounts.{Accounts}
+use Rattle.mc_world.specs.Logs.{Log}
+use Rattle.mc_pool_laws.specs.Without.{AccountsBut, Answered, Asked, Clause, Few, Legal, Lost, Moments, Once, Ordered, Placed, Put, Replied, Rings, Sized, Turns}
+
+abbrev is_asked : Clause → Bool
+is_asked Asked = true
+is_asked other = false
+
+others_apart : (one : Clause) → is_asked one ≡ false → Asked ≢ one
+others_apart one is same = true≢false (ap is_asked same ∙ is)
+
+pub each_clause : (ring : RingState) (opening : CacheState) (order : Order) (texts outs : ℕ → List ℕ) (histories : ℕ → List Entry) (log : Log)
+    → Accounts ring opening order texts outs histories log ↔ ((one : Clause) → AccountsBut one ring opening order texts outs histories log)
+each_clause ring opening order texts outs histories log = (
+  λ h one. record {
+    asked = λ keeps. h.asked;
+    turns = λ keeps. h.turns;
+    rings = λ keeps. h.rings;
+    sized = λ keeps. h.sized;
+    legal = λ keeps. h.legal;
+    once = λ keeps. h.once;
+    replied = λ keeps. h.replied;
+    lost = λ keeps. h.lost;
+    ordered = λ keeps. h.ordered;
+    answered = λ keeps. h.answered;
+    put = λ keeps. h.put;
+    few = λ keeps. h.few;
+    moments = λ keeps. h.moments;
+    placed = λ keeps. h.placed;
+  },
+  λ h. record {
+    asked = (h Turns).asked (λ same. others_apart Turns refl (sym same));
+    turns = (h Asked).turns (others_apart Turns refl);
+    rings = (h Asked).rings (others_apart Rings refl);
+    sized = (h Asked).sized (others_apart Sized refl);
+    legal = (h Asked).legal (others_apart Legal refl);
+    once = (h Asked).once (others_apart Once refl);
+    replied = (h Asked).replied (others_apart Replied refl);
+    lost = (h Asked).lost (others_apart Lost refl);
+    ordered = (h Asked).ordered (others_apart Ordered refl);
+    answered = (h Asked).answered (others_apart Answered refl);
+    put = (h Asked).put (others_apart Put refl);
+    few = (h Asked).few (others_apart Few refl);
+    moments = (h Asked).moments (others_apart Moments refl);
+    placed = (h Asked).placed (others_apart Placed refl);
+  },
+)

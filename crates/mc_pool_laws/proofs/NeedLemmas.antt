@@ -1,0 +1,622 @@
+-- Runs of which all clauses of an account hold but one.
+use Rattle.std.proofs.Common.{◌≡◌, ◌≢◌, ◌∙◌, ◌&&◌, ⊎_elim, ℕ, zero, suc, ◌<◌, ◌≤◌, ◌==◌, ◌⊎◌, inl, inr, Bool, true, false, if◌then◌else◌, List, [], ◌∷◌, ◌++◌, length, map, take, Option, None, Some, slice_get, refl, sym, ap, subst, pos, arith}
+use Rattle.std.specs.Prelude.{All, codes}
+use Rattle.std.specs.List.{list_all}
+use Rattle.std.proofs.lemmas.Bool.{false≢true, true≢false}
+use Rattle.std.proofs.lemmas.Bool.Decides.{eqb_tells}
+use Rattle.std.proofs.lemmas.List.Elements.{All-cons, All-nil}
+use Rattle.std.proofs.lemmas.Option.{none-some, same_Some}
+use Rattle.mc_text.specs.Lines.{first_line, line_end}
+use Rattle.mc_text.specs.Words.{words}
+use Rattle.mc_request.specs.Names.{name_of}
+use Rattle.mc_request.specs.Requests.{next_request, requests_of, requests_within}
+use Rattle.mc_request.specs.declared.faults.Fault.TheVariants.{UnknownCommand}
+use Rattle.mc_request.specs.declared.parts.Atom.{Atom}
+use Rattle.mc_request.specs.declared.parts.Atom.TheVariants as atoms
+use Rattle.mc_request.specs.declared.parts.Request.TheVariants as requests
+use Rattle.mc_request.specs.declared.parts.Taken.{Taken}
+use Rattle.mc_request.specs.declared.parts.Taken.TheVariants.{Faulty, Whole}
+use Rattle.mc_request.specs.declared.parts.Update.TheVariants.{FlushAll}
+use Rattle.mc_reply.specs.Spelling.{spelling_of}
+use Rattle.mc_reply.specs.declared.replies.Reply.{Reply as AReply}
+use Rattle.mc_reply.specs.declared.replies.Reply.TheVariants.{Flushed}
+use Rattle.mc_ring.specs.Rings.{RingState}
+use Rattle.mc_ring.specs.declared.points.Point.{Point}
+use Rattle.mc_route.specs.Routes.{route_of_taken, to_place}
+use Rattle.mc_route.specs.declared.outcomes.Outcome.{Outcome}
+use Rattle.mc_route.specs.declared.outcomes.Outcome.TheVariants as outcomes
+use Rattle.mc_route.specs.declared.routes.Routed.{Routed}
+use Rattle.mc_link.specs.declared.turns.Tag.{Tag}
+use Rattle.mc_session.specs.Emits.{is_told}
+use Rattle.mc_session.specs.Sending.{tag_of}
+use Rattle.mc_cache.specs.CacheState.{CacheState, opening_cache}
+use Rattle.mc_cache.specs.Step.{step_of}
+use Rattle.mc_account.specs.Lookups.{asked_at, command_at, command_in, outcome_at, outcome_in}
+use Rattle.mc_account.specs.Orders.{Entry as AskedFor, IsSized, Order, answers_of, entries_of, is_settled, taken_of}
+use Rattle.mc_history.specs.declared.entries.Entry.{Entry}
+use Rattle.mc_history.specs.Histories.{HasReply, IsLegal, tag_in}
+use Rattle.mc_world.specs.Accounts.{Accounts, IsToldLost, NotAnswered, WasTaken}
+use Rattle.mc_world.specs.Logs.{IsRingAfter, Log, before, loses, moment_of, moments_of, number_of, puts, serves, takes}
+use Rattle.mc_world.specs.declared.events.Event.TheVariants.{Emit, ProxyTurn, ServerTurn}
+use Rattle.mc_world.specs.declared.events.Logged.{Logged}
+use Rattle.mc_world.specs.declared.events.Logged.TheVariants.{Happened}
+use Rattle.mc_pool_laws.specs.Sent.{IsReplayed, IsSent}
+use Rattle.mc_pool_laws.specs.Told.{HasEntry, IsUnaccounted}
+use Rattle.mc_pool_laws.specs.Without.{AccountsBut, Allows, Answered, Asked, Clause, Few, Legal, Lost, Moments, Once, Ordered, Placed, Put, Replied, Rings, Sized, Turns}
+use Rattle.mc_pool_laws.proofs.SentLemmas.{in_request}
+
+-- what is done in the examples: a request of client 0 is taken, server 0 takes one, an answer of client 0 is put out
+abbrev pub takes_one : Logged
+takes_one = Happened (ProxyTurn 0)
+
+abbrev pub serves_one : Logged
+serves_one = Happened (ServerTurn 0 1 5)
+
+abbrev pub puts_one : Logged
+puts_one = Happened (Emit 0)
+
+-- a ring of one server, and one of none
+abbrev pub one_server : RingState
+one_server = record { servers = codes "a:1" ∷ []; points = record { point = 0; place = 0 } ∷ [] }
+
+abbrev no_server : RingState
+no_server = record { servers = []; points = [] }
+
+-- a cache, and a text of one request
+abbrev pub a_cache : CacheState
+a_cache = opening_cache 1000 10 0
+
+abbrev pub flush : Atom (List ℕ)
+flush = atoms.Update (FlushAll (pos 0))
+
+abbrev pub flush_asked : Taken
+flush_asked = Whole (requests.Update (FlushAll (pos 0)) false)
+
+abbrev flush_text : ℕ → List ℕ
+flush_text client = codes "flush_all\r\n"
+
+abbrev no_text : ℕ → List ℕ
+no_text client = []
+
+abbrev no_history : ℕ → List Entry
+no_history place = []
+
+text_read : requests_of (codes "flush_all\r\n") ≡ flush_asked ∷ []
+unfolding words line_end first_line name_of next_request requests_within requests_of
+text_read = refl
+
+nothing_read : requests_of [] ≡ []
+unfolding requests_of requests_within
+nothing_read = refl
+
+-- the order of one request
+abbrev pub asked_by : RingState → Taken → List Outcome → AskedFor
+asked_by ring what told = record { session = 0; request = 0; what = what; ring = ring; outcomes = told }
+
+-- in a list of one
+pub one_here : {X : Type 0} (x : X) (k : ℕ) (y : X) → slice_get (x ∷ []) k ≡ Some y → (k ≡ 0) × (y ≡ x)
+one_here x zero y at = (refl, sym (same_Some x y at))
+one_here x (suc zero) y at = absurd (none-some y at)
+one_here x (suc (suc k)) y at = absurd (none-some y at)
+
+pub none_there : {X : Type 0} (k : ℕ) (y : X) → slice_get [] k ≡ Some y → ⊥
+none_there zero y at = none-some y at
+none_there (suc k) y at = none-some y at
+
+-- what begins with something is not empty
+some_not_none : {X : Type 0} {x : X} {xs : List X} → x ∷ xs ≡ [] → ⊥
+some_not_none {x = x} {xs = xs} same = (let size : suc (length xs) ≡ 0 = ap length same in omega (arith, size))
+
+-- of no request there is a command
+no_command : (tag : Tag) (command : Routed) → command_at [] tag ≡ Some command → ⊥
+no_command tag command at =
+    let found = in_request (asked_at [] tag.session tag.request) tag.atom command at in
+    none_there tag.request found.0 found.1
+
+-- what is there for one number alone
+there_by : {X : Type 0} (v : Bool) (xs : List X) (k : ℕ) (y : X) → slice_get (if v then xs else []) k ≡ Some y → (v ≡ true) × (slice_get xs k ≡ Some y)
+there_by true xs k y at = (refl, at)
+there_by false xs k y at = absurd (none_there k y at)
+
+pub own_by : (number : ℕ) → (0 == number) ≡ true → 0 ≡ number
+own_by number h = elim (eqb_tells 0 number) [
+  | inl own ↦ own.1
+  | inr other ↦ absurd (false≢true (sym other.0 ∙ h))
+]
+
+asked_only : (e : AskedFor) (client request : ℕ) (x : AskedFor) → e.session ≡ 0 → asked_at (e ∷ []) client request ≡ Some x → (0 ≡ client) × (request ≡ 0) × (x ≡ e)
+asked_only e client request x own at =
+    let there = there_by (e.session == client) (e ∷ []) request x at in
+    let here = one_here e request x there.1 in
+    (own_by client (ap (λ (s : ℕ). s == client) (sym own) ∙ there.0), here.0, here.1)
+
+-- the history of the first server alone
+abbrev pub first_only : List Entry → ℕ → List Entry
+first_only es place = if 0 == place then es else []
+
+pub first_there : (es : List Entry) (place k : ℕ) (e : Entry) → slice_get (first_only es place) k ≡ Some e → (0 ≡ place) × (slice_get es k ≡ Some e)
+first_there es place k e at =
+    let there = there_by (0 == place) es k e at in
+    (own_by place there.0, there.1)
+
+-- what the log of one request counts, and what was asked
+asked_text : (client : ℕ) (told : List Outcome) (ring : RingState) → (untaken : List Taken) × (taken_of client (asked_by ring flush_asked told ∷ []) ++ untaken ≡ requests_of (flush_text client))
+asked_text client told ring =
+    (elim (0 == client) as (λ v. (untaken : List Taken) × (map (λ (e : AskedFor). e.what) (if v then asked_by ring flush_asked told ∷ [] else []) ++ untaken ≡ requests_of (codes "flush_all\r\n"))) [
+      | true ↦ ([], sym text_read)
+      | false ↦ (requests_of (codes "flush_all\r\n"), refl)
+    ])
+
+one_of : {X : Type 0} (v : Bool) (x : X) → length (if v then x ∷ [] else []) ≡ (if v then suc 0 else 0)
+one_of true x = refl
+one_of false x = refl
+
+settled_of : (v : Bool) (e : AskedFor) → is_settled e ≡ true → list_all is_settled (take (if v then suc 0 else 0) (if v then e ∷ [] else [])) ≡ true
+settled_of true e known = ap (λ (b : Bool). b && true) known
+settled_of false e known = refl
+
+few_of : {X : Type 0} (v : Bool) (x : X) → (if v then suc 0 else 0) ≤ length (if v then x ∷ [] else [])
+few_of true x = omega arith
+few_of false x = omega arith
+
+-- what became of the commands of one request
+pub outcome_in_request : (o : Option AskedFor) (atom : ℕ) (q : Outcome) → outcome_in o atom ≡ Some q → (e : AskedFor) × (o ≡ Some e) × (slice_get e.outcomes atom ≡ Some q)
+outcome_in_request None atom q h = absurd (none-some q h)
+outcome_in_request (Some e) atom q h = (e, refl, h)
+
+outcome_there : (e : AskedFor) (tag : Tag) (q : Outcome) → e.session ≡ 0 → outcome_at (e ∷ []) tag ≡ Some q → slice_get e.outcomes tag.atom ≡ Some q
+outcome_there e tag q own became =
+    let found = outcome_in_request (asked_at (e ∷ []) tag.session tag.request) tag.atom q became in
+    let o = asked_only e tag.session tag.request found.0 own found.1 in
+    ap (λ (x : AskedFor). slice_get x.outcomes tag.atom) (sym o.2) ∙ found.2
+
+no_outcome : (ring : RingState) (what : Taken) (tag : Tag) (q : Outcome) → outcome_at (asked_by ring what [] ∷ []) tag ≡ Some q → ⊥
+no_outcome ring what tag q became = none_there tag.atom q (outcome_there (asked_by ring what []) tag q refl became)
+
+one_outcome : (ring : RingState) (what : Taken) (outcome : Outcome) (tag : Tag) (q : Outcome) → outcome_at (asked_by ring what (outcome ∷ []) ∷ []) tag ≡ Some q → q ≡ outcome
+one_outcome ring what outcome tag q became = (one_here outcome tag.atom q (outcome_there (asked_by ring what (outcome ∷ [])) tag q refl became)).1
+
+abbrev is_reply : Outcome → Bool
+is_reply (outcomes.Reply reply) = true
+is_reply outcomes.Lost = false
+is_reply outcomes.Awaited = false
+
+abbrev pub is_lost : Outcome → Bool
+is_lost (outcomes.Reply reply) = false
+is_lost outcomes.Lost = true
+is_lost outcomes.Awaited = false
+
+no_reply : (ring : RingState) (what : Taken) (outcome : Outcome) → is_reply outcome ≡ false → (tag : Tag) (reply : AReply (List ℕ))
+    → outcome_at (asked_by ring what (outcome ∷ []) ∷ []) tag ≡ Some (outcomes.Reply reply) → ⊥
+no_reply ring what outcome other tag reply became = true≢false (ap is_reply (one_outcome ring what outcome tag (outcomes.Reply reply) became) ∙ other)
+
+no_loss : (ring : RingState) (what : Taken) (outcome : Outcome) → is_lost outcome ≡ false → (tag : Tag)
+    → outcome_at (asked_by ring what (outcome ∷ []) ∷ []) tag ≡ Some outcomes.Lost → ⊥
+no_loss ring what outcome other tag became = true≢false (ap is_lost (one_outcome ring what outcome tag outcomes.Lost became) ∙ other)
+
+-- an answer is put out to the one request, and no server has executed anything
+abbrev answered_log : Log
+answered_log = takes_one ∷ puts_one ∷ []
+
+abbrev pub outs_of : Order → Log → ℕ → List ℕ
+outs_of order log client = answers_of (take (number_of (puts client) log) (entries_of client order))
+
+answered_but : (one : Clause) (ring by : RingState) (what : Taken) (told : List Outcome) (texts : ℕ → List ℕ)
+    → (one ≢ Asked → (client : ℕ) → (untaken : List Taken) × (taken_of client (asked_by by what told ∷ []) ++ untaken ≡ requests_of (texts client)))
+    → (one ≢ Rings → by ≡ ring)
+    → (one ≢ Sized → IsSized (asked_by by what told))
+    → (one ≢ Answered → is_settled (asked_by by what told) ≡ true)
+    → (one ≢ Replied → (tag : Tag) (reply : AReply (List ℕ)) → outcome_at (asked_by by what told ∷ []) tag ≡ Some (outcomes.Reply reply) → ⊥)
+    → (one ≢ Lost → (tag : Tag) → outcome_at (asked_by by what told ∷ []) tag ≡ Some outcomes.Lost → ⊥)
+    → AccountsBut one ring a_cache (asked_by by what told ∷ []) texts (outs_of (asked_by by what told ∷ []) answered_log) no_history answered_log
+answered_but one ring by what told texts asked routed sized known replied lost =
+    let e = asked_by by what told in
+    record {
+      asked = asked;
+      turns = λ keeps client. one_of (0 == client) e;
+      rings = λ keeps client request x at.
+          let o = asked_only e client request x refl at in
+          subst (λ (c : ℕ). IsRingAfter ring (before (takes c) request answered_log) x.ring) o.0
+          (subst (λ (r : ℕ). IsRingAfter ring (before (takes 0) r answered_log) x.ring) (sym o.1)
+          (ap (λ (y : AskedFor). y.ring) o.2 ∙ routed keeps));
+      sized = λ keeps. All-cons IsSized e [] (sized keeps) (All-nil IsSized);
+      legal = λ keeps place. tt;
+      once = λ keeps r s j k d x at. absurd (none_there j d at);
+      replied = λ keeps tag place atom reply at became. absurd (replied keeps tag reply became);
+      lost = λ keeps tag place atom at became. absurd (lost keeps tag became);
+      ordered = λ keeps place j k d x r q at. absurd (none_there j d at);
+      answered = λ keeps client. settled_of (0 == client) e (known keeps);
+      put = λ keeps client. refl;
+      few = λ keeps client. few_of (0 == client) e;
+      moments = λ keeps place. refl;
+      placed = λ keeps place k x at. absurd (none_there k x at);
+    }
+
+untold : IsUnaccounted one_server flush_text no_history answered_log
+untold = record {
+  tag = tag_of 0 0 0;
+  command = to_place 0 flush;
+  sent = record {
+    what = flush_asked;
+    ring = one_server;
+    taken = record { turn = omega arith; sent = ap (λ (ts : List Taken). slice_get ts 0) text_read; then = refl };
+    routed = refl;
+  };
+  answered = omega arith;
+  untold = λ told. elim told [
+    | inl entry ↦ none_there entry.0 entry.1 entry.2
+    | inr loss ↦ (elim loss [
+      | inl down ↦ true≢false down.0
+      | inr up ↦ (let inside = up.1.1 in omega (arith, inside))
+    ])
+  ];
+}
+
+-- a request is taken that no client sent
+pub without_asked : Allows Asked (λ ring opening texts outs histories log. length (requests_of (texts 0)) < number_of (takes 0) log)
+without_asked =
+    let e = asked_by one_server (Faulty UnknownCommand) [] in
+    let none : length (requests_of []) ≡ 0 = ap (λ (ts : List Taken). length ts) nothing_read in (
+      one_server,
+      a_cache,
+      no_text,
+      outs_of (e ∷ []) answered_log,
+      no_history,
+      answered_log,
+      (
+        e ∷ [],
+        answered_but Asked one_server one_server (Faulty UnknownCommand) [] no_text (λ keeps. absurd (keeps refl)) (λ keeps. refl) (λ keeps. refl) (λ keeps. refl)
+            (λ keeps tag reply became. no_outcome one_server (Faulty UnknownCommand) tag (outcomes.Reply reply) became)
+            (λ keeps tag became. no_outcome one_server (Faulty UnknownCommand) tag outcomes.Lost became),
+      ),
+      omega (arith, none),
+    )
+
+-- a request is routed by a ring of no server
+pub without_rings : Allows Rings (λ ring opening texts outs histories log. IsUnaccounted ring texts histories log)
+without_rings =
+    let e = asked_by no_server flush_asked [] in (
+      one_server,
+      a_cache,
+      flush_text,
+      outs_of (e ∷ []) answered_log,
+      no_history,
+      answered_log,
+      (
+        e ∷ [],
+        answered_but Rings one_server no_server flush_asked [] flush_text (λ keeps client. asked_text client [] no_server) (λ keeps. absurd (keeps refl)) (λ keeps. refl) (λ keeps. refl)
+            (λ keeps tag reply became. no_outcome no_server flush_asked tag (outcomes.Reply reply) became)
+            (λ keeps tag became. no_outcome no_server flush_asked tag outcomes.Lost became),
+      ),
+      untold,
+    )
+
+-- a command has no outcome
+pub without_sized : Allows Sized (λ ring opening texts outs histories log. IsUnaccounted ring texts histories log)
+without_sized =
+    let e = asked_by one_server flush_asked [] in (
+      one_server,
+      a_cache,
+      flush_text,
+      outs_of (e ∷ []) answered_log,
+      no_history,
+      answered_log,
+      (
+        e ∷ [],
+        answered_but Sized one_server one_server flush_asked [] flush_text (λ keeps client. asked_text client [] one_server) (λ keeps. refl) (λ keeps. absurd (keeps refl)) (λ keeps. refl)
+            (λ keeps tag reply became. no_outcome one_server flush_asked tag (outcomes.Reply reply) became)
+            (λ keeps tag became. no_outcome one_server flush_asked tag outcomes.Lost became),
+      ),
+      untold,
+    )
+
+-- a request is answered whose command is awaited
+pub without_answered : Allows Answered (λ ring opening texts outs histories log. IsUnaccounted ring texts histories log)
+without_answered =
+    let e = asked_by one_server flush_asked (outcomes.Awaited ∷ []) in (
+      one_server,
+      a_cache,
+      flush_text,
+      outs_of (e ∷ []) answered_log,
+      no_history,
+      answered_log,
+      (
+        e ∷ [],
+        answered_but Answered one_server one_server flush_asked (outcomes.Awaited ∷ []) flush_text (λ keeps client. asked_text client (outcomes.Awaited ∷ []) one_server)
+            (λ keeps. refl) (λ keeps. refl) (λ keeps. absurd (keeps refl))
+            (λ keeps tag reply became. no_reply one_server flush_asked outcomes.Awaited refl tag reply became)
+            (λ keeps tag became. no_loss one_server flush_asked outcomes.Awaited refl tag became),
+      ),
+      untold,
+    )
+
+-- a reply that no server gave
+pub without_replied : Allows Replied (λ ring opening texts outs histories log. IsUnaccounted ring texts histories log)
+without_replied =
+    let e = asked_by one_server flush_asked (outcomes.Reply Flushed ∷ []) in (
+      one_server,
+      a_cache,
+      flush_text,
+      outs_of (e ∷ []) answered_log,
+      no_history,
+      answered_log,
+      (
+        e ∷ [],
+        answered_but Replied one_server one_server flush_asked (outcomes.Reply Flushed ∷ []) flush_text (λ keeps client. asked_text client (outcomes.Reply Flushed ∷ []) one_server)
+            (λ keeps. refl) (λ keeps. refl) (λ keeps. refl) (λ keeps. absurd (keeps refl))
+            (λ keeps tag became. no_loss one_server flush_asked (outcomes.Reply Flushed) refl tag became),
+      ),
+      untold,
+    )
+
+-- a loss that the log does not show
+pub without_lost : Allows Lost (λ ring opening texts outs histories log. IsUnaccounted ring texts histories log)
+without_lost =
+    let e = asked_by one_server flush_asked (outcomes.Lost ∷ []) in (
+      one_server,
+      a_cache,
+      flush_text,
+      outs_of (e ∷ []) answered_log,
+      no_history,
+      answered_log,
+      (
+        e ∷ [],
+        answered_but Lost one_server one_server flush_asked (outcomes.Lost ∷ []) flush_text (λ keeps client. asked_text client (outcomes.Lost ∷ []) one_server)
+            (λ keeps. refl) (λ keeps. refl) (λ keeps. refl)
+            (λ keeps tag reply became. no_reply one_server flush_asked outcomes.Lost refl tag reply became)
+            (λ keeps. absurd (keeps refl)),
+      ),
+      untold,
+    )
+
+-- nothing was taken
+nothing_but : (one : Clause) (outs : ℕ → List ℕ) (log : Log)
+    → (one ≢ Turns → (client : ℕ) → 0 ≡ number_of (takes client) log)
+    → (one ≢ Put → (client : ℕ) → outs client ≡ outs_of [] log client)
+    → (one ≢ Few → (client : ℕ) → number_of (puts client) log ≤ 0)
+    → (one ≢ Answered → (client : ℕ) → list_all is_settled (take (number_of (puts client) log) []) ≡ true)
+    → (one ≢ Moments → (place : ℕ) → [] ≡ moments_of place log)
+    → AccountsBut one one_server a_cache [] no_text outs no_history log
+nothing_but one outs log turns put few answered moments = record {
+  asked = λ keeps client. ([], sym nothing_read);
+  turns = turns;
+  rings = λ keeps client request x at. absurd (none_there request x at);
+  sized = λ keeps. All-nil IsSized;
+  legal = λ keeps place. tt;
+  once = λ keeps r s j k d x at. absurd (none_there j d at);
+  replied = λ keeps tag place atom reply at became. absurd (no_command tag (to_place place atom) at);
+  lost = λ keeps tag place atom at became. absurd (no_command tag (to_place place atom) at);
+  ordered = λ keeps place j k d x r q at. absurd (none_there j d at);
+  answered = answered;
+  put = put;
+  few = few;
+  moments = moments;
+  placed = λ keeps place k x at. absurd (none_there k x at);
+}
+
+-- a turn takes nothing
+pub without_turns : Allows Turns (λ ring opening texts outs histories log. length (requests_of (texts 0)) < number_of (takes 0) log)
+without_turns =
+    let none : length (requests_of []) ≡ 0 = ap (λ (ts : List Taken). length ts) nothing_read in (
+      one_server,
+      a_cache,
+      no_text,
+      no_text,
+      no_history,
+      takes_one ∷ [],
+      ([], nothing_but Turns no_text (takes_one ∷ []) (λ keeps. absurd (keeps refl)) (λ keeps client. refl) (λ keeps client. omega arith) (λ keeps client. refl) (λ keeps place. refl)),
+      omega (arith, none),
+    )
+
+-- bytes from nowhere
+pub without_put : Allows Put (λ ring opening texts outs histories log. (number_of (puts 0) log ≡ 0) × (outs 0 ≢ []))
+without_put = (
+  one_server,
+  a_cache,
+  no_text,
+  λ client. 1 ∷ [],
+  no_history,
+  [],
+  ([], nothing_but Put (λ client. 1 ∷ []) [] (λ keeps client. refl) (λ keeps. absurd (keeps refl)) (λ keeps client. omega arith) (λ keeps client. refl) (λ keeps place. refl)),
+  (refl, λ none. some_not_none none),
+)
+
+-- a put without an answer
+put_nothing : (v : Bool) → list_all is_settled (take (if v then suc 0 else 0) []) ≡ true
+put_nothing true = refl
+put_nothing false = refl
+
+pub without_few : Allows Few (λ ring opening texts outs histories log. number_of (takes 0) log < number_of (puts 0) log)
+without_few = (
+  one_server,
+  a_cache,
+  no_text,
+  outs_of [] (puts_one ∷ []),
+  no_history,
+  puts_one ∷ [],
+  (
+    [],
+    nothing_but Few (outs_of [] (puts_one ∷ [])) (puts_one ∷ []) (λ keeps client. refl) (λ keeps client. refl) (λ keeps. absurd (keeps refl))
+        (λ keeps client. put_nothing (0 == client)) (λ keeps place. refl),
+  ),
+  omega arith,
+)
+
+-- a turn without an entry
+pub without_moments : Allows Moments (λ ring opening texts outs histories log. length (histories 0) ≢ number_of (serves 0) log)
+without_moments = (
+  one_server,
+  a_cache,
+  no_text,
+  no_text,
+  no_history,
+  serves_one ∷ [],
+  ([], nothing_but Moments no_text (serves_one ∷ []) (λ keeps client. refl) (λ keeps client. refl) (λ keeps client. omega arith) (λ keeps client. refl) (λ keeps. absurd (keeps refl))),
+  λ same. omega (arith, same),
+)
+
+-- one request is taken, and the first server has executed some commands, of which no reply has come
+abbrev awaited : Order
+awaited = asked_by one_server flush_asked (outcomes.Awaited ∷ []) ∷ []
+
+none_settled : (order : Order) (n : ℕ) → n ≡ 0 → list_all is_settled (take n order) ≡ true
+none_settled [] zero none = refl
+none_settled [] (suc n) none = refl
+none_settled (e ∷ es) zero none = refl
+none_settled (e ∷ es) (suc n) none = absurd (omega (arith, none))
+
+none_out : (order : Order) (n : ℕ) → n ≡ 0 → [] ≡ answers_of (take n order)
+none_out [] zero none = refl
+none_out [] (suc n) none = refl
+none_out (e ∷ es) zero none = refl
+none_out (e ∷ es) (suc n) none = absurd (omega (arith, none))
+
+served_but : (one : Clause) (es : List Entry) (log : Log)
+    → ((client : ℕ) → length (entries_of client awaited) ≡ number_of (takes client) log)
+    → IsRingAfter one_server (before (takes 0) 0 log) one_server
+    → (one ≢ Legal → IsLegal awaited 0 a_cache es)
+    → (one ≢ Once → (j k : ℕ) (d e : Entry) → slice_get es j ≡ Some d → slice_get es k ≡ Some e → j ≡ k)
+    → ((client : ℕ) → number_of (puts client) log ≡ 0)
+    → ((place : ℕ) → map (λ (e : Entry). e.moment) (first_only es place) ≡ moments_of place log)
+    → (one ≢ Placed → (k : ℕ) (e : Entry) → slice_get es k ≡ Some e → WasTaken (tag_in e) (before (serves 0) k log))
+    → AccountsBut one one_server a_cache awaited flush_text no_text (first_only es) log
+served_but one es log turns ring legal once none moments placed =
+    let e = asked_by one_server flush_asked (outcomes.Awaited ∷ []) in
+    record {
+      asked = λ keeps client. asked_text client (outcomes.Awaited ∷ []) one_server;
+      turns = λ keeps. turns;
+      rings = λ keeps client request x at.
+          let o = asked_only e client request x refl at in
+          subst (λ (c : ℕ). IsRingAfter one_server (before (takes c) request log) x.ring) o.0
+          (subst (λ (r : ℕ). IsRingAfter one_server (before (takes 0) r log) x.ring) (sym o.1)
+          (subst (λ (y : AskedFor). IsRingAfter one_server (before (takes 0) 0 log) y.ring) (sym o.2) ring));
+      sized = λ keeps. All-cons IsSized e [] refl (All-nil IsSized);
+      legal = λ keeps place.
+          (elim (0 == place) as (λ v. (0 == place) ≡ v → IsLegal awaited place a_cache (if v then es else [])) [
+            | true ↦ λ own. subst (λ (p : ℕ). IsLegal awaited p a_cache es) (own_by place own) (legal keeps)
+            | false ↦ λ other. tt
+          ]) refl;
+      once = λ keeps r s j k d x at also same.
+          let here = first_there es r j d at in
+          let there = first_there es s k x also in
+          (sym here.0 ∙ there.0, once keeps j k d x here.1 there.1);
+      replied = λ keeps tag place atom reply at became. absurd (no_reply one_server flush_asked outcomes.Awaited refl tag reply became);
+      lost = λ keeps tag place atom at became. absurd (no_loss one_server flush_asked outcomes.Awaited refl tag became);
+      ordered = λ keeps place j k d x r q at also less same became. absurd (no_reply one_server flush_asked outcomes.Awaited refl (tag_in d) r became);
+      answered = λ keeps client. none_settled (entries_of client awaited) (number_of (puts client) log) (none client);
+      put = λ keeps client. none_out (entries_of client awaited) (number_of (puts client) log) (none client);
+      few = λ keeps client. (let nothing = none client in omega (arith, nothing));
+      moments = λ keeps. moments;
+      placed = λ keeps place k x at.
+          let here = first_there es place k x at in (
+            subst (λ (p : ℕ). WasTaken (tag_in x) (before (serves p) k log)) here.0 (placed keeps k x here.1),
+            λ reply became. absurd (no_reply one_server flush_asked outcomes.Awaited refl (tag_in x) reply became),
+          );
+    }
+
+-- the entry of that command, and one with another reply
+abbrev pub flushed : Entry
+flushed = record { client = 0; request = 0; atom = 0; moment = 5; refused = false; reply = spelling_of flush Flushed }
+
+abbrev misreplied : Entry
+misreplied = record { client = 0; request = 0; atom = 0; moment = 5; refused = false; reply = [] }
+
+legal_flush : (s : CacheState) (es : List Entry) → IsLegal awaited 0 (step_of s flush 5 false).0 es → IsLegal awaited 0 s (flushed ∷ es)
+legal_flush s es behind = (flush, refl, record { legal = λ h. absurd (false≢true h); refused = refl; reply = refl }, behind)
+
+abbrev served_log : Log
+served_log = takes_one ∷ serves_one ∷ []
+
+once_in_one : (x : Entry) (j k : ℕ) (d e : Entry) → slice_get (x ∷ []) j ≡ Some d → slice_get (x ∷ []) k ≡ Some e → j ≡ k
+once_in_one x j k d e at also = (one_here x j d at).0 ∙ sym (one_here x k e also).0
+
+moments_one : (v : Bool) (x : Entry) → x.moment ≡ 5 → map (λ (e : Entry). e.moment) (if v then x ∷ [] else []) ≡ (if v then 5 ∷ [] else []) ++ []
+moments_one true x is = ap (λ (m : ℕ). m ∷ []) is
+moments_one false x is = refl
+
+-- a reply that no cache gives
+not_replayed : IsReplayed one_server flush_text served_log 0 a_cache (misreplied ∷ []) → ⊥
+not_replayed replayed =
+    let s = replayed.1 in
+    let what : flush_asked ≡ s.what = same_Some flush_asked s.what (ap (λ (ts : List Taken). slice_get ts 0) (sym text_read) ∙ s.taken.sent) in
+    let routed : ◌≡◌ {A = Option Routed} (Some (to_place 0 flush)) (Some (to_place 0 replayed.0)) =
+    ap (λ (w : Taken). slice_get (route_of_taken one_server w) 0) what ∙ ap (λ (r : RingState). slice_get (route_of_taken r s.what) 0) (sym s.taken.then) ∙ s.routed in
+    let command : flush ≡ replayed.0 = ap (λ (c : Routed). c.atom) (same_Some (to_place 0 flush) (to_place 0 replayed.0) routed) in
+    let reply : ◌≡◌ {A = List ℕ} [] (spelling_of flush Flushed) =
+    replayed.2.reply ∙ ap (λ (a : Atom (List ℕ)). spelling_of a (step_of a_cache a 5 false).1) (sym command) in
+    some_not_none (sym reply)
+
+pub without_legal : Allows Legal (λ ring opening texts outs histories log. IsReplayed ring texts log 0 opening (histories 0) → ⊥)
+without_legal = (
+  one_server,
+  a_cache,
+  flush_text,
+  no_text,
+  first_only (misreplied ∷ []),
+  served_log,
+  (
+    awaited,
+    served_but Legal (misreplied ∷ []) served_log (λ client. one_of (0 == client) (asked_by one_server flush_asked (outcomes.Awaited ∷ []))) refl (λ keeps. absurd (keeps refl))
+        (λ keeps. once_in_one misreplied) (λ client. refl) (λ place. moments_one (0 == place) misreplied refl)
+        (λ keeps k e at.
+        let here = one_here misreplied k e at in
+        subst (λ (n : ℕ). WasTaken (tag_in e) (before (serves 0) n served_log)) (sym here.0)
+        (subst (λ (x : Entry). WasTaken (tag_in x) (before (serves 0) 0 served_log)) (sym here.1) (omega arith))),
+  ),
+  not_replayed,
+)
+
+-- a command before its request was taken
+abbrev early_log : Log
+early_log = serves_one ∷ takes_one ∷ []
+
+pub without_placed : Allows Placed (λ ring opening texts outs histories log. (e : Entry) × (slice_get (histories 0) 0 ≡ Some e)
+    × (WasTaken (tag_in e) (before (serves 0) 0 log) → ⊥))
+without_placed = (
+  one_server,
+  a_cache,
+  flush_text,
+  no_text,
+  first_only (flushed ∷ []),
+  early_log,
+  (
+    awaited,
+    served_but Placed (flushed ∷ []) early_log (λ client. one_of (0 == client) (asked_by one_server flush_asked (outcomes.Awaited ∷ []))) refl
+        (λ keeps. legal_flush a_cache [] tt) (λ keeps. once_in_one flushed) (λ client. refl) (λ place. moments_one (0 == place) flushed refl)
+        (λ keeps. absurd (keeps refl)),
+  ),
+  (flushed, refl, λ taken. omega (arith, taken)),
+)
+
+-- a command twice
+abbrev twice_log : Log
+twice_log = takes_one ∷ serves_one ∷ serves_one ∷ []
+
+moments_two : (v : Bool) → map (λ (e : Entry). e.moment) (if v then flushed ∷ flushed ∷ [] else []) ≡ (if v then 5 ∷ [] else []) ++ ((if v then 5 ∷ [] else []) ++ [])
+moments_two true = refl
+moments_two false = refl
+
+taken_twice : (k : ℕ) (e : Entry) → slice_get (flushed ∷ flushed ∷ []) k ≡ Some e → WasTaken (tag_in e) (before (serves 0) k twice_log)
+taken_twice zero e at = subst (λ (x : Entry). WasTaken (tag_in x) (before (serves 0) 0 twice_log)) (same_Some flushed e at) (omega arith)
+taken_twice (suc k) e at =
+    let here = one_here flushed k e at in
+    subst (λ (n : ℕ). WasTaken (tag_in e) (before (serves 0) (suc n) twice_log)) (sym here.0)
+    (subst (λ (x : Entry). WasTaken (tag_in x) (before (serves 0) 1 twice_log)) (sym here.1) (omega arith))
+
+pub without_once : Allows Once (λ ring opening texts outs histories log. (d : Entry) × (e : Entry) × (slice_get (histories 0) 0 ≡ Some d)
+    × (slice_get (histories 0) 1 ≡ Some e) × (tag_in d ≡ tag_in e))
+without_once = (
+  one_server,
+  a_cache,
+  flush_text,
+  no_text,
+  first_only (flushed ∷ flushed ∷ []),
+  twice_log,
+  (
+    awaited,
+    served_but Once (flushed ∷ flushed ∷ []) twice_log (λ client. one_of (0 == client) (asked_by one_server flush_asked (outcomes.Awaited ∷ []))) refl
+        (λ keeps. legal_flush a_cache (flushed ∷ []) (legal_flush (step_of a_cache flush 5 false).0 [] tt)) (λ keeps. absurd (keeps refl)) (λ client. refl)
+        (λ place. moments_two (0 == place)) (λ keeps. taken_twice),
+  ),
+  (flushed, flushed, refl, refl, refl),
+)

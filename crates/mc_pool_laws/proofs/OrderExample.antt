@@ -1,0 +1,255 @@
+-- A run of which all clauses of an account hold but the one of the order: two requests of a client are executed the other way round.
+use Rattle.std.proofs.Common.{◌≡◌, ◌≢◌, ◌∙◌, ◌==◌, ℕ, zero, suc, ◌<◌, ◌≤◌, ◌⊎◌, inl, inr, Bool, true, false, if◌then◌else◌, List, [], ◌∷◌, ◌++◌, length, map, take, Some, slice_get, refl, sym, ap, ap₂, subst, arith}
+use Rattle.std.specs.Prelude.{codes}
+use Rattle.std.specs.List.{list_all}
+use Rattle.std.proofs.lemmas.Bool.{false≢true, true≢false}
+use Rattle.std.proofs.lemmas.List.Elements.{All-cons, All-nil}
+use Rattle.std.proofs.lemmas.Option.{same_Some}
+use Rattle.mc_text.specs.Lines.{first_line, line_end}
+use Rattle.mc_text.specs.Words.{words}
+use Rattle.mc_request.specs.Names.{name_of}
+use Rattle.mc_request.specs.Requests.{next_request, requests_of, requests_within}
+use Rattle.mc_request.specs.declared.parts.Atom.{Atom}
+use Rattle.mc_request.specs.declared.parts.Taken.{Taken}
+use Rattle.mc_reply.specs.Spelling.{spelling_of}
+use Rattle.mc_reply.specs.declared.replies.Reply.{Reply as AReply}
+use Rattle.mc_reply.specs.declared.replies.Reply.TheVariants.{Flushed}
+use Rattle.mc_ring.specs.Rings.{RingState}
+use Rattle.mc_route.specs.Routes.{route_of_taken, to_place}
+use Rattle.mc_route.specs.declared.outcomes.Outcome.{Outcome}
+use Rattle.mc_route.specs.declared.outcomes.Outcome.TheVariants as outcomes
+use Rattle.mc_route.specs.declared.routes.Routed.{Routed}
+use Rattle.mc_link.specs.declared.turns.Tag.{Tag}
+use Rattle.mc_session.specs.Sending.{tag_of}
+use Rattle.mc_cache.specs.CacheState.{CacheState}
+use Rattle.mc_cache.specs.Step.{step_of}
+use Rattle.mc_account.specs.Lookups.{asked_at, command_at, outcome_at}
+use Rattle.mc_account.specs.Orders.{Entry as AskedFor, IsSized, Order, entries_of, is_settled, taken_of}
+use Rattle.mc_history.specs.declared.entries.Entry.{Entry}
+use Rattle.mc_history.specs.Histories.{HasReply, IsBefore, IsLegal, tag_in}
+use Rattle.mc_world.specs.Accounts.{NotAnswered, WasTaken}
+use Rattle.mc_world.specs.Logs.{IsRingAfter, Log, before, loses, moments_of, number_of, puts, serves, takes}
+use Rattle.mc_pool_laws.specs.Told.{WasAnswered}
+use Rattle.mc_pool_laws.specs.Without.{AccountsBut, Allows, Ordered}
+use Rattle.mc_pool_laws.proofs.SentLemmas.{in_request}
+use Rattle.mc_pool_laws.proofs.NeedLemmas.{a_cache, asked_by, first_only, first_there, flush, flush_asked, flushed, is_lost, none_there, one_here, one_server, outcome_in_request, outs_of, own_by, puts_one, serves_one, takes_one}
+
+abbrev two_text : ℕ → List ℕ
+two_text client = codes "flush_all\r\nflush_all\r\n"
+
+two_read : requests_of (codes "flush_all\r\nflush_all\r\n") ≡ flush_asked ∷ flush_asked ∷ []
+unfolding words line_end first_line name_of next_request requests_within requests_of
+two_read = refl
+
+abbrev first_asked : AskedFor
+first_asked = asked_by one_server flush_asked (outcomes.Reply Flushed ∷ [])
+
+abbrev second_asked : AskedFor
+second_asked = record { session = 0; request = 1; what = flush_asked; ring = one_server; outcomes = outcomes.Reply Flushed ∷ [] }
+
+abbrev two_asked : Order
+two_asked = first_asked ∷ second_asked ∷ []
+
+abbrev later : Entry
+later = record { client = 0; request = 1; atom = 0; moment = 5; refused = false; reply = spelling_of flush Flushed }
+
+abbrev turned : List Entry
+turned = later ∷ flushed ∷ []
+
+abbrev two_log : Log
+two_log = takes_one ∷ takes_one ∷ serves_one ∷ serves_one ∷ puts_one ∷ puts_one ∷ []
+
+-- in a list of two
+two_here : {X : Type 0} (a b : X) (k : ℕ) (y : X) → slice_get (a ∷ b ∷ []) k ≡ Some y → ((k ≡ 0) × (y ≡ a)) ⊎ ((k ≡ 1) × (y ≡ b))
+two_here a b zero y at = inl (refl, sym (same_Some a y at))
+two_here a b (suc k) y at = let h = one_here b k y at in inr (ap suc h.0, h.1)
+
+-- what a client has of it, and how many there are
+abbrev mine : Bool → Order
+mine v = if v then first_asked ∷ (if v then second_asked ∷ [] else []) else (if v then second_asked ∷ [] else [])
+
+abbrev many : Bool → ℕ
+many v = if v then suc (if v then suc 0 else 0) else (if v then suc 0 else 0)
+
+mine_by : (v : Bool) (k : ℕ) (x : AskedFor) → slice_get (mine v) k ≡ Some x → (v ≡ true) × (slice_get two_asked k ≡ Some x)
+mine_by true k x at = (refl, at)
+mine_by false k x at = absurd (none_there k x at)
+
+asked_two : (client request : ℕ) (x : AskedFor) → asked_at two_asked client request ≡ Some x
+    → (0 ≡ client) × (((request ≡ 0) × (x ≡ first_asked)) ⊎ ((request ≡ 1) × (x ≡ second_asked)))
+asked_two client request x at =
+    let there = mine_by (0 == client) request x at in
+    (own_by client there.0, two_here first_asked second_asked request x there.1)
+
+text_by : (v : Bool) → (untaken : List Taken) × (map (λ (e : AskedFor). e.what) (mine v) ++ untaken ≡ requests_of (codes "flush_all\r\nflush_all\r\n"))
+text_by true = ([], sym two_read)
+text_by false = (requests_of (codes "flush_all\r\nflush_all\r\n"), refl)
+
+many_by : (v : Bool) → length (mine v) ≡ many v
+many_by true = refl
+many_by false = refl
+
+settled_by : (v : Bool) → list_all is_settled (take (many v) (mine v)) ≡ true
+settled_by true = refl
+settled_by false = refl
+
+few_by : (v : Bool) → many v ≤ length (mine v)
+few_by true = omega arith
+few_by false = omega arith
+
+moments_by : (v : Bool) → map (λ (e : Entry). e.moment) (if v then turned else []) ≡ (if v then 5 ∷ [] else []) ++ ((if v then 5 ∷ [] else []) ++ [])
+moments_by true = refl
+moments_by false = refl
+
+rings_by : (client request : ℕ) (x : AskedFor) → asked_at two_asked client request ≡ Some x → IsRingAfter one_server (before (takes client) request two_log) x.ring
+rings_by client request x at =
+    let o = asked_two client request x at in
+    subst (λ (c : ℕ). IsRingAfter one_server (before (takes c) request two_log) x.ring) o.0
+    (elim o.1 [
+      | inl h ↦ subst (λ (r : ℕ). IsRingAfter one_server (before (takes 0) r two_log) x.ring) (sym h.0) (ap (λ (y : AskedFor). y.ring) h.1)
+      | inr h ↦ subst (λ (r : ℕ). IsRingAfter one_server (before (takes 0) r two_log) x.ring) (sym h.0) (ap (λ (y : AskedFor). y.ring) h.1)
+    ])
+
+-- each command of it is a flush at the first server, that was flushed
+outcomes_by : (x : AskedFor) (request : ℕ) → ((request ≡ 0) × (x ≡ first_asked)) ⊎ ((request ≡ 1) × (x ≡ second_asked)) → x.outcomes ≡ outcomes.Reply Flushed ∷ []
+outcomes_by x request (inl h) = ap (λ (y : AskedFor). y.outcomes) h.1
+outcomes_by x request (inr h) = ap (λ (y : AskedFor). y.outcomes) h.1
+
+two_outcome : (tag : Tag) (q : Outcome) → outcome_at two_asked tag ≡ Some q → q ≡ outcomes.Reply Flushed
+two_outcome tag q became =
+    let found = outcome_in_request (asked_at two_asked tag.session tag.request) tag.atom q became in
+    let o = asked_two tag.session tag.request found.0 found.1 in
+    (one_here (outcomes.Reply Flushed) tag.atom q
+    (ap (λ (qs : List Outcome). slice_get qs tag.atom) (sym (outcomes_by found.0 tag.request o.1)) ∙ found.2)).1
+
+abbrev reply_in : Outcome → AReply (List ℕ)
+reply_in (outcomes.Reply reply) = reply
+reply_in outcomes.Lost = Flushed
+reply_in outcomes.Awaited = Flushed
+
+tag_is : (tag : Tag) (request : ℕ) → 0 ≡ tag.session → tag.request ≡ request → tag.atom ≡ 0 → tag_of 0 request 0 ≡ tag
+tag_is tag request s r a = ap (λ (session : ℕ). tag_of session request 0) s ∙ ap₂ (λ (n m : ℕ). tag_of tag.session n m) (sym r) (sym a)
+
+routed_by : (x : AskedFor) (request : ℕ) (atom : ℕ) (command : Routed) → ((request ≡ 0) × (x ≡ first_asked)) ⊎ ((request ≡ 1) × (x ≡ second_asked))
+    → slice_get (route_of_taken x.ring x.what) atom ≡ Some command → (atom ≡ 0) × (command ≡ to_place 0 flush)
+routed_by x request atom command (inl h) at =
+    one_here (to_place 0 flush) atom command (ap (λ (y : AskedFor). slice_get (route_of_taken y.ring y.what) atom) (sym h.1) ∙ at)
+routed_by x request atom command (inr h) at =
+    one_here (to_place 0 flush) atom command (ap (λ (y : AskedFor). slice_get (route_of_taken y.ring y.what) atom) (sym h.1) ∙ at)
+
+has_entry : (tag : Tag) (place request k : ℕ) (x : Entry) (atom : Atom (List ℕ)) (reply : AReply (List ℕ)) → slice_get turned k ≡ Some x → tag_of 0 request 0 ≡ tag
+    → place ≡ 0 → atom ≡ flush → reply ≡ Flushed → tag_in x ≡ tag_of 0 request 0 → x.reply ≡ spelling_of flush Flushed
+    → HasReply (first_only turned place) tag (spelling_of atom reply)
+has_entry tag place request k x atom reply at is there asked told whose spelled = (
+  k,
+  x,
+  ap (λ (p : ℕ). slice_get (first_only turned p) k) there ∙ at,
+  whose ∙ is,
+  spelled ∙ ap₂ (λ (a : Atom (List ℕ)) (r : AReply (List ℕ)). spelling_of a r) (sym asked) (sym told),
+)
+
+replied_by : (tag : Tag) (place : ℕ) (atom : Atom (List ℕ)) (reply : AReply (List ℕ)) → command_at two_asked tag ≡ Some (to_place place atom)
+    → outcome_at two_asked tag ≡ Some (outcomes.Reply reply) → HasReply (first_only turned place) tag (spelling_of atom reply)
+replied_by tag place atom reply at became =
+    let found = in_request (asked_at two_asked tag.session tag.request) tag.atom (to_place place atom) at in
+    let o = asked_two tag.session tag.request found.0 found.1 in
+    let routed = routed_by found.0 tag.request tag.atom (to_place place atom) o.1 found.2 in
+    let there : place ≡ 0 = ap (λ (c : Routed). c.server) routed.1 in
+    let asked : atom ≡ flush = ap (λ (c : Routed). c.atom) routed.1 in
+    let told : reply ≡ Flushed = ap reply_in (two_outcome tag (outcomes.Reply reply) became) in
+    elim o.1 [
+      | inl h ↦ has_entry tag place 0 1 flushed atom reply refl (tag_is tag 0 o.0 h.0 routed.0) there asked told refl refl
+      | inr h ↦ has_entry tag place 1 0 later atom reply refl (tag_is tag 1 o.0 h.0 routed.0) there asked told refl refl
+    ]
+
+once_by : (j k : ℕ) (d e : Entry) → slice_get turned j ≡ Some d → slice_get turned k ≡ Some e → tag_in d ≡ tag_in e → j ≡ k
+once_by j k d e at also same =
+    let requests : d.request ≡ e.request = ap (λ (t : Tag). t.request) same in
+    elim (two_here later flushed j d at) [
+      | inl h ↦ elim (two_here later flushed k e also) [
+        | inl g ↦ h.0 ∙ sym g.0
+        | inr g ↦ (let one : d.request ≡ 1 = ap (λ (x : Entry). x.request) h.1 in
+            let none : e.request ≡ 0 = ap (λ (x : Entry). x.request) g.1 in
+            absurd (omega (arith, requests, one, none)))
+      ]
+      | inr h ↦ elim (two_here later flushed k e also) [
+        | inl g ↦ (let none : d.request ≡ 0 = ap (λ (x : Entry). x.request) h.1 in
+            let one : e.request ≡ 1 = ap (λ (x : Entry). x.request) g.1 in
+            absurd (omega (arith, requests, one, none)))
+        | inr g ↦ h.0 ∙ sym g.0
+      ]
+    ]
+
+abbrev IsPlacedAt : ℕ → Entry → Type 0
+IsPlacedAt k x = WasTaken (tag_in x) (before (serves 0) k two_log) × NotAnswered (tag_in x) (before (serves 0) k two_log)
+
+placed_by : (k : ℕ) (x : Entry) → slice_get turned k ≡ Some x → IsPlacedAt k x
+placed_by k x at = elim (two_here later flushed k x at) [
+  | inl h ↦ subst (λ (n : ℕ). IsPlacedAt n x) (sym h.0) (subst (λ (e : Entry). IsPlacedAt 0 e) (sym h.1) (omega arith, omega arith))
+  | inr h ↦ subst (λ (n : ℕ). IsPlacedAt n x) (sym h.0) (subst (λ (e : Entry). IsPlacedAt 1 e) (sym h.1) (omega arith, omega arith))
+]
+
+turned_legal : IsLegal two_asked 0 a_cache turned
+turned_legal = (
+  flush,
+  refl,
+  record { legal = λ h. absurd (false≢true h); refused = refl; reply = refl },
+  (flush, refl, record { legal = λ h. absurd (false≢true h); refused = refl; reply = refl }, tt),
+)
+
+two_but : AccountsBut Ordered one_server a_cache two_asked two_text (outs_of two_asked two_log) (first_only turned) two_log
+two_but = record {
+  asked = λ keeps client. text_by (0 == client);
+  turns = λ keeps client. many_by (0 == client);
+  rings = λ keeps. rings_by;
+  sized = λ keeps. All-cons IsSized first_asked (second_asked ∷ []) refl (All-cons IsSized second_asked [] refl (All-nil IsSized));
+  legal = λ keeps place.
+      (elim (0 == place) as (λ v. (0 == place) ≡ v → IsLegal two_asked place a_cache (if v then turned else [])) [
+        | true ↦ λ own. subst (λ (p : ℕ). IsLegal two_asked p a_cache turned) (own_by place own) turned_legal
+        | false ↦ λ other. tt
+      ]) refl;
+  once = λ keeps r s j k d x at also same.
+      let here = first_there turned r j d at in
+      let there = first_there turned s k x also in
+      (sym here.0 ∙ there.0, once_by j k d x here.1 there.1 same);
+  replied = λ keeps. replied_by;
+  lost = λ keeps tag place atom at became. absurd (true≢false (ap is_lost (two_outcome tag outcomes.Lost became)));
+  ordered = λ keeps. absurd (keeps refl);
+  answered = λ keeps client. settled_by (0 == client);
+  put = λ keeps client. refl;
+  few = λ keeps client. few_by (0 == client);
+  moments = λ keeps place. moments_by (0 == place);
+  placed = λ keeps place k x at.
+      let here = first_there turned place k x at in
+      let there = placed_by k x here.1 in (
+        subst (λ (p : ℕ). WasTaken (tag_in x) (before (serves p) k two_log)) here.0 there.0,
+        λ reply became. subst (λ (p : ℕ). NotAnswered (tag_in x) (before (serves p) k two_log)) here.0 there.1,
+      );
+}
+
+pub without_ordered : Allows Ordered (λ ring opening texts outs histories log. (d : Entry) × (e : Entry) × (slice_get (histories 0) 0 ≡ Some d)
+    × (slice_get (histories 0) 1 ≡ Some e) × (d.client ≡ e.client) × WasAnswered (tag_in d) log × WasAnswered (tag_in e) log
+    × (number_of (loses 0) log ≡ 0) × (IsBefore (tag_in d) (tag_in e) → ⊥))
+without_ordered = (
+  one_server,
+  a_cache,
+  two_text,
+  outs_of two_asked two_log,
+  first_only turned,
+  two_log,
+  (two_asked, two_but),
+  (
+    later,
+    flushed,
+    refl,
+    refl,
+    refl,
+    omega arith,
+    omega arith,
+    refl,
+    λ earlier. elim earlier [
+      | inl less ↦ omega (arith, less)
+      | inr same ↦ (let no : 1 ≡ 0 = same.0 in omega (arith, no))
+    ],
+  ),
+)

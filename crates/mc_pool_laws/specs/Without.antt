@@ -1,0 +1,70 @@
+-- An account without one of its clauses: on it is shown what each clause is for. All of it is this project's own.
+use Rattle.std.specs.Prelude.{ℕ, ◌≡◌, ◌≢◌, ◌<◌, ◌≤◌, true, List, ◌++◌, length, map, take, Some, slice_get, All}
+use Rattle.std.specs.List.{list_all}
+use Rattle.mc_request.specs.declared.parts.Atom.{Atom}
+use Rattle.mc_request.specs.declared.parts.Taken.{Taken}
+use Rattle.mc_request.specs.Requests.{requests_of}
+use Rattle.mc_reply.specs.declared.replies.Reply.{Reply as AReply}
+use Rattle.mc_reply.specs.Spelling.{spelling_of}
+use Rattle.mc_ring.specs.Rings.{RingState}
+use Rattle.mc_route.specs.Routes.{to_place}
+use Rattle.mc_route.specs.declared.outcomes.Outcome.TheVariants as outcomes
+use Rattle.mc_link.specs.declared.turns.Tag.{Tag}
+use Rattle.mc_cache.specs.CacheState.{CacheState}
+use Rattle.mc_account.specs.Lookups.{asked_at, command_at, outcome_at}
+use Rattle.mc_account.specs.Orders.{Entry as AskedFor, IsSized, Order, answers_of, entries_of, is_settled, taken_of}
+use Rattle.mc_history.specs.declared.entries.Entry.{Entry}
+use Rattle.mc_history.specs.Histories.{HasReply, IsBefore, IsLegal, tag_in}
+use Rattle.mc_world.specs.Accounts.{IsToldLost, NotAnswered, WasTaken}
+use Rattle.mc_world.specs.Logs.{IsRingAfter, Log, before, moments_of, number_of, puts, serves, takes}
+
+-- the clauses of an account, by their names there
+pub data Clause : Type 0 where
+  Asked : Clause
+  Turns : Clause
+  Rings : Clause
+  Sized : Clause
+  Legal : Clause
+  Once : Clause
+  Replied : Clause
+  Lost : Clause
+  Ordered : Clause
+  Answered : Clause
+  Put : Clause
+  Few : Clause
+  Moments : Clause
+  Placed : Clause
+
+-- the clauses of an account, but for one, as they stand there
+pub record AccountsBut (one : Clause) (ring : RingState) (opening : CacheState) (order : Order) (texts outs : ℕ → List ℕ) (histories : ℕ → List Entry) (log : Log) : Type 0 where
+  pub asked : one ≢ Asked → (client : ℕ) → (untaken : List Taken) × (taken_of client order ++ untaken ≡ requests_of (texts client))
+  pub turns : one ≢ Turns → (client : ℕ) → length (entries_of client order) ≡ number_of (takes client) log
+  pub rings : one ≢ Rings → (client request : ℕ) (e : AskedFor) → asked_at order client request ≡ Some e → IsRingAfter ring (before (takes client) request log) e.ring
+  pub sized : one ≢ Sized → All IsSized order
+  pub legal : one ≢ Legal → (place : ℕ) → IsLegal order place opening (histories place)
+  pub once : one ≢ Once → (r s j k : ℕ) (d e : Entry) → slice_get (histories r) j ≡ Some d → slice_get (histories s) k ≡ Some e → tag_in d ≡ tag_in e
+      → (r ≡ s) × (j ≡ k)
+  pub replied : one ≢ Replied → (tag : Tag) (place : ℕ) (atom : Atom (List ℕ)) (reply : AReply (List ℕ)) → command_at order tag ≡ Some (to_place place atom)
+      → outcome_at order tag ≡ Some (outcomes.Reply reply) → HasReply (histories place) tag (spelling_of atom reply)
+  pub lost : one ≢ Lost → (tag : Tag) (place : ℕ) (atom : Atom (List ℕ)) → command_at order tag ≡ Some (to_place place atom)
+      → outcome_at order tag ≡ Some outcomes.Lost → IsToldLost place tag (histories place) log
+  pub ordered : one ≢ Ordered → (place j k : ℕ) (d e : Entry) (r q : AReply (List ℕ)) → slice_get (histories place) j ≡ Some d
+      → slice_get (histories place) k ≡ Some e → j < k → d.client ≡ e.client → outcome_at order (tag_in d) ≡ Some (outcomes.Reply r)
+      → outcome_at order (tag_in e) ≡ Some (outcomes.Reply q) → IsBefore (tag_in d) (tag_in e)
+  pub answered : one ≢ Answered → (client : ℕ) → list_all is_settled (take (number_of (puts client) log) (entries_of client order)) ≡ true
+  pub put : one ≢ Put → (client : ℕ) → outs client ≡ answers_of (take (number_of (puts client) log) (entries_of client order))
+  pub few : one ≢ Few → (client : ℕ) → number_of (puts client) log ≤ length (entries_of client order)
+  pub moments : one ≢ Moments → (place : ℕ) → map (λ (e : Entry). e.moment) (histories place) ≡ moments_of place log
+  pub placed : one ≢ Placed → (place k : ℕ) (e : Entry) → slice_get (histories place) k ≡ Some e
+      → WasTaken (tag_in e) (before (serves place) k log)
+      × ((reply : AReply (List ℕ)) → outcome_at order (tag_in e) ≡ Some (outcomes.Reply reply) → NotAnswered (tag_in e) (before (serves place) k log))
+
+-- some order is such that all clauses but one hold
+abbrev pub AccountBut : Clause → RingState → CacheState → (ℕ → List ℕ) → (ℕ → List ℕ) → (ℕ → List Entry) → Log → Type 0
+AccountBut one ring opening texts outs histories log = (order : Order) × AccountsBut one ring opening order texts outs histories log
+
+-- there is a run of which all clauses but one hold, and this holds too
+abbrev pub Allows : Clause → (RingState → CacheState → (ℕ → List ℕ) → (ℕ → List ℕ) → (ℕ → List Entry) → Log → Type 0) → Type 0
+Allows one P =
+    (ring : RingState) × (opening : CacheState) × (texts : ℕ → List ℕ) × (outs : ℕ → List ℕ) × (histories : ℕ → List Entry) × (log : Log)
+    × AccountBut one ring opening texts outs histories log × P ring opening texts outs histories log

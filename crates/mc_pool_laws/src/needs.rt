@@ -1,0 +1,55 @@
+//! What each clause of an account is for. The functions do nothing: their contracts are the laws. Each says that there are texts, histories and
+//! a log of which all other clauses hold, and which break a law of this crate.
+ghost use Rattle.std.specs.Prelude.{ℕ, ◌≡◌, ◌≢◌, ◌<◌, ◌↔◌, List, [], Some, length, slice_get};
+ghost use Rattle.mc_request.specs.Requests.{requests_of};
+ghost use Rattle.mc_ring.specs.Rings.{RingState};
+ghost use Rattle.mc_cache.specs.CacheState.{CacheState};
+ghost use Rattle.mc_account.specs.Orders.{Order};
+ghost use Rattle.mc_history.specs.Histories.{IsBefore, tag_in};
+ghost use Rattle.mc_history.specs.declared.entries.Entry.{Entry};
+ghost use Rattle.mc_world.specs.Accounts.{Accounts, WasTaken};
+ghost use Rattle.mc_world.specs.Logs.{Log, before, loses, number_of, puts, serves, takes};
+ghost use Rattle.mc_pool_laws.specs.Sent.{IsReplayed};
+ghost use Rattle.mc_pool_laws.specs.Told.{IsUnaccounted, WasAnswered};
+ghost use Rattle.mc_pool_laws.specs.Without.{AccountsBut, Allows, Answered, Asked, Clause, Few, Legal, Lost, Moments, Once, Ordered, Placed, Put, Replied, Rings, Sized, Turns};
+
+/// The clauses that are left out one by one are those of the account.
+pub fn clauses_are_those_of_the_account()
+    ensures { (ring : RingState) (opening : CacheState) (order : Order) (texts outs : ℕ → List ℕ) (histories : ℕ → List Entry) (log : Log)
+        → Accounts ring opening order texts outs histories log ↔ ((one : Clause) → AccountsBut one ring opening order texts outs histories log) }
+{}
+
+/// Without `asked` or `turns` requests could be taken that no client sent.
+pub fn requests_need_their_clauses()
+    ensures asked { Allows Asked (λ ring opening texts outs histories log. length (requests_of (texts 0)) < number_of (takes 0) log) }
+    ensures turns { Allows Turns (λ ring opening texts outs histories log. length (requests_of (texts 0)) < number_of (takes 0) log) }
+{}
+
+/// Without `few`, `put`, `sized` or `answered` answers could be put out that are answers to nothing, and without `replied` or `lost` answers that
+/// no server gave.
+pub fn answers_need_their_clauses()
+    ensures few { Allows Few (λ ring opening texts outs histories log. number_of (takes 0) log < number_of (puts 0) log) }
+    ensures put { Allows Put (λ ring opening texts outs histories log. (number_of (puts 0) log ≡ 0) × (outs 0 ≢ [])) }
+    ensures sized { Allows Sized (λ ring opening texts outs histories log. IsUnaccounted ring texts histories log) }
+    ensures answered { Allows Answered (λ ring opening texts outs histories log. IsUnaccounted ring texts histories log) }
+    ensures replied { Allows Replied (λ ring opening texts outs histories log. IsUnaccounted ring texts histories log) }
+    ensures lost { Allows Lost (λ ring opening texts outs histories log. IsUnaccounted ring texts histories log) }
+    ensures rings { Allows Rings (λ ring opening texts outs histories log. IsUnaccounted ring texts histories log) }
+{}
+
+/// Without `legal`, `once`, `moments` or `placed` servers could execute what they like, twice, at no turn of theirs, and too early.
+pub fn histories_need_their_clauses()
+    ensures legal { Allows Legal (λ ring opening texts outs histories log. IsReplayed ring texts log 0 opening (histories 0) → ⊥) }
+    ensures once { Allows Once (λ ring opening texts outs histories log. (d : Entry) × (e : Entry) × (slice_get (histories 0) 0 ≡ Some d)
+        × (slice_get (histories 0) 1 ≡ Some e) × (tag_in d ≡ tag_in e)) }
+    ensures moments { Allows Moments (λ ring opening texts outs histories log. length (histories 0) ≢ number_of (serves 0) log) }
+    ensures placed { Allows Placed (λ ring opening texts outs histories log. (e : Entry) × (slice_get (histories 0) 0 ≡ Some e)
+        × (WasTaken (tag_in e) (before (serves 0) 0 log) → ⊥)) }
+{}
+
+/// Without `ordered` a server could execute the commands of a client in another order than it sent them.
+pub fn the_order_needs_its_clause()
+    ensures { Allows Ordered (λ ring opening texts outs histories log. (d : Entry) × (e : Entry) × (slice_get (histories 0) 0 ≡ Some d)
+        × (slice_get (histories 0) 1 ≡ Some e) × (d.client ≡ e.client) × WasAnswered (tag_in d) log × WasAnswered (tag_in e) log
+        × (number_of (loses 0) log ≡ 0) × (IsBefore (tag_in d) (tag_in e) → ⊥)) }
+{}
