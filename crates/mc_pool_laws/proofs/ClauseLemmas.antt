@@ -7,7 +7,7 @@ use Rattle.mc_account.specs.Orders.{Order}
 use Rattle.mc_history.specs.declared.entries.Entry.{Entry}
 use Rattle.mc_world.specs.Accounts.{Accounts}
 use Rattle.mc_world.specs.Logs.{Log}
-use Rattle.mc_pool_laws.specs.Without.{AccountsBut, Answered, Asked, Clause, Few, Legal, Lost, Moments, Once, Ordered, Placed, Put, Replied, Rings, Sized, Turns}
+use Rattle.mc_pool_laws.specs.Without.{AccountsBut, Answered, Asked, Clause, Few, Legal, Lost, Moments, Once, Ordered, Placed, Put, Replied, Rings, Sized, Turns, Unanswered}
 
 abbrev is_asked : Clause → Bool
 is_asked Asked = true
@@ -33,7 +33,8 @@ each_clause ring opening order texts outs histories log = (
     put = λ keeps. h.put;
     few = λ keeps. h.few;
     moments = λ keeps. h.moments;
-    placed = λ keeps. h.placed;
+    placed = λ keeps place k e at. (h.placed place k e at).0;
+    unanswered = λ keeps place k e at. (h.placed place k e at).1;
   },
   λ h. record {
     asked = (h Turns).asked (λ same. others_apart Turns refl (sym same));
@@ -49,6 +50,6 @@ each_clause ring opening order texts outs histories log = (
     put = (h Asked).put (others_apart Put refl);
     few = (h Asked).few (others_apart Few refl);
     moments = (h Asked).moments (others_apart Moments refl);
-    placed = (h Asked).placed (others_apart Placed refl);
+    placed = λ place k e at. ((h Asked).placed (others_apart Placed refl) place k e at, (h Asked).unanswered (others_apart Unanswered refl) place k e at);
   },
 )

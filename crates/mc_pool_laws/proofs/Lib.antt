@@ -6,3 +6,4 @@ pub mod PutLemmas
 pub mod NeedLemmas
 pub mod ClauseLemmas
 pub mod OrderExample
+pub mod LateExample

@@ -72,7 +72,7 @@ flush = atoms.Update (FlushAll (pos 0))
 abbrev pub flush_asked : Taken
 flush_asked = Whole (requests.Update (FlushAll (pos 0)) false)
 
-abbrev flush_text : ℕ → List ℕ
+abbrev pub flush_text : ℕ → List ℕ
 flush_text client = codes "flush_all\r\n"
 
 abbrev no_text : ℕ → List ℕ
@@ -124,7 +124,7 @@ own_by number h = elim (eqb_tells 0 number) [
   | inr other ↦ absurd (false≢true (sym other.0 ∙ h))
 ]
 
-asked_only : (e : AskedFor) (client request : ℕ) (x : AskedFor) → e.session ≡ 0 → asked_at (e ∷ []) client request ≡ Some x → (0 ≡ client) × (request ≡ 0) × (x ≡ e)
+pub asked_only : (e : AskedFor) (client request : ℕ) (x : AskedFor) → e.session ≡ 0 → asked_at (e ∷ []) client request ≡ Some x → (0 ≡ client) × (request ≡ 0) × (x ≡ e)
 asked_only e client request x own at =
     let there = there_by (e.session == client) (e ∷ []) request x at in
     let here = one_here e request x there.1 in
@@ -140,22 +140,22 @@ first_there es place k e at =
     (own_by place there.0, there.1)
 
 -- what the log of one request counts, and what was asked
-asked_text : (client : ℕ) (told : List Outcome) (ring : RingState) → (untaken : List Taken) × (taken_of client (asked_by ring flush_asked told ∷ []) ++ untaken ≡ requests_of (flush_text client))
+pub asked_text : (client : ℕ) (told : List Outcome) (ring : RingState) → (untaken : List Taken) × (taken_of client (asked_by ring flush_asked told ∷ []) ++ untaken ≡ requests_of (flush_text client))
 asked_text client told ring =
     (elim (0 == client) as (λ v. (untaken : List Taken) × (map (λ (e : AskedFor). e.what) (if v then asked_by ring flush_asked told ∷ [] else []) ++ untaken ≡ requests_of (codes "flush_all\r\n"))) [
       | true ↦ ([], sym text_read)
       | false ↦ (requests_of (codes "flush_all\r\n"), refl)
     ])
 
-one_of : {X : Type 0} (v : Bool) (x : X) → length (if v then x ∷ [] else []) ≡ (if v then suc 0 else 0)
+pub one_of : {X : Type 0} (v : Bool) (x : X) → length (if v then x ∷ [] else []) ≡ (if v then suc 0 else 0)
 one_of true x = refl
 one_of false x = refl
 
-settled_of : (v : Bool) (e : AskedFor) → is_settled e ≡ true → list_all is_settled (take (if v then suc 0 else 0) (if v then e ∷ [] else [])) ≡ true
+pub settled_of : (v : Bool) (e : AskedFor) → is_settled e ≡ true → list_all is_settled (take (if v then suc 0 else 0) (if v then e ∷ [] else [])) ≡ true
 settled_of true e known = ap (λ (b : Bool). b && true) known
 settled_of false e known = refl
 
-few_of : {X : Type 0} (v : Bool) (x : X) → (if v then suc 0 else 0) ≤ length (if v then x ∷ [] else [])
+pub few_of : {X : Type 0} (v : Bool) (x : X) → (if v then suc 0 else 0) ≤ length (if v then x ∷ [] else [])
 few_of true x = omega arith
 few_of false x = omega arith
 
@@ -173,7 +173,7 @@ outcome_there e tag q own became =
 no_outcome : (ring : RingState) (what : Taken) (tag : Tag) (q : Outcome) → outcome_at (asked_by ring what [] ∷ []) tag ≡ Some q → ⊥
 no_outcome ring what tag q became = none_there tag.atom q (outcome_there (asked_by ring what []) tag q refl became)
 
-one_outcome : (ring : RingState) (what : Taken) (outcome : Outcome) (tag : Tag) (q : Outcome) → outcome_at (asked_by ring what (outcome ∷ []) ∷ []) tag ≡ Some q → q ≡ outcome
+pub one_outcome : (ring : RingState) (what : Taken) (outcome : Outcome) (tag : Tag) (q : Outcome) → outcome_at (asked_by ring what (outcome ∷ []) ∷ []) tag ≡ Some q → q ≡ outcome
 one_outcome ring what outcome tag q became = (one_here outcome tag.atom q (outcome_there (asked_by ring what (outcome ∷ [])) tag q refl became)).1
 
 abbrev is_reply : Outcome → Bool
@@ -190,7 +190,7 @@ no_reply : (ring : RingState) (what : Taken) (outcome : Outcome) → is_reply ou
     → outcome_at (asked_by ring what (outcome ∷ []) ∷ []) tag ≡ Some (outcomes.Reply reply) → ⊥
 no_reply ring what outcome other tag reply became = true≢false (ap is_reply (one_outcome ring what outcome tag (outcomes.Reply reply) became) ∙ other)
 
-no_loss : (ring : RingState) (what : Taken) (outcome : Outcome) → is_lost outcome ≡ false → (tag : Tag)
+pub no_loss : (ring : RingState) (what : Taken) (outcome : Outcome) → is_lost outcome ≡ false → (tag : Tag)
     → outcome_at (asked_by ring what (outcome ∷ []) ∷ []) tag ≡ Some outcomes.Lost → ⊥
 no_loss ring what outcome other tag became = true≢false (ap is_lost (one_outcome ring what outcome tag outcomes.Lost became) ∙ other)
 
@@ -230,6 +230,7 @@ answered_but one ring by what told texts asked routed sized known replied lost =
       few = λ keeps client. few_of (0 == client) e;
       moments = λ keeps place. refl;
       placed = λ keeps place k x at. absurd (none_there k x at);
+      unanswered = λ keeps place k x at. absurd (none_there k x at);
     }
 
 untold : IsUnaccounted one_server flush_text no_history answered_log
@@ -392,6 +393,7 @@ nothing_but one outs log turns put few answered moments = record {
   few = few;
   moments = moments;
   placed = λ keeps place k x at. absurd (none_there k x at);
+  unanswered = λ keeps place k x at. absurd (none_there k x at);
 }
 
 -- a turn takes nothing
@@ -508,10 +510,9 @@ served_but one es log turns ring legal once none moments placed =
       few = λ keeps client. (let nothing = none client in omega (arith, nothing));
       moments = λ keeps. moments;
       placed = λ keeps place k x at.
-          let here = first_there es place k x at in (
-            subst (λ (p : ℕ). WasTaken (tag_in x) (before (serves p) k log)) here.0 (placed keeps k x here.1),
-            λ reply became. absurd (no_reply one_server flush_asked outcomes.Awaited refl (tag_in x) reply became),
-          );
+          let here = first_there es place k x at in
+          subst (λ (p : ℕ). WasTaken (tag_in x) (before (serves p) k log)) here.0 (placed keeps k x here.1);
+      unanswered = λ keeps place k x at reply became. absurd (no_reply one_server flush_asked outcomes.Awaited refl (tag_in x) reply became);
     }
 
 -- the entry of that command, and one with another reply
@@ -527,10 +528,10 @@ legal_flush s es behind = (flush, refl, record { legal = λ h. absurd (false≢t
 abbrev served_log : Log
 served_log = takes_one ∷ serves_one ∷ []
 
-once_in_one : (x : Entry) (j k : ℕ) (d e : Entry) → slice_get (x ∷ []) j ≡ Some d → slice_get (x ∷ []) k ≡ Some e → j ≡ k
+pub once_in_one : (x : Entry) (j k : ℕ) (d e : Entry) → slice_get (x ∷ []) j ≡ Some d → slice_get (x ∷ []) k ≡ Some e → j ≡ k
 once_in_one x j k d e at also = (one_here x j d at).0 ∙ sym (one_here x k e also).0
 
-moments_one : (v : Bool) (x : Entry) → x.moment ≡ 5 → map (λ (e : Entry). e.moment) (if v then x ∷ [] else []) ≡ (if v then 5 ∷ [] else []) ++ []
+pub moments_one : (v : Bool) (x : Entry) → x.moment ≡ 5 → map (λ (e : Entry). e.moment) (if v then x ∷ [] else []) ≡ (if v then 5 ∷ [] else []) ++ []
 moments_one true x is = ap (λ (m : ℕ). m ∷ []) is
 moments_one false x is = refl
 

@@ -122,12 +122,12 @@ two_outcome tag q became =
     (one_here (outcomes.Reply Flushed) tag.atom q
     (ap (λ (qs : List Outcome). slice_get qs tag.atom) (sym (outcomes_by found.0 tag.request o.1)) ∙ found.2)).1
 
-abbrev reply_in : Outcome → AReply (List ℕ)
+abbrev pub reply_in : Outcome → AReply (List ℕ)
 reply_in (outcomes.Reply reply) = reply
 reply_in outcomes.Lost = Flushed
 reply_in outcomes.Awaited = Flushed
 
-tag_is : (tag : Tag) (request : ℕ) → 0 ≡ tag.session → tag.request ≡ request → tag.atom ≡ 0 → tag_of 0 request 0 ≡ tag
+pub tag_is : (tag : Tag) (request : ℕ) → 0 ≡ tag.session → tag.request ≡ request → tag.atom ≡ 0 → tag_of 0 request 0 ≡ tag
 tag_is tag request s r a = ap (λ (session : ℕ). tag_of session request 0) s ∙ ap₂ (λ (n m : ℕ). tag_of tag.session n m) (sym r) (sym a)
 
 routed_by : (x : AskedFor) (request : ℕ) (atom : ℕ) (command : Routed) → ((request ≡ 0) × (x ≡ first_asked)) ⊎ ((request ≡ 1) × (x ≡ second_asked))
@@ -221,10 +221,10 @@ two_but = record {
   moments = λ keeps place. moments_by (0 == place);
   placed = λ keeps place k x at.
       let here = first_there turned place k x at in
-      let there = placed_by k x here.1 in (
-        subst (λ (p : ℕ). WasTaken (tag_in x) (before (serves p) k two_log)) here.0 there.0,
-        λ reply became. subst (λ (p : ℕ). NotAnswered (tag_in x) (before (serves p) k two_log)) here.0 there.1,
-      );
+      subst (λ (p : ℕ). WasTaken (tag_in x) (before (serves p) k two_log)) here.0 (placed_by k x here.1).0;
+  unanswered = λ keeps place k x at reply became.
+      let here = first_there turned place k x at in
+      subst (λ (p : ℕ). NotAnswered (tag_in x) (before (serves p) k two_log)) here.0 (placed_by k x here.1).1;
 }
 
 pub without_ordered : Allows Ordered (λ ring opening texts outs histories log. (d : Entry) × (e : Entry) × (slice_get (histories 0) 0 ≡ Some d)

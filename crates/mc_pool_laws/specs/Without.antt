@@ -18,7 +18,7 @@ use Rattle.mc_history.specs.Histories.{HasReply, IsBefore, IsLegal, tag_in}
 use Rattle.mc_world.specs.Accounts.{IsToldLost, NotAnswered, WasTaken}
 use Rattle.mc_world.specs.Logs.{IsRingAfter, Log, before, moments_of, number_of, puts, serves, takes}
 
--- the clauses of an account, by their names there
+-- the clauses of an account, by their names there; the second part of `placed` stands by itself
 pub data Clause : Type 0 where
   Asked : Clause
   Turns : Clause
@@ -34,6 +34,7 @@ pub data Clause : Type 0 where
   Few : Clause
   Moments : Clause
   Placed : Clause
+  Unanswered : Clause
 
 -- the clauses of an account, but for one, as they stand there
 pub record AccountsBut (one : Clause) (ring : RingState) (opening : CacheState) (order : Order) (texts outs : ℕ → List ℕ) (histories : ℕ → List Entry) (log : Log) : Type 0 where
@@ -55,9 +56,9 @@ pub record AccountsBut (one : Clause) (ring : RingState) (opening : CacheState) 
   pub put : one ≢ Put → (client : ℕ) → outs client ≡ answers_of (take (number_of (puts client) log) (entries_of client order))
   pub few : one ≢ Few → (client : ℕ) → number_of (puts client) log ≤ length (entries_of client order)
   pub moments : one ≢ Moments → (place : ℕ) → map (λ (e : Entry). e.moment) (histories place) ≡ moments_of place log
-  pub placed : one ≢ Placed → (place k : ℕ) (e : Entry) → slice_get (histories place) k ≡ Some e
-      → WasTaken (tag_in e) (before (serves place) k log)
-      × ((reply : AReply (List ℕ)) → outcome_at order (tag_in e) ≡ Some (outcomes.Reply reply) → NotAnswered (tag_in e) (before (serves place) k log))
+  pub placed : one ≢ Placed → (place k : ℕ) (e : Entry) → slice_get (histories place) k ≡ Some e → WasTaken (tag_in e) (before (serves place) k log)
+  pub unanswered : one ≢ Unanswered → (place k : ℕ) (e : Entry) → slice_get (histories place) k ≡ Some e → (reply : AReply (List ℕ))
+      → outcome_at order (tag_in e) ≡ Some (outcomes.Reply reply) → NotAnswered (tag_in e) (before (serves place) k log)
 
 -- some order is such that all clauses but one hold
 abbrev pub AccountBut : Clause → RingState → CacheState → (ℕ → List ℕ) → (ℕ → List ℕ) → (ℕ → List Entry) → Log → Type 0

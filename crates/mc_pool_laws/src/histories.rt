@@ -16,14 +16,14 @@ pub fn histories_have_their_turns()
         → Account ring opening texts outs histories log → (place : ℕ) → map (λ (e : Entry). e.moment) (histories place) ≡ moments_of place log }
 {}
 
-/// A cache that begins as the server did replays its history: each entry is of a command that its client sent, and that went to this server
-/// by the ring of the moment at which its request was taken. It has the reply that the cache gives there.
+/// A cache that begins as the server's did replays its history. Each entry is of a command of its client's text, which goes to this server by
+/// the ring of the moment at which its request was taken. Its reply is the one that the cache gives there.
 pub fn histories_are_replayed()
     ensures { (ring : RingState) (opening : CacheState) (texts outs : ℕ → List ℕ) (histories : ℕ → List Entry) (log : Log)
         → Account ring opening texts outs histories log → (place : ℕ) → IsReplayed ring texts log place opening (histories place) }
 {}
 
-/// No command is executed twice: in no two servers, and at no two turns.
+/// No command is executed twice, be it in two servers or at two turns of one.
 pub fn commands_are_executed_once()
     ensures { (ring : RingState) (opening : CacheState) (texts outs : ℕ → List ℕ) (histories : ℕ → List Entry) (log : Log)
         → Account ring opening texts outs histories log → (r s j k : ℕ) (d e : Entry) → slice_get (histories r) j ≡ Some d

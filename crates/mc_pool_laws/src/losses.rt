@@ -11,7 +11,7 @@ ghost use Rattle.mc_world.specs.Logs.{Log, before, loses, number_of, serves};
 ghost use Rattle.mc_pool_laws.specs.Sent.{IsSent};
 ghost use Rattle.mc_pool_laws.specs.Told.{HasEntry, HasOneEntry, LinkHeld, WasAnswered};
 
-/// Each command of an answered request was executed by its server, or was lost: its link was down when its request was taken, and it was
+/// Each command of an answered request was executed by its server, or was lost. Then its link was down when its request was taken, and it was
 /// never executed; or its link was lost between then and the answer.
 pub fn answered_commands_are_executed_or_lost()
     ensures { (ring : RingState) (opening : CacheState) (texts outs : ℕ → List ℕ) (histories : ℕ → List Entry) (log : Log)
@@ -19,14 +19,15 @@ pub fn answered_commands_are_executed_or_lost()
         → HasEntry (histories command.server) tag ⊎ IsToldLost command.server tag (histories command.server) log }
 {}
 
-/// Where a server's link is never lost, each command of an answered request that went to it was executed there, exactly once, and nowhere else.
+/// A server's link is never lost. Then each command of an answered request that goes to that server was executed there, exactly once, and
+/// nowhere else.
 pub fn without_losses_each_command_is_executed_once()
     ensures { (ring : RingState) (opening : CacheState) (texts outs : ℕ → List ℕ) (histories : ℕ → List Entry) (log : Log)
         → Account ring opening texts outs histories log → (tag : Tag) (command : Routed) → IsSent ring texts log tag command → WasAnswered tag log
         → number_of (loses command.server) log ≡ 0 → HasOneEntry histories command.server tag }
 {}
 
-/// A server executes the commands of one client in the order in which that sent them, as far as they are answered and their link held.
+/// A server executes the commands of one client in its order, as far as they are answered and their links held.
 pub fn clients_keep_their_order()
     ensures { (ring : RingState) (opening : CacheState) (texts outs : ℕ → List ℕ) (histories : ℕ → List Entry) (log : Log)
         → Account ring opening texts outs histories log → (place j k : ℕ) (d e : Entry) → slice_get (histories place) j ≡ Some d

@@ -1,5 +1,5 @@
-//! What each clause of an account is for. The functions do nothing: their contracts are the laws. Each says that there are texts, histories and
-//! a log of which all other clauses hold, and which break a law of this crate.
+//! What each clause of an account is for. The functions do nothing: their contracts are the laws. Each says that there are texts, histories
+//! and a log of which all clauses but one hold, and which break a law of this crate.
 ghost use Rattle.std.specs.Prelude.{ℕ, ◌≡◌, ◌≢◌, ◌<◌, ◌↔◌, List, [], Some, length, slice_get};
 ghost use Rattle.mc_request.specs.Requests.{requests_of};
 ghost use Rattle.mc_ring.specs.Rings.{RingState};
@@ -7,11 +7,11 @@ ghost use Rattle.mc_cache.specs.CacheState.{CacheState};
 ghost use Rattle.mc_account.specs.Orders.{Order};
 ghost use Rattle.mc_history.specs.Histories.{IsBefore, tag_in};
 ghost use Rattle.mc_history.specs.declared.entries.Entry.{Entry};
-ghost use Rattle.mc_world.specs.Accounts.{Accounts, WasTaken};
+ghost use Rattle.mc_world.specs.Accounts.{Accounts, NotAnswered, WasTaken};
 ghost use Rattle.mc_world.specs.Logs.{Log, before, loses, number_of, puts, serves, takes};
 ghost use Rattle.mc_pool_laws.specs.Sent.{IsReplayed};
-ghost use Rattle.mc_pool_laws.specs.Told.{IsUnaccounted, WasAnswered};
-ghost use Rattle.mc_pool_laws.specs.Without.{AccountsBut, Allows, Answered, Asked, Clause, Few, Legal, Lost, Moments, Once, Ordered, Placed, Put, Replied, Rings, Sized, Turns};
+ghost use Rattle.mc_pool_laws.specs.Told.{IsUnaccounted, LinkHeld, WasAnswered};
+ghost use Rattle.mc_pool_laws.specs.Without.{AccountsBut, Allows, Answered, Asked, Clause, Few, Legal, Lost, Moments, Once, Ordered, Placed, Put, Replied, Rings, Sized, Turns, Unanswered};
 
 /// The clauses that are left out one by one are those of the account.
 pub fn clauses_are_those_of_the_account()
@@ -25,8 +25,8 @@ pub fn requests_need_their_clauses()
     ensures turns { Allows Turns (λ ring opening texts outs histories log. length (requests_of (texts 0)) < number_of (takes 0) log) }
 {}
 
-/// Without `few`, `put`, `sized` or `answered` answers could be put out that are answers to nothing, and without `replied` or `lost` answers that
-/// no server gave.
+/// Without `few` or `put` there could be answers where nothing was taken, or bytes that are no answer. Without `sized`, `answered`,
+/// `replied`, `lost` or `rings` a request could be answered whose command no server has executed, and which no loss explains.
 pub fn answers_need_their_clauses()
     ensures few { Allows Few (λ ring opening texts outs histories log. number_of (takes 0) log < number_of (puts 0) log) }
     ensures put { Allows Put (λ ring opening texts outs histories log. (number_of (puts 0) log ≡ 0) × (outs 0 ≢ [])) }
@@ -37,7 +37,8 @@ pub fn answers_need_their_clauses()
     ensures rings { Allows Rings (λ ring opening texts outs histories log. IsUnaccounted ring texts histories log) }
 {}
 
-/// Without `legal`, `once`, `moments` or `placed` servers could execute what they like, twice, at no turn of theirs, and too early.
+/// Without `legal` a server could answer what no cache does, without `once` it could execute a command twice, and without `moments` have a turn
+/// without an entry. Without `placed` it could execute a command before it was taken, or after it was answered by its reply.
 pub fn histories_need_their_clauses()
     ensures legal { Allows Legal (λ ring opening texts outs histories log. IsReplayed ring texts log 0 opening (histories 0) → ⊥) }
     ensures once { Allows Once (λ ring opening texts outs histories log. (d : Entry) × (e : Entry) × (slice_get (histories 0) 0 ≡ Some d)
@@ -45,6 +46,8 @@ pub fn histories_need_their_clauses()
     ensures moments { Allows Moments (λ ring opening texts outs histories log. length (histories 0) ≢ number_of (serves 0) log) }
     ensures placed { Allows Placed (λ ring opening texts outs histories log. (e : Entry) × (slice_get (histories 0) 0 ≡ Some e)
         × (WasTaken (tag_in e) (before (serves 0) 0 log) → ⊥)) }
+    ensures unanswered { Allows Unanswered (λ ring opening texts outs histories log. (e : Entry) × (slice_get (histories 0) 0 ≡ Some e)
+        × LinkHeld 0 (tag_in e) log × (NotAnswered (tag_in e) (before (serves 0) 0 log) → ⊥)) }
 {}
 
 /// Without `ordered` a server could execute the commands of a client in another order than it sent them.

@@ -9,7 +9,8 @@ ghost use Rattle.mc_world.specs.Accounts.{Account};
 ghost use Rattle.mc_world.specs.Logs.{IsRingAfter, Log, number_of, takes};
 ghost use Rattle.mc_pool_laws.specs.Sent.{IsTaken};
 
-/// A request is taken only where its client sent it whole, by the ring of that moment.
+/// A request is taken only where its client sent it whole. It is the one of its number in the client's text, and there is a ring of that
+/// moment.
 pub fn requests_are_taken_as_sent()
     ensures few { (ring : RingState) (opening : CacheState) (texts outs : ℕ → List ℕ) (histories : ℕ → List Entry) (log : Log)
         → Account ring opening texts outs histories log → (client : ℕ) → number_of (takes client) log ≤ length (requests_of (texts client)) }
@@ -18,7 +19,7 @@ pub fn requests_are_taken_as_sent()
         → (what : Taken) × (now : RingState) × IsTaken ring texts log client request what now }
 {}
 
-/// A log leaves one ring: by it is known where each command went.
+/// A log leaves one ring. So it is known where each command goes.
 pub fn rings_are_one()
     ensures { (ring a b : RingState) (log : Log) → IsRingAfter ring log a → IsRingAfter ring log b → a ≡ b }
 {}
