@@ -1,5 +1,5 @@
 -- Commands whose links are lost, or hold.
-use Rattle.std.proofs.Common.{◌≡◌, ◌∙◌, ⊎_elim, ℕ, suc, ◌<◌, ◌≤◌, ◌==◌, ◌⊎◌, inl, inr, Bool, true, false, if◌then◌else◌, List, [], ◌∷◌, Some, slice_get, refl, sym, ap, arith}
+use Rattle.std.proofs.Common.{◌≡◌, ◌∙◌, ⊎_elim, ℕ, suc, ◌<◌, ◌==◌, ◌⊎◌, inl, inr, Bool, true, false, if◌then◌else◌, List, [], ◌∷◌, Some, slice_get, refl, sym, ap, arith}
 use Rattle.std.proofs.lemmas.Bool.{cases_lt, true≢false}
 use Rattle.mc_reply.specs.declared.replies.Reply.{Reply as AReply}
 use Rattle.mc_ring.specs.Rings.{RingState}
@@ -9,12 +9,12 @@ use Rattle.mc_route.specs.declared.outcomes.Outcome.TheVariants.{Awaited, Lost, 
 use Rattle.mc_route.specs.declared.routes.Routed.{Routed}
 use Rattle.mc_link.specs.declared.turns.Tag.{Tag}
 use Rattle.mc_cache.specs.CacheState.{CacheState}
-use Rattle.mc_account.specs.Lookups.{command_at, outcome_at}
+use Rattle.mc_account.specs.Lookups.{outcome_at}
 use Rattle.mc_account.specs.Orders.{Order}
 use Rattle.mc_history.specs.declared.entries.Entry.{Entry}
 use Rattle.mc_history.specs.Histories.{IsBefore, tag_in}
 use Rattle.mc_world.specs.Accounts.{Accounts, IsToldLost, NotAnswered}
-use Rattle.mc_world.specs.Logs.{Log, before, is_up, loses, number_of, puts, serves, takes, up_by, up_from}
+use Rattle.mc_world.specs.Logs.{Log, before, loses, number_of, puts, serves, takes, up_by, up_from}
 use Rattle.mc_world.specs.declared.events.Event.TheVariants.{LinkBack, LinkLost}
 use Rattle.mc_world.specs.declared.events.Logged.{Logged}
 use Rattle.mc_world.specs.declared.events.Logged.TheVariants.{Happened}

@@ -1,6 +1,6 @@
 -- Runs of which all clauses of an account hold but one.
-use Rattle.std.proofs.Common.{◌≡◌, ◌≢◌, ◌∙◌, ◌&&◌, ⊎_elim, ℕ, zero, suc, ◌<◌, ◌≤◌, ◌==◌, ◌⊎◌, inl, inr, Bool, true, false, if◌then◌else◌, List, [], ◌∷◌, ◌++◌, length, map, take, Option, None, Some, slice_get, refl, sym, ap, subst, pos, arith}
-use Rattle.std.specs.Prelude.{All, codes}
+use Rattle.std.proofs.Common.{◌≡◌, ◌≢◌, ◌∙◌, ◌&&◌, ℕ, zero, suc, ◌<◌, ◌≤◌, ◌==◌, inl, inr, Bool, true, false, if◌then◌else◌, List, [], ◌∷◌, ◌++◌, length, map, take, Option, None, Some, slice_get, refl, sym, ap, subst, pos, arith}
+use Rattle.std.specs.Prelude.{codes}
 use Rattle.std.specs.List.{list_all}
 use Rattle.std.proofs.lemmas.Bool.{false≢true, true≢false}
 use Rattle.std.proofs.lemmas.Bool.Decides.{eqb_tells}
@@ -21,28 +21,26 @@ use Rattle.mc_reply.specs.Spelling.{spelling_of}
 use Rattle.mc_reply.specs.declared.replies.Reply.{Reply as AReply}
 use Rattle.mc_reply.specs.declared.replies.Reply.TheVariants.{Flushed}
 use Rattle.mc_ring.specs.Rings.{RingState}
-use Rattle.mc_ring.specs.declared.points.Point.{Point}
 use Rattle.mc_route.specs.Routes.{route_of_taken, to_place}
 use Rattle.mc_route.specs.declared.outcomes.Outcome.{Outcome}
 use Rattle.mc_route.specs.declared.outcomes.Outcome.TheVariants as outcomes
 use Rattle.mc_route.specs.declared.routes.Routed.{Routed}
 use Rattle.mc_link.specs.declared.turns.Tag.{Tag}
-use Rattle.mc_session.specs.Emits.{is_told}
 use Rattle.mc_session.specs.Sending.{tag_of}
 use Rattle.mc_cache.specs.CacheState.{CacheState, opening_cache}
 use Rattle.mc_cache.specs.Step.{step_of}
-use Rattle.mc_account.specs.Lookups.{asked_at, command_at, command_in, outcome_at, outcome_in}
+use Rattle.mc_account.specs.Lookups.{asked_at, command_at, outcome_at, outcome_in}
 use Rattle.mc_account.specs.Orders.{Entry as AskedFor, IsSized, Order, answers_of, entries_of, is_settled, taken_of}
 use Rattle.mc_history.specs.declared.entries.Entry.{Entry}
-use Rattle.mc_history.specs.Histories.{HasReply, IsLegal, tag_in}
-use Rattle.mc_world.specs.Accounts.{Accounts, IsToldLost, NotAnswered, WasTaken}
-use Rattle.mc_world.specs.Logs.{IsRingAfter, Log, before, loses, moment_of, moments_of, number_of, puts, serves, takes}
+use Rattle.mc_history.specs.Histories.{IsLegal, tag_in}
+use Rattle.mc_world.specs.Accounts.{WasTaken}
+use Rattle.mc_world.specs.Logs.{IsRingAfter, Log, before, moments_of, number_of, puts, serves, takes}
 use Rattle.mc_world.specs.declared.events.Event.TheVariants.{Emit, ProxyTurn, ServerTurn}
 use Rattle.mc_world.specs.declared.events.Logged.{Logged}
 use Rattle.mc_world.specs.declared.events.Logged.TheVariants.{Happened}
-use Rattle.mc_pool_laws.specs.Sent.{IsReplayed, IsSent}
-use Rattle.mc_pool_laws.specs.Told.{HasEntry, IsUnaccounted}
-use Rattle.mc_pool_laws.specs.Without.{AccountsBut, Allows, Answered, Asked, Clause, Few, Legal, Lost, Moments, Once, Ordered, Placed, Put, Replied, Rings, Sized, Turns}
+use Rattle.mc_pool_laws.specs.Sent.{IsReplayed}
+use Rattle.mc_pool_laws.specs.Told.{IsUnaccounted}
+use Rattle.mc_pool_laws.specs.Without.{AccountsBut, Allows, Answered, Asked, Clause, Few, Legal, Lost, Moments, Once, Placed, Put, Replied, Rings, Sized, Turns}
 use Rattle.mc_pool_laws.proofs.SentLemmas.{in_request}
 
 -- what is done in the examples: a request of client 0 is taken, server 0 takes one, an answer of client 0 is put out

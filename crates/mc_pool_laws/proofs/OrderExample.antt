@@ -1,5 +1,5 @@
 -- A run of which all clauses of an account hold but the one of the order: two requests of a client are executed the other way round.
-use Rattle.std.proofs.Common.{◌≡◌, ◌≢◌, ◌∙◌, ◌==◌, ℕ, zero, suc, ◌<◌, ◌≤◌, ◌⊎◌, inl, inr, Bool, true, false, if◌then◌else◌, List, [], ◌∷◌, ◌++◌, length, map, take, Some, slice_get, refl, sym, ap, ap₂, subst, arith}
+use Rattle.std.proofs.Common.{◌≡◌, ◌∙◌, ◌==◌, ℕ, zero, suc, ◌≤◌, ◌⊎◌, inl, inr, Bool, true, false, if◌then◌else◌, List, [], ◌∷◌, ◌++◌, length, map, take, Some, slice_get, refl, sym, ap, ap₂, subst, arith}
 use Rattle.std.specs.Prelude.{codes}
 use Rattle.std.specs.List.{list_all}
 use Rattle.std.proofs.lemmas.Bool.{false≢true, true≢false}
@@ -14,21 +14,18 @@ use Rattle.mc_request.specs.declared.parts.Taken.{Taken}
 use Rattle.mc_reply.specs.Spelling.{spelling_of}
 use Rattle.mc_reply.specs.declared.replies.Reply.{Reply as AReply}
 use Rattle.mc_reply.specs.declared.replies.Reply.TheVariants.{Flushed}
-use Rattle.mc_ring.specs.Rings.{RingState}
 use Rattle.mc_route.specs.Routes.{route_of_taken, to_place}
 use Rattle.mc_route.specs.declared.outcomes.Outcome.{Outcome}
 use Rattle.mc_route.specs.declared.outcomes.Outcome.TheVariants as outcomes
 use Rattle.mc_route.specs.declared.routes.Routed.{Routed}
 use Rattle.mc_link.specs.declared.turns.Tag.{Tag}
 use Rattle.mc_session.specs.Sending.{tag_of}
-use Rattle.mc_cache.specs.CacheState.{CacheState}
-use Rattle.mc_cache.specs.Step.{step_of}
 use Rattle.mc_account.specs.Lookups.{asked_at, command_at, outcome_at}
-use Rattle.mc_account.specs.Orders.{Entry as AskedFor, IsSized, Order, entries_of, is_settled, taken_of}
+use Rattle.mc_account.specs.Orders.{Entry as AskedFor, IsSized, Order, is_settled}
 use Rattle.mc_history.specs.declared.entries.Entry.{Entry}
 use Rattle.mc_history.specs.Histories.{HasReply, IsBefore, IsLegal, tag_in}
 use Rattle.mc_world.specs.Accounts.{NotAnswered, WasTaken}
-use Rattle.mc_world.specs.Logs.{IsRingAfter, Log, before, loses, moments_of, number_of, puts, serves, takes}
+use Rattle.mc_world.specs.Logs.{IsRingAfter, Log, before, loses, number_of, serves, takes}
 use Rattle.mc_pool_laws.specs.Told.{WasAnswered}
 use Rattle.mc_pool_laws.specs.Without.{AccountsBut, Allows, Ordered}
 use Rattle.mc_pool_laws.proofs.SentLemmas.{in_request}

@@ -1,4 +1,4 @@
-use Rattle.std.proofs.Common.{◌≡◌, ◌∙◌, ℕ, List, length, map, sym, ap}
+use Rattle.std.proofs.Common.{◌∙◌, ℕ, List, length, sym, ap}
 use Rattle.std.proofs.lemmas.List.{length-map}
 use Rattle.mc_history.specs.declared.entries.Entry.{Entry}
 use Rattle.mc_world.proofs.LogLemmas.{moments-count}
