@@ -14,8 +14,8 @@ pub fn answers_follow_requests()
         → Account ring opening texts outs histories log → (client : ℕ) → number_of (puts client) log ≤ number_of (takes client) log }
 {}
 
-/// What is put out to a client is one answer for each put of the log, to its first requests, in their order. Each is the answer by the
-/// replies that the servers' histories have of its commands, or says that one was lost, which the log then shows.
+/// What is put out to a client is one answer for each put of the log, to its first requests, in their order. Each is the answer by replies
+/// to its commands whose spellings the servers' histories have. Or it says that one was lost, which the log then shows.
 pub fn answers_are_those_of_the_histories()
     ensures { (ring : RingState) (opening : CacheState) (texts outs : ℕ → List ℕ) (histories : ℕ → List Entry) (log : Log)
         → Account ring opening texts outs histories log → (client : ℕ)
