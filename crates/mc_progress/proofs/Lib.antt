@@ -1,0 +1,3 @@
+pub mod LinkLemmas
+pub mod SessionLemmas
+pub mod QuietLemmas
