@@ -1,0 +1,3 @@
+pub mod OwnerLemmas
+pub mod MergeLemmas
+pub mod OneMapLemmas

@@ -1,0 +1,67 @@
+-- What all servers executed, in one order: that of their turns in the log. All of it is this project's own.
+use Rattle.std.specs.Prelude.{ℕ, ◌==◌, List, [], ◌∷◌, ◌++◌, drop, if◌then◌else◌, Option, Some, None}
+use Rattle.std.specs.Option.{option_map}
+use Rattle.mc_reply.specs.declared.replies.Reply.{Reply}
+use Rattle.mc_reply.specs.Spelling.{spelling_of}
+use Rattle.mc_route.specs.declared.routes.Routed.{Routed}
+use Rattle.mc_cache.specs.Replay.{Command}
+use Rattle.mc_cache_laws.specs.Pools.{Executed}
+use Rattle.mc_account.specs.Lookups.{command_at}
+use Rattle.mc_account.specs.Orders.{Order}
+use Rattle.mc_history.specs.declared.entries.Entry.{Entry}
+use Rattle.mc_history.specs.Histories.{tag_in}
+use Rattle.mc_world.specs.declared.events.Event.TheVariants.{ServerTurn}
+use Rattle.mc_world.specs.declared.events.Logged.{Logged}
+use Rattle.mc_world.specs.declared.events.Logged.TheVariants.{Happened}
+use Rattle.mc_world.specs.Logs.{Log}
+
+-- a command as an entry tells of it: its moment, and whether memory was refused to it
+abbrev pub told_in : Entry → Routed → Command
+told_in e command = record { atom = command.atom; moment = e.moment; refused = e.refused }
+
+-- the command of an entry, by the order: there is none where the order has none of this tag
+abbrev pub command_of : Order → Entry → Option Command
+command_of order e = option_map (told_in e) (command_at order (tag_in e))
+
+-- one command more, if there is one
+abbrev pub with_command : Option Command → List Command → List Command
+with_command None commands = commands
+with_command (Some command) commands = command ∷ commands
+
+-- the commands of a history
+abbrev pub commands_of : Order → List Entry → List Command
+commands_of order [] = []
+commands_of order (e ∷ es) = with_command (command_of order e) (commands_of order es)
+
+-- the places of the servers that took a request, one for each turn, in the order of the log
+abbrev pub turn_of : Logged → List ℕ
+turn_of (Happened (ServerTurn server generation moment)) = server ∷ []
+turn_of other = []
+
+abbrev pub turns_of : Log → List ℕ
+turns_of [] = []
+turns_of (e ∷ es) = turn_of e ++ turns_of es
+
+-- the first of these commands, executed by the server of a place
+abbrev pub first_at : ℕ → List Command → List Executed
+first_at place [] = []
+first_at place (command ∷ commands) = record { place = place; command = command } ∷ []
+
+-- the commands that each server has yet to execute, after a turn of this one
+abbrev pub after_turn : ℕ → (ℕ → List Command) → ℕ → List Command
+after_turn place commands other = if place == other then drop 1 (commands other) else commands other
+
+-- the commands of all servers in one order: at each turn the next one of its server
+abbrev pub merged : (ℕ → List Command) → List ℕ → List Executed
+merged commands [] = []
+merged commands (place ∷ places) = first_at place (commands place) ++ merged (after_turn place commands) places
+
+-- what all servers executed: at each turn of the log the command of the next entry in its server's history
+abbrev pub executed : Order → (ℕ → List Entry) → Log → List Executed
+executed order histories log = merged (λ place. commands_of order (histories place)) (turns_of log)
+
+-- how the replies to commands are spelled, one for each
+abbrev pub told_by : List Command → List (Reply (List ℕ)) → List (List ℕ)
+told_by [] replies = []
+told_by (command ∷ commands) [] = []
+told_by (command ∷ commands) (reply ∷ replies) = spelling_of command.atom reply ∷ told_by commands replies

@@ -1,0 +1,9 @@
+//! A pool is one map: the commands of all servers, in the order of their turns, are answered as by one map.
+//!
+//! No program uses this crate. Its functions do nothing: their contracts are the laws. `specs/Executions.antt` says in which order all
+//! servers executed their commands, and `specs/OneMaps.antt` what a plain run is, and what one map says of it.
+#![tactic(auto)]
+
+mod laws;
+
+pub use laws::accounts_are_of_one_map;
