@@ -17,9 +17,11 @@ use Rattle.mc_history.specs.declared.entries.Entry.{Entry}
 use Rattle.mc_history.specs.Histories.{IsLegal, tag_in}
 use Rattle.mc_world.specs.Accounts.{Accounts}
 use Rattle.mc_world.specs.Logs.{Log, number_of}
+use Rattle.mc_world.specs.Steps.{GivesAccount}
+use Rattle.mc_world.specs.Worlds.{WorldState, history_of, put_out_of, text_of}
 use Rattle.mc_world.proofs.LogLemmas.{moments-count}
 use Rattle.mc_one_map.specs.Executions.{commands_of, executed, told_by, told_in, turns_of, with_command}
-use Rattle.mc_one_map.specs.OneMaps.{AreOfOneMap, IsPlainRun, joins}
+use Rattle.mc_one_map.specs.OneMaps.{ActsAsOneMap, AreOfOneMap, IsPlainRun, joins}
 use Rattle.mc_one_map.proofs.MergeLemmas.{AreOwned, HaveTurns, merged-own, merged-owned, turns-count}
 use Rattle.mc_one_map.proofs.OwnerLemmas.{command_own}
 
@@ -87,3 +89,11 @@ one_map ring budget items order texts outs histories log bounds h run =
           ∙ ap (λ (rs : List (Reply (List ℕ))). told_by (commands_of order (histories place)) rs)
           (ap (λ (cs : List Command). replies opening cs) (sym (all place)) ∙ act.at_servers place);
     }
+
+-- so it is of a world that gives account
+pub one_map_of : (w : WorldState) → IsWithinBounds w.budget w.items → GivesAccount w → ActsAsOneMap w
+one_map_of w bounds account = record {
+  order = account.0;
+  account = account.1;
+  one_map = one_map w.opening w.budget w.items account.0 (text_of w.course) (put_out_of w.course) (history_of w.course) w.course.log bounds account.1;
+}

@@ -1,2 +1,3 @@
 pub mod Executions
 pub mod OneMaps
+pub mod MergeExamples

@@ -5,5 +5,9 @@
 #![tactic(auto)]
 
 mod laws;
+mod rows;
+mod world_laws;
 
 pub use laws::accounts_are_of_one_map;
+pub use rows::{commands_are_merged_by_turns, replies_are_told};
+pub use world_laws::worlds_act_as_one_map;

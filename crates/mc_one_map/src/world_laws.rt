@@ -1,0 +1,14 @@
+//! The law of worlds. The function does nothing: its contract is the law.
+ghost use Rattle.mc_one_map.specs.OneMaps.{ActsAsOneMap};
+
+use mc_store::Store;
+use mc_world::World;
+
+/// Each world, over stores of any kind, gives account by an order. Where its run is plain by that order, the histories of all its servers
+/// are those of one map.
+pub fn worlds_act_as_one_map<S: Store + Drop>(world: &World<S>)
+    ensures { ActsAsOneMap world.now }
+{
+    world.gives_account();
+    world.has_bounds();
+}
