@@ -2,13 +2,15 @@
 use Rattle.std.proofs.Common.{◌≡◌, ◌∙◌, ℕ, suc, List, [], ◌∷◌, length, map, Option, Some, refl, sym, ap, ap₂, subst}
 use Rattle.std.specs.Option.{option_map}
 use Rattle.std.proofs.lemmas.List.{length-map}
+use Rattle.mc_request.specs.declared.parts.Atom.{Atom}
 use Rattle.mc_reply.specs.declared.replies.Reply.{Reply}
 use Rattle.mc_ring.specs.Rings.{RingState}
 use Rattle.mc_route.specs.Routes.{owner_in, to_place}
 use Rattle.mc_route.specs.declared.routes.Routed.{Routed}
+use Rattle.mc_link.specs.declared.turns.Tag.{Tag}
 use Rattle.mc_cache.specs.CacheState.{CacheState, IsWithinBounds, opening_cache}
 use Rattle.mc_cache.specs.Replay.{Command, replies}
-use Rattle.mc_cache.specs.Step.{step_of}
+use Rattle.mc_cache.specs.Step.{atom_key, step_of}
 use Rattle.mc_cache_laws.specs.Pools.{ActAsMap, ArePlainSteps, Caches, Executed, StepPlainly, commands_at, empty_map, opening_caches}
 use Rattle.mc_cache_laws.proofs.OneMapLemmas.{act_as_map, opening_are_map, opening_are_unflushed}
 use Rattle.mc_account.specs.Lookups.{command_at}
@@ -16,67 +18,73 @@ use Rattle.mc_account.specs.Orders.{Order}
 use Rattle.mc_history.specs.declared.entries.Entry.{Entry}
 use Rattle.mc_history.specs.Histories.{IsLegal, tag_in}
 use Rattle.mc_world.specs.Accounts.{Accounts}
-use Rattle.mc_world.specs.Logs.{Log, number_of}
+use Rattle.mc_world.specs.Logs.{Log}
 use Rattle.mc_world.specs.Steps.{GivesAccount}
 use Rattle.mc_world.specs.Worlds.{WorldState, history_of, put_out_of, text_of}
 use Rattle.mc_world.proofs.LogLemmas.{moments-count}
-use Rattle.mc_one_map.specs.Executions.{commands_of, executed, told_by, told_in, turns_of, with_command}
-use Rattle.mc_one_map.specs.OneMaps.{ActsAsOneMap, AreOfOneMap, IsPlainRun, joins}
+use Rattle.mc_one_map.specs.Executions.{LookUp, commands_of, executed, sent_at, told_by, told_in, turns_of, with_command}
+use Rattle.mc_one_map.specs.OneMaps.{ActsAsOneMap, ArePlainlyOfOneMap}
 use Rattle.mc_one_map.proofs.MergeLemmas.{AreOwned, HaveTurns, merged-own, merged-owned, turns-count}
-use Rattle.mc_one_map.proofs.OwnerLemmas.{command_own}
+use Rattle.mc_one_map.proofs.OwnerLemmas.{command_is_sent, command_own}
+
+-- what the order has of a command is found
+abbrev Finds : LookUp → Order → Type 0
+Finds look order = (tag : Tag) (command : Routed) → command_at order tag ≡ Some command → look tag ≡ Some command
 
 -- the commands of a history whose first entry is of a command of the order
-commands-first : (order : Order) (e : Entry) (es : List Entry) (command : Routed) → command_at order (tag_in e) ≡ Some command
-    → commands_of order (e ∷ es) ≡ told_in e command ∷ commands_of order es
-commands-first order e es command at = ap (λ (o : Option Routed). with_command (option_map (told_in e) o) (commands_of order es)) at
+commands-first : (look : LookUp) (order : Order) → Finds look order → (e : Entry) (es : List Entry) (command : Routed) → command_at order (tag_in e) ≡ Some command
+    → commands_of look (e ∷ es) ≡ told_in e command ∷ commands_of look es
+commands-first look order finds e es command at =
+    ap (λ (o : Option Routed). with_command (option_map (told_in e) o) (commands_of look es)) (finds (tag_in e) command at)
 
 -- a legal history has a command for each entry
-commands-many : (order : Order) (place : ℕ) (s : CacheState) (es : List Entry) → IsLegal order place s es → length (commands_of order es) ≡ length es
-commands-many order place s [] legal = refl
-commands-many order place s (e ∷ es) legal =
-    ap (λ (cs : List Command). length cs) (commands-first order e es (to_place place legal.0) legal.1)
-    ∙ ap suc (commands-many order place (step_of s legal.0 e.moment e.refused).0 es legal.3)
+commands-many : (look : LookUp) (order : Order) → Finds look order → (place : ℕ) (s : CacheState) (es : List Entry) → IsLegal order place s es
+    → length (commands_of look es) ≡ length es
+commands-many look order finds place s [] legal = refl
+commands-many look order finds place s (e ∷ es) legal =
+    ap (λ (cs : List Command). length cs) (commands-first look order finds e es (to_place place legal.0) legal.1)
+    ∙ ap suc (commands-many look order finds place (step_of s legal.0 e.moment e.refused).0 es legal.3)
 
 -- its replies are those of the cache, spelled
-replies-told : (order : Order) (place : ℕ) (s : CacheState) (es : List Entry) → IsLegal order place s es
-    → map (λ (e : Entry). e.reply) es ≡ told_by (commands_of order es) (replies s (commands_of order es))
-replies-told order place s [] legal = refl
-replies-told order place s (e ∷ es) legal =
+replies-told : (look : LookUp) (order : Order) → Finds look order → (place : ℕ) (s : CacheState) (es : List Entry) → IsLegal order place s es
+    → map (λ (e : Entry). e.reply) es ≡ told_by (commands_of look es) (replies s (commands_of look es))
+replies-told look order finds place s [] legal = refl
+replies-told look order finds place s (e ∷ es) legal =
     let after : CacheState = (step_of s legal.0 e.moment e.refused).0 in
-    ap₂ (λ (r : List ℕ) (rs : List (List ℕ)). r ∷ rs) legal.2.reply (replies-told order place after es legal.3)
-    ∙ sym (ap (λ (cs : List Command). told_by cs (replies s cs)) (commands-first order e es (to_place place legal.0) legal.1))
+    ap₂ (λ (r : List ℕ) (rs : List (List ℕ)). r ∷ rs) legal.2.reply (replies-told look order finds place after es legal.3)
+    ∙ sym (ap (λ (cs : List Command). told_by cs (replies s cs)) (commands-first look order finds e es (to_place place legal.0) legal.1))
 
--- its commands are on keys of this server, where no server joined
-history-owned : (ring : RingState) (opening : CacheState) (order : Order) (texts outs : ℕ → List ℕ) (histories : ℕ → List Entry) (log : Log)
-    → Accounts ring opening order texts outs histories log → number_of joins log ≡ 0 → (place : ℕ) (s : CacheState) (es : List Entry) → IsLegal order place s es
-    → AreOwned (owner_in ring) place (commands_of order es)
-history-owned ring opening order texts outs histories log h none place s [] legal = tt
-history-owned ring opening order texts outs histories log h none place s (e ∷ es) legal =
-    subst (λ (cs : List Command). AreOwned (owner_in ring) place cs) (sym (commands-first order e es (to_place place legal.0) legal.1)) (
-      command_own ring opening order texts outs histories log h none (tag_in e) place legal.0 legal.1,
-      history-owned ring opening order texts outs histories log h none place (step_of s legal.0 e.moment e.refused).0 es legal.3,
+-- its commands are on keys of this server, where those of the order are
+history-owned : (owner : List ℕ → ℕ) (look : LookUp) (order : Order) → Finds look order
+    → ((tag : Tag) (place : ℕ) (atom : Atom (List ℕ)) → command_at order tag ≡ Some (to_place place atom) → (key : List ℕ) → atom_key atom ≡ Some key → place ≡ owner key)
+    → (place : ℕ) (s : CacheState) (es : List Entry) → IsLegal order place s es → AreOwned owner place (commands_of look es)
+history-owned owner look order finds own place s [] legal = tt
+history-owned owner look order finds own place s (e ∷ es) legal =
+    subst (λ (cs : List Command). AreOwned owner place cs) (sym (commands-first look order finds e es (to_place place legal.0) legal.1)) (
+      own (tag_in e) place legal.0 legal.1,
+      history-owned owner look order finds own place (step_of s legal.0 e.moment e.refused).0 es legal.3,
     )
 
 -- a history has a command for each turn of its server
-history-turns : (ring : RingState) (opening : CacheState) (order : Order) (texts outs : ℕ → List ℕ) (histories : ℕ → List Entry) (log : Log)
-    → Accounts ring opening order texts outs histories log → HaveTurns (λ place. commands_of order (histories place)) (turns_of log)
-history-turns ring opening order texts outs histories log h place =
-    commands-many order place opening (histories place) (h.legal place)
+history-turns : (ring : RingState) (opening : CacheState) (look : LookUp) (order : Order) (texts outs : ℕ → List ℕ) (histories : ℕ → List Entry) (log : Log) → Finds look order
+    → Accounts ring opening order texts outs histories log → HaveTurns (λ place. commands_of look (histories place)) (turns_of log)
+history-turns ring opening look order texts outs histories log finds h place =
+    commands-many look order finds place opening (histories place) (h.legal place)
     ∙ sym (length-map (histories place) (λ (e : Entry). e.moment)) ∙ ap (λ (ms : List ℕ). length ms) (h.moments place) ∙ moments-count place log
     ∙ sym (turns-count place log)
 
-pub one_map : (ring : RingState) (budget items : ℕ) (order : Order) (texts outs : ℕ → List ℕ) (histories : ℕ → List Entry) (log : Log) → IsWithinBounds budget items
-    → Accounts ring (opening_cache budget items 0) order texts outs histories log → IsPlainRun (opening_cache budget items 0) order histories log
-    → AreOfOneMap (owner_in ring) (opening_caches budget items 0) order histories log
-one_map ring budget items order texts outs histories log bounds h run =
+-- the histories are those of one map, wherever all that the order has is found
+one-map : (ring : RingState) (budget items : ℕ) (look : LookUp) (order : Order) (texts outs : ℕ → List ℕ) (histories : ℕ → List Entry) (log : Log) → IsWithinBounds budget items
+    → Accounts ring (opening_cache budget items 0) order texts outs histories log → Finds look order → ArePlainlyOfOneMap ring budget items look histories log
+one-map ring budget items look order texts outs histories log bounds h finds run =
     let opening : CacheState = opening_cache budget items 0 in
     let caches : Caches = opening_caches budget items 0 in
-    let es : List Executed = executed order histories log in
-    let all : (place : ℕ) → commands_at place es ≡ commands_of order (histories place) =
-    merged-own (turns_of log) (λ place. commands_of order (histories place)) (history-turns ring opening order texts outs histories log h) in
+    let es : List Executed = executed look histories log in
+    let all : (place : ℕ) → commands_at place es ≡ commands_of look (histories place) =
+    merged-own (turns_of log) (λ place. commands_of look (histories place)) (history-turns ring opening look order texts outs histories log finds h) in
     let steps : StepPlainly (owner_in ring) caches es = record {
-      at_owners = merged-owned (owner_in ring) (turns_of log) (λ place. commands_of order (histories place))
-          (λ place. history-owned ring opening order texts outs histories log h run.unjoined place opening (histories place) (h.legal place));
+      at_owners = merged-owned (owner_in ring) (turns_of log) (λ place. commands_of look (histories place))
+          (λ place. history-owned (owner_in ring) look order finds (command_own ring opening order texts outs histories log h run.unjoined) place opening (histories place) (h.legal place));
       plain = λ place. subst (λ (cs : List Command). ArePlainSteps opening cs) (sym (all place)) (run.plain place);
     } in
     let act : ActAsMap (owner_in ring) empty_map caches es =
@@ -85,15 +93,26 @@ one_map ring budget items order texts outs histories log bounds h run =
       all = all;
       act = act;
       told = λ place.
-          replies-told order place opening (histories place) (h.legal place)
-          ∙ ap (λ (rs : List (Reply (List ℕ))). told_by (commands_of order (histories place)) rs)
+          replies-told look order finds place opening (histories place) (h.legal place)
+          ∙ ap (λ (rs : List (Reply (List ℕ))). told_by (commands_of look (histories place)) rs)
           (ap (λ (cs : List Command). replies opening cs) (sym (all place)) ∙ act.at_servers place);
     }
+
+-- in the order itself all is found, and in what was sent too where no server joined
+pub map_by_order : (ring : RingState) (budget items : ℕ) (order : Order) (texts outs : ℕ → List ℕ) (histories : ℕ → List Entry) (log : Log) → IsWithinBounds budget items
+    → Accounts ring (opening_cache budget items 0) order texts outs histories log → ArePlainlyOfOneMap ring budget items (command_at order) histories log
+map_by_order ring budget items order texts outs histories log bounds h = one-map ring budget items (command_at order) order texts outs histories log bounds h (λ tag command at. at)
+
+pub map_by_texts : (ring : RingState) (budget items : ℕ) (order : Order) (texts outs : ℕ → List ℕ) (histories : ℕ → List Entry) (log : Log) → IsWithinBounds budget items
+    → Accounts ring (opening_cache budget items 0) order texts outs histories log → ArePlainlyOfOneMap ring budget items (sent_at ring texts) histories log
+map_by_texts ring budget items order texts outs histories log bounds h run =
+    one-map ring budget items (sent_at ring texts) order texts outs histories log bounds h
+    (command_is_sent ring (opening_cache budget items 0) order texts outs histories log h run.unjoined) run
 
 -- so it is of a world that gives account
 pub one_map_of : (w : WorldState) → IsWithinBounds w.budget w.items → GivesAccount w → ActsAsOneMap w
 one_map_of w bounds account = record {
-  order = account.0;
-  account = account.1;
-  one_map = one_map w.opening w.budget w.items account.0 (text_of w.course) (put_out_of w.course) (history_of w.course) w.course.log bounds account.1;
+  account = account;
+  by_texts = map_by_texts w.opening w.budget w.items account.0 (text_of w.course) (put_out_of w.course) (history_of w.course) w.course.log bounds account.1;
+  by_order = λ order h. map_by_order w.opening w.budget w.items order (text_of w.course) (put_out_of w.course) (history_of w.course) w.course.log bounds h;
 }

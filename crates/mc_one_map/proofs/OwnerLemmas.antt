@@ -2,6 +2,7 @@
 use Rattle.std.proofs.Common.{◌≡◌, ◌∙◌, ℕ, zero, suc, ℤ, Bool, List, [], ◌∷◌, Option, None, Some, slice_get, refl, sym, ap, subst, arith}
 use Rattle.std.specs.Prelude.{unwrap_or}
 use Rattle.std.proofs.lemmas.Option.{none-some, same_Some}
+use Rattle.mc_request.specs.Requests.{requests_of}
 use Rattle.mc_request.specs.declared.parts.Atom.{Atom}
 use Rattle.mc_request.specs.declared.parts.Atom.TheVariants as atoms
 use Rattle.mc_request.specs.declared.parts.Request.{Request}
@@ -17,12 +18,14 @@ use Rattle.mc_link.specs.declared.turns.Tag.{Tag}
 use Rattle.mc_cache.specs.CacheState.{CacheState}
 use Rattle.mc_cache.specs.Step.{atom_key}
 use Rattle.mc_account.specs.Lookups.{asked_at, command_at, command_in}
-use Rattle.mc_account.specs.Orders.{Entry as Asked, Order}
+use Rattle.mc_account.specs.Orders.{Entry as Asked, Order, entries_of, taken_of}
 use Rattle.mc_history.specs.declared.entries.Entry.{Entry}
 use Rattle.mc_world.specs.Accounts.{Accounts}
 use Rattle.mc_world.specs.declared.events.Logged.TheVariants.{Happened, Joined}
 use Rattle.mc_world.specs.Logs.{IsRingAfter, Log, before, number_of, takes}
+use Rattle.mc_world.proofs.LogEntryLemmas.{got_map, got_there}
 use Rattle.mc_world.proofs.LogLemmas.{number-before}
+use Rattle.mc_one_map.specs.Executions.{command_sent, sent_at}
 use Rattle.mc_one_map.specs.OneMaps.{joins}
 
 -- of what stands in a list
@@ -87,13 +90,34 @@ in-request : (o : Option Asked) (atom : ℕ) (command : Routed) → command_in o
 in-request None atom command h = absurd (none-some command h)
 in-request (Some e) atom command h = (e, refl, h)
 
--- so each command of an account went to the owner of its key
+-- a request of an account was routed by the ring of the opening, where none joins
+ring_is : (ring : RingState) (opening : CacheState) (order : Order) (texts outs : ℕ → List ℕ) (histories : ℕ → List Entry) (log : Log)
+    → Accounts ring opening order texts outs histories log → number_of joins log ≡ 0 → (client request : ℕ) (e : Asked) → asked_at order client request ≡ Some e
+    → e.ring ≡ ring
+ring_is ring opening order texts outs histories log h none client request e at =
+    let few = number-before joins (takes client) request log in
+    ring-stays ring e.ring (before (takes client) request log) (omega (arith, few, none)) (h.rings client request e at)
+
+-- so each command of it went to the owner of its key
 pub command_own : (ring : RingState) (opening : CacheState) (order : Order) (texts outs : ℕ → List ℕ) (histories : ℕ → List Entry) (log : Log)
     → Accounts ring opening order texts outs histories log → number_of joins log ≡ 0 → (tag : Tag) (place : ℕ) (atom : Atom (List ℕ))
     → command_at order tag ≡ Some (to_place place atom) → (key : List ℕ) → atom_key atom ≡ Some key → place ≡ owner_in ring key
 command_own ring opening order texts outs histories log h none tag place atom at key has =
     let found = in-request (asked_at order tag.session tag.request) tag.atom (to_place place atom) at in
-    let few = number-before joins (takes tag.session) tag.request log in
-    let ring_is : found.0.ring ≡ ring =
-    ring-stays ring found.0.ring (before (takes tag.session) tag.request log) (omega (arith, few, none)) (h.rings tag.session tag.request found.0 found.1) in
-    taken-own found.0.ring found.0.what tag.atom (to_place place atom) found.2 key has ∙ ap (λ (r : RingState). owner_in r key) ring_is
+    taken-own found.0.ring found.0.what tag.atom (to_place place atom) found.2 key has
+    ∙ ap (λ (r : RingState). owner_in r key) (ring_is ring opening order texts outs histories log h none tag.session tag.request found.0 found.1)
+
+-- and is in what its client sent
+pub command_is_sent : (ring : RingState) (opening : CacheState) (order : Order) (texts outs : ℕ → List ℕ) (histories : ℕ → List Entry) (log : Log)
+    → Accounts ring opening order texts outs histories log → number_of joins log ≡ 0 → (tag : Tag) (command : Routed) → command_at order tag ≡ Some command
+    → sent_at ring texts tag ≡ Some command
+command_is_sent ring opening order texts outs histories log h none tag command at =
+    let found = in-request (asked_at order tag.session tag.request) tag.atom command at in
+    let asked = h.asked tag.session in
+    let sent : slice_get (requests_of (texts tag.session)) tag.request ≡ Some found.0.what =
+    ap (λ (ts : List Taken). slice_get ts tag.request) (sym asked.1)
+    ∙ got_there (taken_of tag.session order) asked.0 tag.request found.0.what (got_map (λ (x : Asked). x.what) (entries_of tag.session order) tag.request found.0 found.1) in
+    ap (λ (o : Option Taken). command_sent ring o tag.atom) sent
+    ∙ ap (λ (r : RingState). slice_get (route_of_taken r found.0.what) tag.atom)
+    (sym (ring_is ring opening order texts outs histories log h none tag.session tag.request found.0 found.1))
+    ∙ found.2

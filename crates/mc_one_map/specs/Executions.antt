@@ -1,13 +1,16 @@
 -- What all servers executed, in one order: that of their turns in the log. All of it is this project's own.
-use Rattle.std.specs.Prelude.{ℕ, ◌==◌, List, [], ◌∷◌, ◌++◌, drop, if◌then◌else◌, Option, Some, None}
+use Rattle.std.specs.Prelude.{ℕ, ◌==◌, List, [], ◌∷◌, ◌++◌, drop, if◌then◌else◌, Option, Some, None, slice_get}
 use Rattle.std.specs.Option.{option_map}
+use Rattle.mc_request.specs.declared.parts.Taken.{Taken}
+use Rattle.mc_request.specs.Requests.{requests_of}
 use Rattle.mc_reply.specs.declared.replies.Reply.{Reply}
 use Rattle.mc_reply.specs.Spelling.{spelling_of}
+use Rattle.mc_ring.specs.Rings.{RingState}
+use Rattle.mc_route.specs.Routes.{route_of_taken}
 use Rattle.mc_route.specs.declared.routes.Routed.{Routed}
+use Rattle.mc_link.specs.declared.turns.Tag.{Tag}
 use Rattle.mc_cache.specs.Replay.{Command}
 use Rattle.mc_cache_laws.specs.Pools.{Executed}
-use Rattle.mc_account.specs.Lookups.{command_at}
-use Rattle.mc_account.specs.Orders.{Order}
 use Rattle.mc_history.specs.declared.entries.Entry.{Entry}
 use Rattle.mc_history.specs.Histories.{tag_in}
 use Rattle.mc_world.specs.declared.events.Event.TheVariants.{ServerTurn}
@@ -15,13 +18,26 @@ use Rattle.mc_world.specs.declared.events.Logged.{Logged}
 use Rattle.mc_world.specs.declared.events.Logged.TheVariants.{Happened}
 use Rattle.mc_world.specs.Logs.{Log}
 
+-- where commands are looked up by their tags: in an order (`command_at`), or in what clients sent (`sent_at`)
+abbrev pub LookUp : Type 0
+LookUp = Tag → Option Routed
+
+-- of a request that a client sent the command of a number, by the ring
+abbrev pub command_sent : RingState → Option Taken → ℕ → Option Routed
+command_sent ring None atom = None
+command_sent ring (Some what) atom = slice_get (route_of_taken ring what) atom
+
+-- the command of a tag, as the client's text has it, with the place of its server by a ring that stays
+abbrev pub sent_at : RingState → (ℕ → List ℕ) → LookUp
+sent_at ring texts tag = command_sent ring (slice_get (requests_of (texts tag.session)) tag.request) tag.atom
+
 -- a command as an entry tells of it: its moment, and whether memory was refused to it
 abbrev pub told_in : Entry → Routed → Command
 told_in e command = record { atom = command.atom; moment = e.moment; refused = e.refused }
 
--- the command of an entry, by the order: there is none where the order has none of this tag
-abbrev pub command_of : Order → Entry → Option Command
-command_of order e = option_map (told_in e) (command_at order (tag_in e))
+-- the command of an entry: there is none where none is found by its tag
+abbrev pub command_of : LookUp → Entry → Option Command
+command_of look e = option_map (told_in e) (look (tag_in e))
 
 -- one command more, if there is one
 abbrev pub with_command : Option Command → List Command → List Command
@@ -29,9 +45,9 @@ with_command None commands = commands
 with_command (Some command) commands = command ∷ commands
 
 -- the commands of a history
-abbrev pub commands_of : Order → List Entry → List Command
-commands_of order [] = []
-commands_of order (e ∷ es) = with_command (command_of order e) (commands_of order es)
+abbrev pub commands_of : LookUp → List Entry → List Command
+commands_of look [] = []
+commands_of look (e ∷ es) = with_command (command_of look e) (commands_of look es)
 
 -- the places of the servers that took a request, one for each turn, in the order of the log
 abbrev pub turn_of : Logged → List ℕ
@@ -57,8 +73,8 @@ merged commands [] = []
 merged commands (place ∷ places) = first_at place (commands place) ++ merged (after_turn place commands) places
 
 -- what all servers executed: at each turn of the log the command of the next entry in its server's history
-abbrev pub executed : Order → (ℕ → List Entry) → Log → List Executed
-executed order histories log = merged (λ place. commands_of order (histories place)) (turns_of log)
+abbrev pub executed : LookUp → (ℕ → List Entry) → Log → List Executed
+executed look histories log = merged (λ place. commands_of look (histories place)) (turns_of log)
 
 -- how the replies to commands are spelled, one for each
 abbrev pub told_by : List Command → List (Reply (List ℕ)) → List (List ℕ)

@@ -43,6 +43,20 @@ abbrev pub three_turns : Log
 three_turns =
     Happened (ProxyTurn 7) ∷ Happened (ProxyTurn 8) ∷ Happened (ServerTurn 0 1 5) ∷ Happened (ServerTurn 1 1 6) ∷ Happened (ServerTurn 0 1 9) ∷ []
 
+-- client 7 sets a key, and client 8 gets it
+abbrev pub set_and_get : Order
+set_and_get =
+    first_asked 7 (Whole (requests.Update (Store Set None (codes "k") 0 (pos 0) (codes "v")) false))
+    ∷ first_asked 8 (Whole (requests.Get (codes "k" ∷ []) None false)) ∷ []
+
+-- the first server takes both, and the second nothing
+abbrev pub one_history : ℕ → List Entry
+one_history place =
+    if place == 0 then entry_of 7 0 5 (codes "STORED\r\n") ∷ entry_of 8 0 6 (codes "VALUE k 0 1\r\nv\r\nEND\r\n") ∷ [] else []
+
+abbrev pub two_turns : Log
+two_turns = Happened (ProxyTurn 7) ∷ Happened (ServerTurn 0 1 5) ∷ Happened (ProxyTurn 8) ∷ Happened (ServerTurn 0 1 6) ∷ []
+
 -- a command that was not refused, executed by a server at a moment
 abbrev pub executed_at : ℕ → ℕ → Atom (List ℕ) → Executed
 executed_at place moment atom = record { place = place; command = granted moment atom }

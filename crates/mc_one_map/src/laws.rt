@@ -1,20 +1,23 @@
 //! Laws of the histories of an account. The functions do nothing: their contracts are the laws.
 ghost use Rattle.std.specs.Prelude.{ℕ, List};
 ghost use Rattle.mc_ring.specs.Rings.{RingState};
-ghost use Rattle.mc_route.specs.Routes.{owner_in};
 ghost use Rattle.mc_cache.specs.CacheState.{IsWithinBounds, opening_cache};
-ghost use Rattle.mc_cache_laws.specs.Pools.{opening_caches};
+ghost use Rattle.mc_account.specs.Lookups.{command_at};
 ghost use Rattle.mc_account.specs.Orders.{Order};
 ghost use Rattle.mc_history.specs.declared.entries.Entry.{Entry};
-ghost use Rattle.mc_world.specs.Accounts.{Accounts};
+ghost use Rattle.mc_world.specs.Accounts.{Account, Accounts};
 ghost use Rattle.mc_world.specs.Logs.{Log};
-ghost use Rattle.mc_one_map.specs.OneMaps.{AreOfOneMap, IsPlainRun};
+ghost use Rattle.mc_one_map.specs.Executions.{sent_at};
+ghost use Rattle.mc_one_map.specs.OneMaps.{ArePlainlyOfOneMap};
 
-/// No server joined, and each server refused no store, evicted nothing, and was asked for no flush and no number of an item. Then all
-/// histories of an account are those of one map, which takes the commands of all servers in the order of their turns.
+/// No server joined, no store was refused, nothing was evicted, and no command was a flush, compared an item's number, or showed it. Then
+/// all histories of an account are those of one map, which takes the commands of all servers in the order of their turns. The commands of
+/// the entries may be looked up in what the clients sent, or in any order of the account.
 pub fn accounts_are_of_one_map()
-    ensures { (ring : RingState) (budget items : ℕ) (order : Order) (texts outs : ℕ → List ℕ) (histories : ℕ → List Entry) (log : Log)
+    ensures by_texts { (ring : RingState) (budget items : ℕ) (texts outs : ℕ → List ℕ) (histories : ℕ → List Entry) (log : Log)
+        → IsWithinBounds budget items → Account ring (opening_cache budget items 0) texts outs histories log
+        → ArePlainlyOfOneMap ring budget items (sent_at ring texts) histories log }
+    ensures by_order { (ring : RingState) (budget items : ℕ) (order : Order) (texts outs : ℕ → List ℕ) (histories : ℕ → List Entry) (log : Log)
         → IsWithinBounds budget items → Accounts ring (opening_cache budget items 0) order texts outs histories log
-        → IsPlainRun (opening_cache budget items 0) order histories log
-        → AreOfOneMap (owner_in ring) (opening_caches budget items 0) order histories log }
+        → ArePlainlyOfOneMap ring budget items (command_at order) histories log }
 {}

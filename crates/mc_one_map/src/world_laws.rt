@@ -4,8 +4,8 @@ ghost use Rattle.mc_one_map.specs.OneMaps.{ActsAsOneMap};
 use mc_store::Store;
 use mc_world::World;
 
-/// Each world, over stores of any kind, gives account by an order. Where its run is plain by that order, the histories of all its servers
-/// are those of one map.
+/// Each world, over stores of any kind, gives account. Where its run is plain, the histories of all its servers are those of one map, which
+/// takes all their commands in the order of their turns.
 pub fn worlds_act_as_one_map<S: Store + Drop>(world: &World<S>)
     ensures { ActsAsOneMap world.now }
 {
