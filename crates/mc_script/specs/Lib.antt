@@ -1,5 +1,6 @@
 pub mod Escapes
 pub mod Lines
+pub mod Numbers
 pub mod Events
 pub mod Scripts
 pub mod ScriptSeen

@@ -1,10 +1,10 @@
 -- Scripts of events. Source: this project's own.
-use Rattle.std.specs.Prelude.{ℕ, ◌^◌, nat_lt, nat_le, ◌&&◌, List, [], ◌∷◌, Option, Some, None, Result, Ok, Err, option_and_then, codes, if◌then◌else◌}
+use Rattle.std.specs.Prelude.{ℕ, ◌^◌, List, [], ◌∷◌, Option, Some, None, Result, Ok, Err, option_and_then, codes, if◌then◌else◌}
 use Rattle.std.specs.Option.{option_map}
 use Rattle.std.specs.Str.{bytes_eq}
-use Rattle.mc_text.specs.Numbers.{read_u64, number}
 use Rattle.mc_script.specs.Escapes.{text_of}
 use Rattle.mc_script.specs.Lines.{lines_from, cut_at_space}
+use Rattle.mc_script.specs.Numbers.{limit_of, moment_read, place_of}
 use Rattle.mc_script.specs.declared.events.Event.{Event}
 use Rattle.mc_script.specs.declared.events.Event.TheVariants.{Bytes, Turn}
 
@@ -18,14 +18,6 @@ pub record ScriptSeen : Type 0 where
 infixl 10 ◌>>=◌
 abbrev pub ◌>>=◌ : {A B : Type 0} → Option A → (A → Option B) → Option B
 o >>= f = option_and_then f o
-
--- a number from 1 to a limit
-abbrev pub limit_of : ℕ → List ℕ → Option ℕ
-limit_of most word = option_and_then (λ n. if nat_le 1 n && nat_le n most then Some n else None) (read_u64 word)
-
--- the number of a connection that is there, where so many are
-abbrev pub connection_of : ℕ → List ℕ → Option ℕ
-connection_of connections word = option_and_then (λ n. if nat_lt n connections then Some n else None) (read_u64 word)
 
 -- the connections, the budget and the items of a line `server <connections> <budget> <items>`
 unfoldable pub server_of : List ℕ → Option (ℕ × ℕ × ℕ)
@@ -42,7 +34,7 @@ server_of line = do
 unfoldable pub event_named : List ℕ → ℕ → List ℕ → Option Event
 event_named name connection behind =
     if bytes_eq name (codes "bytes") then option_map (λ bytes. Bytes connection bytes) (text_of behind)
-    else if bytes_eq name (codes "turn") then option_map (λ moment. Turn connection moment) (number 20 (2 ^ 63) behind)
+    else if bytes_eq name (codes "turn") then option_map (λ moment. Turn connection moment) (moment_read behind)
     else None
 
 -- the event of a line `bytes <connection> <text>` or `turn <connection> <moment>`, where so many connections are there
@@ -50,7 +42,7 @@ unfoldable pub event_of : ℕ → List ℕ → Option Event
 event_of connections line = do
   command ← cut_at_space line
   behind ← cut_at_space command.1
-  connection ← connection_of connections behind.0
+  connection ← place_of connections behind.0
   event_named command.0 connection behind.1
 
 -- an event in front of others: the first line that is none counts

@@ -159,7 +159,7 @@ fn cut_byte(text: &[u8]) -> Option<(u8, &[u8])>
 
 /// The value of a hexadecimal digit.
 #[tactic(auto, unfolding(crate::specs::Escapes::hex_value))]
-fn hex_value(digit: u8) -> Option<u8>
+pub fn hex_value(digit: u8) -> Option<u8>
     ensures value { result ≡ hex_value digit }
     ensures small { IfSome result (λ value. value < 16) }
 {

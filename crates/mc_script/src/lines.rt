@@ -23,7 +23,7 @@ impl<'a> Model for LineIter<'a> {
 
 /// The lines of a text that are not empty, in order, each with its number. The first line has number 1. An empty
 /// line is counted, and the last line may lack its line feed.
-pub fn lines(text: &[u8]) -> LineIter<'_>
+pub fn lines_of(text: &[u8]) -> LineIter<'_>
     ensures { result ≡ lines_from 1 text.now }
 {
     LineIter {

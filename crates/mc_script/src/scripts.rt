@@ -1,29 +1,26 @@
 //! Scripts of events.
-ghost use Rattle.std.specs.Prelude.{◌≡◌, ℕ, ◌^◌, ◌<◌, ◌≤◌, All, IfOk, IfErr, IfSome, Ok};
+ghost use Rattle.std.specs.Prelude.{◌≡◌, ℕ, ◌<◌, ◌≤◌, All, IfOk, IfErr, IfSome, Ok};
 ghost use Rattle.mc_script.specs.Events.{IsEventOf};
 ghost use Rattle.mc_script.specs.ScriptSeen.{Explains, script_seen};
-ghost use Rattle.mc_script.specs.Scripts.{connection_of, event_named, event_of, events_of, limit_of, script_of, server_of};
-ghost use Rattle.mc_text.specs.Numbers.{number};
+ghost use Rattle.mc_script.specs.Scripts.{event_named, event_of, events_of, script_of, server_of};
 ghost use Rattle.mc_cache.specs.CacheState.{IsWithinBounds};
 
 use crate::errors::SimError;
 use crate::escapes::read_escaped;
 use crate::events::{Event, Script};
-use crate::lines::{LineIter, cut_at_space, lines};
+use crate::lines::{LineIter, cut_at_space, lines_of};
+use crate::numbers::{read_limit, read_moment, read_place};
 use mc_cache::{MAX_BUDGET, MAX_ITEMS};
 use mc_server::MAX_CONNECTIONS;
-use mc_text::{Block, read_u64};
+use mc_text::Block;
 use std::alloc::{AllocError, Global};
-
-/// The last moment of a turn, in seconds.
-const MAX_MOMENT: u64 = 9_223_372_036_854_775_807;
 
 /// The script that a text is. The first bad line from the top is answered, and no line at all is a bad line 1.
 pub fn read_script(alloc: Global, input: &[u8]) -> Result<Script, SimError>
     ensures script { IfOk result (λ script. script_of input.now ≡ Ok (script_seen script)) }
     ensures error { IfErr result (λ error. Explains error (script_of input.now)) }
 {
-    let mut lines = lines(input);
+    let mut lines = lines_of(input);
     let Some((number, line)) = lines.next() else {
         return Err(SimError::BadLine(1));
     };
@@ -87,7 +84,7 @@ fn read_event(alloc: Global, connections: u64, line: &[u8]) -> Result<Option<Eve
     let Some((connection, behind)) = cut_at_space(behind) else {
         return Ok(None);
     };
-    let Some(connection) = read_connection(connection, connections) else {
+    let Some(connection) = read_place(connection, connections) else {
         return Ok(None);
     };
     read_event_named(alloc, command, connection, behind)
@@ -114,38 +111,4 @@ fn read_event_named(
         return Ok(read_moment(behind).map(|moment| Event::Turn { connection, moment }));
     }
     Ok(None)
-}
-
-/// The number of a connection that is there, where so many are.
-fn read_connection(word: &[u8], connections: u64) -> Option<u64>
-    ensures number { result ≡ connection_of connections word.now }
-    ensures inside { IfSome result (λ number. number < connections) }
-{
-    match read_u64(word) {
-        Some(number) if number < connections => Some(number),
-        _ => None,
-    }
-}
-
-/// A moment: a number below 2^63.
-fn read_moment(word: &[u8]) -> Option<u64>
-    ensures value { result ≡ number 20 (2 ^ 63) word.now }
-    ensures small { IfSome result (λ moment. moment < 2 ^ 63) }
-{
-    match read_u64(word) {
-        Some(moment) if moment <= MAX_MOMENT => Some(moment),
-        _ => None,
-    }
-}
-
-/// A number from 1 to a limit.
-fn read_limit(word: &[u8], most: u64) -> Option<u64>
-    ensures value { result ≡ limit_of most word.now }
-    ensures small { IfSome result (λ limit. limit ≤ most) }
-    ensures some { IfSome result (λ limit. 1 ≤ limit) }
-{
-    match read_u64(word) {
-        Some(limit) if limit >= 1 && limit <= most => Some(limit),
-        _ => None,
-    }
 }
