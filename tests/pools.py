@@ -1,0 +1,316 @@
+#!/usr/bin/env python3
+"""Sees that what a world tells is as it must be, over random worlds: proxy, servers, links and clients, with all that can happen to them.
+
+Usage: pools.py [--worlds N] [--seed S] [--program PROGRAM]      (200 worlds from seed 1 on; mc_pool_sim as it was built)
+       pools.py --write SEED                                      (writes the script of a seed)
+       pools.py --model < SCRIPT                                  (prints what a plain model prints for a pool script)
+
+A world has 1 to 5 servers and 1 to 20 clients, points of its own or libketama's, caches from tiny to large. What comes are commands
+of all kinds (random_script.py), whole and in pieces, and all events of a pool script, most of them where they apply. The program
+plays the script with `--account`, and then two things are seen: that each event was done where a plain model of a pool does it, and
+left the same texts, answers and histories (pool_model.py, `Pool`); and that the account holds of what was told, by the events that
+were done alone (`faults_of`). At the first world that differs the script is made shorter while it still does, and is printed with
+what is wrong; the exit status is then 1. The last line is 'N passed, M failed', in worlds.
+"""
+
+import argparse
+import base64
+import pathlib
+import random
+import subprocess
+import sys
+
+from model import escaped, lines_of, unescaped
+from pool_model import ALL, Awaited, BadLine, Entry, Pool, Script, Told, faults_of, numbers_are_there, event_of, played, printed
+from random_script import Scene, command
+from rings import hash_of
+
+BUILT = pathlib.Path(__file__).resolve().parent.parent / "crates" / "mc_pool_sim" / "out" / "mc_pool_sim"
+BUDGETS = [1, 66, 70, 140, 200, 1000, 8192, 67108864, 1099511627776]
+LIMITS = [1, 2, 5, 40, 1000, 16777216]
+
+
+# Random worlds
+
+
+class PoolScene(Scene):
+    """What a command is made from, where its key may be held by any server."""
+
+    def __init__(self, dice, pool):
+        self.dice = dice
+        self.pool = pool
+        self.moment = dice.choice([0, 3000, 2592000, 10**9])
+        self.last = []
+
+    def held(self):
+        keys = [key.encode() for key in self.last[:1]]
+        items = (item for site in self.pool.sites for item in site.cache.items)
+        return next((item for item in items if item.key in keys), None)
+
+    def pass_time(self):
+        super().pass_time()
+        if self.dice.random() < 0.01:
+            self.moment = max(0, self.moment + self.dice.choice([-1000, -50, 60, 2592000]))
+
+
+def points_of_world(dice, servers):
+    """Points of a ring, or none for libketama's."""
+    if dice.random() < 0.4:
+        return []
+    some = [dice.randrange(2**32) for _ in range(dice.randrange(1, 9))]
+    some += [hash_of(f"key{dice.randrange(50)}".encode()) for _ in range(dice.randrange(3))]
+    points = [(point, dice.randrange(servers)) for point in some]
+    return points + points[: dice.randrange(2)]
+
+
+class World:
+    """A random world: its script, and the pool that has played it so far."""
+
+    def __init__(self, seed):
+        self.dice = dice = random.Random(seed)
+        servers, clients = dice.randrange(1, 6), dice.choice([1, 1, 2, 3, 5, 8, 20])
+        self.lines = [f"pool {servers} {clients} {dice.choice(BUDGETS[-3:] + BUDGETS)} {dice.choice(LIMITS)}"]
+        self.lines += [f"point {point:08x} {place}" for point, place in points_of_world(dice, servers)]
+        self.pool = Pool(Script(self.lines))
+        self.scene = PoolScene(dice, self.pool)
+        self.left = [b""] * clients  # what is still to come of a client's command
+        losses = dice.choice([0, 0.1, 0.3, 1])
+        self.chances = {
+            "bytes": 6, "turn": 6, "toserver": 5, "serve": 6, "toproxy": 5, "reply": 6, "emit": 6, "takes": 2,
+            "lost": losses, "back": losses * 2, "end": losses * dice.choice([0.2, 1]),
+            "gone": dice.choice([0, 0, 0.05]), "join": dice.choice([0, 0, 0.1]),
+        }  # fmt: skip
+        self.greed = dice.choice([0.2, 0.7, 1])  # how often all bytes move
+        self.blind = dice.choice([0, 0.05, 0.2])  # how often an event is any event
+
+    def add(self, line):
+        self.lines.append(line)
+        return self.pool.step(event_of(line))
+
+    # Where events apply
+
+    def clients_that(self, test):
+        return [number for number, client in enumerate(self.pool.clients) if not client.gone and test(client)]
+
+    def ways_that(self, test):
+        return [(place, number) for place, site in enumerate(self.pool.sites) for number, way in site.ways.items() if test(way)]
+
+    def sites_that(self, test):
+        return [(place,) for place, site in enumerate(self.pool.sites) if test(site)]
+
+    def places(self, name):
+        """The numbers at which an event of this name applies, or may."""
+        pool = self.pool
+        if name == "turn":
+            return [(number,) for number in self.clients_that(lambda c: c.unread) if pool.next_request(number)]
+        if name == "emit":
+            return [(n,) for n in self.clients_that(lambda c: c.unanswered and Awaited not in c.unanswered[0][1])]
+        if name == "takes":
+            return [(number,) for number in self.clients_that(lambda c: c.unsent())]
+        if name in ("bytes", "gone"):
+            return [(number,) for number in self.clients_that(lambda c: True)]
+        if name == "toserver":
+            return self.ways_that(lambda way: way.going)
+        if name == "serve":
+            return self.ways_that(lambda way: way.connection.unread)
+        if name == "end":
+            lost = self.ways_that(lambda way: True)
+            return [(p, number) for p, number in lost if not pool.sites[p].up or pool.sites[p].generation != number]
+        tests = {
+            "toproxy": lambda site: site.up and site.living().connection.output,
+            "reply": lambda site: site.up and site.come,
+            "lost": lambda site: site.up,
+            "back": lambda site: not site.up,
+        }
+        return self.sites_that(tests[name])
+
+    def any_place(self, name):
+        dice = self.dice
+        if name in ("bytes", "gone", "turn", "emit", "takes"):
+            return (dice.randrange(len(self.pool.clients)),)
+        place = dice.randrange(len(self.pool.sites))
+        if name in ("toserver", "serve", "end"):
+            return place, dice.choice([0, 1, dice.randrange(self.pool.sites[place].generation + 2), ALL])
+        return (place,)
+
+    # What comes
+
+    def count(self):
+        dice = self.dice
+        if dice.random() < self.greed:
+            return "all"
+        return dice.choice([1, 1, 2, 3, 5, 8, 20, 100, ALL] + [0] * (dice.random() < 0.1))
+
+    def text(self, client):
+        """The next bytes of a client: a command, or a part of one."""
+        dice = self.dice
+        text = self.left[client]
+        if not text:
+            odd = dice.random()
+            if odd < 0.05:
+                text = f"flush_all{dice.choice(['', ' 0', ' 3', ' 30', ' -1', ' noreply'])}\r\n".encode()
+            elif odd < 0.053:
+                text = b"quit\r\n"
+            else:
+                text = b"".join(command(self.scene)[0] for _ in range(dice.choice([1, 1, 1, 2, 4])))
+        size = len(text) if dice.random() < 0.7 else dice.choice([0, 1, 1, dice.randrange(len(text) + 1)])
+        self.left[client] = text[size:]
+        return escaped(text[:size])
+
+    def happen(self):
+        dice = self.dice
+        name = dice.choices(list(self.chances), list(self.chances.values()))[0]
+        if name == "join":
+            if len(self.pool.sites) < 9:
+                self.add(f"join {dice.choice(['127.0.0.1', 'cache-2', 'b.example'])}:{20000 + len(self.pool.sites)}")
+            return
+        places = [] if dice.random() < self.blind else self.places(name)
+        numbers = dice.choice(places) if places else self.any_place(name)
+        if not places and dice.random() > self.blind + 0.02:
+            return
+        self.scene.pass_time()
+        tail = {"bytes": lambda: self.text(numbers[0]), "serve": lambda: self.scene.moment}
+        tail.update(dict.fromkeys(("toserver", "toproxy", "takes"), self.count))
+        words = [name, *numbers] + ([tail[name]()] if name in tail else [])
+        self.add(" ".join(str(word) for word in words))
+
+    def settle(self):
+        """All that can still go on goes on, until nothing is left."""
+        going = True
+        while going:
+            going = False
+            for name in ("turn", "toserver", "serve", "toproxy", "reply", "emit", "takes"):
+                for numbers in self.places(name):
+                    tail = {"serve": self.scene.moment}.get(name, "all")
+                    words = [name, *numbers] + ([tail] if name in ("toserver", "serve", "toproxy", "takes") else [])
+                    going |= bool(self.add(" ".join(str(word) for word in words)))
+
+    def played(self):
+        dice = self.dice
+        for _ in range(dice.choice([20, 60, 60, 200, 200, 200, 600])):
+            self.happen()
+        if dice.random() < 0.6:
+            self.settle()
+        return self
+
+
+def lines_of_world(seed):
+    return World(seed).played().lines
+
+
+# What a program tells
+
+
+class Failed(Exception):
+    """A program that did not play a script."""
+
+
+def told_by(program, lines):
+    script = "\n".join([*lines, ""]).encode("latin-1")
+    run = subprocess.run([program, "--account"], input=script, capture_output=True)
+    if run.returncode:
+        raise Failed(f"status {run.returncode}, {run.stderr.decode()}")
+    return read_told(run.stdout.decode("latin-1"))
+
+
+def read_told(text):
+    done, texts, outs, histories = [], [], [], []
+    for line in text.split("\n")[:-1]:
+        name, _, rest = line.partition(" ")
+        if name in ("done", "nothing"):
+            done.append(name == "done")
+        elif name in ("client", "text"):
+            (outs if name == "client" else texts).append(unescaped(rest.partition(": ")[2]))
+        elif name == "history":
+            histories.append([])
+        elif name == "entry":
+            server, client, request, atom, moment, refused, reply = rest.split(" ", 6)
+            entry = Entry(int(client), int(request), int(atom), int(moment), int(refused), unescaped(reply))
+            histories[int(server)].append(entry)
+        else:
+            raise Failed(f"a line that is not known: {line}")
+    return Told(done, texts, outs, histories)
+
+
+def as_told(told):
+    """The lines of an account, as the program writes them."""
+    lines = [f"client {number}: {escaped(out)}" for number, out in enumerate(told.outs)]
+    lines += ["done" if done else "nothing" for done in told.done]
+    lines += [f"text {number}: {escaped(text)}" for number, text in enumerate(told.texts)]
+    for place, history in enumerate(told.histories):
+        lines.append(f"history {place}")
+        for entry in history:
+            lines.append(" ".join(str(word) for word in ("entry", place, *entry[:5], escaped(entry.reply))))
+    return "".join(line + "\n" for line in lines)
+
+
+def differences(script, told):
+    """What is wrong in what was told, beside the model's."""
+    model = played(script)
+    for number, (got, wanted) in enumerate(zip(told.done, model.done)):
+        if got != wanted:
+            return [f"event {number}, {script.events[number]}: {'done' if got else 'nothing'}, and the model says otherwise"]
+    wrong = [f"the {what} are other than the model's" for what in Told._fields if getattr(told, what) != getattr(model, what)]
+    return wrong + faults_of(script, told)
+
+
+def wrong_in(lines, program):
+    """What is wrong where a program plays a script; nothing where that is no script."""
+    try:
+        script = Script(lines)
+    except (BadLine, ValueError):
+        return []
+    try:
+        return differences(script, told_by(program, lines))
+    except Failed as failed:
+        return [str(failed)]
+
+
+def shortened(lines, program):
+    """A script that still differs, with no line in it that could go."""
+    size = len(lines) // 2
+    while size:
+        at = 1
+        while at < len(lines):
+            fewer = lines[:at] + lines[at + size :]
+            if wrong_in(fewer, program):
+                lines = fewer
+            else:
+                at += size
+        size //= 2
+    return lines
+
+
+def main():
+    words = argparse.ArgumentParser(description=__doc__.split("\n")[0])
+    words.add_argument("--worlds", type=int, default=200)
+    words.add_argument("--seed", type=int, default=1)
+    words.add_argument("--program", default=BUILT)
+    words.add_argument("--write", type=int)
+    words.add_argument("--model", action="store_true")
+    words = words.parse_args()
+    if words.write is not None:
+        print("\n".join(lines_of_world(words.write)))
+        return 0
+    if words.model:
+        print(printed(played(Script(lines_of(sys.stdin.buffer.read())))), end="")
+        return 0
+    if not pathlib.Path(words.program).is_file():
+        print("tests/pools.py: mc_pool_sim is not built, so no world was played\n0 passed, 1 failed")
+        return 1
+    events = entries = 0
+    for passed, seed in enumerate(range(words.seed, words.seed + words.worlds)):
+        lines = lines_of_world(seed)
+        wrong = wrong_in(lines, words.program)
+        if wrong:
+            lines = shortened(lines, words.program)
+            print("\n".join([f"tests/pools.py --seed {seed}:", *lines, *wrong_in(lines, words.program)]))
+            print(f"{passed} passed, 1 failed")
+            return 1
+        events += len(Script(lines).events)
+    print(f"{words.worlds} worlds of {events} events are as they should be\n{words.worlds} passed, 0 failed")
+    return 0
+
+
+if __name__ == "__main__":
+    sys.exit(main())
