@@ -1,0 +1,3 @@
+pub mod PointLemmas
+pub mod AddressLemmas
+pub mod PoolLemmas

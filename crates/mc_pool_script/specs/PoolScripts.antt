@@ -1,0 +1,158 @@
+-- Pool scripts. Source: this project's own.
+use Rattle.std.specs.Prelude.{◌≡◌, Bool, true, false, ℕ, ◌^◌, ◌+◌, ◌*◌, ◌==◌, ◌&&◌, ◌<◌, ◌≤◌, All, List, [], ◌∷◌, ◌++◌, length, map, Option, Some, None, Result, Ok, Err, option_and_then, codes, decimal, if◌then◌else◌}
+use Rattle.std.specs.List.{flat_map, range_with_len}
+use Rattle.std.specs.Option.{option_map, option_map_or}
+use Rattle.std.specs.Str.{bytes_eq}
+use Rattle.mc_ring.specs.Points.{pair_at, pairs_of}
+use Rattle.mc_ring.specs.Refusals.{refusal_of, refusal_of_points}
+use Rattle.mc_ring.specs.Rings.{RingState, Shows}
+use Rattle.mc_ring.specs.declared.errors.RingError.{RingError}
+use Rattle.mc_ring.specs.declared.points.Point.{Point}
+use Rattle.mc_script.specs.Escapes.{hex_value}
+use Rattle.mc_script.specs.Lines.{lines_from, cut_at_space}
+use Rattle.mc_script.specs.Numbers.{limit_of, place_of}
+use Rattle.mc_script.specs.Scripts.{◌>>=◌}
+use Rattle.mc_cache.specs.CacheState.{IsWithinBounds}
+use Rattle.mc_pool_script.specs.PoolLines.{line_of, HasMoment}
+use Rattle.mc_pool_script.specs.declared.lines.PoolLine.{PoolLine}
+use Rattle.mc_pool_script.specs.declared.lines.PoolLine.TheVariants.{Event, Join}
+
+-- what a script says
+pub record PoolSeen : Type 0 where
+  -- how many servers are there at first, and how many clients
+  pub servers : ℕ
+  pub clients : ℕ
+  -- the limits of each server's cache
+  pub budget : ℕ
+  pub items : ℕ
+  -- the points of the ring, where they are given
+  pub points : List Point
+  -- what comes, in order
+  pub lines : List PoolLine
+
+-- the address of a first server, by its place
+unfoldable pub first_server : ℕ → List ℕ
+first_server place = codes "127.0.0.1:" ++ decimal (11211 + place)
+
+-- the addresses of the first servers
+abbrev pub first_servers : ℕ → List (List ℕ)
+first_servers count = map first_server (range_with_len 0 count)
+
+-- the address of a server that joins
+abbrev pub joined_by : PoolLine → List (List ℕ)
+joined_by (Event event) = []
+joined_by (Join address) = address ∷ []
+
+-- all servers that are there once these lines were played
+abbrev pub servers_of : PoolSeen → List (List ℕ)
+servers_of seen = first_servers seen.servers ++ flat_map joined_by seen.lines
+
+-- the servers, clients, budget and items of a line `pool <servers> <clients> <budget> <items>`
+unfoldable pub limits_of : List ℕ → Option (ℕ × ℕ × ℕ × ℕ)
+limits_of line = do
+  command ← cut_at_space line
+  counts ← cut_at_space command.1
+  others ← cut_at_space counts.1
+  limits ← cut_at_space others.1
+  servers ← limit_of 64 counts.0
+  clients ← limit_of 1024 others.0
+  budget ← limit_of (2 ^ 40) limits.0
+  items ← limit_of (2 ^ 24) limits.1
+  if bytes_eq command.0 (codes "pool") then Some (servers, clients, budget, items) else None
+
+-- a script of these limits that says no more
+abbrev pub opening_script : ℕ × ℕ × ℕ × ℕ → PoolSeen
+opening_script limits = record { servers = limits.0; clients = limits.1; budget = limits.2; items = limits.3; points = []; lines = [] }
+
+-- the script of a first line
+abbrev pub head_of : List ℕ → Option PoolSeen
+head_of line = option_map opening_script (limits_of line)
+
+-- a number with one hexadecimal digit more, if that is one
+abbrev pub with_digit : Option ℕ → ℕ → Option ℕ
+with_digit number digit = option_and_then (λ n. option_map (λ d. 16 * n + d) (hex_value digit)) number
+
+-- the number of some hexadecimal digits, behind those of another number
+abbrev pub hex_from : Option ℕ → List ℕ → Option ℕ
+hex_from number [] = number
+hex_from number (digit ∷ digits) = hex_from (with_digit number digit) digits
+
+-- the number of eight hexadecimal digits
+abbrev pub hex_of : List ℕ → Option ℕ
+hex_of word = if length word == 8 then hex_from (Some 0) word else None
+
+-- what follows the word `point` and a space: `<8 hexadecimal digits> <server>`, one of the first servers
+unfoldable pub point_of : ℕ → List ℕ → Option Point
+point_of servers text = do
+  words ← cut_at_space text
+  point ← hex_of words.0
+  place ← place_of servers words.1
+  Some (pair_at place point)
+
+-- a script with one point more, or one line that is no point
+abbrev pub pointed : PoolSeen → Point → PoolSeen
+pointed seen point = record seen { points = seen.points ++ point ∷ [] }
+
+abbrev pub followed : PoolSeen → PoolLine → PoolSeen
+followed seen line = record seen { lines = seen.lines ++ line ∷ [] }
+
+-- and where there is none
+abbrev pub with_point : PoolSeen → Option Point → Option PoolSeen
+with_point seen point = option_map (λ p. pointed seen p) point
+
+abbrev pub with_line : PoolSeen → Option PoolLine → Option PoolSeen
+with_line seen line = option_map (λ l. followed seen l) line
+
+-- a script goes on by a line of this name, with what follows that: points come before all else
+abbrev pub more_by : PoolSeen → List ℕ → List ℕ → List ℕ → Option PoolSeen
+more_by seen line name text =
+    if bytes_eq name (codes "point") && length seen.lines == 0 then with_point seen (point_of seen.servers text)
+    else with_line seen (line_of seen.clients (servers_of seen) line)
+
+-- a script goes on by a line
+unfoldable pub read_more : PoolSeen → List ℕ → Option PoolSeen
+read_more seen line = do
+  words ← cut_at_space line
+  more_by seen line words.0 words.1
+
+-- and by all that follow, or the number of the first of them that is bad
+unfoldable pub read_all : PoolSeen → List (ℕ × List ℕ) → Result PoolSeen ℕ
+read_all seen [] = Ok seen
+read_all seen (line ∷ lines) = option_map_or (λ next. read_all next lines) (read_more seen line.1) (Err line.0)
+
+-- the script of lines: the first one is the head, and no line at all is bad at line 1
+unfoldable pub pool_of_lines : List (ℕ × List ℕ) → Result PoolSeen ℕ
+pool_of_lines [] = Err 1
+pool_of_lines (line ∷ lines) = option_map_or (λ head. read_all head lines) (head_of line.1) (Err line.0)
+
+-- the script that a text is, or the number of its first bad line
+abbrev pub pool_script_of : List ℕ → Result PoolSeen ℕ
+pool_script_of input = pool_of_lines (lines_from 1 input)
+
+-- what is true of every script that is read
+pub record IsPoolScript (seen : PoolSeen) : Type 0 where
+  pub some_servers : 1 ≤ seen.servers
+  pub few_servers : seen.servers ≤ 64
+  pub some_clients : 1 ≤ seen.clients
+  pub few_clients : seen.clients ≤ 1024
+  pub bounds : IsWithinBounds seen.budget seen.items
+  pub places : All (λ (p : Point). p.place < seen.servers) seen.points
+  pub moments : All (λ line. HasMoment line (2 ^ 63)) seen.lines
+
+-- whether a line was read, and what the script is then: as it goes on by it, or there is nothing that it goes on by
+abbrev pub Gives : Bool → Option PoolSeen → PoolSeen → Type 0
+Gives true next new = next ≡ Some new
+Gives false next new = next ≡ None
+
+-- the pairs of a ring of these servers, with points that were given, or with the servers' own where none were
+abbrev pub pairs_of_pool : List (List ℕ) → List Point → List Point
+pairs_of_pool servers points = if length points == 0 then pairs_of servers else points
+
+-- why there is no such ring
+abbrev pub refusal_of_pool : List (List ℕ) → List Point → Option RingError
+refusal_of_pool servers points = if length points == 0 then refusal_of servers else refusal_of_points servers points
+
+-- the ring that a pool begins with
+pub record IsOpeningRing (seen : PoolSeen) (ring : RingState) : Type 0 where
+  pub servers : ring.servers ≡ first_servers seen.servers
+  pub points : Shows (pairs_of_pool ring.servers seen.points) ring.points

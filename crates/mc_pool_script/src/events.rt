@@ -1,0 +1,82 @@
+//! What can happen in a world.
+
+/// What happens, in one step. `B` is the bytes of a client: a log keeps none.
+#[derive(Clone, Copy, Debug, PartialEq, Eq)]
+pub enum Event<B> {
+    /// A client sends bytes.
+    ClientBytes {
+        /// The client's number.
+        client: u64,
+        /// The bytes.
+        bytes: B,
+    },
+    /// A client goes.
+    ClientGone {
+        /// The client's number.
+        client: u64,
+    },
+    /// The proxy takes a request of a client.
+    ProxyTurn {
+        /// The client's number.
+        client: u64,
+    },
+    /// Bytes of a generation arrive at a server.
+    ToServer {
+        /// The server's place.
+        server: usize,
+        /// Which generation of its link.
+        generation: u64,
+        /// How many bytes, or all where fewer are on their way.
+        count: usize,
+    },
+    /// A server takes a request of a generation.
+    ServerTurn {
+        /// The server's place.
+        server: usize,
+        /// Which generation of its link.
+        generation: u64,
+        /// The moment: seconds since 1970, below 2^63.
+        moment: u64,
+    },
+    /// Bytes of a server come back to the proxy.
+    ToProxy {
+        /// The server's place.
+        server: usize,
+        /// How many bytes, or all where fewer are on their way.
+        count: usize,
+    },
+    /// The proxy takes a reply of a server.
+    ReplyTurn {
+        /// The server's place.
+        server: usize,
+    },
+    /// The answer to the oldest unanswered request of a client is put out.
+    Emit {
+        /// The client's number.
+        client: u64,
+    },
+    /// A client takes bytes.
+    ClientTakes {
+        /// The client's number.
+        client: u64,
+        /// How many bytes, or all where fewer were put out.
+        count: usize,
+    },
+    /// The link to a server is lost.
+    LinkLost {
+        /// The server's place.
+        server: usize,
+    },
+    /// The link to a server is back.
+    LinkBack {
+        /// The server's place.
+        server: usize,
+    },
+    /// A server sees the end of a generation that was lost.
+    ServerSeesEnd {
+        /// The server's place.
+        server: usize,
+        /// Which generation of its link.
+        generation: u64,
+    },
+}

@@ -1,0 +1,41 @@
+//! Worked examples, computed from the definitions alone.
+#![tactic(auto, unfolding(mc_script::specs::Lines::cut_at_space, mc_script::specs::Escapes::hex_value, mc_script::specs::Escapes::letter_value, mc_script::specs::Escapes::text_from, crate::specs::Commands::client_command, crate::specs::Commands::way_command, crate::specs::Commands::link_command, crate::specs::PoolLines::bytes_line, crate::specs::PoolLines::takes_line, crate::specs::PoolLines::to_server_line, crate::specs::PoolLines::serve_line, crate::specs::PoolLines::end_line, crate::specs::PoolLines::join_line, crate::specs::PoolLines::line_of, crate::specs::PoolScripts::point_of))]
+
+ghost use Rattle.std.specs.Prelude.{◌≡◌, ◌^◌, ◌-◌, [], ◌∷◌, None, Some, codes};
+ghost use Rattle.mc_pool_script.specs.PoolLines.{line_of};
+ghost use Rattle.mc_pool_script.specs.PoolScripts.{point_of};
+ghost use Rattle.mc_pool_script.specs.declared.lines.PoolLine.TheVariants.{Event, Join};
+ghost use Rattle.mc_pool_script.specs.declared.events.Event.TheVariants.{ClientBytes, ClientTakes, ServerSeesEnd, ServerTurn, ToServer};
+ghost use Rattle.mc_ring.specs.Points.{pair_at};
+
+/// Lines of clients, where two are there: the text of `bytes` is the rest of the line, and a client that is not there makes
+/// a line bad.
+pub fn lines_of_clients()
+    ensures bytes { line_of 2 [] (codes "bytes 0 a b\\n") ≡ Some (Event (ClientBytes 0 (codes "a b\n"))) }
+    ensures takes { line_of 2 [] (codes "takes 1 5") ≡ Some (Event (ClientTakes 1 5)) }
+    ensures all { line_of 2 [] (codes "takes 1 all") ≡ Some (Event (ClientTakes 1 (2 ^ 64 - 1))) }
+    ensures absent { line_of 2 [] (codes "takes 2 5") ≡ None }
+    ensures wordless { line_of 2 [] (codes "bytes 0") ≡ None }
+{}
+
+/// Lines of servers, where one is there.
+pub fn lines_of_servers()
+    ensures arrives { line_of 1 (codes "a:1" ∷ []) (codes "toserver 0 1 20") ≡ Some (Event (ToServer 0 1 20)) }
+    ensures serves { line_of 1 (codes "a:1" ∷ []) (codes "serve 0 2 100") ≡ Some (Event (ServerTurn 0 2 100)) }
+    ensures ends { line_of 1 (codes "a:1" ∷ []) (codes "end 0 1") ≡ Some (Event (ServerSeesEnd 0 1)) }
+    ensures absent { line_of 1 (codes "a:1" ∷ []) (codes "end 1 1") ≡ None }
+{}
+
+/// A server joins under an address that no other has.
+pub fn lines_of_joins()
+    ensures joins { line_of 1 (codes "a:1" ∷ []) (codes "join a:2") ≡ Some (Join (codes "a:2")) }
+    ensures there { line_of 1 (codes "a:1" ∷ []) (codes "join a:1") ≡ None }
+    ensures portless { line_of 1 (codes "a:1" ∷ []) (codes "join a") ≡ None }
+{}
+
+/// Points have eight digits, small or capital, and belong to a server that is there.
+pub fn points_of_servers()
+    ensures point { point_of 2 (codes "b975C10c 1") ≡ Some (pair_at 1 3111502092) }
+    ensures short { point_of 2 (codes "b975c10 1") ≡ None }
+    ensures absent { point_of 2 (codes "b975c10c 2") ≡ None }
+{}

@@ -1,0 +1,272 @@
+//! Pool scripts.
+ghost use Rattle.std.specs.Prelude.{◌≡◌, ◌≤◌, ◌^◌, None, Ok, IfOk, IfErr, IfSome, IsOkUnless, OnOk};
+ghost use Rattle.mc_cache.specs.CacheState.{IsWithinBounds};
+ghost use Rattle.mc_ring.specs.Refusals.{cause_of, refusal_in};
+ghost use Rattle.mc_ring.specs.Rings.{Shows};
+ghost use Rattle.mc_script.specs.ScriptSeen.{Explains};
+ghost use Rattle.mc_pool_script.specs.PoolLines.{HasMoment, line_of};
+ghost use Rattle.mc_pool_script.specs.PoolScripts.{Gives, IsOpeningRing, IsPoolScript, followed, head_of, limits_of, pairs_of_pool, point_of, pool_script_of, read_all, read_more, refusal_of_pool, servers_of, with_line, with_point};
+
+use crate::addresses::first_addresses;
+use crate::events::Event;
+use crate::lines::PoolLine;
+use crate::points::read_point;
+use crate::reading::read_line;
+use mc_cache::{MAX_BUDGET, MAX_ITEMS};
+use mc_ring::{Address, Point, Ring, RingError, SERVER_LIMIT};
+use mc_script::{LineIter, SimError, cut_at_space, lines_of, read_limit};
+use mc_text::Block;
+use std::alloc::{AllocError, Global};
+use std::marker::Model;
+
+/// The most clients.
+const MAX_CLIENTS: u64 = 1024;
+
+/// A pool script. Contracts see what it says.
+#[derive(Drop)]
+pub struct PoolScript {
+    servers: usize,
+    clients: u64,
+    budget: u64,
+    items: usize,
+    points: Vec<Point>,
+    lines: Vec<PoolLine>,
+    /// The addresses of all servers, those that join included.
+    addresses: Vec<Address>,
+}
+
+impl Model for PoolScript {
+    ghost use Rattle.std.specs.Prelude.{◌≡◌};
+    ghost use Rattle.mc_pool_script.specs.PoolScripts.{IsPoolScript, PoolSeen, servers_of};
+
+    ghost Value = { PoolSeen };
+
+    ghost view = { λ s. record { servers = s.servers; clients = s.clients; budget = s.budget; items = s.items; points = s.points.items; lines = s.lines.items } };
+
+    ghost invariant = { λ s. IsPoolScript (record { servers = s.servers; clients = s.clients; budget = s.budget; items = s.items; points = s.points.items; lines = s.lines.items })
+        × (s.addresses.items ≡ servers_of (record { servers = s.servers; clients = s.clients; budget = s.budget; items = s.items; points = s.points.items; lines = s.lines.items })) };
+}
+
+impl PoolScript {
+    /// How many clients the pool has: 1 to 1024, of the numbers from 0 on.
+    pub fn clients(&self) -> usize
+        ensures clients { result ≡ self.now.clients }
+        ensures script { IsPoolScript self.now }
+    {
+        self.clients as usize
+    }
+
+    /// How many servers it begins with: 1 to 64.
+    pub fn servers(&self) -> usize
+        ensures servers { result ≡ self.now.servers }
+        ensures script { IsPoolScript self.now }
+    {
+        self.servers
+    }
+
+    /// The budget of each server's cache, in bytes: 1 to 1,099,511,627,776.
+    pub fn budget(&self) -> u64
+        ensures budget { result ≡ self.now.budget }
+        ensures script { IsPoolScript self.now }
+    {
+        self.budget
+    }
+
+    /// How many items each server's cache has room for: 1 to 16,777,216.
+    pub fn items(&self) -> usize
+        ensures items { result ≡ self.now.items }
+        ensures script { IsPoolScript self.now }
+    {
+        self.items
+    }
+
+    /// What comes, in order.
+    pub fn lines(&self) -> &[PoolLine]
+        ensures lines { result.now ≡ self.now.lines }
+        ensures script { IsPoolScript self.now }
+    {
+        self.lines.as_slice()
+    }
+
+    /// The ring that the pool begins with: the first servers, with the points that the script gives, or with their own 160
+    /// each where it gives none.
+    pub fn ring(&self, alloc: Global) -> Result<Ring, SimError>
+        ensures ring { IfOk result (λ ring. IsOpeningRing self.now ring) }
+        ensures only_memory { IsOkUnless result SimError.Memory }
+    {
+        let servers = first_addresses(alloc, self.servers as u64)?;
+        match made_ring(alloc, servers.as_slice(), self.points.as_slice()) {
+            Ok(ring) => Ok(ring),
+            Err(error) => Err(refused_memory(error)),
+        }
+    }
+
+    /// Goes on by a line, if it is one.
+    #[tactic(auto, unfolding(crate::specs::PoolScripts::read_more))]
+    fn read(&mut self, alloc: Global, line: &[u8]) -> Result<bool, SimError>
+        ensures read { IfOk result (λ more. Gives more (read_more self.old line.now) self.new) }
+        ensures only_memory { IsOkUnless result SimError.Memory }
+    {
+        let Some((name, text)) = cut_at_space(line) else {
+            return Ok(false);
+        };
+        if name == b"point".as_slice() && self.lines.is_empty() {
+            return self.add_point(text);
+        }
+        self.add_line(alloc, line)
+    }
+
+    /// Goes on by a point.
+    fn add_point(&mut self, text: &[u8]) -> Result<bool, SimError>
+        ensures read { IfOk result (λ more. Gives more (with_point self.old (point_of self.old.servers text.now)) self.new) }
+        ensures only_memory { IsOkUnless result SimError.Memory }
+    {
+        let Some(point) = read_point(self.servers, text) else {
+            return Ok(false);
+        };
+        self.points.push(point)?;
+        Ok(true)
+    }
+
+    /// Goes on by a line that is no point.
+    fn add_line(&mut self, alloc: Global, line: &[u8]) -> Result<bool, SimError>
+        ensures read { IfOk result (λ more. Gives more (with_line self.old (line_of self.old.clients (servers_of self.old) line.now)) self.new) }
+        ensures only_memory { IsOkUnless result SimError.Memory }
+    {
+        let addresses = self.addresses.as_slice();
+        let Some(found) = read_line(alloc, self.clients, addresses, line)? else {
+            return Ok(false);
+        };
+        match found {
+            PoolLine::Event(event) => self.add_event(event)?,
+            PoolLine::Join(address) => self.add_join(address)?,
+        }
+        Ok(true)
+    }
+
+    /// Goes on by an event.
+    fn add_event(&mut self, event: Event<Block>) -> Result<(), AllocError>
+        requires moment { HasMoment (PoolLine.Event event) (2 ^ 63) }
+        ensures followed { OnOk result (self.new ≡ followed self.old (PoolLine.Event event)) }
+    {
+        self.lines.push(PoolLine::Event(event))?;
+        Ok(())
+    }
+
+    /// Goes on by a server that joins.
+    fn add_join(&mut self, address: Address) -> Result<(), AllocError>
+        ensures followed { OnOk result (self.new ≡ followed self.old (PoolLine.Join address)) }
+    {
+        let copy = copy_of(&address)?;
+        self.addresses.reserve(1)?;
+        self.lines.push(PoolLine::Join(address))?;
+        self.addresses.push(copy).unwrap();
+        Ok(())
+    }
+}
+
+/// A ring of these servers, with these points, or with the servers' own where there are none.
+fn made_ring(alloc: Global, servers: &[Address], points: &[Point]) -> Result<Ring, RingError>
+    ensures servers { IfOk result (λ ring. ring.servers ≡ servers.now) }
+    ensures points { IfOk result (λ ring. Shows (pairs_of_pool servers.now points.now) ring.points) }
+    ensures refused { refusal_in result ≡ refusal_of_pool servers.now points.now }
+{
+    if points.is_empty() {
+        return Ring::new(alloc, servers);
+    }
+    Ring::of_points(alloc, servers, points)
+}
+
+/// The error of a ring that was refused memory alone.
+fn refused_memory(error: RingError) -> SimError
+    requires { cause_of error ≡ None }
+    ensures { result ≡ SimError.Memory }
+{
+    match error {
+        RingError::Memory => SimError::Memory,
+        RingError::NoServer | RingError::TooMany | RingError::Doubled | RingError::BadAddress =>
+            unreachable!(),
+    }
+}
+
+fn copy_of(address: &Address) -> Result<Address, AllocError>
+    ensures { IfOk result (λ copy. copy ≡ address.now) }
+{
+    address.clone()
+}
+
+/// The script that a text is. The first bad line from the top is answered, and no line at all is a bad line 1.
+pub fn read_pool_script(alloc: Global, input: &[u8]) -> Result<PoolScript, SimError>
+    ensures script { IfOk result (λ script. pool_script_of input.now ≡ Ok script) }
+    ensures error { IfErr result (λ error. Explains error (pool_script_of input.now)) }
+{
+    let mut lines = lines_of(input);
+    let Some((number, line)) = lines.next() else {
+        return Err(SimError::BadLine(1));
+    };
+    let Some(script) = read_head(alloc, line)? else {
+        return Err(SimError::BadLine(number));
+    };
+    read_rest(alloc, script, lines)
+}
+
+/// A script that goes on by all lines.
+fn read_rest(
+    alloc: Global,
+    mut script: PoolScript,
+    lines: LineIter<'_>,
+) -> Result<PoolScript, SimError>
+    ensures script { IfOk result (λ all. read_all script lines.entry ≡ Ok all) }
+    ensures error { IfErr result (λ error. Explains error (read_all script lines.entry)) }
+{
+    for (number, line) in lines {
+        let more = script.read(alloc, line)?;
+        if !more {
+            return Err(SimError::BadLine(number));
+        }
+    }
+    Ok(script)
+}
+
+/// The script of a first line, which says no more.
+fn read_head(alloc: Global, line: &[u8]) -> Result<Option<PoolScript>, SimError>
+    ensures head { IfOk result (λ head. head ≡ head_of line.now) }
+    ensures only_memory { IsOkUnless result SimError.Memory }
+{
+    let Some((servers, clients, budget, items)) = read_limits(line) else {
+        return Ok(None);
+    };
+    let addresses = first_addresses(alloc, servers)?;
+    Ok(Some(PoolScript {
+        servers: servers as usize,
+        clients,
+        budget,
+        items,
+        points: Vec::new(alloc),
+        lines: Vec::new(alloc),
+        addresses,
+    }))
+}
+
+/// The servers, clients, budget and items of a first line.
+#[tactic(auto, unfolding(crate::specs::PoolScripts::limits_of))]
+fn read_limits(line: &[u8]) -> Option<(u64, u64, u64, usize)>
+    ensures limits { result ≡ limits_of line.now }
+    ensures servers { IfSome result (λ limits. (1 ≤ limits.0) × (limits.0 ≤ 64)) }
+    ensures clients { IfSome result (λ limits. (1 ≤ limits.1) × (limits.1 ≤ 1024)) }
+    ensures bounds { IfSome result (λ limits. IsWithinBounds limits.2 limits.3) }
+{
+    let (command, behind) = cut_at_space(line)?;
+    let (servers, behind) = cut_at_space(behind)?;
+    let (clients, behind) = cut_at_space(behind)?;
+    let (budget, items) = cut_at_space(behind)?;
+    let servers = read_limit(servers, SERVER_LIMIT as u64)?;
+    let clients = read_limit(clients, MAX_CLIENTS)?;
+    let budget = read_limit(budget, MAX_BUDGET)?;
+    let items = read_limit(items, MAX_ITEMS as u64)?;
+    if command == b"pool".as_slice() {
+        Some((servers, clients, budget, items as usize))
+    } else {
+        None
+    }
+}
