@@ -174,12 +174,32 @@ class World:
         words = [name, *numbers] + ([tail[name]()] if name in tail else [])
         self.add(" ".join(str(word) for word in words))
 
-    def settle(self):
+    def crowd(self):
+        """One of the marks is met at which a turn waits: requests that are not answered, bytes that a client or a link is owed."""
+        client = self.dice.randrange(len(self.pool.clients))
+        kind = self.dice.choice(["requests", "client", "link"])
+        big = b"set big 0 0 1000000\r\n" + b"v" * 1000000 + b"\r\n"
+        if kind == "requests":
+            self.take(client, b"get key1\r\n" * 1030, 1030)
+        elif kind == "client":
+            self.take(client, big + b"get big\r\n" * 7, 8)
+            for _ in range(2):
+                self.settle(takes=False)
+            self.take(client, b"get key1\r\n" * 3, 3)
+        else:
+            self.take(client, big * 10, 10)
+
+    def take(self, client, text, turns):
+        self.add(f"bytes {client} {escaped(text)}")
+        for _ in range(turns):
+            self.add(f"turn {client}")
+
+    def settle(self, takes=True):
         """All that can still go on goes on, until nothing is left."""
         going = True
         while going:
             going = False
-            for name in ("turn", "toserver", "serve", "toproxy", "reply", "emit", "takes"):
+            for name in ("turn", "toserver", "serve", "toproxy", "reply", "emit") + ("takes",) * takes:
                 for numbers in self.places(name):
                     tail = {"serve": self.scene.moment}.get(name, "all")
                     words = [name, *numbers] + ([tail] if name in ("toserver", "serve", "toproxy", "takes") else [])
@@ -189,6 +209,8 @@ class World:
         dice = self.dice
         for _ in range(dice.choice([20, 60, 60, 200, 200, 200, 600])):
             self.happen()
+        if dice.random() < 0.01:
+            self.crowd()
         if dice.random() < 0.6:
             self.settle()
         return self
