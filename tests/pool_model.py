@@ -148,7 +148,8 @@ class Reader(Server):
 
     def meta_arithmetic(self, key, asked, moment):
         tokens = [(flag, asked.get(flag.encode())) for flag in "TCN"]
-        tokens += [("J", asked.get(b"J", 0)), ("D", asked.get(b"D", 1)), ("M", MODES[asked.get(b"M", "incr")])]
+        tokens.append(("J", asked.get(b"J", 0) if b"N" in asked else 0))
+        tokens += [("D", asked.get(b"D", 1)), ("M", MODES[asked.get(b"M", "incr")])]
         return self.meta_note("ma", key, asked, "ctv", tokens)
 
 
