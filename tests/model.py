@@ -510,6 +510,11 @@ def lines_of(script):
     return [line for line in script.decode("latin-1").split("\n") if line]
 
 
+def is_of_pool(script):
+    """Whether a script's bytes are those of a pool script."""
+    return script.startswith(b"pool ")
+
+
 def printed(lines, server):
     """What is printed for a script, played to a server as its first line says."""
     for line in lines[1:]:

@@ -4,7 +4,7 @@ come in two pieces, wherever they are cut, the answers are the same.
 
 Usage: prefixes.py [PROGRAM]      (crates/mc_sim/out/mc_sim, as it was built)
 
-The bytes are those of each script of tests/examples/ that has one client and at most 1,000 bytes. Each beginning, and each pair
+The bytes are those of each server script of tests/examples/ that has one client and at most 1,000 bytes. Each beginning, and each pair
 of pieces, is played to mc_sim, with a turn of each piece for each of its lines and one more, and what is printed is compared
 with what a model answers where nothing is cut (model.py). Each has a new server where items' numbers are compared; all others of a
 script are clients of one, each after a flush, so that what another stored is gone, and only numbers go on. It prints a line for
@@ -18,7 +18,7 @@ import re
 import subprocess
 import sys
 
-from model import Connection, Server, escaped, lines_of, settings, unescaped
+from model import Connection, Server, escaped, is_of_pool, lines_of, settings, unescaped
 
 TESTS = pathlib.Path(__file__).resolve().parent
 BUILT = TESTS.parent / "crates" / "mc_sim" / "out" / "mc_sim"
@@ -112,7 +112,7 @@ def is_right(program, given):
 
 def main(program):
     scripts = [script for script in sorted((TESTS / "examples").glob("*.txt")) if not script.with_suffix(".err").exists()]
-    inputs = [(script.stem, Input(script)) for script in scripts]
+    inputs = [(script.stem, Input(script)) for script in scripts if not is_of_pool(script.read_bytes())]
     inputs = [(name, given) for name, given in inputs if given.clients == 1 and len(given.text) <= MOST]
     with concurrent.futures.ThreadPoolExecutor(os.cpu_count()) as pool:
         right = list(pool.map(lambda named: is_right(program, named[1]), inputs))

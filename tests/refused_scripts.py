@@ -1,5 +1,5 @@
 #!/usr/bin/env python3
-"""Refuses each allocation of mc_sim in turn, over each script of tests/examples/ that has a line, and sees that all goes right.
+"""Refuses each allocation of mc_sim in turn, over each server script of tests/examples/ that has a line, and sees that all goes right.
 
 Usage: refused_scripts.py [PROGRAM]      (crates/mc_sim/out/mc_sim, as it was built)
 
@@ -17,7 +17,7 @@ import subprocess
 import sys
 import tempfile
 
-from model import Fault, Server, lines_of, printed, settings
+from model import Fault, Server, is_of_pool, lines_of, printed, settings
 from refused import build
 
 TESTS = pathlib.Path(__file__).resolve().parent
@@ -80,6 +80,7 @@ def fault_of(library, program, script):
 
 def main(program):
     scripts = [path for path in sorted((TESTS / "examples").glob("*.txt")) if path.stat().st_size]
+    scripts = [path for path in scripts if not is_of_pool(path.read_bytes())]
     with tempfile.TemporaryDirectory() as folder, concurrent.futures.ThreadPoolExecutor(os.cpu_count()) as pool:
         looks = functools.partial(fault_of, build(folder), program)
         faults = list(pool.map(looks, (script.read_bytes() for script in scripts)))
