@@ -1,3 +1,4 @@
 pub mod Commands
 pub mod PoolLines
 pub mod PoolScripts
+pub mod Kinds

@@ -1,5 +1,5 @@
 //! Pool scripts.
-ghost use Rattle.std.specs.Prelude.{◌≡◌, ◌≤◌, ◌^◌, None, Ok, IfOk, IfErr, IfSome, IsOkUnless, OnOk};
+ghost use Rattle.std.specs.Prelude.{◌≡◌, ◌≤◌, ◌^◌, None, Ok, length, IfOk, IfErr, IfSome, IsOkUnless, OnOk};
 ghost use Rattle.mc_cache.specs.CacheState.{IsWithinBounds};
 ghost use Rattle.mc_ring.specs.Refusals.{cause_of, refusal_in};
 ghost use Rattle.mc_ring.specs.Rings.{Shows};
@@ -8,7 +8,6 @@ ghost use Rattle.mc_pool_script.specs.PoolLines.{HasMoment, line_of};
 ghost use Rattle.mc_pool_script.specs.PoolScripts.{Gives, IsOpeningRing, IsPoolScript, followed, head_of, limits_of, pairs_of_pool, point_of, pool_script_of, read_all, read_more, refusal_of_pool, servers_of, with_line, with_point};
 
 use crate::addresses::first_addresses;
-use crate::events::Event;
 use crate::lines::PoolLine;
 use crate::points::read_point;
 use crate::reading::read_line;
@@ -16,6 +15,7 @@ use mc_cache::{MAX_BUDGET, MAX_ITEMS};
 use mc_ring::{Address, Point, Ring, RingError, SERVER_LIMIT};
 use mc_script::{LineIter, SimError, cut_at_space, lines_of, read_limit};
 use mc_text::Block;
+use mc_world::Event;
 use std::alloc::{AllocError, Global};
 use std::marker::Model;
 
@@ -86,6 +86,13 @@ impl PoolScript {
         ensures script { IsPoolScript self.now }
     {
         self.lines.as_slice()
+    }
+
+    /// How many servers are there once all lines were played: the first ones, and those that join.
+    pub fn server_count(&self) -> usize
+        ensures { result ≡ length (servers_of self.now) }
+    {
+        self.addresses.as_slice().len()
     }
 
     /// The ring that the pool begins with: the first servers, with the points that the script gives, or with their own 160
@@ -189,7 +196,8 @@ fn refused_memory(error: RingError) -> SimError
     }
 }
 
-fn copy_of(address: &Address) -> Result<Address, AllocError>
+/// A copy of an address.
+pub fn copy_of(address: &Address) -> Result<Address, AllocError>
     ensures { IfOk result (λ copy. copy ≡ address.now) }
 {
     address.clone()

@@ -4,10 +4,10 @@ ghost use Rattle.mc_script.specs.Numbers.{place_of};
 ghost use Rattle.mc_pool_script.specs.PoolLines.{HasMoment, back_line, end_line, lost_line, reply_line, serve_line, to_proxy_line, to_server_line};
 
 use crate::client_lines::read_count;
-use crate::events::Event;
 use crate::lines::PoolLine;
 use mc_script::{cut_at_space, read_moment, read_place};
 use mc_text::read_u64;
+use mc_world::Event;
 
 /// `<server> <generation> <count>`
 #[tactic(auto, unfolding(crate::specs::PoolLines::to_server_line))]
