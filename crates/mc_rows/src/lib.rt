@@ -20,6 +20,4 @@ mod replies;
 #[cfg(test)]
 mod requests;
 #[cfg(test)]
-mod scripts;
-#[cfg(test)]
 mod texts;

@@ -21,13 +21,21 @@ escape_of b =
 abbrev pub escaped : List ℕ → List ℕ
 escaped bytes = flat_map escape_of bytes
 
+-- a line that says of something of a name and a number what its bytes are
+abbrev pub named_line : List ℕ → ℕ → List ℕ → List ℕ
+named_line name number bytes = name ++ codes " " ++ decimal number ++ codes ": " ++ escaped bytes ++ codes "\n"
+
+-- lines of one name, in order, the first of number 0
+abbrev pub named_lines : List ℕ → List (List ℕ) → List ℕ
+named_lines name texts = flat_map (λ text. named_line name text.0 text.1) (enumerate_from 0 texts)
+
 -- what is printed for a client
 abbrev pub client_line : ℕ → List ℕ → List ℕ
-client_line client bytes = codes "client " ++ decimal client ++ codes ": " ++ escaped bytes ++ codes "\n"
+client_line client bytes = named_line (codes "client") client bytes
 
 -- what is printed for all clients, in order, the first of number 0
 abbrev pub client_lines : List (List ℕ) → List ℕ
-client_lines outputs = flat_map (λ client. client_line client.0 client.1) (enumerate_from 0 outputs)
+client_lines outputs = named_lines (codes "client") outputs
 
 -- the value of a hexadecimal digit, small or capital
 unfoldable pub hex_value : ℕ → Option ℕ

@@ -7,4 +7,4 @@ pub mod ScriptSeen
 pub mod Statuses
 pub mod Answers
 pub mod Plays
-pub mod Runs
+pub mod Texts

@@ -1,7 +1,7 @@
 //! Escapes: how any bytes stand in a line of printable ones.
 ghost use Rattle.std.specs.Prelude.{◌≡◌, ◌<◌, ◌++◌, ◌∷◌, ℕ, List, Some, length, IfOk, IfSome, OnOk, OnErr, MatchOption, All, [], take, vec_len};
 ghost use Rattle.std.specs.Option.{option_map};
-ghost use Rattle.mc_script.specs.Escapes.{client_line, escape_of, escaped, hex_digit, hex_value, letter_value, text_of, GivesByte, GivesNoByte, Between, Backslash, NoDigit};
+ghost use Rattle.mc_script.specs.Escapes.{client_line, escape_of, escaped, named_line, hex_digit, hex_value, letter_value, text_of, GivesByte, GivesNoByte, Between, Backslash, NoDigit};
 
 use itoa::Buffer;
 use std::alloc::{AllocError, Global};
@@ -27,8 +27,21 @@ pub fn push_client_line(client: u64, bytes: &[u8], out: &mut Vec<u8>) -> Result<
     ensures line { OnOk result (out.new.items ≡ out.old.items ++ client_line client bytes.now) }
     ensures unchanged { OnErr result (out.new.items ≡ out.old.items) }
 {
+    push_named_line(b"client", client, bytes, out)
+}
+
+/// Puts a line at the end of a text: `<name> <number>: ` and some bytes, escaped. An error leaves the text as it was.
+pub fn push_named_line(
+    name: &[u8],
+    number: u64,
+    bytes: &[u8],
+    out: &mut Vec<u8>,
+) -> Result<(), AllocError>
+    ensures line { OnOk result (out.new.items ≡ out.old.items ++ named_line name.now number bytes.now) }
+    ensures unchanged { OnErr result (out.new.items ≡ out.old.items) }
+{
     let held = out.len();
-    let pushed = push_parts(client, bytes, out);
+    let pushed = push_parts(name, number, bytes, out);
     if pushed.is_err() {
         out.truncate(held);
     }
@@ -67,13 +80,14 @@ fn push_each_escaped(bytes: &[u8], out: &mut Vec<u8>) -> Result<(), AllocError>
     Ok(())
 }
 
-fn push_parts(client: u64, bytes: &[u8], out: &mut Vec<u8>) -> Result<(), AllocError>
-    ensures line { OnOk result (out.new.items ≡ out.old.items ++ client_line client bytes.now) }
+fn push_parts(name: &[u8], number: u64, bytes: &[u8], out: &mut Vec<u8>) -> Result<(), AllocError>
+    ensures line { OnOk result (out.new.items ≡ out.old.items ++ named_line name.now number bytes.now) }
     ensures kept { take (vec_len out.old) out.new.items ≡ out.old.items }
 {
     let mut digits = Buffer::new();
-    out.extend_from_slice(b"client ")?;
-    out.extend_from_slice(digits.format(client).as_bytes())?;
+    out.extend_from_slice(name)?;
+    out.extend_from_slice(b" ")?;
+    out.extend_from_slice(digits.format(number).as_bytes())?;
     out.extend_from_slice(b": ")?;
     push_escaped(bytes, out)?;
     out.extend_from_slice(b"\n")

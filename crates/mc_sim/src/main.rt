@@ -1,31 +1,71 @@
-//! Runs the script on standard input over one server, and prints what its clients were sent.
+//! Plays the script on standard input, of a server or of a pool, and prints what its clients were sent. Options ask for the account of a
+//! pool ([`options`]).
 //!
-//! The exit status is 0 where the script was run to its end. Else it is 2 at a bad line, 3 where a read or a write
-//! failed, and 4 where there was no memory, and standard error says why.
+//! The exit status is 0 where the script was played to its end. Else it is 2 at a bad line, and where words are refused or ask for
+//! help; 3 where a read or a write failed; and 4 where there was no memory. Standard error says why. The words are read before
+//! the script.
 #![tactic(auto)]
 
-ghost use Rattle.std.specs.Prelude.{◌≡◌, MatchResult};
-ghost use Rattle.mc_script.specs.Statuses.{status_of};
+mod endings;
+mod options;
+mod runs;
+#[cfg(test)]
+mod streams;
+mod texts;
+mod traces;
 
-use mc_script::{SimError, run};
+use endings::{Ending, exit_status};
+use mc_program::read_words;
+use mc_script::read_input;
+use options::{Options, command};
+use runs::run;
 use std::io;
 use std::process::ExitCode;
+use std::rt::Env;
+use traces::trace;
 
 fn main(rt: HostRuntime) -> ExitCode {
-    let outcome = run(rt.alloc(), &mut rt.reader(), &mut io::writer(&rt));
-    if let Err(error) = &outcome {
-        // Where standard error is closed too, the status alone says it.
-        let _ = eprintln!(rt; "mc_sim: {error}");
+    let ended = play(&rt);
+    if let Err(ending) = &ended {
+        ending.tell(&rt);
     }
-    ExitCode::from(exit_status(&outcome))
+    ExitCode::from(exit_status(&ended))
 }
 
-/// The exit status of a run: 0 where it came to its end, and else that of its error.
-fn exit_status(outcome: &Result<(), SimError>) -> u8
-    ensures { MatchResult outcome.now (λ _. result ≡ 0) (λ error. result ≡ status_of error) }
+/// Reads the words, and then plays the script.
+fn play<R>(rt: &R) -> Result<(), Ending>
+where
+    R: Env + Input + Print + Eprint + AllocGlobal,
 {
-    match outcome {
-        Ok(()) => 0,
-        Err(error) => error.status(),
+    let alloc = rt.alloc();
+    let words = read_words(rt)?;
+    let matches = command(alloc)?.try_get_matches_from(words.as_slice())?;
+    let options = Options::of(&matches);
+    if options.trace {
+        return play_traced(rt, &options);
     }
+    run(
+        alloc,
+        options.printed,
+        &mut rt.reader(),
+        &mut io::writer(rt),
+    )?;
+    Ok(())
+}
+
+/// The same of a script that is read first, so that each line can be told.
+fn play_traced<R>(rt: &R, options: &Options) -> Result<(), Ending>
+where
+    R: Input + Print + Eprint + AllocGlobal,
+{
+    let alloc = rt.alloc();
+    let input = read_input(alloc, &mut rt.reader())?;
+    trace(rt, alloc, input.as_slice())?;
+    run(
+        alloc,
+        options.printed,
+        &mut input.as_slice(),
+        &mut io::writer(rt),
+    )?;
+    Ok(())
 }

@@ -1,25 +1,17 @@
--- A run: a script in, a printed line for each client out. Source: this project's own.
-use Rattle.std.specs.Prelude.{◌≡◌, ℕ, List, Option, Ok, Err}
+-- A run: a script in, its text out. Source: this project's own.
+use Rattle.std.specs.Prelude.{◌≡◌, ℕ, Bool, List, Option}
 use Rattle.std.specs.Io.KnownBytes.{Appends, Keeps}
-use Rattle.mc_script.specs.Escapes.{client_lines}
-use Rattle.mc_script.specs.Scripts.{ScriptSeen, script_of}
-use Rattle.mc_script.specs.Answers.{Answers}
 use Rattle.mc_script.specs.declared.errors.SimError.{SimError}
 use Rattle.mc_script.specs.declared.errors.SimError.TheVariants.{BadLine, Stream, Memory}
 use Rattle.mc_script.specs.declared.errors.Side.TheVariants.{Input, Output}
+use Rattle.mc_pool_script.specs.Kinds.{is_of_pool}
+use Rattle.mc_sim.specs.Printed.{ExplainsFor, IsTextFor}
+use Rattle.mc_sim.specs.declared.texts.Printed.{Printed}
 
--- a text is that of outputs which answer the script that the input is
-pub record IsTextOf (input text : List ℕ) : Type 0 where
-  pub script : ScriptSeen
-  pub read : script_of input ≡ Ok script
-  pub outputs : List (List ℕ)
-  pub answers : Answers script outputs
-  pub printed : text ≡ client_lines outputs
-
--- such a text was written, and nothing else
-pub record Prints (input : List ℕ) (old new : Option (List ℕ)) : Type 0 where
+-- the text of an input was written, and nothing else
+pub record Prints (printed : Printed) (input : List ℕ) (old new : Option (List ℕ)) : Type 0 where
   pub text : List ℕ
-  pub is : IsTextOf input text
+  pub is : IsTextFor (is_of_pool input) printed input text
   pub written : Appends old new text
 
 -- whatever stops a run but a failed write stops it before anything is written
@@ -31,6 +23,6 @@ StopsBeforeWriting Memory old new = Keeps old new
 
 -- where a run stopped at a bad line, that is the first one of the input
 abbrev pub IsBadLineOf : SimError → List ℕ → Type 0
-IsBadLineOf (BadLine n) input = script_of input ≡ Err n
+IsBadLineOf (BadLine n) input = ExplainsFor (is_of_pool input) (BadLine n) input
 IsBadLineOf (Stream side) input = Unit {0}
 IsBadLineOf Memory input = Unit {0}

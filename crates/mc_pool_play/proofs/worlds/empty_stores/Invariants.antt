@@ -1,0 +1,10 @@
+use Rattle.std.proofs.Common.{◌≡◌, length}
+use Rattle.std.specs.List.{All}
+use Rattle.mc_pool_play.specs.Stores.{IsEmptyStore}
+use Rattle.mc_pool_play.proofs.worlds.empty_stores.Given as goal
+
+abbrev pub invariant-loop : goal.invariant-loop
+invariant-loop l = record {
+  count : length l.stores.items ≡ l.counter;
+  empty : All (IsEmptyStore l.items) l.stores.items;
+}

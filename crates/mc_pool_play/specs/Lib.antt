@@ -1,0 +1,4 @@
+pub mod Stores
+pub mod Plays
+pub mod Told
+pub mod PoolTexts

@@ -1,0 +1,51 @@
+-- A world that plays a pool script. Source: this project's own.
+use Rattle.std.specs.Prelude.{◌≡◌, ℕ, List, [], ◌∷◌, map}
+use Rattle.std.specs.List.{range_with_len}
+use Rattle.mc_cache.specs.CacheState.{CacheState, opening_cache}
+use Rattle.mc_pool_script.specs.PoolScripts.{IsOpeningRing, PoolSeen}
+use Rattle.mc_pool_script.specs.declared.lines.PoolLine.{PoolLine}
+use Rattle.mc_pool_script.specs.declared.lines.PoolLine.TheVariants.{Event, Join}
+use Rattle.mc_world.specs.Joins.{HasServerJoined}
+use Rattle.mc_world.specs.Steps.{GivesAccount, StepsTo}
+use Rattle.mc_world.specs.Worlds.{CourseState, WorldState, opening_world, put_out_of}
+use Rattle.mc_world.specs.declared.errors.Step.{Step}
+use Rattle.mc_world.specs.declared.errors.Step.TheVariants.{Done}
+
+-- the cache with which each server begins
+abbrev pub cache_of : PoolSeen → CacheState
+cache_of script = opening_cache script.budget script.items 0
+
+-- what a line does to the course of a world, and what the step of its event answers: a server joins in any case
+abbrev pub Plays : CacheState → PoolLine → Step → CourseState → CourseState → Type 0
+Plays opening (Event event) step old new = StepsTo event step old new
+Plays opening (Join address) step old new = (step ≡ Done) × HasServerJoined address opening old new
+
+-- what lines do, one after another
+abbrev pub PlaysAll : CacheState → List PoolLine → List Step → CourseState → CourseState → Type 0
+PlaysAll opening [] [] old new = new ≡ old
+PlaysAll opening (line ∷ lines) (step ∷ steps) old new = (next : CourseState) × Plays opening line step old next × PlaysAll opening lines steps next new
+PlaysAll opening lines steps old new = ⊥
+
+-- the world that a script begins with
+pub record IsOpenedFor (script : PoolSeen) (world : WorldState) : Type 0 where
+  pub ring : IsOpeningRing script world.opening
+  pub is : world ≡ opening_world world.opening script.clients script.budget script.items
+
+-- a world has the ring and the bounds with which another was opened
+pub record KeepsOpening (old new : WorldState) : Type 0 where
+  pub ring : new.opening ≡ old.opening
+  pub budget : new.budget ≡ old.budget
+  pub items : new.items ≡ old.items
+
+-- A world has played a script: it was opened as the script wants it, took its lines in order, each with this answer, and gives
+-- account of all that came.
+pub record HasPlayed (script : PoolSeen) (steps : List Step) (world : WorldState) : Type 0 where
+  pub first : WorldState
+  pub opened : IsOpenedFor script first
+  pub keeps : KeepsOpening first world
+  pub played : PlaysAll (cache_of script) script.lines steps first.course world.course
+  pub account : GivesAccount world
+
+-- what was put out to the first clients, in order
+abbrev pub outs_of : ℕ → CourseState → List (List ℕ)
+outs_of count course = map (λ client. put_out_of course client) (range_with_len 0 count)

@@ -1,0 +1,83 @@
+//! A world plays a pool script.
+ghost use Rattle.std.specs.Prelude.{◌≡◌, ◌<◌, ◌+◌, ◌^◌, IfOk, IsOkUnless, OnOk};
+ghost use Rattle.mc_cache.specs.CacheState.{opening_cache};
+ghost use Rattle.mc_pool_play.specs.Plays.{HasPlayed, KeepsOpening, Plays};
+ghost use Rattle.mc_world.specs.Joins.{HasServerJoined};
+ghost use Rattle.mc_world.specs.Steps.{GivesAccount};
+
+use crate::worlds::{PoolWorld, empty_store, opened_world};
+use mc_pool_script::{PoolLine, PoolScript, copy_of};
+use mc_ring::Address;
+use mc_script::SimError;
+use mc_world::Step;
+use std::alloc::Global;
+
+/// A world that has played a script.
+#[derive(Drop)]
+pub struct Played {
+    /// The world as it is then.
+    pub world: PoolWorld,
+    /// What each line did, in order. A server that joins is `Done`.
+    pub steps: Vec<Step>,
+}
+
+/// A world that has played a script: it took the lines in order.
+pub fn played_script(alloc: Global, script: &PoolScript) -> Result<Played, SimError>
+    ensures played { IfOk result (λ played. HasPlayed script.now played.steps.items played.world) }
+    ensures only_memory { IsOkUnless result SimError.Memory }
+{
+    let mut world = opened_world(alloc, script)?;
+    let mut steps = Vec::new(alloc);
+    for line in script.lines() {
+        steps.push(play(alloc, &mut world, script.items(), line)?)?;
+    }
+    Ok(Played { world, steps })
+}
+
+/// One line.
+fn play(
+    alloc: Global,
+    world: &mut PoolWorld,
+    items: usize,
+    line: &PoolLine,
+) -> Result<Step, SimError>
+    requires items { items ≡ world.old.items }
+    requires few { items + 1 < 2 ^ 64 }
+    ensures plays { IfOk result (λ step. Plays (opening_cache world.old.budget world.old.items 0) line.now step world.old.course world.new.course) }
+    ensures keeps { OnOk result (KeepsOpening world.old world.new) }
+    ensures account { OnOk result (GivesAccount world.new) }
+    ensures only_memory { IsOkUnless result SimError.Memory }
+{
+    match line {
+        PoolLine::Event(event) => match world.step(event) {
+            Ok(step) => Ok(step),
+            Err(_) => Err(SimError::Memory),
+        },
+        PoolLine::Join(address) => {
+            join(alloc, world, items, address)?;
+            Ok(Step::Done)
+        }
+    }
+}
+
+/// A server joins.
+fn join(
+    alloc: Global,
+    world: &mut PoolWorld,
+    items: usize,
+    address: &Address,
+) -> Result<(), SimError>
+    requires items { items ≡ world.old.items }
+    requires few { items + 1 < 2 ^ 64 }
+    ensures joins { OnOk result (HasServerJoined address.now (opening_cache world.old.budget world.old.items 0) world.old.course world.new.course) }
+    ensures keeps { OnOk result (KeepsOpening world.old world.new) }
+    ensures account { OnOk result (GivesAccount world.new) }
+    ensures only_memory { IsOkUnless result SimError.Memory }
+{
+    let store = empty_store(alloc, items)?;
+    let address = copy_of(address)?;
+    match world.join_server(address, store) {
+        Ok(_) => Ok(()),
+        Err(_) => Err(SimError::Memory),
+    }
+}

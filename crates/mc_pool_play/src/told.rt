@@ -1,0 +1,146 @@
+//! What is told of a world that has played a script.
+ghost use Rattle.std.specs.Prelude.{◌≡◌, ◌++◌, codes, decimal, IfOk, OnOk};
+ghost use Rattle.mc_script.specs.Escapes.{named_line};
+ghost use Rattle.mc_pool_play.specs.Told.{account_lines, entry_line, entry_name, event_lines, histories_lines, history_lines, numbered, refusal_words, text_lines, word_of};
+
+use crate::plays::Played;
+use crate::worlds::PoolWorld;
+use itoa::Buffer;
+use mc_script::push_named_line;
+use mc_world::{Entry, Step};
+use std::alloc::{AllocError, Global};
+
+/// Puts the account of a play at the end of a text: what each line did, what each of the first clients sent, and what each
+/// of the first servers took.
+pub fn push_account(
+    alloc: Global,
+    played: &Played,
+    clients: usize,
+    servers: usize,
+    out: &mut Vec<u8>,
+) -> Result<(), AllocError>
+    ensures { OnOk result (out.new.items ≡ out.old.items ++ account_lines played.now.steps.items clients servers played.now.world.course) }
+{
+    push_event_lines(played.steps.as_slice(), out)?;
+    push_text_lines(&played.world, clients, out)?;
+    push_histories(alloc, &played.world, servers, out)
+}
+
+/// A line for each step.
+fn push_event_lines(steps: &[Step], out: &mut Vec<u8>) -> Result<(), AllocError>
+    ensures { OnOk result (out.new.items ≡ out.old.items ++ event_lines steps.now) }
+{
+    let mut number = 0;
+    for step in steps {
+        push_named_line(b"event", number, word_of(*step), out)?;
+        number += 1;
+    }
+    Ok(())
+}
+
+/// What a step did, in a word.
+fn word_of(step: Step) -> &'static [u8]
+    ensures { result.now ≡ word_of step }
+{
+    match step {
+        Step::Done => b"done",
+        Step::Nothing => b"nothing",
+    }
+}
+
+/// A line for each of the first clients, with its text.
+fn push_text_lines(world: &PoolWorld, clients: usize, out: &mut Vec<u8>) -> Result<(), AllocError>
+    ensures { OnOk result (out.new.items ≡ out.old.items ++ text_lines clients world.now.course) }
+{
+    for client in 0..clients as u64 {
+        push_named_line(b"text", client, world.text(client), out)?;
+    }
+    Ok(())
+}
+
+/// The histories of the first servers.
+fn push_histories(
+    alloc: Global,
+    world: &PoolWorld,
+    servers: usize,
+    out: &mut Vec<u8>,
+) -> Result<(), AllocError>
+    ensures { OnOk result (out.new.items ≡ out.old.items ++ histories_lines servers world.now.course) }
+{
+    for place in 0..servers {
+        push_history(alloc, place, world.history(place), out)?;
+    }
+    Ok(())
+}
+
+/// The lines of a server's history.
+fn push_history(
+    alloc: Global,
+    place: usize,
+    entries: &[Entry],
+    out: &mut Vec<u8>,
+) -> Result<(), AllocError>
+    ensures { OnOk result (out.new.items ≡ out.old.items ++ history_lines place entries.now) }
+{
+    push_count(place, entries.len(), out)?;
+    for entry in entries {
+        push_entry(alloc, place, entry, out)?;
+    }
+    Ok(())
+}
+
+/// How many commands a server took.
+fn push_count(place: usize, count: usize, out: &mut Vec<u8>) -> Result<(), AllocError>
+    ensures { OnOk result (out.new.items ≡ out.old.items ++ named_line (codes "history") place (decimal count)) }
+{
+    let mut digits = Buffer::new();
+    push_named_line(
+        b"history",
+        place as u64,
+        digits.format(count).as_bytes(),
+        out,
+    )
+}
+
+/// The line of an entry.
+fn push_entry(
+    alloc: Global,
+    place: usize,
+    entry: &Entry,
+    out: &mut Vec<u8>,
+) -> Result<(), AllocError>
+    ensures { OnOk result (out.new.items ≡ out.old.items ++ entry_line place entry.now) }
+{
+    let name = entry_name(alloc, place, entry)?;
+    push_named_line(name.as_slice(), entry.moment, entry.reply.as_slice(), out)
+}
+
+/// Whose an entry is, and whether its store was refused memory.
+fn entry_name(alloc: Global, place: usize, entry: &Entry) -> Result<Vec<u8>, AllocError>
+    ensures { IfOk result (λ name. name.items ≡ entry_name place entry.now) }
+{
+    let mut name = Vec::new(alloc);
+    push_numbered(b"server ", place as u64, &mut name)?;
+    push_numbered(b", client ", entry.client, &mut name)?;
+    push_numbered(b", request ", entry.request, &mut name)?;
+    push_numbered(b", command ", entry.atom as u64, &mut name)?;
+    name.extend_from_slice(refusal_words(entry.refused))?;
+    name.extend_from_slice(b", moment")?;
+    Ok(name)
+}
+
+/// The words for a store that was refused memory.
+fn refusal_words(refused: bool) -> &'static [u8]
+    ensures { result.now ≡ refusal_words refused }
+{
+    if refused { b", refused" } else { b"" }
+}
+
+/// Words and a number.
+fn push_numbered(words: &[u8], number: u64, out: &mut Vec<u8>) -> Result<(), AllocError>
+    ensures { OnOk result (out.new.items ≡ out.old.items ++ numbered words.now number) }
+{
+    let mut digits = Buffer::new();
+    out.extend_from_slice(words)?;
+    out.extend_from_slice(digits.format(number).as_bytes())
+}

@@ -1,0 +1,40 @@
+//! The text of a script: a line for each client.
+ghost use Rattle.std.specs.Prelude.{IfErr, IfOk, IsOkUnless, OnOk};
+ghost use Rattle.std.specs.Io.KnownBytes.{Appends};
+ghost use Rattle.mc_script.specs.Texts.{IsTextOf};
+ghost use Rattle.mc_script.specs.ScriptSeen.{Explains};
+ghost use Rattle.mc_script.specs.Scripts.{script_of};
+ghost use Rattle.mc_script.specs.declared.errors.Side.TheVariants.{Output};
+
+use crate::errors::{Side, SimError};
+use crate::outputs::{played_server, push_output_lines};
+use crate::scripts::read_script;
+use std::alloc::Global;
+use std::io::Write;
+
+/// The text that is printed for a script: a line for each of its clients, in order, with what a server that plays the
+/// script sends them. The error is the script's first bad line, or `Memory`.
+///
+/// The contract has no condition: it holds of every input, wherever its bytes came from. Where the call succeeds, the
+/// input is a script, and the lines are those of outputs that answer it. Where it names a line, the input is no script,
+/// and that line is its first bad one.
+pub fn text_of_script(alloc: Global, input: &[u8]) -> Result<Vec<u8>, SimError>
+    ensures text { IfOk result (λ text. IsTextOf input.now text.items) }
+    ensures error { IfErr result (λ error. Explains error (script_of input.now)) }
+{
+    let script = read_script(alloc, input)?;
+    let server = played_server(alloc, &script)?;
+    let mut text = Vec::new(alloc);
+    push_output_lines(&server, script.connections, &mut text)?;
+    Ok(text)
+}
+
+/// Writes a text. Where that fails, a part of it may have been written.
+pub fn write_text<W: Write>(writer: &mut W, text: &[u8]) -> Result<(), SimError>
+    ensures written { OnOk result (Appends (W.contents writer.old) (W.contents writer.new) text.now) }
+    ensures only_output { IsOkUnless result (SimError.Stream Output) }
+{
+    writer
+        .write_all(text)
+        .map_err(|_| SimError::Stream(Side::Output))
+}

@@ -1,0 +1,73 @@
+//! Why the program ends with another status than 0.
+ghost use Rattle.std.specs.Prelude.{◌≡◌, MatchResult};
+ghost use Rattle.mc_sim.specs.Endings.{status_of};
+
+use mc_program::Failure;
+use mc_script::SimError;
+use std::alloc::AllocError;
+
+/// Why the program ends with another status than 0.
+#[derive(Debug, Drop)]
+pub enum Ending {
+    /// The words are refused, or ask for help; or there is no memory to read them.
+    Words(Failure),
+    /// The script was not played to its end.
+    Script(SimError),
+}
+
+impl Ending {
+    /// The exit status.
+    pub fn status(&self) -> u8
+        ensures { result ≡ status_of self.now }
+    {
+        match self {
+            Ending::Words(failure) => failure.status(),
+            Ending::Script(error) => error.status(),
+        }
+    }
+
+    /// Says it on standard error; a text of help goes to standard output.
+    pub fn tell<R: Print + Eprint>(&self, rt: &R) {
+        match self {
+            Ending::Words(failure) => failure.tell(rt, "mc_sim"),
+            Ending::Script(error) => {
+                // Where standard error is closed too, the status alone says it.
+                let _ = eprintln!(rt; "mc_sim: {error}");
+            }
+        }
+    }
+}
+
+/// The exit status of a run: 0 where it came to its end, and else that of its ending.
+pub fn exit_status(ended: &Result<(), Ending>) -> u8
+    ensures { MatchResult ended.now (λ _. result ≡ 0) (λ ending. result ≡ status_of ending) }
+{
+    match ended {
+        Ok(()) => 0,
+        Err(ending) => ending.status(),
+    }
+}
+
+impl From<Failure> for Ending {
+    fn from(failure: Failure) -> Ending {
+        Ending::Words(failure)
+    }
+}
+
+impl From<clap::Error> for Ending {
+    fn from(error: clap::Error) -> Ending {
+        Ending::Words(Failure::from(error))
+    }
+}
+
+impl From<AllocError> for Ending {
+    fn from(_e: AllocError) -> Ending {
+        Ending::Script(SimError::Memory)
+    }
+}
+
+impl From<SimError> for Ending {
+    fn from(error: SimError) -> Ending {
+        Ending::Script(error)
+    }
+}

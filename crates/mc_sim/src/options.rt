@@ -1,0 +1,53 @@
+//! The command line of the program.
+
+use crate::texts::Printed;
+use clap::{Arg, ArgAction, ArgMatches, Command};
+use std::alloc::{AllocError, Global};
+
+/// What a command line asks for.
+#[derive(Clone, Copy, Debug)]
+pub struct Options {
+    /// What to print.
+    pub printed: Printed,
+    /// Whether to say what each line does.
+    pub trace: bool,
+}
+
+impl Options {
+    /// What matches of [`command`] ask for.
+    pub fn of(matches: &ArgMatches<'_>) -> Options {
+        let printed = if matches.get_flag("account") {
+            Printed::Account
+        } else {
+            Printed::Outputs
+        };
+        let trace = matches.get_flag("trace");
+        Options { printed, trace }
+    }
+}
+
+/// The command of the program, with the meaning of each option.
+pub fn command<'a>(alloc: Global) -> Result<Command<'a>, AllocError> {
+    Command::new(alloc, "mc_sim")
+        .about(
+            "Plays a script on standard input, of a memcached server or of a pool, and prints what its clients are sent",
+        )
+        .arg(account(alloc))?
+        .arg(trace(alloc))
+}
+
+fn account<'a>(alloc: Global) -> Arg<'a> {
+    Arg::new(alloc, "account")
+        .long("account")
+        .action(ArgAction::SetTrue)
+        .help(
+            "Of a pool, print then what each event did, what each client sent, and what each server took",
+        )
+}
+
+fn trace<'a>(alloc: Global) -> Arg<'a> {
+    Arg::new(alloc, "trace")
+        .long("trace")
+        .action(ArgAction::SetTrue)
+        .help("Of a pool, say on standard error what each line did")
+}

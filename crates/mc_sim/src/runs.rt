@@ -1,0 +1,31 @@
+//! A run: a script in, its text out.
+ghost use Rattle.std.specs.Prelude.{IfErr, IfSome, OnOk};
+ghost use Rattle.mc_sim.specs.Runs.{IsBadLineOf, Prints, StopsBeforeWriting};
+
+use crate::texts::{Printed, text_of_input};
+use mc_script::{SimError, read_input, write_text};
+use std::alloc::Global;
+use std::io::{Read, Write};
+
+/// Reads a script to its end, and writes its text ([`text_of_input`]). Whatever stops it but a failed write stops it before
+/// anything is written.
+///
+/// The clauses speak of the bytes that the reader has and the writer holds, where those are known. Of standard input
+/// and output they are not: there what is promised is the contract of [`text_of_input`], and that this function hands
+/// it all that was read, and hands on all that it answers, is seen by reading its three lines.
+pub fn run<R: Read, W: Write>(
+    alloc: Global,
+    printed: Printed,
+    reader: &mut R,
+    writer: &mut W,
+) -> Result<(), SimError>
+    ensures printed { OnOk result (IfSome (R.remaining reader.old)
+        (λ input. Prints printed input (W.contents writer.old) (W.contents writer.new))) }
+    ensures bad_line { IfErr result (λ error. IfSome (R.remaining reader.old) (λ input. IsBadLineOf error input)) }
+    ensures unwritten { IfErr result
+        (λ error. StopsBeforeWriting error (W.contents writer.old) (W.contents writer.new)) }
+{
+    let input = read_input(alloc, reader)?;
+    let text = text_of_input(alloc, printed, input.as_slice())?;
+    write_text(writer, text.as_slice())
+}
