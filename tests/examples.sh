@@ -2,30 +2,27 @@
 # Plays each script of tests/examples/ and compares what is printed with what stands beside it: the examples of
 # docs/SCRIPTS.md and docs/PROTOCOL.md, and the worked examples over all crates.
 #
-# Usage: examples.sh [PROGRAM [POOLS]]      (mc_sim and mc_pool_sim, as each compiler built them)
+# Usage: examples.sh [PROGRAM [POOLS]]      (mc_sim, as each compiler built it)
 #
-# A script that begins with `pool` is played to mc_pool_sim, any other to mc_sim. tests/model.py can stand in the place of the one,
-# and `tests/pools.py --model` in that of the other; with PROGRAM alone no pool is played.
+# PROGRAM is played the scripts of a server, and POOLS those of a pool, which begin with `pool`; with PROGRAM alone no pool is played.
+# tests/model.py can stand in the place of the one, and `tests/pools.py --model` in that of the other.
 #
-# NAME.txt is the script and NAME.out what is printed; NAME.err, where there is one, is what is written on standard error,
-# with status 2. A program is played each script twice, as it stands and with its bytes fed one by one. Then it is seen that
-# a read and a write that fail are told. The programs must be built (`make run`, or `rt ci`). It prints a line for each script
-# that fails; the last line is 'N passed, M failed'.
+# NAME.txt is the script and NAME.out what is printed; NAME.args are words for mc_sim, where there are any. NAME.err, where there is one,
+# is what is written on standard error, with status 2. mc_sim is played each script twice, as it stands and with its bytes fed one by
+# one, but for those with words, which ask for an account of each line. Then it is seen that a read and a write that fail are told, and
+# that the program's words do what they say (sim.help, sim.trace). The program must be built (`make run`, or `rt ci`). It prints a
+# line for each script that fails; the last line is 'N passed, M failed'.
 set -u
 program=$(realpath "${1:-/}")
 pools=${2:-}
 [ -z "$pools" ] || pools="$(realpath "${pools%% *}")${pools#"${pools%% *}"}"
 cd "$(dirname "$0")"
 built=../crates/mc_sim/out/mc_sim
-pools_built=../crates/mc_pool_sim/out/mc_pool_sim
-[ -d ../crates/mc_pool_sim ] || pools_built=
-for each in "$built" $pools_built; do
-    if [ $# -eq 0 ] && ! [ -x "$each" ]; then
-        echo "tests/examples.sh: $each is not built, so no example was played"
-        echo "0 passed, 1 failed"
-        exit 1
-    fi
-done
+if [ $# -eq 0 ] && ! [ -x "$built" ]; then
+    echo "tests/examples.sh: $built is not built, so no example was played"
+    echo "0 passed, 1 failed"
+    exit 1
+fi
 scratch=$(mktemp -d)
 trap 'rm -rf "$scratch"' EXIT
 passed=0
@@ -38,21 +35,20 @@ is_of_pool() {
 
 # Whether a program given a script writes what stands beside it, and ends as it is to.
 plays() {
-    local out=examples/$3.out err=/dev/null status=0
+    local out=examples/$3.out err=/dev/null status=0 words=
     [ -f "examples/$3.err" ] && err=examples/$3.err status=2
-    $1 < "$2" > "$scratch/out" 2> "$scratch/err"
+    [ -f "examples/$3.args" ] && words=$(cat "examples/$3.args")
+    $1 $words < "$2" > "$scratch/out" 2> "$scratch/err"
     [ $? -eq "$status" ] && cmp -s "$scratch/out" "$out" && cmp -s "$scratch/err" "$err"
 }
 
-# Whether its program plays a script as each compiler built it, whole and in bytes. (In bytes a bad line has another number.)
+# Whether mc_sim plays a script as each compiler built it, whole and in bytes. (In bytes a bad line has another number.)
 plays_however() {
-    local program=$built
-    is_of_pool "$1" && program=$pools_built
     LC_ALL=C awk -f in_bytes.awk "$1" > "$scratch/in_bytes"
-    for each in "$program" "$program.by-rattle"; do
+    for each in "$built" "$built.by-rattle"; do
         [ -x "$each" ] || continue
         plays "$each" "$1" "$2" || return 1
-        [ -f "examples/$2.err" ] || plays "$each" "$scratch/in_bytes" "$2" || return 1
+        [ -f "examples/$2.err" ] || [ -f "examples/$2.args" ] || plays "$each" "$scratch/in_bytes" "$2" || return 1
     done
 }
 
@@ -71,6 +67,27 @@ writes_that_fail() {
     tells $?
 }
 
+# Whether mc_sim shows its help (sim.help), and refuses a word that it does not know.
+shows_help() {
+    "$built" --help < /dev/null > "$scratch/out"
+    [ $? -eq 2 ] && cmp -s "$scratch/out" sim.help
+}
+
+refuses_words() {
+    "$built" --aside < examples/set.txt > "$scratch/out" 2> "$scratch/err"
+    [ $? -eq 2 ] && [ ! -s "$scratch/out" ] && [ -s "$scratch/err" ]
+}
+
+# Whether mc_sim says what each line of two scripts does (sim.trace), and prints the same as without that.
+tells_lines() {
+    local name
+    for name in pool_points_and_empty_lines pool_lost_where_the_link_is_down; do
+        "$built" --trace < "examples/$name.txt" > "$scratch/out" 2>> "$scratch/trace" || return 1
+        cmp -s "$scratch/out" "examples/$name.out" || return 1
+    done
+    cmp -s "$scratch/trace" sim.trace
+}
+
 # Runs a check, counts it, and tells where it failed.
 count() {
     local name=$1
@@ -85,9 +102,7 @@ count() {
 
 for script in examples/*.txt; do
     name=$(basename "$script" .txt)
-    if [ $# -eq 0 ] && [ -z "$pools_built" ] && is_of_pool "$script"; then
-        continue
-    elif [ $# -eq 0 ]; then
+    if [ $# -eq 0 ]; then
         count "$name" plays_however "$script" "$name"
     elif [ -f "examples/$name.err" ]; then
         continue
@@ -100,6 +115,9 @@ done
 if [ $# -eq 0 ]; then
     count "set, from a stream that fails" reads_that_fail
     count "set, to a stream that fails" writes_that_fail
+    count "--help" shows_help
+    count "a word that is not known" refuses_words
+    count "--trace" tells_lines
 fi
 echo "$passed passed, $failed failed"
 [ "$failed" -eq 0 ]

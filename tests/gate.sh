@@ -42,6 +42,7 @@ add tests/cited.py
 add tests/examples.sh
 add tests/prefixes.py
 add tests/random.sh 5 2000
+add tests/pools.py --worlds 100
 add tests/pool_mistakes.py 150
 add tests/spellings.py 5
 add tests/refused.py crates/mc_pool_rows/out/mc_pool_rows_tests pools::dialogues_of_a_pool_go_so

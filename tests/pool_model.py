@@ -267,8 +267,8 @@ class Way:
 class Site:
     """A server, its link, and the ways between."""
 
-    def __init__(self, budget, items):
-        self.cache = Server(0, budget, items)
+    def __init__(self, cache):
+        self.cache = cache
         self.history = []
         self.up = True
         self.generation = 1
@@ -288,10 +288,12 @@ class Awaited:
 
 
 class Pool:
-    def __init__(self, script):
-        self.bounds = (script.budget, script.items)
+    """A pool that plays a script: each of its servers' caches is made by `new_cache`, from a first number and two bounds."""
+
+    def __init__(self, script, new_cache=Server):
+        self.new_site = lambda: Site(new_cache(0, script.budget, script.items))
         self.ring = script.ring()
-        self.sites = [Site(*self.bounds) for _ in range(script.servers)]
+        self.sites = [self.new_site() for _ in range(script.servers)]
         self.clients = [Client() for _ in range(script.clients)]
 
     def step(self, event):
@@ -442,7 +444,7 @@ class Pool:
 
     def join(self, address):
         self.ring = joined(self.ring, len(self.sites), address)
-        self.sites.append(Site(*self.bounds))
+        self.sites.append(self.new_site())
         return True
 
 
@@ -453,9 +455,9 @@ def routed(request, ring, servers):
             yield place, line
 
 
-def played(script):
+def played(script, new_cache=Server):
     """What a pool tells that has played a script."""
-    pool = Pool(script)
+    pool = Pool(script, new_cache)
     return pool.told([pool.step(event) for event in script.events])
 
 

@@ -1,9 +1,9 @@
 #!/usr/bin/env python3
 """Sees that what a world tells is as it must be, over random worlds: proxy, servers, links and clients, with all that can happen to them.
 
-Usage: pools.py [--worlds N] [--seed S] [--program PROGRAM]      (200 worlds from seed 1 on; mc_pool_sim as it was built)
+Usage: pools.py [--worlds N] [--seed S] [--program PROGRAM]      (200 worlds from seed 1 on; mc_sim as it was built)
        pools.py --write SEED                                      (writes the script of a seed)
-       pools.py --model < SCRIPT                                  (prints what a plain model prints for a pool script)
+       pools.py --model [--account] < SCRIPT                      (prints what a plain model prints for a pool script)
 
 A world has 1 to 5 servers and 1 to 20 clients, points of its own or libketama's, caches from tiny to large. What comes are commands
 of all kinds (random_script.py), whole and in pieces, and all events of a pool script, most of them where they apply. The program
@@ -17,6 +17,7 @@ import argparse
 import base64
 import pathlib
 import random
+import re
 import subprocess
 import sys
 
@@ -25,7 +26,7 @@ from pool_model import ALL, Awaited, BadLine, Entry, Pool, Script, Told, faults_
 from random_script import Scene, command
 from rings import hash_of
 
-BUILT = pathlib.Path(__file__).resolve().parent.parent / "crates" / "mc_pool_sim" / "out" / "mc_pool_sim"
+BUILT = pathlib.Path(__file__).resolve().parent.parent / "crates" / "mc_sim" / "out" / "mc_sim"
 BUDGETS = [1, 66, 70, 140, 200, 1000, 8192, 67108864, 1099511627776]
 LIMITS = [1, 2, 5, 40, 1000, 16777216]
 
@@ -235,34 +236,42 @@ def told_by(program, lines):
     return read_told(run.stdout.decode("latin-1"))
 
 
+ENTRY = re.compile(r"server (\d+), client (\d+), request (\d+), command (\d+)(, refused)?, moment (\d+)")
+DONE = {"done": True, "nothing": False}
+
+
 def read_told(text):
-    done, texts, outs, histories = [], [], [], []
+    told, histories = {"client": [], "event": [], "text": [], "history": []}, []
     for line in text.split("\n")[:-1]:
-        name, _, rest = line.partition(" ")
-        if name in ("done", "nothing"):
-            done.append(name == "done")
-        elif name in ("client", "text"):
-            (outs if name == "client" else texts).append(unescaped(rest.partition(": ")[2]))
-        elif name == "history":
-            histories.append([])
-        elif name == "entry":
-            server, client, request, atom, moment, refused, reply = rest.split(" ", 6)
-            entry = Entry(int(client), int(request), int(atom), int(moment), int(refused), unescaped(reply))
-            histories[int(server)].append(entry)
-        else:
-            raise Failed(f"a line that is not known: {line}")
-    return Told(done, texts, outs, histories)
+        what, _, said = line.partition(": ")
+        name, _, number = what.partition(" ")
+        if ENTRY.fullmatch(what):
+            server, client, request, atom, refused, moment = ENTRY.fullmatch(what).groups()
+            entry = Entry(int(client), int(request), int(atom), int(moment), int(bool(refused)), unescaped(said))
+            if int(server) != len(histories) - 1:
+                raise Failed(f"an entry of another server: {line}")
+            histories[-1].append(entry)
+            continue
+        if name not in told or number != str(len(told[name])):
+            raise Failed(f"a line that is not known, or out of order: {line}")
+        told[name].append(said)
+        histories += [[]] if name == "history" else []
+    if [int(count) for count in told["history"]] != [len(history) for history in histories]:
+        raise Failed("a history has not as many commands as are told")
+    texts, outs = ([unescaped(said) for said in told[name]] for name in ("text", "client"))
+    return Told([DONE[word] for word in told["event"]], texts, outs, histories)
 
 
 def as_told(told):
     """The lines of an account, as the program writes them."""
     lines = [f"client {number}: {escaped(out)}" for number, out in enumerate(told.outs)]
-    lines += ["done" if done else "nothing" for done in told.done]
+    lines += [f"event {number}: {'done' if done else 'nothing'}" for number, done in enumerate(told.done)]
     lines += [f"text {number}: {escaped(text)}" for number, text in enumerate(told.texts)]
     for place, history in enumerate(told.histories):
-        lines.append(f"history {place}")
+        lines.append(f"history {place}: {len(history)}")
         for entry in history:
-            lines.append(" ".join(str(word) for word in ("entry", place, *entry[:5], escaped(entry.reply))))
+            whose = f"server {place}, client {entry.client}, request {entry.request}, command {entry.atom}"
+            lines.append(f"{whose}{', refused' * entry.refused}, moment {entry.moment}: {escaped(entry.reply)}")
     return "".join(line + "\n" for line in lines)
 
 
@@ -310,15 +319,17 @@ def main():
     words.add_argument("--program", default=BUILT)
     words.add_argument("--write", type=int)
     words.add_argument("--model", action="store_true")
+    words.add_argument("--account", action="store_true")
     words = words.parse_args()
     if words.write is not None:
         print("\n".join(lines_of_world(words.write)))
         return 0
     if words.model:
-        print(printed(played(Script(lines_of(sys.stdin.buffer.read())))), end="")
+        told = played(Script(lines_of(sys.stdin.buffer.read())))
+        print(as_told(told) if words.account else printed(told), end="")
         return 0
     if not pathlib.Path(words.program).is_file():
-        print("tests/pools.py: mc_pool_sim is not built, so no world was played\n0 passed, 1 failed")
+        print("tests/pools.py: mc_sim is not built, so no world was played\n0 passed, 1 failed")
         return 1
     events = entries = 0
     for passed, seed in enumerate(range(words.seed, words.seed + words.worlds)):

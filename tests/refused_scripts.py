@@ -1,12 +1,12 @@
 #!/usr/bin/env python3
-"""Refuses each allocation of mc_sim in turn, over each server script of tests/examples/ that has a line, and sees that all goes right.
+"""Refuses each allocation of mc_sim in turn, over each script of tests/examples/ that has a line, and sees that all goes right.
 
 Usage: refused_scripts.py [PROGRAM]      (crates/mc_sim/out/mc_sim, as it was built)
 
 Where an allocation is refused, mc_sim ends with status 4, says that it is out of memory, and has printed nothing; or all is as
 where none is refused; or one store is refused: it is answered `SERVER_ERROR out of memory storing object`, and all else is what
-a model prints that then leaves its items, their order and its numbers as they were (model.py). The library that refuses is that
-of refused.py. It prints a line for each script that fails; the last line is 'N passed, M failed'.
+a model prints that then leaves its items, their order and its numbers as they were (model.py, pool_model.py). The library that
+refuses is that of refused.py. It prints a line for each script that fails; the last line is 'N passed, M failed'.
 """
 import concurrent.futures
 import functools
@@ -17,6 +17,7 @@ import subprocess
 import sys
 import tempfile
 
+import pool_model
 from model import Fault, Server, is_of_pool, lines_of, printed, settings
 from refused import build
 
@@ -27,31 +28,47 @@ GIVES_UP = (4, b"", b"mc_sim: out of memory\n")
 SECONDS = 60
 
 
-class Refusing(Server):
-    """A server that finds no memory for one of the items that it stores: for that of this number, counted from 1."""
+class Stores:
+    """The stores of all servers of a play: one of them finds no memory, that of this number, counted from 1."""
 
-    def __init__(self, *words, refused):
-        super().__init__(*words)
+    def __init__(self, refused):
         self.left = refused
+
+    def server(self, *words):
+        return Refusing(self, *words)
+
+
+class Refusing(Server):
+    """A server whose stores are counted."""
+
+    def __init__(self, stores, *words):
+        super().__init__(*words)
+        self.stores = stores
 
     def put(self, *item):
         before = self.items, self.counter
         made = super().put(*item)
-        self.left -= 1
-        if self.left == 0:
+        self.stores.left -= 1
+        if self.stores.left == 0:
             self.items, self.counter = before
             raise Fault(NO_MEMORY)
         return made
 
 
+def printed_with(stores, script):
+    lines = lines_of(script)
+    if is_of_pool(script):
+        return pool_model.printed(pool_model.played(pool_model.Script(lines), stores.server))
+    return printed(lines, stores.server(*settings(lines)))
+
+
 def with_one_refused(script):
     """What is printed where one store is refused, for each store."""
-    lines, stores, told = lines_of(script), 0, set()
-    while True:
-        stores += 1
-        server = Refusing(*settings(lines), refused=stores)
-        text = printed(lines, server)
-        if server.left > 0:
+    told = set()
+    for refused in itertools.count(1):
+        stores = Stores(refused)
+        text = printed_with(stores, script)
+        if stores.left > 0:
             return told
         told.add(text.encode())
 
@@ -80,7 +97,6 @@ def fault_of(library, program, script):
 
 def main(program):
     scripts = [path for path in sorted((TESTS / "examples").glob("*.txt")) if path.stat().st_size]
-    scripts = [path for path in scripts if not is_of_pool(path.read_bytes())]
     with tempfile.TemporaryDirectory() as folder, concurrent.futures.ThreadPoolExecutor(os.cpu_count()) as pool:
         looks = functools.partial(fault_of, build(folder), program)
         faults = list(pool.map(looks, (script.read_bytes() for script in scripts)))
