@@ -42,6 +42,7 @@ add tests/cited.py
 add tests/examples.sh
 add tests/prefixes.py
 add tests/random.sh 5 2000
+add tests/chart.py tests/examples/pool_late_bytes_are_served.txt docs/lost_link.svg --check
 add tests/pools.py --worlds 100
 add tests/pool_mistakes.py 150
 add tests/spellings.py 5

@@ -1,14 +1,35 @@
-//! The law of worlds. The function does nothing: its contract is the law.
+//! The law of worlds.
+ghost use Rattle.std.specs.Prelude.{◌≡◌, [], All, IfOk};
+ghost use Rattle.mc_cache.specs.CacheState.{HasRoom};
 ghost use Rattle.mc_one_map.specs.OneMaps.{ActsAsOneMap};
 
+use mc_cache::is_within_bounds;
+use mc_ring::Ring;
 use mc_store::Store;
-use mc_world::World;
+use mc_text::Block;
+use mc_world::{Event, World, WorldError};
+use std::alloc::Global;
 
-/// Each world, over stores of any kind, gives account. Where its run is plain, the histories of all its servers are those of one map, which
-/// takes all their commands in the order of their turns.
-pub fn worlds_act_as_one_map<S: Store + Drop>(world: &World<S>)
-    ensures { ActsAsOneMap world.now }
+/// A law on public calls alone: for any ring, clients, bounds, stores of any kind and list of events, the world that took them gives
+/// account. Where its run is plain, the histories of all its servers are those of one map, which takes all their commands in the order of
+/// their turns.
+pub fn worlds_act_as_one_map<S: Store + Drop>(
+    alloc: Global,
+    ring: Ring,
+    clients: usize,
+    budget: u64,
+    items: usize,
+    stores: Vec<S>,
+    events: &[Event<Block>],
+) -> Result<World<S>, WorldError>
+    requires empty { All (λ store. S.items store ≡ []) stores.items }
+    requires room { All (λ store. HasRoom items (S.most store)) stores.items }
+    ensures { IfOk result ActsAsOneMap }
 {
-    world.gives_account();
-    world.has_bounds();
+    if !is_within_bounds(budget, items) {
+        return Err(WorldError::BadWorld);
+    }
+    let mut world = World::with_stores(alloc, ring, clients, budget, items, stores)?;
+    world.run(events);
+    Ok(world)
 }

@@ -74,7 +74,7 @@ impl World<ListStore> {
 }
 
 impl<S: Store + Drop> World<S> {
-    ghost use Rattle.mc_cache.specs.CacheState.{HasRoom, IsWithinBounds};
+    ghost use Rattle.mc_cache.specs.CacheState.{HasRoom};
     ghost use Rattle.mc_world.specs.Joins.{HasServerJoined};
     ghost use Rattle.mc_world.specs.Refusals.{refusal_in, refusal_of};
     ghost use Rattle.mc_world.specs.Openings.{CanOpen};
@@ -147,13 +147,6 @@ impl<S: Store + Drop> World<S> {
     /// Each world gives account. The call does nothing: its contract is the law.
     pub fn gives_account(&self)
         ensures { GivesAccount self.now }
-    {
-        let _ = &self.alloc;
-    }
-
-    /// The bounds of each world's caches are ones that a cache may have. The call does nothing: its contract is the law.
-    pub fn has_bounds(&self)
-        ensures { IsWithinBounds self.now.budget self.now.items }
     {
         let _ = &self.alloc;
     }

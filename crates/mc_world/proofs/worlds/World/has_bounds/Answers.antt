@@ -1,4 +1,0 @@
-use Rattle.mc_world.proofs.worlds.World.has_bounds.Goals as goal
-
-pub returns : goal.returns
-returns g c = rw (← c.self.view_is) c.self.invariant.bounds
