@@ -9,8 +9,6 @@
 mod endings;
 mod options;
 mod runs;
-#[cfg(test)]
-mod streams;
 mod texts;
 mod traces;
 
