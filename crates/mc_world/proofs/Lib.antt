@@ -36,3 +36,6 @@ pub mod RaisingLemmas
 pub mod StepLemmas
 pub mod WayLemmas
 pub mod OpeningLemmas
+pub mod QuietLinkLemmas
+pub mod QuietSessionLemmas
+pub mod QuietLemmas

@@ -16,3 +16,5 @@ pub mod Runs
 pub mod Refusals
 pub mod Openings
 pub mod Steps
+pub mod Quiet
+pub mod Drains

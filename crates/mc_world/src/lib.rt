@@ -21,6 +21,7 @@
 
 mod clients;
 mod courses;
+mod drains;
 mod errors;
 mod events;
 mod joins;
@@ -49,6 +50,6 @@ pub use sites::Site;
 pub use ways::Way;
 pub use world_laws::{
     courses_go_on, courses_serve, every_run_gives_account, every_world_gives_account,
-    opening_pools_stand,
+    nothing_is_stuck, opening_pools_stand,
 };
 pub use worlds::{MAX_CLIENTS, World};

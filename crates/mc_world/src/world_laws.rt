@@ -1,14 +1,16 @@
 //! Laws of the course of a world. The functions do nothing: their contracts are the laws.
-ghost use Rattle.std.specs.Prelude.{◌≡◌, ℕ, [], List, All, IfOk};
+ghost use Rattle.std.specs.Prelude.{◌≡◌, ◌<◌, ◌-◌, ◌^◌, ℕ, [], List, true, All, IfOk};
 ghost use Rattle.mc_ring.specs.Rings.{IsRing, RingState};
 ghost use Rattle.mc_cache.specs.CacheState.{CacheState, HasRoom, IsWithinBounds, opening_cache};
 ghost use Rattle.mc_cache_laws.specs.GoodCaches.{IsGoodCache};
 ghost use Rattle.mc_account.specs.Lanes.{fresh_lane};
-ghost use Rattle.mc_world.specs.Courses.{IsDone};
+ghost use Rattle.mc_world.specs.Courses.{Applies, IsDone};
 ghost use Rattle.mc_world.specs.CourseStands.{CourseStands};
 ghost use Rattle.mc_world.specs.Pools.{PoolStands};
 ghost use Rattle.mc_world.specs.Serving.{PoolServes};
 ghost use Rattle.mc_world.specs.Accounts.{Account};
+ghost use Rattle.mc_world.specs.Logs.{number_of, takes};
+ghost use Rattle.mc_world.specs.Quiet.{IsQuiet, is_inner};
 ghost use Rattle.mc_world.specs.Runs.{Call, Calls};
 ghost use Rattle.mc_world.specs.Steps.{RunsTo};
 ghost use Rattle.mc_world.specs.Worlds.{CourseState, history_of, opening_pool, opening_world, put_out_of, text_of};
@@ -68,3 +70,13 @@ pub fn every_world_gives_account<S: Store + Drop>(
     world.run(events);
     Ok(world)
 }
+
+/// Whatever was done, and whichever servers joined: where none of the events applies by which bytes move, turns are taken, answers are
+/// put out and ends are seen, the pool is quiet. Each request of each client that has not gone is answered, and nothing is left on any
+/// way. No client had 2^64 - 1 requests.
+pub fn nothing_is_stuck()
+    ensures { (ring : RingState) (clients budget items : ℕ) (calls : List Call) (c : CourseState) → IsRing ring → IsWithinBounds budget items
+        → Calls (opening_cache budget items 0) calls (opening_world ring clients budget items).course c
+        → ((client : ℕ) → number_of (takes client) c.log < 2 ^ 64 - 1)
+        → ((event : Event (List ℕ)) → is_inner event ≡ true → Applies event c.pool → ⊥) → IsQuiet c }
+{}

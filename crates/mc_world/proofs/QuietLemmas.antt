@@ -35,9 +35,9 @@ use Rattle.mc_world.specs.declared.events.Event.{Event}
 use Rattle.mc_world.specs.declared.events.Event.TheVariants.{ClientTakes, Emit, ProxyTurn, ReplyTurn, ServerSeesEnd, ServerTurn, ToProxy, ToServer}
 use Rattle.mc_world.proofs.RunLemmas.{course_called}
 use Rattle.mc_world.proofs.WorldOpeningLemmas.{course_opens}
-use Rattle.mc_progress.specs.Quiet.{IsQuiet, is_inner}
-use Rattle.mc_progress.proofs.LinkLemmas.{living_none, none_left, some_at}
-use Rattle.mc_progress.proofs.SessionLemmas.{settled_of, unanswered_none, untaken_none}
+use Rattle.mc_world.specs.Quiet.{IsQuiet, is_inner}
+use Rattle.mc_world.proofs.QuietLinkLemmas.{living_none, none_left, some_at}
+use Rattle.mc_world.proofs.QuietSessionLemmas.{settled_of, unanswered_none, untaken_none}
 
 -- nothing can be done inside
 abbrev pub IsStuck : PoolState → Type 0

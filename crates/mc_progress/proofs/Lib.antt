@@ -1,3 +1,0 @@
-pub mod LinkLemmas
-pub mod SessionLemmas
-pub mod QuietLemmas
