@@ -39,3 +39,7 @@ pub mod OpeningLemmas
 pub mod QuietLinkLemmas
 pub mod QuietSessionLemmas
 pub mod QuietLemmas
+pub mod WorkLemmas
+pub mod LessLemmas
+pub mod DrainLemmas
+pub mod RestLemmas

@@ -43,6 +43,10 @@ use Rattle.mc_world.proofs.QuietSessionLemmas.{settled_of, unanswered_none, unta
 abbrev pub IsStuck : PoolState → Type 0
 IsStuck pool = (event : Event (List ℕ)) → is_inner event ≡ true → Applies event pool → ⊥
 
+-- a client whose requests are all answered can have more of them taken
+abbrev pub IsFew : CourseState → Type 0
+IsFew c = (client : ℕ) → number_of (takes client) c.log ≡ number_of (puts client) c.log → number_of (takes client) c.log < 2 ^ 64 - 1
+
 -- the bytes of a link that is up, and of its server's connection
 going_none : (pool : PoolState) (place : ℕ) (site : SiteState) → IsStuck pool → slice_get pool.sites place ≡ Some site → IsUp place pool → (link_at pool.proxy.links place).output ≡ []
 going_none pool place site stuck at up =
@@ -109,7 +113,7 @@ record SessionIsQuiet (c : CourseState) (client : ℕ) (session : SessionState) 
   pub output : session.output ≡ []
   pub answered : number_of (puts client) c.log ≡ length (requests_of (text_of c client))
 
-session_quiet : (ring : RingState) (opening : CacheState) (c : CourseState) → CourseStands ring opening c → IsStuck c.pool → ((client : ℕ) → number_of (takes client) c.log < 2 ^ 64 - 1)
+session_quiet : (ring : RingState) (opening : CacheState) (c : CourseState) → CourseStands ring opening c → IsStuck c.pool → IsFew c
     → (client : ℕ) (session : SessionState) → session_at c.pool.proxy client ≡ Some session → SessionIsQuiet c client session
 session_quiet ring opening c h stuck few client session at =
     let s : SessionStands client h.order (text_of c client) (taken_by c client) session =
@@ -123,15 +127,15 @@ session_quiet ring opening c h stuck few client session at =
     (λ can. stuck (ClientTakes client 1) refl (subst (λ (o : Option SessionState). (0 < 1) × (0 < length (output_at o))) (sym at) can)) in
     let counted = h.log.requests.taken client in
     let numbered = s.taken in
-    let below = few client in
+    let put : session.taken - length session.unanswered ≡ number_of (puts client) c.log = h.log.answers.unanswered client session at in
+    let zero_left : length session.unanswered ≡ 0 = ap (λ (us : List Unanswered). length us) no_unanswered in
+    let below = few client (omega (arith, counted, numbered, put, zero_left)) in
     let untaken = untaken_none c.pool.proxy.ring c.pool.proxy.links session no_unanswered no_output (omega (arith, counted, numbered, below))
     (λ place. (link_quiet ring opening c h stuck place).output) (λ ready. stuck (ProxyTurn client) refl (session, at, ready)) in
     let whole : taken_of client h.order ≡ requests_of (text_of c client) =
     sym (append-nil (taken_of client h.order)) ∙ ap (λ (ts : List Taken). taken_of client h.order ++ ts) (sym untaken) ∙ s.rest [] ∙ ap (λ (bytes : List ℕ). requests_of bytes) (append-nil (text_of c client)) in
     let size : length (taken_of client h.order) ≡ length (entries_of client h.order) = length-map (entries_of client h.order) (λ (e : Asked). e.what) in
     let all : length (taken_of client h.order) ≡ length (requests_of (text_of c client)) = ap (λ (ts : List Taken). length ts) whole in
-    let put : session.taken - length session.unanswered ≡ number_of (puts client) c.log = h.log.answers.unanswered client session at in
-    let zero_left : length session.unanswered ≡ 0 = ap (λ (us : List Unanswered). length us) no_unanswered in
     record { output = no_output; answered = omega (arith, put, zero_left, numbered, size, all) }
 
 -- no end of a lost generation is left to be seen
@@ -155,8 +159,7 @@ lost_none pool place site stuck at =
           }))
     ]) refl
 
-pub course_quiet : (ring : RingState) (opening : CacheState) (c : CourseState) → CourseStands ring opening c → ((client : ℕ) → number_of (takes client) c.log < 2 ^ 64 - 1)
-    → IsStuck c.pool → IsQuiet c
+pub course_quiet : (ring : RingState) (opening : CacheState) (c : CourseState) → CourseStands ring opening c → IsFew c → IsStuck c.pool → IsQuiet c
 course_quiet ring opening c h few stuck = record {
   answered = λ client there.
       (elim (session_at c.pool.proxy client) as (λ o. session_at c.pool.proxy client ≡ o → number_of (puts client) c.log ≡ length (requests_of (text_of c client))) [
@@ -178,4 +181,4 @@ calls_quiet ring clients budget items calls c is_ring bounds run few stuck =
     course_quiet ring (opening_cache budget items 0) c
     (course_called ring (opening_cache budget items 0) calls (opening_world ring clients budget items).course c
     (opening_is_good budget items 0 bounds.some_items (omega arith))
-    (course_opens ring clients budget items is_ring bounds.some_items) run) few stuck
+    (course_opens ring clients budget items is_ring bounds.some_items) run) (λ client _. few client) stuck

@@ -1,5 +1,5 @@
 -- Events that are tried one after another.
-use Rattle.std.proofs.Common.{◌≡◌, ◌∙◌, ◌↔◌, ◌+◌, ◌<◌, inl, inr, ℕ, zero, suc, true, false, List, [], ◌∷◌, ◌++◌, length, take, get_or, Result, Ok, Err, IfOk, OnOk, OnErr, refl, sym, ap, subst, arith}
+use Rattle.std.proofs.Common.{◌≡◌, ◌∙◌, ◌↔◌, ◌+◌, ◌<◌, inl, inr, ℕ, zero, suc, true, false, List, [], ◌∷◌, ◌++◌, length, take, get_or, Result, Ok, Err, IfOk, OnOk, OnErr, MatchResult, is_ok, refl, sym, ap, subst, arith}
 use Rattle.std.specs.Result.{is_err}
 use Rattle.mc_ring.specs.Rings.{IsRing, RingState}
 use Rattle.mc_cache.specs.CacheState.{CacheState, IsWithinBounds, opening_cache}
@@ -64,6 +64,13 @@ pub stepped : (event : Event (List ℕ)) (r : Result Step WorldError) (old new :
     → IfOk r (λ step. (step ≡ Done) ↔ Applies event old.pool) → IfOk r (λ step. StepsTo event step old new)
 stepped event (Ok step) old new done applies = record { does = done; applies = applies }
 stepped event (Err e) old new done applies = done
+
+-- an answer whose error is told as another is the same answer
+pub answer_mapped : (P : Step → Type 0) (Bad : WorldError → Type 0) (r mapped : Result Step WorldError) → MatchResult r (λ step. mapped ≡ Ok step) Bad → is_ok mapped ≡ is_ok r
+    → IfOk r P → IfOk mapped P
+answer_mapped P Bad (Ok step) mapped cases same told = subst (λ (m : Result Step WorldError). IfOk m P) (sym cases) told
+answer_mapped P Bad (Err e) (Ok step) cases same told = absurd cc
+answer_mapped P Bad (Err e) (Err other) cases same told = tt
 
 -- and after a join that may have been
 pub course_joined : {T E : Type 0} (ring : RingState) (budget items : ℕ) (address : List ℕ) (cache : CacheState) (r : Result T E) (old new : CourseState) → IsWithinBounds budget items

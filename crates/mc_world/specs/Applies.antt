@@ -78,7 +78,7 @@ pub record CanReturn (place : ℕ) (pool : PoolState) : Type 0 where
   pub can : can_come_back (link_at pool.proxy.links place) ≡ true
   pub admits : CanAdmit site.server
 
--- where a lost generation stands among those that are not ended: the first of its number
+-- where a lost generation is among those that are not ended: the first of its number
 abbrev pub way_of : ℕ → List WayState → Option ℕ
 way_of generation ways = position (λ way. way.generation == generation) ways
 

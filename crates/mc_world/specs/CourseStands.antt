@@ -14,7 +14,7 @@ use Rattle.mc_world.specs.Worlds.{CourseState, WorldState, put_out_of, taken_by,
 abbrev pub HaveOneGeneration : PoolState → Type 0
 HaveOneGeneration pool = (place : ℕ) (site : SiteState) → slice_get pool.sites place ≡ Some site → site.generation ≡ (link_at pool.proxy.links place).generation
 
--- A course stands where its proxy took requests in some order, and that passed over its links: so its pool stands, and its log tells
+-- A course is where its proxy took requests in some order, and that passed over its links: so its pool is there, and its log tells
 -- of it. Each client has a session of its number, and each site is of the generation of its link.
 pub record CourseStands (ring : RingState) (opening : CacheState) (c : CourseState) : Type 0 where
   pub order : Order

@@ -12,17 +12,17 @@ use Rattle.mc_world.specs.declared.events.Event.{Event}
 use Rattle.mc_world.specs.declared.events.Event.TheVariants.{ClientBytes, ClientGone, ClientTakes, Emit, LinkBack, LinkLost, ProxyTurn, ReplyTurn, ServerSeesEnd, ServerTurn, ToProxy, ToServer}
 use Rattle.mc_world.specs.declared.events.Logged.TheVariants.{Happened}
 
--- bytes of a generation arrive at its server: of the living one from its link, of a lost one the first of those on their way
+-- bytes of a generation arrive at its server: of the living one from its link, of one that does not live the first of those on their way
 abbrev pub BytesArrive : ℕ → ℕ → ℕ → PoolState → PoolState → Type 0
 BytesArrive server generation count old new =
     ((h : ReachesServer server count old new) × (h.there.site.generation ≡ generation))
-    ⊎ ((i : ℕ) × (h : LateBytes server i count old new) × (h.way.generation ≡ generation))
+    ⊎ ((i : ℕ) × (h : LateBytes server i count old new) × (h.way.generation ≡ generation) × (Lives server generation old → ⊥))
 
 -- a server takes a request of a generation, living or lost
 abbrev pub RequestIsServed : ℕ → ℕ → ℕ → PoolState → PoolState → Type 0
 RequestIsServed server generation moment old new =
     ((h : ServerTakes server moment old new) × (h.there.site.generation ≡ generation))
-    ⊎ ((i : ℕ) × (h : LateTurn server i moment old new) × (h.way.generation ≡ generation))
+    ⊎ ((i : ℕ) × (h : LateTurn server i moment old new) × (h.way.generation ≡ generation) × (Lives server generation old → ⊥))
 
 -- the session of a client is open
 abbrev pub IsOpen : ℕ → PoolState → Type 0

@@ -18,3 +18,5 @@ pub mod Openings
 pub mod Steps
 pub mod Quiet
 pub mod Drains
+pub mod WorkLeft
+pub mod Acts

@@ -1,4 +1,4 @@
--- What happens to a pool, as the calls of its proxy and its servers say it, and where a pool stands.
+-- What happens to a pool, as the calls of its proxy and its servers say it, and where a pool is after them.
 use Rattle.std.specs.Prelude.{ℕ, ◌≡◌, ◌+◌, ◌<◌, true, List, [], ◌∷◌, ◌++◌, length, map, take, drop, None, Some, slice_get, slice_set, remove, All}
 use Rattle.mc_route.specs.Routes.{route_of_taken}
 use Rattle.mc_link.specs.LinkState.{LinkState, can_come_back, up_link}
@@ -72,7 +72,7 @@ pub record ReachesServer (place count : ℕ) (old new : PoolState) : Type 0 wher
     links = with_link place (record (link_at old.proxy.links place) { output = drop count (link_at old.proxy.links place).output }) old.proxy.links;
   }
 
--- a server takes a request of the living generation: the command that waits behind those it took
+-- a server takes a request of the living generation: the command that waits after those it took
 pub record ServerTakes (place moment : ℕ) (old new : PoolState) : Type 0 where
   pub there : AtSite place old new
   pub tag : Tag
@@ -172,7 +172,7 @@ pub record LinkReturns (place : ℕ) (old new : PoolState) : Type 0 where
   })
   pub proxy : new.proxy ≡ record old.proxy { links = with_link place (up_link ((link_at old.proxy.links place).generation + 1)) old.proxy.links }
 
--- A pool stands where an order and lanes leave its proxy, and each of its servers with its ways.
+-- A pool is where an order and lanes leave its proxy, and each of its servers with its ways.
 pub record PoolStands (opening : CacheState) (texts sent : ℕ → List ℕ) (order : Order) (lanes : ℕ → Lane) (pool : PoolState) : Type 0 where
   pub proxy : ProxyStands texts sent order lanes pool.proxy
   pub sites : (place : ℕ) (site : SiteState) → slice_get pool.sites place ≡ Some site → SiteStands place order (lanes place) (link_at pool.proxy.links place) opening site

@@ -41,7 +41,7 @@ pub record IsLostWay (place : ℕ) (order : Order) (made : List Made) (texts : �
   pub untaken : way.untaken ≡ map (λ command. command.1) others
   pub named : Each (IsNamed place order) others
 
--- A server stands where what it made leaves it, with each of its ways: its history tells what it made, and its cache is one whose replies
+-- A server is where what it made leaves it, with each of its ways: its history tells what it made, and its cache is one whose replies
 -- can be had.
 pub record SiteStands (place : ℕ) (order : Order) (lane : Lane) (link : LinkState) (opening : CacheState) (site : SiteState) : Type 0 where
   pub made : List Made

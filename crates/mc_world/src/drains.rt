@@ -1,17 +1,27 @@
-//! What is left to do in a world is done.
-ghost use Rattle.std.specs.Prelude.{◌≡◌, ◌<◌, ◌^◌, IfErr, OnOk};
+//! All that is left to do in a world is done.
+ghost use Rattle.std.specs.Prelude.{◌≡◌, ◌<◌, ◌^◌, IfErr, IfOk, OnErr, OnOk};
 
-use crate::errors::WorldError;
+use crate::acts::Act;
+use crate::errors::{Step, WorldError};
 use crate::worlds::World;
 use mc_store::Store;
 
 impl<S: Store + Drop> World<S> {
+    ghost use Rattle.mc_world.specs.Acts.{HasDrained, IsIdle, IsOver, IsRested, NoClient, NoServer};
+    ghost use Rattle.mc_world.specs.declared.acts.Act.TheVariants.{PutAnswer, ReachProxy, ReachServer, SeeEnd, Serve, TakeBytes, TakeReply, TakeRequest};
     ghost use Rattle.mc_world.specs.Drains.{Drains};
     ghost use Rattle.mc_world.specs.Quiet.{IsQuiet};
     ghost use Rattle.mc_world.specs.Steps.{GivesAccount};
 
     /// Does all that is left to do, at a moment, until the world is quiet: each whole request of each client that has not gone is
     /// answered and taken, and nothing is left on any way. No link is lost by it, and none comes back.
+    ///
+    /// First the servers see the ends of all generations that were lost, servers and generations in order. Then it goes in rounds,
+    /// until a round does nothing. In a round each client, in order, has every request taken that can be. Each server, in order, gets all
+    /// bytes and takes every request that it can, one after the other until neither applies; then all its bytes come back, and all replies are
+    /// taken. Each client, in order, is put out every answer that is known, and takes all bytes.
+    ///
+    /// At `Memory` some of these events were done: the world gives account, and can be drained again.
     pub fn drain(&mut self, moment: u64) -> Result<(), WorldError>
         requires moment { moment < 2 ^ 63 }
         ensures drains { Drains moment self.old.course self.new.course }
@@ -20,7 +30,156 @@ impl<S: Store + Drop> World<S> {
         ensures account { GivesAccount self.new }
         ensures err { IfErr result (λ e. e ≡ WorldError.Memory) }
     {
+        let rested = self.rest(moment);
         self.gives_account();
-        Err(WorldError::Memory)
+        rested?;
+        self.is_quiet(moment);
+        Ok(())
+    }
+
+    /// Does rounds until one does nothing.
+    fn rest(&mut self, moment: u64) -> Result<(), WorldError>
+        requires moment { moment < 2 ^ 63 }
+        ensures drained { HasDrained moment self.old self.new }
+        ensures rested { OnOk result (IsRested moment self.new.course) }
+        ensures cause { IfErr result (λ e. e ≡ WorldError.Memory) }
+    {
+        while self.round(moment)? {}
+        Ok(())
+    }
+
+    /// Where no act of a drain applies the world is quiet. The call does nothing: its contract is the law.
+    fn is_quiet(&self, moment: u64)
+        requires moment { moment < 2 ^ 63 }
+        requires rested { IsRested moment self.now.course }
+        ensures { IsQuiet self.now.course }
+    {
+        let _ = self.course.log.len();
+    }
+
+    /// A round, and whether anything was done in it.
+    fn round(&mut self, moment: u64) -> Result<bool, WorldError>
+        requires moment { moment < 2 ^ 63 }
+        ensures over { IfOk result (λ did. IsOver moment (IsRested moment) did self.old self.new) }
+        ensures err { OnErr result (HasDrained moment self.old self.new) }
+        ensures cause { IfErr result (λ e. e ≡ WorldError.Memory) }
+    {
+        let ended = self.see_ends(moment)?;
+        let taken = self.take_requests(moment)?;
+        let served = self.serve_all(moment)?;
+        let answered = self.answer_all(moment)?;
+        Ok(ended | taken | served | answered)
+    }
+
+    /// Servers see the ends of the generations that were lost.
+    fn see_ends(&mut self, moment: u64) -> Result<bool, WorldError>
+        requires moment { moment < 2 ^ 63 }
+        ensures over { IfOk result (λ did. IsOver moment (NoServer moment SeeEnd) did self.old self.new) }
+        ensures err { OnErr result (HasDrained moment self.old self.new) }
+        ensures cause { IfErr result (λ e. e ≡ WorldError.Memory) }
+    {
+        let mut did = false;
+        let places = self.course.pool.sites.len();
+        for place in 0..places {
+            let one = self.repeat(Act::SeeEnd(place), moment)?;
+            did |= one;
+        }
+        Ok(did)
+    }
+
+    /// The proxy takes the requests of clients.
+    fn take_requests(&mut self, moment: u64) -> Result<bool, WorldError>
+        requires moment { moment < 2 ^ 63 }
+        ensures over { IfOk result (λ did. IsOver moment (NoClient moment TakeRequest) did self.old self.new) }
+        ensures err { OnErr result (HasDrained moment self.old self.new) }
+        ensures cause { IfErr result (λ e. e ≡ WorldError.Memory) }
+    {
+        let mut did = false;
+        let clients = self.course.clients.len() as u64;
+        for client in 0..clients {
+            let one = self.repeat(Act::TakeRequest(client), moment)?;
+            did |= one;
+        }
+        Ok(did)
+    }
+
+    /// Servers get their bytes and take the requests in them, and the proxy gets and takes the replies.
+    fn serve_all(&mut self, moment: u64) -> Result<bool, WorldError>
+        requires moment { moment < 2 ^ 63 }
+        ensures over { IfOk result (λ did. IsOver moment (λ c. NoServer moment ReachServer c × NoServer moment Serve c
+            × NoServer moment ReachProxy c × NoServer moment TakeReply c) did self.old self.new) }
+        ensures err { OnErr result (HasDrained moment self.old self.new) }
+        ensures cause { IfErr result (λ e. e ≡ WorldError.Memory) }
+    {
+        let mut did = false;
+        let places = self.course.pool.sites.len();
+        for place in 0..places {
+            let served = self.alternate(Act::ReachServer(place), Act::Serve(place), moment)?;
+            let replied = self.alternate(Act::ReachProxy(place), Act::TakeReply(place), moment)?;
+            did |= served | replied;
+        }
+        Ok(did)
+    }
+
+    /// Answers are put out to clients, which take them.
+    fn answer_all(&mut self, moment: u64) -> Result<bool, WorldError>
+        requires moment { moment < 2 ^ 63 }
+        ensures over { IfOk result (λ did. IsOver moment (λ c. NoClient moment PutAnswer c × NoClient moment TakeBytes c) did self.old self.new) }
+        ensures err { OnErr result (HasDrained moment self.old self.new) }
+        ensures cause { IfErr result (λ e. e ≡ WorldError.Memory) }
+    {
+        let mut did = false;
+        let clients = self.course.clients.len() as u64;
+        for client in 0..clients {
+            let one = self.alternate(Act::PutAnswer(client), Act::TakeBytes(client), moment)?;
+            did |= one;
+        }
+        Ok(did)
+    }
+
+    /// Does two acts in alternation, each as often as it applies, until neither does, and says whether anything was done.
+    fn alternate(&mut self, first: Act, second: Act, moment: u64) -> Result<bool, WorldError>
+        requires moment { moment < 2 ^ 63 }
+        ensures over { IfOk result (λ did. IsOver moment (λ c. IsIdle moment c.pool first × IsIdle moment c.pool second) did self.old self.new) }
+        ensures err { OnErr result (HasDrained moment self.old self.new) }
+        ensures cause { IfErr result (λ e. e ≡ WorldError.Memory) }
+    {
+        let mut did = false;
+        loop {
+            let one = self.repeat(first, moment)?;
+            let other = self.repeat(second, moment)?;
+            if !one && !other {
+                return Ok(did);
+            }
+            did = true;
+        }
+    }
+
+    /// Does an act as often as it applies, and says whether it did.
+    fn repeat(&mut self, act: Act, moment: u64) -> Result<bool, WorldError>
+        requires moment { moment < 2 ^ 63 }
+        ensures over { IfOk result (λ did. IsOver moment (λ c. IsIdle moment c.pool act) did self.old self.new) }
+        ensures err { OnErr result (HasDrained moment self.old self.new) }
+        ensures cause { IfErr result (λ e. e ≡ WorldError.Memory) }
+    {
+        let mut did = false;
+        while self.act(act, moment)? {
+            did = true;
+        }
+        Ok(did)
+    }
+
+    /// Does an act where it applies, and says whether it did.
+    fn act(&mut self, act: Act, moment: u64) -> Result<bool, WorldError>
+        requires moment { moment < 2 ^ 63 }
+        ensures over { IfOk result (λ did. IsOver moment (λ c. IsIdle moment c.pool act) did self.old self.new) }
+        ensures err { OnErr result (HasDrained moment self.old self.new) }
+        ensures cause { IfErr result (λ e. e ≡ WorldError.Memory) }
+    {
+        let event = self.course.pool.event_of(act, moment);
+        match self.step(&event)? {
+            Step::Done => Ok(true),
+            Step::Nothing => Ok(false),
+        }
     }
 }

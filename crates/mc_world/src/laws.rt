@@ -75,9 +75,9 @@ pub fn lost_ways_keep_pools()
         → PoolStands opening texts sent order (changed place (fresh_lane (length order)) lanes) new }
 {}
 
-/// A pool that stands gives account of its commands: each client's requests were taken in order, each server's history is legal and of
-/// commands that were sent to it, and no command has two entries in all of them. A reply that is known of a command is that of its entry in
-/// the history of its server.
+/// A pool that is where its calls left it (`PoolStands`) gives account of its commands. Each client's requests were taken in order, each
+/// server's history is legal and of commands that were sent to it, and no command has two entries in all of them. A reply that is
+/// known of a command is that of its entry in the history of its server.
 pub fn pools_account_for_commands()
     ensures commands { (opening : CacheState) (texts sent : ℕ → List ℕ) (order : Order) (lanes : ℕ → Lane) (pool : PoolState)
         → PoolStands opening texts sent order lanes pool → AccountsForCommands opening order texts (histories_of pool.sites) }

@@ -19,6 +19,7 @@
 //! is. [`Pool::join`] lets a server join, or gives it back. No call waits.
 #![tactic(auto)]
 
+mod acts;
 mod clients;
 mod courses;
 mod drains;

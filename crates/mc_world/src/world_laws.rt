@@ -24,19 +24,19 @@ use mc_store::Store;
 use mc_text::Block;
 use std::alloc::Global;
 
-/// A pool that was just opened stands where nothing was taken: its links are up, and each server has taken nothing.
+/// A pool that was just opened is where nothing was taken (`PoolStands`): its links are up, and each server has taken nothing.
 pub fn opening_pools_stand()
     ensures { (opening : CacheState) (ring : RingState) (clients : ℕ) → IsGoodCache opening
         → PoolStands opening (λ _. []) (λ _. []) [] (λ _. fresh_lane 0) (opening_pool opening ring clients) }
 {}
 
-/// A course stands after each event that is done.
+/// Where a course is after all that was done (`CourseStands`) is kept by each event that is done.
 pub fn courses_go_on()
     ensures { (ring : RingState) (opening : CacheState) (event : Event (List ℕ)) (old new : CourseState)
         → CourseStands ring opening old → IsDone event old new → CourseStands ring opening new }
 {}
 
-/// The servers of a course that stands serve its proxy, over each link and on each of its lost generations.
+/// Wherever a course is (`CourseStands`), its servers serve its proxy, over each link and on each of its lost generations.
 pub fn courses_serve()
     ensures { (ring : RingState) (opening : CacheState) (c : CourseState) → CourseStands ring opening c → PoolServes c.pool }
 {}

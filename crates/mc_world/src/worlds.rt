@@ -25,7 +25,7 @@ pub const MAX_CLIENTS: usize = 1024;
 #[derive(Drop)]
 pub struct World<S: Store + Drop> {
     alloc: Global,
-    course: Course<S>,
+    pub(crate) course: Course<S>,
     /// The ring at first: servers that joined are not in it.
     opening: Ring,
     budget: u64,
@@ -124,8 +124,9 @@ impl<S: Store + Drop> World<S> {
         ensures opened { (self.new.opening ≡ self.old.opening) × (self.new.budget ≡ self.old.budget) × (self.new.items ≡ self.old.items) }
         ensures account { GivesAccount self.new }
         ensures err { OnErr result (self.new ≡ self.old) }
+        ensures cause { IfErr result (λ e. e ≡ WorldError.Memory) }
     {
-        self.course.step(event)
+        self.course.step(event).map_err(|_| WorldError::Memory)
     }
 
     /// Does what events say, one after another, and gives how many were refused memory: those have changed nothing.

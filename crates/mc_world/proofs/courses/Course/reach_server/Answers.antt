@@ -16,8 +16,9 @@ returns-then-lives-clause-happens g c =
 -- and those of a lost one
 pub returns-clause-happens : goal.returns-clause-happens
 returns-clause-happens g c =
+    let dead : Lives c.args.server c.args.generation c.self.inside.pool → ⊥ = λ lives. let yes = c.lives.ensures.1 lives in let no = c.if-lives.false in absurd cc in
     rw (← c.self.view_is) (told_as c.late_bytes.result _ _ _ _
-    (λ h. lost_bytes c.args.server c.args.generation c.args.count c.self.inside.clients.items c.self.inside.log.items c.self.inside.pool c.late_bytes.new.self h)
+    (λ h. lost_bytes c.args.server c.args.generation c.args.count c.self.inside.clients.items c.self.inside.log.items c.self.inside.pool c.late_bytes.new.self dead h)
     (λ same. ap (λ (p : PoolState). course_of p c.self.inside.clients.items c.self.inside.log.items) same)
     c.late_bytes.ensures.reaches)
 

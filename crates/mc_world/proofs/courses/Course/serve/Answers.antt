@@ -18,10 +18,11 @@ returns-then-lives-clause-happens g c =
 -- and one of a lost one
 pub returns-clause-happens : goal.returns-clause-happens
 returns-clause-happens g c =
+    let dead : Lives c.args.server c.args.generation c.self.inside.pool → ⊥ = λ lives. let yes = c.lives.ensures.1 lives in let no = c.if-lives.false in absurd cc in
     let late = c.if-moment.false in
     let fits : c.args.moment < 2 ^ 63 = omega (arith, late) in
     rw (← c.self.view_is) (told_as c.late_turn.result _ _ _ _
-    (λ h. lost_turn c.args.server c.args.generation c.args.moment c.self.inside.clients.items c.self.inside.log.items c.self.inside.pool c.late_turn.new.self fits h)
+    (λ h. lost_turn c.args.server c.args.generation c.args.moment c.self.inside.clients.items c.self.inside.log.items c.self.inside.pool c.late_turn.new.self fits dead h)
     (λ same. ap (λ (p : PoolState). course_of p c.self.inside.clients.items c.self.inside.log.items) same)
     c.late_turn.ensures.takes)
 

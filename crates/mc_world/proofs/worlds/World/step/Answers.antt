@@ -1,5 +1,6 @@
 use Rattle.mc_cache.specs.CacheState.{opening_cache}
-use Rattle.mc_world.proofs.StepLemmas.{course_serves, course_stepped, stepped, world_accounts}
+use Rattle.mc_world.specs.Steps.{StepsTo}
+use Rattle.mc_world.proofs.StepLemmas.{answer_mapped, course_serves, course_stepped, stepped, world_accounts}
 use Rattle.mc_world.proofs.worlds.World.step.Goals as goal
 
 -- a course that holds serves
@@ -15,7 +16,10 @@ invariant_of-self g c = record {
 }
 
 pub returns-clause-steps : goal.returns-clause-steps
-returns-clause-steps g c = rw (← c.self.view_is) (stepped c.args.event.now c.step.result c.self.inside.course c.step.new.self c.step.ensures.done c.step.ensures.applies)
+returns-clause-steps g c =
+    let told = stepped c.args.event.now c.step.result c.self.inside.course c.step.new.self c.step.ensures.done c.step.ensures.applies in
+    rw (← c.self.view_is) (answer_mapped (λ step. StepsTo c.args.event.now step c.self.inside.course c.step.new.self) _ c.step.result c.map_err.result
+    c.map_err.ensures.cases c.map_err.ensures.variant told)
 
 pub returns-clause-account : goal.returns-clause-account
 returns-clause-account g c =

@@ -1,0 +1,170 @@
+-- How much is left to do, where one thing has changed.
+use Rattle.std.proofs.Common.{◌≡◌, ◌∙◌, ℕ, zero, suc, ◌+◌, ◌-◌, ◌*◌, ◌<◌, ◌≤◌, ◌==◌, Bool, true, false, if◌then◌else◌, nat_lt, List, [], ◌∷◌, ◌++◌, length, drop, remove, Some, None, slice_get, slice_set, refl, ap, subst, arith}
+use Rattle.std.proofs.lemmas.List.{length-append}
+use Rattle.std.proofs.lemmas.Option.{same_Some}
+use Rattle.mc_request.specs.Atoms.{head_of}
+use Rattle.mc_request.specs.declared.parts.Atom.{Atom}
+use Rattle.mc_request_reader.specs.Reader.{rest_of}
+use Rattle.mc_spelling.specs.Spellings.{spelling_of_atom}
+use Rattle.mc_ring.specs.Rings.{RingState}
+use Rattle.mc_route.specs.declared.outcomes.Outcome.{Outcome}
+use Rattle.mc_route.specs.declared.routes.Routed.{Routed}
+use Rattle.mc_link.specs.LinkState.{LinkState, sent}
+use Rattle.mc_link.specs.declared.turns.Tag.{Tag}
+use Rattle.mc_session.specs.Emits.{answer_of_one, emitted, emitted_from, is_known}
+use Rattle.mc_session.specs.Noting.{noted_at, noted_in}
+use Rattle.mc_session.specs.Sending.{handed, handed_to, tag_of}
+use Rattle.mc_session.specs.SessionState.{SessionState, Unanswered, answered, link_at, with_link}
+use Rattle.mc_proxy.specs.Noting.{noted}
+use Rattle.mc_proxy.specs.ProxyState.{Sessions, session_in, updated}
+use Rattle.mc_world.specs.WorkLeft.{moves_of, work_left, work_of_link, work_of_requests, work_of_session, work_of_sessions, work_of_site, work_of_sites, work_of_ways, work_on}
+use Rattle.mc_world.specs.WorldState.{PoolState, SiteState, WayState}
+
+-- bytes are one move at most; where there are some they are one, and all of them moved leaves none
+pub moves_most : (xs : List ℕ) → moves_of xs ≤ 1
+moves_most [] = omega arith
+moves_most (x ∷ xs) = omega arith
+
+pub moves_some : (xs : List ℕ) → 0 < length xs → moves_of xs ≡ 1
+moves_some [] some = absurd (omega (arith, some))
+moves_some (x ∷ xs) some = refl
+
+drop_all : (xs : List ℕ) → drop (length xs) xs ≡ []
+drop_all [] = refl
+drop_all (x ∷ xs) = drop_all xs
+
+pub moves_all : (xs : List ℕ) → moves_of (drop (length xs) xs) ≡ 0
+moves_all xs = ap moves_of (drop_all xs)
+
+-- one session has changed
+pub sessions_updated : (ring : RingState) (number : ℕ) (before after : SessionState) (open_ones : Sessions) → session_in open_ones number ≡ Some before
+    → work_of_sessions ring (updated number after open_ones) + work_of_session ring before ≡ work_of_sessions ring open_ones + work_of_session ring after
+sessions_updated ring number before after [] at = absurd cc
+sessions_updated ring number before after (s ∷ others) at =
+    (elim (s.0 == number) as (λ v. (if v then Some s.1 else session_in others number) ≡ Some before
+    → work_of_sessions ring (if v then (s.0, after) ∷ others else s ∷ updated number after others) + work_of_session ring before
+    ≡ (work_of_session ring s.1 + work_of_sessions ring others) + work_of_session ring after) [
+      | true ↦ λ is. let same : work_of_session ring s.1 ≡ work_of_session ring before = ap (work_of_session ring) (same_Some s.1 before is) in omega (arith, same)
+      | false ↦ λ is. omega (arith, sessions_updated ring number before after others is)
+    ]) at
+
+-- what became of a command is noted: nothing less is left to do in the sessions
+noted_at-length : (place atom : ℕ) (outcome : Outcome) (us : List Unanswered) → length (noted_at place atom outcome us) ≡ length us
+noted_at-length place atom outcome [] = refl
+noted_at-length zero atom outcome (u ∷ us) = refl
+noted_at-length (suc place) atom outcome (u ∷ us) = ap suc (noted_at-length place atom outcome us)
+
+session_noted : (ring : RingState) (tag : Tag) (outcome : Outcome) (s : SessionState) → work_of_session ring (noted_in tag outcome s) ≡ work_of_session ring s
+session_noted ring tag outcome s =
+    (elim (nat_lt tag.request (answered s)) as (λ v.
+    work_of_session ring (if v then s else record s { unanswered = noted_at (tag.request - answered s) tag.atom outcome s.unanswered }) ≡ work_of_session ring s) [
+      | true ↦ refl
+      | false ↦ ap (λ (n : ℕ). work_of_requests ring (rest_of s.reader []) + 2 * n + moves_of s.output) (noted_at-length (tag.request - answered s) tag.atom outcome s.unanswered)
+    ])
+
+pub sessions_noted : (ring : RingState) (tag : Tag) (outcome : Outcome) (open_ones : Sessions) → work_of_sessions ring (noted tag outcome open_ones) ≡ work_of_sessions ring open_ones
+sessions_noted ring tag outcome [] = refl
+sessions_noted ring tag outcome (s ∷ others) =
+    (elim (s.0 == tag.session) as (λ v. work_of_sessions ring (if v then (s.0, noted_in tag outcome s.1) ∷ others else s ∷ noted tag outcome others)
+    ≡ work_of_session ring s.1 + work_of_sessions ring others) [
+      | true ↦ ap (λ (n : ℕ). n + work_of_sessions ring others) (session_noted ring tag outcome s.1)
+      | false ↦ ap (λ (n : ℕ). work_of_session ring s.1 + n) (sessions_noted ring tag outcome others)
+    ])
+
+-- an answer that was put out
+put_from : (ring : RingState) (session after : SessionState) (us : List Unanswered) → session.unanswered ≡ us → emitted_from session us ≡ Some after
+    → work_of_session ring after < work_of_session ring session
+put_from ring session after [] is put = absurd cc
+put_from ring session after (u ∷ us) is put =
+    (elim (is_known u) as (λ v. (if v then Some (record session { output = session.output ++ answer_of_one u; unanswered = us }) else None) ≡ Some after
+    → work_of_session ring after < work_of_session ring session) [
+      | true ↦ λ e.
+          let same : work_of_session ring (record session { output = session.output ++ answer_of_one u; unanswered = us }) ≡ work_of_session ring after =
+          ap (work_of_session ring) (same_Some (record session { output = session.output ++ answer_of_one u; unanswered = us }) after e) in
+          let one : length session.unanswered ≡ suc (length us) = ap (λ (xs : List Unanswered). length xs) is in
+          omega (arith, same, one, moves_most (session.output ++ answer_of_one u))
+      | false ↦ λ e. absurd cc
+    ]) put
+
+pub put_less : (ring : RingState) (session after : SessionState) → emitted session ≡ Some after → work_of_session ring after < work_of_session ring session
+put_less ring session after put = put_from ring session after session.unanswered refl put
+
+-- a link that is up
+pub up_work : (link : LinkState) (site : SiteState) → link.up ≡ true → work_of_link link site ≡ work_on link site
+up_work link site up = ap (λ (v : Bool). if v then work_on link site else 0) up
+
+pub down_work : (link : LinkState) (site : SiteState) → link.up ≡ false → work_of_link link site ≡ 0
+down_work link site down = ap (λ (v : Bool). if v then work_on link site else 0) down
+
+-- one server or its link has changed
+pub sites_changed : (links : List LinkState) (sites : List SiteState) (place : ℕ) (link : LinkState) (site now : SiteState) → slice_get sites place ≡ Some site → place < length links
+    → work_of_sites (with_link place link links) (slice_set sites place now) + work_of_site (link_at links place) site ≡ work_of_sites links sites + work_of_site link now
+sites_changed [] sites place link site now at inside = absurd (omega (arith, inside))
+sites_changed (l ∷ ls) [] place link site now at inside = absurd cc
+sites_changed (l ∷ ls) (s ∷ ss) zero link site now at inside =
+    let same : work_of_site l s ≡ work_of_site l site = ap (λ (x : SiteState). work_of_site l x) (same_Some s site at) in
+    omega (arith, same)
+sites_changed (l ∷ ls) (s ∷ ss) (suc place) link site now at inside =
+    omega (arith, sites_changed ls ss place link site now at (omega (arith, inside)))
+
+with_same : (links : List LinkState) (place : ℕ) → with_link place (link_at links place) links ≡ links
+with_same [] place = refl
+with_same (l ∷ ls) zero = refl
+with_same (l ∷ ls) (suc place) = ap (λ (xs : List LinkState). l ∷ xs) (with_same ls place)
+
+pub site_changed : (links : List LinkState) (sites : List SiteState) (place : ℕ) (site now : SiteState) → slice_get sites place ≡ Some site → place < length links
+    → work_of_sites links (slice_set sites place now) + work_of_site (link_at links place) site ≡ work_of_sites links sites + work_of_site (link_at links place) now
+site_changed links sites place site now at inside =
+    subst (λ (ls : List LinkState). work_of_sites ls (slice_set sites place now) + work_of_site (link_at links place) site ≡ work_of_sites links sites + work_of_site (link_at links place) now)
+    (with_same links place) (sites_changed links sites place (link_at links place) site now at inside)
+
+-- commands that are handed to links: four things more for each at most
+link_handed : (tag : Tag) (atom : Atom (List ℕ)) (link : LinkState) (site : SiteState) → work_of_link (handed_to tag atom link) site ≤ work_of_link link site + 4
+link_handed tag atom link site =
+    (elim link.up as (λ v. link.up ≡ v → work_of_link (if v then sent atom tag link else link) site ≤ work_of_link link site + 4) [
+      | true ↦ λ up.
+          let now : work_of_link (sent atom tag link) site ≡ work_on (sent atom tag link) site = up_work (sent atom tag link) site up in
+          let was : work_of_link link site ≡ work_on link site = up_work link site up in
+          let longer : length (link.waiting ++ (head_of atom, tag) ∷ []) ≡ length link.waiting + 1 = length-append link.waiting ((head_of atom, tag) ∷ []) in
+          omega (arith, now, was, longer, moves_most (link.output ++ spelling_of_atom atom))
+      | false ↦ λ down. omega arith
+    ]) refl
+
+one_handed : (links : List LinkState) (sites : List SiteState) (place : ℕ) (tag : Tag) (atom : Atom (List ℕ))
+    → work_of_sites (with_link place (handed_to tag atom (link_at links place)) links) sites ≤ work_of_sites links sites + 4
+one_handed [] sites place tag atom = omega arith
+one_handed (l ∷ ls) [] zero tag atom = omega arith
+one_handed (l ∷ ls) [] (suc place) tag atom = omega arith
+one_handed (l ∷ ls) (s ∷ ss) zero tag atom = omega (arith, link_handed tag atom l s)
+one_handed (l ∷ ls) (s ∷ ss) (suc place) tag atom = omega (arith, one_handed ls ss place tag atom)
+
+pub sites_handed : (session request at : ℕ) (commands : List Routed) (links : List LinkState) (sites : List SiteState)
+    → work_of_sites (handed session request at commands links) sites ≤ work_of_sites links sites + 4 * length commands
+sites_handed session request at [] links sites = omega arith
+sites_handed session request at (c ∷ cs) links sites =
+    omega (
+      arith,
+      sites_handed session request (suc at) cs (with_link c.server (handed_to (tag_of session request at) c.atom (link_at links c.server)) links) sites,
+      one_handed links sites c.server (tag_of session request at) c.atom,
+    )
+
+-- lost generations: one has ended; of one a command was taken
+pub ways_removed : (ways : List WayState) (i : ℕ) (way : WayState) → slice_get ways i ≡ Some way → work_of_ways (remove ways i) < work_of_ways ways
+ways_removed [] i way at = absurd cc
+ways_removed (w ∷ ws) zero way at = omega arith
+ways_removed (w ∷ ws) (suc i) way at = omega (arith, ways_removed ws i way at)
+
+pub ways_changed : (ways : List WayState) (i : ℕ) (way now : WayState) → slice_get ways i ≡ Some way
+    → work_of_ways (slice_set ways i now) + length way.untaken ≡ work_of_ways ways + length now.untaken
+ways_changed [] i way now at = absurd cc
+ways_changed (w ∷ ws) zero way now at = let same : length w.untaken ≡ length way.untaken = ap (λ (x : WayState). length x.untaken) (same_Some w way at) in omega (arith, same)
+ways_changed (w ∷ ws) (suc i) way now at = omega (arith, ways_changed ws i way now at)
+
+-- what is left, by parts
+pub left_as : (pool : PoolState) (ring : RingState) (sessions : Sessions) (links : List LinkState) (sites : List SiteState) → pool.proxy.ring ≡ ring → pool.proxy.sessions ≡ sessions
+    → pool.proxy.links ≡ links → pool.sites ≡ sites → work_left pool ≡ work_of_sessions ring sessions + work_of_sites links sites
+left_as pool ring sessions links sites ring_is sessions_are links_are sites_are =
+    ap (λ (r : RingState). work_of_sessions r pool.proxy.sessions + work_of_sites pool.proxy.links pool.sites) ring_is
+    ∙ ap (λ (ss : Sessions). work_of_sessions ring ss + work_of_sites pool.proxy.links pool.sites) sessions_are
+    ∙ ap (λ (ls : List LinkState). work_of_sessions ring sessions + work_of_sites ls pool.sites) links_are
+    ∙ ap (λ (ss : List SiteState). work_of_sessions ring sessions + work_of_sites links ss) sites_are

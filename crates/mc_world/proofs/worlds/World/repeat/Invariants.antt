@@ -1,0 +1,11 @@
+use Rattle.mc_world.specs.Acts.{GoesOn}
+use Rattle.mc_world.specs.WorkLeft.{work_left}
+use Rattle.mc_world.proofs.worlds.World.repeat.Given as goal
+
+-- what was done so far
+abbrev pub invariant-loop-did : goal.invariant-loop-did
+invariant-loop-did g l = GoesOn l.moment l.did l.fn.self l.self
+
+-- less is left each time
+abbrev pub decreases-loop-did : goal.decreases-loop-did
+decreases-loop-did g l = work_left l.self.course.pool
