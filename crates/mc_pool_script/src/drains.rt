@@ -1,4 +1,4 @@
-//! Lines that have done all that is left to do.
+//! Lines that do all that is left to do.
 ghost use Rattle.std.specs.Prelude.{◌≡◌, ◌^◌, IfSome};
 ghost use Rattle.mc_pool_script.specs.PoolLines.{HasMoment, drain_line};
 
