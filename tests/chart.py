@@ -141,6 +141,9 @@ class Chart:
         self.up.append(True)
         self.dot(self.server(len(self.generations) - 1), f"joins: {address}")
 
+    def on_drain(self, moment):
+        self.dot(self.proxy(), f"all that is left is done, at {moment}")
+
     def picture(self):
         width, height = self.x(len(self.columns) - 1) + 250, self.y + 30
         out = [f'<svg xmlns="http://www.w3.org/2000/svg" width="{width}" height="{height}" viewBox="0 0 {width} {height}">', f"<style>{STYLE}</style>"]

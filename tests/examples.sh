@@ -78,10 +78,10 @@ refuses_words() {
     [ $? -eq 2 ] && [ ! -s "$scratch/out" ] && [ -s "$scratch/err" ]
 }
 
-# Whether mc_sim says what each line of two scripts does (sim.trace), and prints the same as without that.
+# Whether mc_sim says what each line of some scripts does (sim.trace), and prints the same as without that.
 tells_lines() {
     local name
-    for name in pool_points_and_empty_lines pool_lost_where_the_link_is_down; do
+    for name in pool_points_and_empty_lines pool_lost_where_the_link_is_down pool_drain; do
         "$built" --trace < "examples/$name.txt" > "$scratch/out" 2>> "$scratch/trace" || return 1
         cmp -s "$scratch/out" "examples/$name.out" || return 1
     done

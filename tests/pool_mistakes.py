@@ -334,6 +334,37 @@ class ForgetsTheFlush(Pool):
         return [(place, line) for place, line in super().routed(request) if place == 0 or not line.startswith(b"flush_all")]
 
 
+class LeavesTheLast(Pool):
+    """A drain leaves its last client out."""
+
+    def does(self, done, *event):
+        if event[0] in ("turn", "emit", "takes") and event[1] == len(self.clients) - 1:
+            return False
+        return super().does(done, *event)
+
+
+class DrainsAtZero(Pool):
+    """In a drain servers take what comes at moment 0."""
+
+    def drain(self, moment):
+        super().drain(0)
+        self.drains[-1] = [(*event[:3], moment) if event[0] == "serve" else event for event in self.drains[-1]]
+        return True
+
+
+class KeepsTheLate(Pool):
+    """A drain serves late bytes of lost generations, before it sees their end."""
+
+    def drain(self, moment):
+        for place, site in enumerate(self.sites):
+            for generation in list(site.ways):
+                if not site.up or generation != site.generation:
+                    self.step(("toserver", place, generation, pool_model.ALL))
+                    while self.step(("serve", place, generation, moment)):
+                        pass
+        return super().drain(moment)
+
+
 class GoneIsServed(Pool):
     """A client that went still has its requests taken."""
 
@@ -348,7 +379,7 @@ class GoneIsServed(Pool):
 MISTAKES = [
     SentAgain, KeptAndSent, WaitingKept, OutOfOrder, Padded, Doubled, LateUnwritten, LateIgnored, RoutedByTheLast, NeighbourOwns,
     StoredWhenDown, AlwaysLost, LosesTheTaken, RisingMoments, OtherBytes, Unfinished, OtherText, SilentFaults, LostOften, ToldRefused,
-    LaterFirst, AnsweredUnserved, LostInvents, ForgetsTheFlush,
+    LaterFirst, AnsweredUnserved, LostInvents, ForgetsTheFlush, LeavesTheLast, DrainsAtZero, KeepsTheLate,
 ]  # fmt: skip
 
 

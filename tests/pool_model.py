@@ -1,8 +1,8 @@
 """A plain model of a pool: what a proxy and its servers do, and what must hold of all that they tell.
 
 It is written from the rules of the protocol and of pool scripts, with none of the repository's definitions. `Pool` plays a script
-step by step; `faults_of` looks at what was told of a world that played it: at the events that were done, and each client's text,
-each client's bytes and each server's history. The caches are those of model.py, the ring that of rings.py.
+step by step; `faults_of` looks at what was told of a world that played it: at the events that were done, those of each drain among
+them, and each client's text, each client's bytes and each server's history. The caches are those of model.py, the ring that of rings.py.
 """
 
 import base64
@@ -13,6 +13,7 @@ from rings import Ring, points_of
 
 ALL = 2**64 - 1
 MOST_SERVERS, MOST_CLIENTS = 64, 1024
+MOMENTS = 2**63  # a moment is below
 MOST_UNANSWERED = 1024  # requests of a client
 CLIENT_MARK = 4_194_304  # unsent bytes to a client
 LINK_MARK = 8_388_608  # unsent bytes on a link
@@ -23,7 +24,7 @@ MODES = {"set": "S", "add": "E", "append": "A", "prepend": "P", "replace": "R", 
 
 Tag = collections.namedtuple("Tag", "client request atom")
 Entry = collections.namedtuple("Entry", "client request atom moment refused reply")
-Told = collections.namedtuple("Told", "done texts outs histories")
+Told = collections.namedtuple("Told", "done texts outs histories drains")  # drains: what each did, in order
 
 
 # Requests
@@ -233,6 +234,8 @@ def event_of(line):
 
 
 def numbers_are_there(event, clients, servers):
+    if event[0] == "drain":
+        return len(event) == 2 and event[1] < MOMENTS
     return event[0] == "join" or event[1] < (clients if event[0] in CLIENT_EVENTS else servers)
 
 
@@ -295,6 +298,7 @@ class Pool:
         self.ring = script.ring()
         self.sites = [self.new_site() for _ in range(script.servers)]
         self.clients = [Client() for _ in range(script.clients)]
+        self.drains = []
 
     def step(self, event):
         """Whether an event applied; then it has happened."""
@@ -306,6 +310,7 @@ class Pool:
             [bytes(client.text) for client in self.clients],
             [bytes(client.put) for client in self.clients],
             [list(site.history) for site in self.sites],
+            self.drains,
         )
 
     # The clients and the proxy
@@ -447,6 +452,50 @@ class Pool:
         self.sites.append(self.new_site())
         return True
 
+    # All that is left to do
+
+    def drain(self, moment):
+        """Lost generations end, and then rounds are gone until one does nothing. What was done is kept, and it always applies."""
+        done = []
+        for place, site in enumerate(self.sites):
+            lost = [generation for generation in site.ways if not (site.up and generation == site.generation)]
+            for generation in sorted(lost):
+                self.does(done, "end", place, generation)
+        going = True
+        while going:
+            before = len(done)
+            self.round(done, moment)
+            going = len(done) > before
+        self.drains.append(done)
+        return True
+
+    def round(self, done, moment):
+        clients, places = range(len(self.clients)), range(len(self.sites))
+        for client in clients:
+            self.in_turn(done, ("turn", client))
+        for place in places:
+            generation = self.sites[place].generation
+            self.in_turn(done, ("toserver", place, generation, ALL), ("serve", place, generation, moment))
+            self.in_turn(done, ("toproxy", place, ALL), ("reply", place))
+        for client in clients:
+            self.in_turn(done, ("emit", client), ("takes", client, ALL))
+
+    def in_turn(self, done, *events):
+        """Each of these as often as it applies, one after another, until none does."""
+        going = True
+        while going:
+            before = len(done)
+            for event in events:
+                while self.does(done, *event):
+                    pass
+            going = len(done) > before
+
+    def does(self, done, *event):
+        if not self.step(event):
+            return False
+        done.append(event)
+        return True
+
 
 def routed(request, ring, servers):
     """A request's commands, each with the place of its server: a flush goes to all."""
@@ -468,6 +517,16 @@ def printed(told):
 # The account
 
 
+def log_of(script, told):
+    """What was done, in order, each with its place: the number of its event, and within a drain the number of its step."""
+    drains = iter(told.drains)
+    for number, (event, done) in enumerate(zip(script.events, told.done)):
+        steps = next(drains) if event[0] == "drain" else []
+        yield from (((number, step), each) for step, each in enumerate(steps))
+        if done:
+            yield (number, len(steps)), event
+
+
 class Account:
     """What is known of a world by the events that were done alone: what was taken and routed where, when, and what became of it."""
 
@@ -486,25 +545,28 @@ class Account:
         self.sent = [{1: []} for _ in range(script.servers)]  # tags by generation
         self.waiting = [[] for _ in range(script.servers)]
         self.ring = script.ring()
+        self.come = [bytearray() for _ in range(script.clients)]
+        self.gone = set()
+        self.log = list(log_of(script, told))
         self.wrong = []
 
     def fault(self, text):
         self.wrong.append(text)
 
     def read_log(self):
-        for (name, *words), done in zip(self.script.events, self.told.done):
-            if name == "bytes" and done:
+        for _, (name, *words) in self.log:
+            if name == "bytes":
                 self.texts[words[0]] += words[1]
         self.requests = [requests_of(bytes(text)) for text in self.texts]
-        for at, ((name, *words), done) in enumerate(zip(self.script.events, self.told.done)):
-            if done and hasattr(self, "log_" + name):
+        for at, (name, *words) in self.log:
+            if hasattr(self, "log_" + name):
                 getattr(self, "log_" + name)(at, *words)
 
     def log_turn(self, at, client):
         number = self.counts[client][0]
         self.counts[client][0] += 1
         if number >= len(self.requests[client]):
-            return self.fault(f"event {at}: client {client} has no request {number}")
+            return self.fault(f"event {at[0]}: client {client} has no request {number}")
         self.taken[client, number] = at
         for atom, (place, _) in enumerate(routed(self.requests[client][number], self.ring, len(self.up))):
             tag = Tag(client, number, atom)
@@ -521,10 +583,10 @@ class Account:
         self.counts[client][1] += 1
         self.put[client, number] = at
         if number >= self.counts[client][0]:
-            return self.fault(f"event {at}: request {number} of client {client} is answered and was not taken")
+            return self.fault(f"event {at[0]}: request {number} of client {client} is answered and was not taken")
         for tag in self.tags(client, number):
             if tag not in self.outcome:
-                self.fault(f"event {at}: {tag} is answered and has no outcome")
+                self.fault(f"event {at[0]}: {tag} is answered and has no outcome")
 
     def tags(self, client, number):
         request = self.requests[client][number]
@@ -539,12 +601,12 @@ class Account:
 
     def log_reply(self, at, place):
         if not self.up[place] or not self.waiting[place]:
-            return self.fault(f"event {at}: server {place} has no command that waits")
+            return self.fault(f"event {at[0]}: server {place} has no command that waits")
         self.outcome[self.waiting[place].pop(0)] = "reply"
 
     def log_lost(self, at, place):
         if not self.up[place]:
-            return self.fault(f"event {at}: the link of server {place} is down")
+            return self.fault(f"event {at[0]}: the link of server {place} is down")
         self.up[place] = False
         for tag in self.waiting[place]:
             self.outcome[tag] = "lost"
@@ -552,10 +614,25 @@ class Account:
 
     def log_back(self, at, place):
         if self.up[place]:
-            return self.fault(f"event {at}: the link of server {place} is up")
+            return self.fault(f"event {at[0]}: the link of server {place} is up")
         self.up[place] = True
         self.generation[place] += 1
         self.sent[place][self.generation[place]] = []
+
+    def log_bytes(self, at, client, data):
+        self.come[client] += data
+
+    def log_gone(self, at, client):
+        self.gone.add(client)
+
+    def log_drain(self, at, moment):
+        """Nothing is left once a drain was done: of each client that is there all that came whole is answered."""
+        for client, (taken, put) in enumerate(self.counts):
+            if client not in self.gone and not taken == put == len(requests_of(bytes(self.come[client]))):
+                self.fault(f"event {at[0]}: client {client} has requests that are not answered")
+        for place, waiting in enumerate(self.waiting):
+            if waiting:
+                self.fault(f"event {at[0]}: commands of server {place} still wait")
 
     def log_join(self, at, address):
         self.ring = joined(self.ring, len(self.up), address)
@@ -656,8 +733,8 @@ class Account:
     def check_losses(self):
         """Each lost command: its link was down when it was taken, or it was lost before it was answered."""
         losses = collections.defaultdict(list)
-        for at, ((name, *words), done) in enumerate(zip(self.script.events, self.told.done)):
-            if done and name == "lost":
+        for at, (name, *words) in self.log:
+            if name == "lost":
                 losses[words[0]].append(at)
         for tag, outcome in self.outcome.items():
             if outcome != "lost" or tag[:2] not in self.put:

@@ -9,12 +9,15 @@ A world has 1 to 5 servers and 1 to 20 clients, points of its own or libketama's
 of all kinds (random_script.py), whole and in pieces, and all events of a pool script, most of them where they apply. The program
 plays the script with `--account`, and then two things are seen: that each event was done where a plain model of a pool does it, and
 left the same texts, answers and histories (pool_model.py, `Pool`); and that the account holds of what was told, by the events that
-were done alone (`faults_of`). At the first world that differs the script is made shorter while it still does, and is printed with
-what is wrong; the exit status is then 1. The last line is 'N passed, M failed', in worlds.
+were done alone (`faults_of`), those that the model does in each drain among them. After a drain each whole request of each client that
+has not gone is answered, and nothing that a pool does by itself applies: many worlds end with a drain and a try of all that. At the
+first world that differs the script is made shorter while it still does, and is printed with what is wrong; the exit status is then 1.
+The last line is 'N passed, M failed', in worlds.
 """
 
 import argparse
 import base64
+import collections
 import pathlib
 import random
 import re
@@ -22,7 +25,7 @@ import subprocess
 import sys
 
 from model import escaped, lines_of, unescaped
-from pool_model import ALL, Awaited, BadLine, Entry, Pool, Script, Told, faults_of, numbers_are_there, event_of, played, printed
+from pool_model import ALL, LINK_LOST, Awaited, BadLine, Entry, Pool, Script, Told, faults_of, event_of, played, printed, requests_of
 from random_script import Scene, command
 from rings import hash_of
 
@@ -79,7 +82,7 @@ class World:
         self.chances = {
             "bytes": 6, "turn": 6, "toserver": 5, "serve": 6, "toproxy": 5, "reply": 6, "emit": 6, "takes": 2,
             "lost": losses, "back": losses * 2, "end": losses * dice.choice([0.2, 1]),
-            "gone": dice.choice([0, 0, 0.05]), "join": dice.choice([0, 0, 0.1]),
+            "gone": dice.choice([0, 0, 0.05]), "join": dice.choice([0, 0, 0.1]), "drain": dice.choice([0, 0, 0.05, 0.3]),
         }  # fmt: skip
         self.greed = dice.choice([0.2, 0.7, 1])  # how often all bytes move
         self.blind = dice.choice([0, 0.05, 0.2])  # how often an event is any event
@@ -165,6 +168,10 @@ class World:
             if len(self.pool.sites) < 9:
                 self.add(f"join {dice.choice(['127.0.0.1', 'cache-2', 'b.example'])}:{20000 + len(self.pool.sites)}")
             return
+        if name == "drain":
+            self.scene.pass_time()
+            self.drain()
+            return
         places = [] if dice.random() < self.blind else self.places(name)
         numbers = dice.choice(places) if places else self.any_place(name)
         if not places and dice.random() > self.blind + 0.02:
@@ -206,14 +213,34 @@ class World:
                     words = [name, *numbers] + ([tail] if name in ("toserver", "serve", "toproxy", "takes") else [])
                     going |= bool(self.add(" ".join(str(word) for word in words)))
 
+    def drain(self):
+        self.add(f"drain {self.scene.moment}")
+
+    def try_all(self):
+        """Each event that a pool does by itself is tried at each of its places."""
+        for client in range(len(self.pool.clients)):
+            for event in ("turn {}", "emit {}", "takes {} all"):
+                self.add(event.format(client))
+        for place, site in enumerate(self.pool.sites):
+            for generation in range(1, site.generation + 1):
+                for event in ("toserver {} {} all", "serve {} {} 100", "end {} {}"):
+                    self.add(event.format(place, generation))
+            for event in ("toproxy {} all", "reply {}"):
+                self.add(event.format(place))
+
     def played(self):
         dice = self.dice
         for _ in range(dice.choice([20, 60, 60, 200, 200, 200, 600])):
             self.happen()
         if dice.random() < 0.01:
             self.crowd()
-        if dice.random() < 0.6:
+        ends = dice.random()
+        if ends < 0.3:
             self.settle()
+        elif ends < 0.7:
+            self.drain()
+            if dice.random() < 0.5:
+                self.try_all()
         return self
 
 
@@ -259,7 +286,7 @@ def read_told(text):
     if [int(count) for count in told["history"]] != [len(history) for history in histories]:
         raise Failed("a history has not as many commands as are told")
     texts, outs = ([unescaped(said) for said in told[name]] for name in ("text", "client"))
-    return Told([DONE[word] for word in told["event"]], texts, outs, histories)
+    return Told([DONE[word] for word in told["event"]], texts, outs, histories, None)
 
 
 def as_told(told):
@@ -281,8 +308,43 @@ def differences(script, told):
     for number, (got, wanted) in enumerate(zip(told.done, model.done)):
         if got != wanted:
             return [f"event {number}, {script.events[number]}: {'done' if got else 'nothing'}, and the model says otherwise"]
+    told = told._replace(drains=model.drains)
     wrong = [f"the {what} are other than the model's" for what in Told._fields if getattr(told, what) != getattr(model, what)]
-    return wrong + faults_of(script, told)
+    return wrong + faults_of(script, told) + left_after_drain(script, told)
+
+
+INNER = ("turn", "toserver", "serve", "toproxy", "reply", "emit", "takes", "end")
+
+
+def left_after_drain(script, told):
+    """What is wrong after the last drain of a script, where only events follow that a pool does by itself: none is to apply, and each
+    client that has not gone was sent an answer to each of its whole requests."""
+    names = [event[0] for event in script.events]
+    last = max((at for at, name in enumerate(names) if name == "drain"), default=len(names))
+    if any(name not in INNER for name in names[last + 1 :]):
+        return []
+    wrong = [f"event {at}, {script.events[at]}: done after a drain" for at in range(last + 1, len(names)) if told.done[at]]
+    gone = {event[1] for event, done in zip(script.events, told.done) if event[0] == "gone" and done}
+    there = [] if last == len(names) else [client for client in range(script.clients) if client not in gone]
+    return wrong + [f"client {client} is not answered in full" for client in there if not is_answered(client, told)]
+
+
+def is_answered(client, told):
+    """Whether a client was sent an answer to each request of its text, and no more. It is told here by the histories alone: the
+    answer is what the replies to all of the request's commands make, or that a link was lost."""
+    replies = collections.defaultdict(dict)
+    for history in told.histories:
+        for entry in history:
+            if entry.client == client:
+                replies[entry.request][entry.atom] = entry.reply
+    out, ends = told.outs[client], {0}
+    for number, request in enumerate(requests_of(told.texts[client])):
+        known = [reply for _, reply in sorted(replies[number].items())]
+        answers = [LINK_LOST] if request.atoms else []
+        if len(known) >= len(request.atoms):
+            answers.append(request.answer(known))
+        ends = {at + len(answer) for at in ends for answer in answers if out.startswith(answer, at)}
+    return len(out) in ends
 
 
 def wrong_in(lines, program):

@@ -1,12 +1,12 @@
 -- Worlds that play a script's lines.
-use Rattle.std.proofs.Common.{◌≡◌, ◌∙◌, ℕ, zero, suc, ◌+◌, ◌<◌, ◌≤◌, List, [], ◌∷◌, ◌++◌, length, take, get_or, refl, sym, ap, subst}
-use Rattle.std.proofs.lemmas.List.{take_more, take_all}
+use Rattle.std.proofs.Common.{◌≡◌, ◌∙◌, ℕ, ◌+◌, ◌<◌, List, [], ◌∷◌, ◌++◌, length, take, get_or, refl, sym, ap, subst}
+use Rattle.std.proofs.lemmas.List.{take_more}
 use Rattle.mc_cache.specs.CacheState.{CacheState, opening_cache}
 use Rattle.mc_pool_script.specs.PoolScripts.{PoolSeen}
 use Rattle.mc_pool_script.specs.declared.lines.PoolLine.{PoolLine}
-use Rattle.mc_pool_play.specs.Plays.{HasPlayed, IsOpenedFor, KeepsOpening, Plays, PlaysAll, cache_of}
+use Rattle.mc_pool_play.specs.Plays.{IsOpenedFor, KeepsOpening, Plays, PlaysAll, cache_of}
 use Rattle.mc_world.specs.Steps.{GivesAccount}
-use Rattle.mc_world.specs.Worlds.{CourseState, WorldState, opening_world}
+use Rattle.mc_world.specs.Worlds.{CourseState, WorldState}
 use Rattle.mc_world.specs.declared.errors.Step.{Step}
 
 -- a world has played the first lines of a script
@@ -24,17 +24,7 @@ played_items h = h.keeps.items ∙ ap (λ (w : WorldState). w.items) h.opened.is
 pub played_budget : {script : PoolSeen} {count : ℕ} {steps : List Step} {world : WorldState} → PlayedTo script count steps world → world.budget ≡ script.budget
 played_budget h = h.keeps.budget ∙ ap (λ (w : WorldState). w.budget) h.opened.is
 
--- none of them at first
-pub played_none : (script : PoolSeen) (world : WorldState) → IsOpenedFor script world → GivesAccount world → PlayedTo script 0 [] world
-played_none script world is account = record {
-  first = world;
-  opened = is;
-  keeps = record { ring = refl; budget = refl; items = refl };
-  played = refl;
-  account = account;
-}
-
--- one line behind others
+-- one line after others
 plays_behind : (opening : CacheState) (lines : List PoolLine) (steps : List Step) (line : PoolLine) (step : Step) (old now new : CourseState)
     → PlaysAll opening lines steps old now → Plays opening line step now new → PlaysAll opening (lines ++ line ∷ []) (steps ++ step ∷ []) old new
 plays_behind opening [] [] line step old now new is plays = (new, subst (λ (c : CourseState). Plays opening line step c new) is plays, refl)
@@ -63,13 +53,3 @@ plays_one script i steps line step old new inside is h plays keeps account =
       played = subst (λ (ls : List PoolLine). PlaysAll (cache_of script) ls (steps ++ step ∷ []) h.first.course new.course) (sym all) more;
       account = account;
     }
-
--- all of them
-pub played_all : (script : PoolSeen) (i : ℕ) (steps : List Step) (world : WorldState) → length script.lines ≤ i → PlayedTo script i steps world → HasPlayed script steps world
-played_all script i steps world past h = record {
-  first = h.first;
-  opened = h.opened;
-  keeps = h.keeps;
-  played = subst (λ (ls : List PoolLine). PlaysAll (cache_of script) ls steps h.first.course world.course) (take_all i script.lines past) h.played;
-  account = h.account;
-}

@@ -1,15 +1,15 @@
 -- What is told of a world, one line more at a time.
-use Rattle.std.proofs.Common.{◌≡◌, ◌∙◌, ℕ, ◌+◌, ◌<◌, ◌≤◌, List, [], ◌∷◌, ◌++◌, length, map, take, get_or, codes, decimal, refl, sym, ap, arith, append_assoc}
+use Rattle.std.proofs.Common.{◌≡◌, ◌∙◌, ℕ, ◌+◌, ◌<◌, ◌≤◌, List, [], ◌∷◌, ◌++◌, length, map, take, get_or, codes, decimal, sym, ap, arith, append_assoc}
 use Rattle.std.specs.List.{flat_map, range_with_len}
 use Rattle.std.proofs.lemmas.List.{append-nil, length-map, length-take-le, map-append, map-id, take_more, take_all}
 use Rattle.std.proofs.lemmas.List.FromFn.{map-range_with_len_more}
 use Rattle.std.proofs.lemmas.Grind.{flat_map-append}
 use Rattle.mc_history.specs.declared.entries.Entry.{Entry}
 use Rattle.mc_script.specs.Escapes.{named_line, named_lines}
-use Rattle.mc_script.proofs.OutputLemmas.{named_lines_more, named_lines_next}
-use Rattle.mc_world.specs.Worlds.{CourseState, history_of, text_of}
+use Rattle.mc_script.proofs.OutputLemmas.{named_lines_more}
+use Rattle.mc_world.specs.Worlds.{CourseState, history_of}
 use Rattle.mc_world.specs.declared.errors.Step.{Step}
-use Rattle.mc_pool_play.specs.Told.{entry_line, event_lines, histories_lines, history_lines, text_lines, word_of}
+use Rattle.mc_pool_play.specs.Told.{entry_line, event_lines, histories_lines, history_lines, word_of}
 
 -- the line of one event more
 pub event_lines_more : (steps : List Step) (i : ℕ) (d : Step) → i < length steps

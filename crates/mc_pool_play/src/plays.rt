@@ -1,8 +1,11 @@
 //! A world plays a pool script.
 ghost use Rattle.std.specs.Prelude.{◌≡◌, ◌<◌, ◌+◌, ◌^◌, IfOk, IsOkUnless, OnOk};
 ghost use Rattle.mc_cache.specs.CacheState.{opening_cache};
+ghost use Rattle.mc_pool_script.specs.PoolLines.{HasMoment};
 ghost use Rattle.mc_pool_play.specs.Plays.{HasPlayed, KeepsOpening, Plays};
+ghost use Rattle.mc_world.specs.Drains.{Drains};
 ghost use Rattle.mc_world.specs.Joins.{HasServerJoined};
+ghost use Rattle.mc_world.specs.Quiet.{IsQuiet};
 ghost use Rattle.mc_world.specs.Steps.{GivesAccount};
 
 use crate::worlds::{PoolWorld, empty_store, opened_world};
@@ -17,7 +20,7 @@ use std::alloc::Global;
 pub struct Played {
     /// The world as it is then.
     pub world: PoolWorld,
-    /// What each line did, in order. A server that joins is `Done`.
+    /// What each line did, in order. A server that joins is `Done`, and so is a drain.
     pub steps: Vec<Step>,
 }
 
@@ -43,6 +46,7 @@ fn play(
 ) -> Result<Step, SimError>
     requires items { items ≡ world.old.items }
     requires few { items + 1 < 2 ^ 64 }
+    requires moment { HasMoment line.now (2 ^ 63) }
     ensures plays { IfOk result (λ step. Plays (opening_cache world.old.budget world.old.items 0) line.now step world.old.course world.new.course) }
     ensures keeps { OnOk result (KeepsOpening world.old world.new) }
     ensures account { OnOk result (GivesAccount world.new) }
@@ -57,6 +61,25 @@ fn play(
             join(alloc, world, items, address)?;
             Ok(Step::Done)
         }
+        PoolLine::Drain(moment) => {
+            drain(world, *moment)?;
+            Ok(Step::Done)
+        }
+    }
+}
+
+/// All that is left to do is done.
+fn drain(world: &mut PoolWorld, moment: u64) -> Result<(), SimError>
+    requires moment { moment < 2 ^ 63 }
+    ensures drains { OnOk result (Drains moment world.old.course world.new.course) }
+    ensures quiet { OnOk result (IsQuiet world.new.course) }
+    ensures keeps { OnOk result (KeepsOpening world.old world.new) }
+    ensures account { OnOk result (GivesAccount world.new) }
+    ensures only_memory { IsOkUnless result SimError.Memory }
+{
+    match world.drain(moment) {
+        Ok(()) => Ok(()),
+        Err(_) => Err(SimError::Memory),
     }
 }
 

@@ -11,9 +11,9 @@ use Rattle.mc_script.specs.Numbers.{moment_read, place_of}
 use Rattle.mc_script.specs.Scripts.{◌>>=◌}
 use Rattle.mc_pool_script.specs.Commands.{client_command, way_command, link_command}
 use Rattle.mc_pool_script.specs.declared.commands.Command.{Command}
-use Rattle.mc_pool_script.specs.declared.commands.Command.TheVariants.{Bytes, Gone, Turn, Emit, Takes, ToServer, Serve, ToProxy, Reply, Lost, Back, End, Join}
+use Rattle.mc_pool_script.specs.declared.commands.Command.TheVariants.{Bytes, Gone, Turn, Emit, Takes, ToServer, Serve, ToProxy, Reply, Lost, Back, End, Join, Drain}
 use Rattle.mc_pool_script.specs.declared.lines.PoolLine.{PoolLine}
-use Rattle.mc_pool_script.specs.declared.lines.PoolLine.TheVariants.{Event, Join as Joins}
+use Rattle.mc_pool_script.specs.declared.lines.PoolLine.TheVariants.{Event, Join as Joins, Drain as Drains}
 use Rattle.mc_world.specs.declared.events.Event.TheVariants.{ClientBytes, ClientGone, ProxyTurn, ToServer as ReachServer, ServerTurn, ToProxy as ReachProxy, ReplyTurn, Emit as PutOut, ClientTakes, LinkLost, LinkBack, ServerSeesEnd}
 
 -- how many bytes: a number, or `all`, which stands for the greatest
@@ -106,6 +106,10 @@ join_line servers text = do
   address ← address_read text
   if is_some (refusal_of_more servers address) then None else Some (Joins address)
 
+-- `drain <moment>`
+abbrev pub drain_line : List ℕ → Option PoolLine
+drain_line text = option_map (λ moment. Drains moment) (moment_read text)
+
 -- the line of a command, by what follows its name
 abbrev pub line_by : ℕ → List (List ℕ) → Command → List ℕ → Option PoolLine
 line_by clients servers Bytes text = bytes_line clients text
@@ -121,6 +125,7 @@ line_by clients servers Lost text = lost_line (length servers) text
 line_by clients servers Back text = back_line (length servers) text
 line_by clients servers End text = end_line (length servers) text
 line_by clients servers Join text = join_line servers text
+line_by clients servers Drain text = drain_line text
 
 -- the command of a name
 abbrev pub command_of : List ℕ → Option Command
@@ -136,4 +141,5 @@ line_of clients servers line = do
 -- the moment of what a line says, where it has one
 abbrev pub HasMoment : PoolLine → ℕ → Type 0
 HasMoment (Event (ServerTurn server generation moment)) most = moment < most
+HasMoment (Drains moment) most = moment < most
 HasMoment other most = Unit {0}

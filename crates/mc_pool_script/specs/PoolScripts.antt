@@ -15,7 +15,7 @@ use Rattle.mc_script.specs.Scripts.{◌>>=◌}
 use Rattle.mc_cache.specs.CacheState.{IsWithinBounds}
 use Rattle.mc_pool_script.specs.PoolLines.{line_of, HasMoment}
 use Rattle.mc_pool_script.specs.declared.lines.PoolLine.{PoolLine}
-use Rattle.mc_pool_script.specs.declared.lines.PoolLine.TheVariants.{Event, Join}
+use Rattle.mc_pool_script.specs.declared.lines.PoolLine.TheVariants.{Event, Join, Drain}
 
 -- what a script says
 pub record PoolSeen : Type 0 where
@@ -42,6 +42,7 @@ first_servers count = map first_server (range_with_len 0 count)
 abbrev pub joined_by : PoolLine → List (List ℕ)
 joined_by (Event event) = []
 joined_by (Join address) = address ∷ []
+joined_by (Drain moment) = []
 
 -- all servers that are there once these lines were played
 abbrev pub servers_of : PoolSeen → List (List ℕ)
@@ -72,7 +73,7 @@ head_of line = option_map opening_script (limits_of line)
 abbrev pub with_digit : Option ℕ → ℕ → Option ℕ
 with_digit number digit = option_and_then (λ n. option_map (λ d. 16 * n + d) (hex_value digit)) number
 
--- the number of some hexadecimal digits, behind those of another number
+-- the number of some hexadecimal digits, after those of another number
 abbrev pub hex_from : Option ℕ → List ℕ → Option ℕ
 hex_from number [] = number
 hex_from number (digit ∷ digits) = hex_from (with_digit number digit) digits

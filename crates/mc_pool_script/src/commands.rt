@@ -32,6 +32,8 @@ pub enum Command {
     End,
     /// `join`
     Join,
+    /// `drain`
+    Drain,
 }
 
 /// The command of a name.
@@ -103,6 +105,9 @@ fn link_command(name: &[u8]) -> Option<Command>
     }
     if name == b"join".as_slice() {
         return Some(Command::Join);
+    }
+    if name == b"drain".as_slice() {
+        return Some(Command::Drain);
     }
     None
 }

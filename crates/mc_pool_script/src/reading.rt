@@ -4,6 +4,7 @@ ghost use Rattle.mc_pool_script.specs.PoolLines.{HasMoment, line_by, line_of};
 
 use crate::client_lines::{read_bytes, read_emit, read_gone, read_takes, read_turn};
 use crate::commands::{Command, command_of};
+use crate::drains::read_drain;
 use crate::joins::read_join;
 use crate::lines::PoolLine;
 use crate::server_lines::{
@@ -61,5 +62,6 @@ fn read_by(
         Command::Back => Ok(read_back(count, text)),
         Command::End => Ok(read_end(count, text)),
         Command::Join => read_join(alloc, servers, text),
+        Command::Drain => Ok(read_drain(text)),
     }
 }

@@ -4,7 +4,7 @@
 ghost use Rattle.std.specs.Prelude.{◌≡◌, ◌^◌, ◌-◌, [], ◌∷◌, None, Some, codes};
 ghost use Rattle.mc_pool_script.specs.PoolLines.{line_of};
 ghost use Rattle.mc_pool_script.specs.PoolScripts.{point_of};
-ghost use Rattle.mc_pool_script.specs.declared.lines.PoolLine.TheVariants.{Event, Join};
+ghost use Rattle.mc_pool_script.specs.declared.lines.PoolLine.TheVariants.{Drain, Event, Join};
 ghost use Rattle.mc_world.specs.declared.events.Event.TheVariants.{ClientBytes, ClientTakes, ServerSeesEnd, ServerTurn, ToServer};
 ghost use Rattle.mc_ring.specs.Points.{pair_at};
 
@@ -31,6 +31,16 @@ pub fn lines_of_joins()
     ensures joins { line_of 1 (codes "a:1" ∷ []) (codes "join a:2") ≡ Some (Join (codes "a:2")) }
     ensures there { line_of 1 (codes "a:1" ∷ []) (codes "join a:1") ≡ None }
     ensures portless { line_of 1 (codes "a:1" ∷ []) (codes "join a") ≡ None }
+{}
+
+/// A drain has a moment below 2^63, in 20 digits at most, and no more words.
+pub fn lines_of_drains()
+    ensures drains { line_of 1 [] (codes "drain 100") ≡ Some (Drain 100) }
+    ensures zeros { line_of 1 [] (codes "drain 00000000000000000100") ≡ Some (Drain 100) }
+    ensures last { line_of 1 [] (codes "drain 9223372036854775807") ≡ Some (Drain (2 ^ 63 - 1)) }
+    ensures late { line_of 1 [] (codes "drain 9223372036854775808") ≡ None }
+    ensures momentless { line_of 1 [] (codes "drain") ≡ None }
+    ensures wordy { line_of 1 [] (codes "drain 1 2") ≡ None }
 {}
 
 /// Points have eight digits, small or capital, and belong to a server that is there.

@@ -1,5 +1,5 @@
 //! Pool scripts.
-ghost use Rattle.std.specs.Prelude.{◌≡◌, ◌≤◌, ◌^◌, None, Ok, length, IfOk, IfErr, IfSome, IsOkUnless, OnOk};
+ghost use Rattle.std.specs.Prelude.{◌≡◌, ◌≤◌, ◌<◌, ◌^◌, None, Ok, length, IfOk, IfErr, IfSome, IsOkUnless, OnOk};
 ghost use Rattle.mc_cache.specs.CacheState.{IsWithinBounds};
 ghost use Rattle.mc_ring.specs.Refusals.{cause_of, refusal_in};
 ghost use Rattle.mc_ring.specs.Rings.{Shows};
@@ -147,6 +147,7 @@ impl PoolScript {
         match found {
             PoolLine::Event(event) => self.add_event(event)?,
             PoolLine::Join(address) => self.add_join(address)?,
+            PoolLine::Drain(moment) => self.add_drain(moment)?,
         }
         Ok(true)
     }
@@ -168,6 +169,15 @@ impl PoolScript {
         self.addresses.reserve(1)?;
         self.lines.push(PoolLine::Join(address))?;
         self.addresses.push(copy).unwrap();
+        Ok(())
+    }
+
+    /// Goes on by all that is left to do.
+    fn add_drain(&mut self, moment: u64) -> Result<(), AllocError>
+        requires moment { moment < 2 ^ 63 }
+        ensures followed { OnOk result (self.new ≡ followed self.old (PoolLine.Drain moment)) }
+    {
+        self.lines.push(PoolLine::Drain(moment))?;
         Ok(())
     }
 }

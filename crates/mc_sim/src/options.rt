@@ -32,6 +32,9 @@ pub fn command<'a>(alloc: Global) -> Result<Command<'a>, AllocError> {
         .about(
             "Plays a script on standard input, of a memcached server or of a pool, and prints what its clients are sent",
         )
+        .after_help(
+            "The line 'drain <moment>' of a pool's script does all that is left to do, at that second",
+        )
         .arg(account(alloc))?
         .arg(trace(alloc))
 }

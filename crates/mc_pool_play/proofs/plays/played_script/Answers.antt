@@ -1,4 +1,4 @@
-use Rattle.std.proofs.Common.{◌≡◌, ◌<◌, ◌+◌, ◌++◌, ◌∷◌, [], List, length, get_or, sym, subst}
+use Rattle.std.proofs.Common.{◌≡◌, ◌<◌, ◌+◌, List, length, get_or, sym, subst}
 use Rattle.mc_pool_play.proofs.PlayLemmas.{PlayedTo, plays_one}
 use Rattle.mc_world.specs.declared.errors.Step.{Step}
 use Rattle.mc_pool_play.proofs.plays.played_script.Goals as goal
