@@ -1,0 +1,3 @@
+pub mod WorkLemmas
+pub mod ListLemmas
+pub mod TalkLemmas

@@ -1,0 +1,14 @@
+//! Servers on threads: one thread for each, the caller's thread is the proxy, and two rings of bytes make each link.
+#![tactic(auto)]
+
+mod errors;
+mod links;
+mod opening;
+mod rounds;
+mod start;
+mod traits;
+mod worker;
+
+pub use errors::ThreadsError;
+pub use traits::{Clock, Gate};
+pub use worker::REFUSALS;
