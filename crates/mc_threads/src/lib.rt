@@ -2,6 +2,7 @@
 #![tactic(auto)]
 
 mod errors;
+mod joins;
 mod links;
 mod opening;
 mod rounds;

@@ -64,7 +64,8 @@ fn round(
 {
     ask_all(proxy, outputs.len())?;
     carry_all(proxy, ends, buffer)?;
-    answer_all(proxy, outputs)
+    answer_all(proxy, outputs)?;
+    Ok(())
 }
 
 /// Whether all that came of a client is answered.
