@@ -4,3 +4,7 @@ pub mod TalkLemmas
 pub mod AtLemmas
 pub mod OpeningLemmas
 pub mod JoinLemmas
+pub mod GoodLemmas
+pub mod HistoryLemmas
+pub mod EntryLemmas
+pub mod SettledLemmas
