@@ -118,3 +118,26 @@ below_all count texts none n =
     (λ (low : n < count). below_low count texts n low)
     (λ (past : count ≤ n). below_past count texts n past ∙ sym (none n past))
     (cases_lt n count)
+
+-- nothing is read where nothing is at each place, and where nothing is added
+pub some_at : {X : Type 0} (xs : List X) (i : ℕ) → i < length xs → X
+some_at [] i low = absurd (omega (arith, low))
+some_at (x ∷ xs) i low = x
+
+pub at_nothing : {X : Type 0} (f : X → List ℕ) (xs : List X) → ((i : ℕ) (d : X) → i < length xs → f (get_or xs i d) ≡ []) → (n : ℕ) → at (map f xs) n ≡ []
+at_nothing {X} f xs each n =
+    ⊎_elim
+    (λ (low : n < length xs). let d : X = some_at xs n low in at_map f xs n d low ∙ each n d low)
+    (λ (past : length xs ≤ n). at_past f xs n past)
+    (cases_lt n (length xs))
+
+pub at_push_nothing : {X : Type 0} (f : X → List ℕ) (xs ys : List X) (v : X) → ys ≡ xs ++ v ∷ [] → f v ≡ [] → ((n : ℕ) → at (map f xs) n ≡ []) → (n : ℕ) → at (map f ys) n ≡ []
+at_push_nothing {X} f xs ys v grown none all n =
+    ap (λ (zs : List X). at (map f zs) n) grown
+    ∙ ⊎_elim
+    (λ (low : n < length xs). at_push_low f xs v n low ∙ all n)
+    (λ (past : length xs ≤ n). ⊎_elim
+    (λ e. at_push_own f xs v n e.1 ∙ none)
+    (λ e. let differ : length xs ≢ n = e.1 in at_past f (xs ++ v ∷ []) n (omega (arith, past, differ, length-append xs (v ∷ []))))
+    (eqb_tells (length xs) n))
+    (cases_lt n (length xs))

@@ -1,14 +1,18 @@
 -- Workers are joined one after another.
-use Rattle.std.proofs.Common.{◌≡◌, ◌∙◌, ◌⊎◌, inl, inr, ℕ, ◌<◌, ◌+◌, List, [], ◌∷◌, ◌++◌, length, map, get_or, sym, ap, subst, arith}
+use Rattle.std.proofs.Common.{◌≡◌, ◌∙◌, ◌⊎◌, inl, inr, ℕ, ◌<◌, ◌≤◌, ◌+◌, List, [], ◌∷◌, ◌++◌, length, map, get_or, sym, ap, subst, arith}
 use Rattle.std.proofs.lemmas.Bool.{cases_eq}
 use Rattle.std.proofs.lemmas.List.{get_or_read}
 use Rattle.rtrb.specs.Ring.{sent, received}
 use Rattle.mc_threads.specs.Accounts.{at}
-use Rattle.mc_threads.specs.Starts.{Each1, HasWorked}
+use Rattle.mc_threads.specs.Starts.{Each1, Each2, HasWorked, IsFresh}
 use Rattle.mc_threads.specs.Talks.{came_from, went_to}
 use Rattle.mc_threads.specs.declared.links.Ends.{Ends}
+use Rattle.mc_cache.specs.CacheState.{opening_cache}
+use Rattle.mc_server.specs.Served.{Entry}
+use Rattle.mc_threads.specs.Workers.{IsWorked}
 use Rattle.mc_threads.specs.declared.start.Given.{Given}
-use Rattle.mc_threads.proofs.AtLemmas.{at_map, at_push_low, at_push_own}
+use Rattle.mc_threads.specs.declared.worker.Bounds.{Bounds}
+use Rattle.mc_threads.proofs.AtLemmas.{at_map, at_nothing, at_push_low, at_push_own, some_at}
 
 -- one worker more was joined, and its clock kept
 pub worked_push : {C H : Type 0} (f : H → Given C) (times : C → List ℕ) (k : ℕ) (hs : List H) (cs cs2 : List C) (ends : List Ends) (h : H) (c : C) (e : Ends)
@@ -33,3 +37,26 @@ worked_push {C} {H} f times k hs cs cs2 ends h c e size grown first low is insid
       let R : List ℕ → Type 0 = λ t. HasWorked (f (get_or hs i x)) (times (f (get_or hs i x)).clock.value) t (went_to ends i) (came_from ends i) in
       subst R (sym now) (all i x under)
 ]
+
+-- what the worker of a server did, by the clocks that were handed in
+pub worked_at : {C H : Type 0} (f : H → Given C) (times : C → List ℕ) (bounds : Bounds) (n server : ℕ) (hs : List H) (es : List Ends) (cs : List C) (ended went came : List ℕ)
+    → n ≤ length hs → n ≤ length es → n ≤ length cs → Each2 (λ e h. (f h).bounds.value ≡ bounds) n es hs → Each2 (λ h c. (f h).clock.value ≡ c) n hs cs → server < n
+    → ((h : H) → HasWorked (f (get_or hs server h)) (times (f (get_or hs server h)).clock.value) ended went came)
+    → (history : List Entry) × IsWorked (opening_cache bounds.budget bounds.items 0) (at (map times cs) server) ended went came history
+worked_at {C} {H} f times bounds n server hs es cs ended went came handles ends clocks same_bounds same_clocks low worked =
+    let h : H = some_at hs server (omega (arith, low, handles)) in
+    let e : Ends = some_at es server (omega (arith, low, ends)) in
+    let c : C = some_at cs server (omega (arith, low, clocks)) in
+    let w = worked h in
+    let began : times (f (get_or hs server h)).clock.value ≡ at (map times cs) server = ap times (same_clocks server h c low) ∙ sym (at_map times cs server c (omega (arith, low, clocks))) in
+    let B : Bounds → Type 0 = λ b. IsWorked (opening_cache b.budget b.items 0) (at (map times cs) server) ended went came w.0 in
+    let T : List ℕ → Type 0 = λ t. IsWorked (opening_cache (f (get_or hs server h)).bounds.value.budget (f (get_or hs server h)).bounds.value.items 0) t ended went came w.0 in
+    (w.0, subst B (same_bounds server e h low) (subst T began w.1))
+
+-- nothing was said yet over these rings
+pub fresh_ends : {H : Type 0} (ends : List Ends) (hs : List H) (n : ℕ) → length ends ≡ n → n ≤ length hs → Each2 (λ e (h : H). IsFresh e) n ends hs
+    → (m : ℕ) → (went_to ends m ≡ []) × (came_from ends m ≡ [])
+fresh_ends {H} ends hs n size handles fresh m = (
+  at_nothing (λ (e : Ends). sent e.to) ends (λ i d low. (fresh i d (some_at hs i (omega (arith, low, size, handles))) (omega (arith, low, size))).0) m,
+  at_nothing (λ (e : Ends). received e.from) ends (λ i d low. (fresh i d (some_at hs i (omega (arith, low, size, handles))) (omega (arith, low, size))).1) m,
+)

@@ -95,3 +95,15 @@ HasRound outputs outputs' ends ends' old new =
 pub record HasQuit (servers : ℕ) (ends now : List Ends) : Type 0 where
   pub went : (server : ℕ) → server < servers → went_to now server ≡ went_to ends server ++ codes "quit\r\n"
   pub came : (server : ℕ) → came_from now server ≡ came_from ends server
+
+-- The caller's thread is through: all is answered, and `quit` was sent to each server behind all that its link sent.
+pub record IsEnded (ring : RingState) (clients : ℕ) (texts : ℕ → List ℕ) (outputs : List Bytes) (ends : List Ends) (proxy : ProxyState) : Type 0 where
+  pub went : ℕ → List ℕ
+  pub talks : Talks ring clients texts (outs_of outputs) went (came_from ends) proxy
+  pub quiet : IsQuiet clients (length ring.servers) proxy
+  pub quit : (server : ℕ) → server < length ring.servers → went_to ends server ≡ went server ++ codes "quit\r\n"
+
+abbrev pub HasEnded : List Bytes → List Bytes → List Ends → List Ends → ProxyState → ProxyState → Type 0
+HasEnded outputs outputs' ends ends' old new =
+    (ring : RingState) (clients : ℕ) (texts : ℕ → List ℕ) → length ends ≡ length ring.servers → length outputs ≡ clients
+    → RunTalks ring clients texts outputs ends old → IsEnded ring clients texts outputs' ends' new

@@ -6,10 +6,12 @@ mod joins;
 mod links;
 mod opening;
 mod rounds;
+mod runs;
 mod start;
 mod traits;
 mod worker;
 
 pub use errors::ThreadsError;
+pub use runs::{PoolConfig, Ran, run_threads};
 pub use traits::{Clock, Gate};
 pub use worker::REFUSALS;
