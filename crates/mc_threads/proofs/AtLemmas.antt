@@ -1,5 +1,5 @@
 -- What is read of a list at a place, where one place is another, and where one is added.
-use Rattle.std.proofs.Common.{◌≡◌, ◌≢◌, ◌∙◌, ⊎_elim, ◌⊎◌, inl, inr, ℕ, suc, ◌<◌, ◌≤◌, ◌+◌, Bool, true, false, if◌then◌else◌, List, [], ◌∷◌, ◌++◌, length, map, set, drop, take, get_or, nat_lt, refl, sym, ap, subst, append_assoc, append-nil, arith, get_or-set_same, get_or-set_other, length-append}
+use Rattle.std.proofs.Common.{◌≡◌, ◌≢◌, ◌∙◌, ⊎_elim, ℕ, suc, ◌<◌, ◌≤◌, ◌+◌, Bool, if◌then◌else◌, List, [], ◌∷◌, ◌++◌, length, map, set, take, get_or, nat_lt, refl, sym, ap, subst, append_assoc, append-nil, arith, get_or-set_same, get_or-set_other, length-append}
 use Rattle.std.proofs.Math.Seq.{take-suc}
 use Rattle.std.proofs.lemmas.Bool.{cases_lt, le-ltb, lt-ltb}
 use Rattle.std.proofs.lemmas.Bool.Decides.{eqb_tells}

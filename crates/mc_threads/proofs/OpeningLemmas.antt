@@ -1,6 +1,6 @@
 -- A proxy before its first round.
-use Rattle.std.proofs.Common.{◌≡◌, ◌∙◌, ⊎_elim, ◌⊎◌, inl, inr, ℕ, zero, suc, ◌<◌, true, List, [], ◌∷◌, length, refl, sym, ap, subst, arith}
-use Rattle.std.specs.Prelude.{All, replicate}
+use Rattle.std.proofs.Common.{◌≡◌, ⊎_elim, ◌⊎◌, inl, inr, ℕ, zero, suc, ◌<◌, true, List, [], ◌∷◌, length, refl, sym, ap, subst, arith}
+use Rattle.std.specs.Prelude.{replicate}
 use Rattle.std.proofs.lemmas.List.Elements.{All-nil}
 use Rattle.mc_request.specs.Requests.{requests_of, requests_within}
 use Rattle.mc_ring.specs.Rings.{IsRing, RingState}
@@ -8,7 +8,6 @@ use Rattle.mc_link.specs.LinkState.{LinkState, down_link, up_link}
 use Rattle.mc_session.specs.SessionState.{link_at, with_link}
 use Rattle.mc_account.specs.Lanes.{LinkStands, fresh_lane}
 use Rattle.mc_account.specs.Orders.{Entry, IsSized}
-use Rattle.mc_account.specs.Stands.{ProxyStands}
 use Rattle.mc_account.proofs.LaneLemmas.{lane_fresh}
 use Rattle.mc_threads.specs.Talks.{Talks}
 

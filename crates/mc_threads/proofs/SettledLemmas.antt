@@ -12,7 +12,7 @@ use Rattle.mc_reply.specs.declared.replies.Reply.{Reply as AReply}
 use Rattle.mc_ring.specs.Rings.{IsRing, RingState}
 use Rattle.mc_route.specs.Routes.{route_of_taken}
 use Rattle.mc_route.specs.declared.outcomes.Outcome.{Outcome}
-use Rattle.mc_route.specs.declared.outcomes.Outcome.TheVariants.{Awaited, Lost, Reply}
+use Rattle.mc_route.specs.declared.outcomes.Outcome.TheVariants.{Awaited, Reply}
 use Rattle.mc_route.specs.declared.routes.Routed.{Routed}
 use Rattle.mc_route.proofs.RouteLemmas.{route_inside}
 use Rattle.mc_link.specs.LinkState.{LinkState, Waiting}
@@ -20,7 +20,7 @@ use Rattle.mc_cache.specs.CacheState.{CacheState}
 use Rattle.mc_cache.specs.Step.{step_of}
 use Rattle.mc_cache_laws.specs.GoodCaches.{IsGoodCache}
 use Rattle.mc_server.specs.Served.{Entry as Taking}
-use Rattle.mc_session.specs.SessionState.{SessionState, Unanswered, link_at}
+use Rattle.mc_session.specs.SessionState.{SessionState, link_at}
 use Rattle.mc_proxy.specs.ProxyState.{ProxyState, output_of, session_at, unanswered_of}
 use Rattle.mc_proxy.specs.Turns.{waiting_of}
 use Rattle.mc_account.specs.Lanes.{CanHave, Lane, LaneStands, as_waiting, spelled, told}
@@ -30,7 +30,6 @@ use Rattle.mc_account.proofs.OpenSessions.{own_number}
 use Rattle.mc_account.proofs.OrderLemmas.{lengths_to, passes_parts}
 use Rattle.mc_history.specs.Generations.{is_good}
 use Rattle.mc_history.specs.Made.{AreMade, Made, entry_of}
-use Rattle.mc_history.specs.declared.entries.Entry.{Entry as Told}
 use Rattle.mc_history.proofs.GenerationLemmas.{told_front}
 use Rattle.mc_history.proofs.MadeLemmas.{can_by_head}
 use Rattle.mc_threads.specs.Accounts.{Account, is_reply}
@@ -74,7 +73,6 @@ unused_answered client order text out session h = record {
   asked = ap (λ (es : Order). map (λ (e : Entry). e.what) es) h.nothing_taken ∙ sym (ap requests_of h.nothing_came ∙ no_requests);
   put = h.nothing_sent ∙ sym (ap answers_of h.nothing_taken);
 }
-
 
 later_none : (commands : List Tagged) (later : List (AReply (List ℕ))) → commands ≡ [] → CanHave commands later → later ≡ []
 later_none commands [] is can = refl

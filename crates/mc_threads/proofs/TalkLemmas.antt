@@ -1,20 +1,17 @@
 -- The caller's thread goes on: one lemma for each of its calls.
-use Rattle.std.proofs.Common.{◌≡◌, ◌≢◌, ◌∙◌, ⊎_elim, ◌⊎◌, inl, inr, ℕ, ◌<◌, ◌≤◌, ◌+◌, Bool, true, false, List, [], ◌∷◌, ◌++◌, length, map, drop, take, Option, Some, None, refl, sym, ap, subst, append_assoc, append-nil, arith}
-use Rattle.std.specs.Prelude.{All, replicate}
+use Rattle.std.proofs.Common.{◌≡◌, ◌≢◌, ◌∙◌, ⊎_elim, inl, inr, ℕ, ◌<◌, ◌+◌, true, List, [], ◌∷◌, ◌++◌, length, drop, take, Option, Some, None, refl, sym, ap, subst, append_assoc, arith}
+use Rattle.std.specs.Prelude.{All}
 use Rattle.std.specs.Option.{option_map}
-use Rattle.std.proofs.lemmas.Bool.{cases_lt}
 use Rattle.std.proofs.lemmas.Bool.Decides.{eqb_tells}
 use Rattle.std.proofs.Math.Seq.{take-length}
 use Rattle.std.proofs.lemmas.List.{take-append-drop}
 use Rattle.std.proofs.lemmas.List.Elements.{All-append, All-cons, All-head, All-nil, All-push, All-tail}
 use Rattle.rtrb.specs.Ring.{sent, received}
-use Rattle.mc_request.specs.Requests.{requests_of, requests_within}
-use Rattle.mc_ring.specs.Rings.{IsRing, RingState}
-use Rattle.mc_reply.specs.declared.replies.Reply.{Reply as AReply}
+use Rattle.mc_ring.specs.Rings.{RingState}
 use Rattle.mc_route.specs.Routes.{route_of_taken}
 use Rattle.mc_route.specs.declared.outcomes.Outcome.{Outcome}
 use Rattle.mc_route.specs.declared.outcomes.Outcome.TheVariants.{Reply}
-use Rattle.mc_link.specs.LinkState.{LinkState, down_link, up_link}
+use Rattle.mc_link.specs.LinkState.{LinkState}
 use Rattle.mc_link.specs.declared.turns.Tag.{Tag}
 use Rattle.mc_session.specs.Emits.{IsEmit}
 use Rattle.mc_session.specs.Noting.{noted_in}
@@ -29,11 +26,11 @@ use Rattle.mc_proxy.specs.LinkTurns.{Answers}
 use Rattle.mc_proxy.specs.Noting.{noted}
 use Rattle.mc_proxy.specs.ProxyState.{ProxyState, Sessions, output_of, sent_by, session_at, session_in, updated, with_fresh}
 use Rattle.mc_proxy.specs.Turns.{Alone, Steps}
-use Rattle.mc_account.specs.Lanes.{Lane, LaneStands, LinkStands, fresh_lane, told}
-use Rattle.mc_account.specs.Orders.{Entry, IsSized, Order, commands_from, commands_to, note, note_in}
+use Rattle.mc_account.specs.Lanes.{Lane, LaneStands, LinkStands, told}
+use Rattle.mc_account.specs.Orders.{Entry, Order, commands_from, commands_to, note, note_in}
 use Rattle.mc_account.specs.Stands.{ProxyStands, changed, grown}
 use Rattle.mc_account.proofs.HandingLemmas.{handed_at, received_up}
-use Rattle.mc_account.proofs.LaneLemmas.{lane_fresh, link_other, link_own, up_is_there}
+use Rattle.mc_account.proofs.LaneLemmas.{link_other, link_own, up_is_there}
 use Rattle.mc_account.proofs.LinkLemmas.{stands-replied}
 use Rattle.mc_account.proofs.OpenSessions.{fresh_other, fresh_own, noted_other, noted_own, updated_other, updated_own}
 use Rattle.mc_account.proofs.StandsLemmas.{changed-other, changed-own, entry_taken, stands-admitted, stands-emitted, stands-fed, stands-idle_emit, stands-idle_turn, stands-sent, stands-took}
@@ -79,8 +76,11 @@ open_stepped number before after old new client was is o =
 open_noted : (tag : Tag) (outcome : Outcome) (old new : ProxyState) (client : ℕ) → new.sessions ≡ noted tag outcome old.sessions → IsOpen old client → IsOpen new client
 open_noted tag outcome old new client is o =
     ⊎_elim
-    (λ e. (noted_in tag outcome o.0, ap (λ (ss : Sessions). session_in ss client) is ∙ ap (λ (n : ℕ). session_in (noted tag outcome old.sessions) n) (sym e.1) ∙ noted_own tag outcome old.sessions
-    ∙ ap (λ (n : ℕ). option_map (noted_in tag outcome) (session_in old.sessions n)) e.1 ∙ ap (λ (s : Option SessionState). option_map (noted_in tag outcome) s) o.1))
+    (λ e. (
+      noted_in tag outcome o.0,
+      ap (λ (ss : Sessions). session_in ss client) is ∙ ap (λ (n : ℕ). session_in (noted tag outcome old.sessions) n) (sym e.1) ∙ noted_own tag outcome old.sessions
+          ∙ ap (λ (n : ℕ). option_map (noted_in tag outcome) (session_in old.sessions n)) e.1 ∙ ap (λ (s : Option SessionState). option_map (noted_in tag outcome) s) o.1,
+    ))
     (λ e. (o.0, ap (λ (ss : Sessions). session_in ss client) is ∙ noted_other tag outcome client old.sessions e.1 ∙ o.1))
     (eqb_tells tag.session client)
 

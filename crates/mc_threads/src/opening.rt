@@ -9,11 +9,7 @@ use mc_ring::Ring;
 use std::alloc::{AllocError, Global};
 
 /// A proxy whose links are all up, and which was fed all that the clients send.
-pub fn opened_proxy(
-    alloc: Global,
-    ring: &Ring,
-    inputs: &[Vec<Vec<u8>>],
-) -> Result<Proxy, Ended>
+pub fn opened_proxy(alloc: Global, ring: &Ring, inputs: &[Vec<Vec<u8>>]) -> Result<Proxy, Ended>
     ensures { IfOk result (λ proxy. Talks ring.now (length inputs.now) (texts_of inputs.now) (λ _. []) (λ _. []) (λ _. []) proxy) }
 {
     let mut proxy = raised_proxy(alloc, copy_of(ring)?)?;

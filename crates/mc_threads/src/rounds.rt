@@ -25,11 +25,7 @@ fn ask_all(proxy: &mut Proxy, clients: usize) -> Result<(), Ended>
 }
 
 /// Each link moves what there is to move, and may have a reply taken.
-fn carry_all(
-    proxy: &mut Proxy,
-    ends: &mut Vec<Ends>,
-    buffer: &mut Vec<u8>,
-) -> Result<(), Ended>
+fn carry_all(proxy: &mut Proxy, ends: &mut Vec<Ends>, buffer: &mut Vec<u8>) -> Result<(), Ended>
     ensures len { vec_len ends.new ≡ vec_len ends.old }
     ensures rings { OnOk result (Each2 SameEnds (vec_len ends.old) ends.old.items ends.new.items) }
     ensures carried { OnOk result (HasCarried ends.old.items ends.new.items proxy.old proxy.new) }
@@ -169,11 +165,7 @@ fn close_one<R: Wait>(rt: &R, stop: &AtomicBool, ends: &mut Ends) -> Result<(), 
 }
 
 /// Sends `quit` to each server.
-pub fn close_all<R: Wait>(
-    rt: &R,
-    stop: &AtomicBool,
-    ends: &mut Vec<Ends>,
-) -> Result<(), Ended>
+pub fn close_all<R: Wait>(rt: &R, stop: &AtomicBool, ends: &mut Vec<Ends>) -> Result<(), Ended>
     ensures len { vec_len ends.new ≡ vec_len ends.old }
     ensures rings { OnOk result (Each2 SameEnds (vec_len ends.old) ends.old.items ends.new.items) }
     ensures quit { OnOk result (HasQuit (vec_len ends.old) ends.old.items ends.new.items) }

@@ -1,5 +1,5 @@
-use Rattle.std.proofs.Common.{rules, ◌≡◌, ℕ, ◌<◌, ◌≤◌, ◌+◌, length, vec_len, get_or, get_or-set_other, arith, sym, ap, refl, subst, ◌∙◌}
-use Rattle.mc_threads.specs.Starts.{Each2, IsOf}
+use Rattle.std.proofs.Common.{rules, ◌≡◌, ℕ, ◌<◌, ◌+◌, length, vec_len, get_or, get_or-set_other, arith, sym, ap, refl, subst, ◌∙◌}
+use Rattle.mc_threads.specs.Starts.{IsOf}
 use Rattle.mc_threads.specs.declared.links.Ends.{Ends}
 use Rattle.mc_threads.proofs.JoinLemmas.{worked_push}
 use Rattle.mc_threads.proofs.ListLemmas.{head_of, tail_of}

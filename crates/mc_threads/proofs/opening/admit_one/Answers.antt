@@ -2,7 +2,7 @@ use Rattle.std.proofs.Common.{◌≡◌, ◌+◌, ◌∙◌, sym, subst, ℕ, No
 use Rattle.mc_account.specs.Stands.{grown}
 use Rattle.mc_proxy.specs.ProxyState.{ProxyState, session_at}
 use Rattle.mc_threads.specs.Accounts.{joined}
-use Rattle.mc_threads.specs.Talks.{HasFed, Talks}
+use Rattle.mc_threads.specs.Talks.{Talks}
 use Rattle.mc_threads.proofs.TalkLemmas.{talks_admitted}
 use Rattle.mc_threads.proofs.opening.admit_one.Goals as goal
 

@@ -1,4 +1,4 @@
-use Rattle.std.proofs.Common.{rules, ◌≡◌, ◌+◌, ◌<◌, ◌∙◌, ◌++◌, [], length, take, refl, ap, sym, arith, vec_len}
+use Rattle.std.proofs.Common.{rules, ◌≡◌, ◌+◌, ◌<◌, ◌∙◌, ◌++◌, [], length, take, refl, ap, sym}
 use Rattle.std.proofs.lemmas.List.{take_all}
 use Rattle.mc_account.specs.Stands.{grown}
 use Rattle.mc_threads.specs.Accounts.{joined}

@@ -1,4 +1,4 @@
-use Rattle.std.proofs.Common.{◌≡◌, arith}
+use Rattle.std.proofs.Common.{arith}
 use Rattle.std.proofs.lemmas.List.{get_or_default}
 use Rattle.mc_threads.proofs.TalkLemmas.{talks_fed}
 use Rattle.mc_threads.proofs.opening.feed_one.Goals as goal

@@ -1,4 +1,4 @@
-use Rattle.std.proofs.Common.{rules, ◌≡◌, ◌<◌, ◌≤◌, ◌∙◌, length, vec_len, arith, refl, sym, ap, set}
+use Rattle.std.proofs.Common.{rules, ◌≡◌, ◌<◌, ◌∙◌, length, vec_len, arith, refl, sym, ap, set}
 use Rattle.rtrb.specs.Ring.{sent, received}
 use Rattle.mc_account.specs.Stands.{changed}
 use Rattle.mc_threads.specs.Talks.{came_from, went_to}

@@ -1,7 +1,7 @@
-use Rattle.std.proofs.Common.{rules, ◌≡◌, ◌≢◌, ◌<◌, ◌≤◌, ◌+◌, ◌∙◌, ◌++◌, ⊎_elim, ℕ, List, length, vec_len, arith, refl, sym, ap, subst, set, codes}
+use Rattle.std.proofs.Common.{rules, ◌≡◌, ◌≢◌, ◌<◌, ◌∙◌, ◌++◌, ⊎_elim, ℕ, List, length, vec_len, arith, refl, sym, ap, subst, set, codes}
 use Rattle.std.proofs.lemmas.Bool.Decides.{eqb_tells}
 use Rattle.rtrb.specs.Ring.{sent, received}
-use Rattle.mc_threads.specs.Talks.{came_from, went_to}
+use Rattle.mc_threads.specs.Talks.{went_to}
 use Rattle.mc_threads.specs.declared.links.Ends.{Ends}
 use Rattle.mc_threads.proofs.AtLemmas.{at_map, at_set_other, at_set_own, at_set_same}
 use Rattle.mc_threads.proofs.ListLemmas.{rings_set, same_refl}

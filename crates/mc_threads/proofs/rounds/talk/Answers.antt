@@ -1,4 +1,4 @@
-use Rattle.std.proofs.Common.{rules, ◌≡◌, ◌∙◌, vec_len, length, sym, subst, ℕ}
+use Rattle.std.proofs.Common.{rules, ◌≡◌, ◌∙◌, length, subst, ℕ}
 use Rattle.mc_threads.specs.Links.{SameEnds}
 use Rattle.mc_threads.specs.Starts.{Each2}
 use Rattle.mc_threads.proofs.ListLemmas.{rings_trans, same_refl}

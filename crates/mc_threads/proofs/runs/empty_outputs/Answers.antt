@@ -1,4 +1,4 @@
-use Rattle.std.proofs.Common.{rules, ◌≡◌, ℕ, refl}
+use Rattle.std.proofs.Common.{rules}
 use Rattle.mc_threads.specs.Accounts.{Bytes}
 use Rattle.mc_threads.proofs.AtLemmas.{at_push_nothing}
 use Rattle.mc_threads.proofs.runs.empty_outputs.Goals as goal

@@ -1,9 +1,8 @@
-use Rattle.std.proofs.Common.{rules, ◌≡◌, ◌∙◌, ◌<◌, ◌≤◌, ◌++◌, ℕ, List, [], arith, codes, length, map, refl, vec_len, sym, subst}
+use Rattle.std.proofs.Common.{rules, ◌≡◌, ◌∙◌, ℕ, List, [], arith, length, map, refl, vec_len, sym, subst}
 use Rattle.mc_cache.specs.CacheState.{opening_cache}
 use Rattle.mc_cache_laws.proofs.GoodStepLemmas.{opening_is_good}
-use Rattle.mc_server.specs.Served.{Entry}
 use Rattle.mc_threads.specs.Accounts.{at, outs_of, texts_of}
-use Rattle.mc_threads.specs.Talks.{IsEnded, came_from, went_to}
+use Rattle.mc_threads.specs.Talks.{came_from, went_to}
 use Rattle.mc_threads.specs.Workers.{IsWorked}
 use Rattle.mc_threads.proofs.JoinLemmas.{fresh_ends, worked_at}
 use Rattle.mc_threads.proofs.ListLemmas.{still_of}
@@ -41,6 +40,8 @@ returns-in-Ok-talk_all g c =
     let w = worked_at (λ h. h.promise) g.C.Clock.times (record { budget = c.args.config.now.budget; items = c.args.config.now.items }) (vec_len c.args.clocks) server
     c.in-Ok.pair.1.items c.in-Ok.pair.0.items c.args.clocks.items (at (map g.C.Clock.times c.in_ok-clocks-in-Ok-talk_all.clocks.items) server) (went_to ends server) (came_from ends server)
     (omega (arith, handles, lens.1)) (omega (arith, many, lens.0)) (omega (arith, clocks)) c.in-Ok.ensures.bounds c.in-Ok.ensures.clocks (omega (arith, low, servers))
-    (λ h. c.in_ok-clocks-in-Ok-talk_all.ensures.worked server h (omega (arith, low, servers, lens.1))) in
-    (w.0, subst (λ (bytes : List ℕ). IsWorked (opening_cache c.args.config.now.budget c.args.config.now.items 0) (at (map g.C.Clock.times c.args.clocks.items) server)
-    (at (map g.C.Clock.times c.in_ok-clocks-in-Ok-talk_all.clocks.items) server) bytes (came_from ends server) w.0) (ended.quit server low) w.1))
+    (λ h. c.in_ok-clocks-in-Ok-talk_all.ensures.worked server h (omega (arith, low, servers, lens.1))) in (
+      w.0,
+      subst (λ (bytes : List ℕ). IsWorked (opening_cache c.args.config.now.budget c.args.config.now.items 0) (at (map g.C.Clock.times c.args.clocks.items) server)
+          (at (map g.C.Clock.times c.in_ok-clocks-in-Ok-talk_all.clocks.items) server) bytes (came_from ends server) w.0) (ended.quit server low) w.1,
+    ))

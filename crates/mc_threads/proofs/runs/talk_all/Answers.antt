@@ -1,4 +1,4 @@
-use Rattle.std.proofs.Common.{rules, ◌≡◌, ◌∙◌, ◌<◌, ℕ, vec_len, length, refl, sym, subst, arith}
+use Rattle.std.proofs.Common.{rules, ◌≡◌, ◌∙◌, ℕ, vec_len, length, refl, sym, subst, arith}
 use Rattle.mc_threads.specs.Accounts.{outs_of}
 use Rattle.mc_threads.specs.Links.{SameEnds}
 use Rattle.mc_threads.specs.Starts.{Each2}
