@@ -1,5 +1,5 @@
 -- The caller's thread goes on: one lemma for each of its calls.
-use Rattle.std.proofs.Common.{◌≡◌, ◌≢◌, ◌∙◌, ⊎_elim, inl, inr, ℕ, ◌<◌, ◌+◌, true, List, [], ◌∷◌, ◌++◌, length, drop, take, Option, Some, None, refl, sym, ap, subst, append_assoc, arith}
+use Rattle.std.proofs.Common.{◌≡◌, ◌≢◌, ◌∙◌, ⊎_elim, ℕ, ◌<◌, ◌+◌, true, List, [], ◌∷◌, ◌++◌, length, drop, take, Option, Some, None, refl, sym, ap, subst, append_assoc, arith}
 use Rattle.std.specs.Prelude.{All}
 use Rattle.std.specs.Option.{option_map}
 use Rattle.std.proofs.lemmas.Bool.Decides.{eqb_tells}
@@ -34,7 +34,7 @@ use Rattle.mc_account.proofs.LaneLemmas.{link_other, link_own, up_is_there}
 use Rattle.mc_account.proofs.LinkLemmas.{stands-replied}
 use Rattle.mc_account.proofs.OpenSessions.{fresh_other, fresh_own, noted_other, noted_own, updated_other, updated_own}
 use Rattle.mc_account.proofs.StandsLemmas.{changed-other, changed-own, entry_taken, stands-admitted, stands-emitted, stands-fed, stands-idle_emit, stands-idle_turn, stands-sent, stands-took}
-use Rattle.mc_threads.specs.Links.{Carries, IsEmitted, pulled_at, pushed_at}
+use Rattle.mc_threads.specs.Links.{Carries, IsMoved, pulled_at, pushed_at}
 use Rattle.mc_threads.specs.Talks.{IsOpen, Talks}
 use Rattle.mc_threads.specs.declared.links.Ends.{Ends}
 
@@ -179,7 +179,7 @@ emitted_alone ring clients texts outs went came number emit old new h steps stan
   came_is = h.came_is;
 }
 
-talks_emitted : (ring : RingState) (clients : ℕ) (texts outs went came : ℕ → List ℕ) (number : ℕ) (emit : Emit) (old new : ProxyState) → Talks ring clients texts outs went came old
+pub talks_emitted : (ring : RingState) (clients : ℕ) (texts outs went came : ℕ → List ℕ) (number : ℕ) (emit : Emit) (old new : ProxyState) → Talks ring clients texts outs went came old
     → Steps number old new (Alone (IsEmit emit)) → Talks ring clients texts outs went came new
 talks_emitted ring clients texts outs went came number emits.Done old new h steps =
     emitted_alone ring clients texts outs went came number emits.Done old new h steps (stands-emitted texts outs h.order h.lanes number old new h.stands steps)
@@ -226,19 +226,18 @@ talks_sent ring clients texts outs went came number count old h = record {
 changed_as : (number : ℕ) (now : List ℕ) (more : List ℕ) (outs : ℕ → List ℕ) → now ≡ outs number ++ more → (n : ℕ) → grown number more outs n ≡ changed number now outs n
 changed_as number now more outs is n = ap (λ (bytes : List ℕ). changed number bytes outs n) (sym is)
 
-pub talks_answered : (ring : RingState) (clients : ℕ) (texts outs went came : ℕ → List ℕ) (number : ℕ) (old new : ProxyState) (out grown_to : List ℕ) → Talks ring clients texts outs went came old
-    → outs number ≡ out → IsEmitted number old new out grown_to → Talks ring clients texts (changed number grown_to outs) went came new
-talks_answered ring clients texts outs went came number old new out grown_to h is e =
-    let output : List ℕ = output_of (session_at e.middle number) in
-    let middle = talks_emitted ring clients texts outs went came number e.emit old e.middle h e.steps in
-    let moved = talks_sent ring clients texts outs went came number (length (output_of (session_at e.middle number))) e.middle middle in
-    let all : grown_to ≡ outs number ++ take (length (output_of (session_at e.middle number))) (output_of (session_at e.middle number)) =
-    e.moved ∙ ap (λ (bytes : List ℕ). bytes ++ output_of (session_at e.middle number)) (sym is)
-    ∙ ap (λ (bytes : List ℕ). outs number ++ bytes) (sym (take-length (output_of (session_at e.middle number)))) in
+pub talks_moved : (ring : RingState) (clients : ℕ) (texts outs went came : ℕ → List ℕ) (number : ℕ) (old new : ProxyState) (output grown_to : List ℕ) → Talks ring clients texts outs went came old
+    → outs number ≡ output → IsMoved number old new output grown_to → Talks ring clients texts (changed number grown_to outs) went came new
+talks_moved ring clients texts outs went came number old new output grown_to h is e =
+    let more : List ℕ = output_of (session_at old number) in
+    let all : grown_to ≡ outs number ++ take (length (output_of (session_at old number))) (output_of (session_at old number)) =
+    e.moved ∙ ap (λ (bytes : List ℕ). bytes ++ output_of (session_at old number)) (sym is)
+    ∙ ap (λ (bytes : List ℕ). outs number ++ bytes) (sym (take-length (output_of (session_at old number)))) in
     subst (λ (p : ProxyState). Talks ring clients texts (changed number grown_to outs) went came p) (sym e.sent)
-    (talks_as ring clients texts texts (grown number (take (length (output_of (session_at e.middle number))) (output_of (session_at e.middle number))) outs) (changed number grown_to outs) went went came came
-    (sent_by number (length (output_of (session_at e.middle number))) (session_at e.middle number) e.middle)
-    (λ n. refl) (changed_as number grown_to (take (length (output_of (session_at e.middle number))) (output_of (session_at e.middle number))) outs all) (λ n. refl) (λ n. refl) moved)
+    (talks_as ring clients texts texts (grown number (take (length (output_of (session_at old number))) (output_of (session_at old number))) outs) (changed number grown_to outs) went went came came
+    (sent_by number (length (output_of (session_at old number))) (session_at old number) old)
+    (λ n. refl) (changed_as number grown_to (take (length (output_of (session_at old number))) (output_of (session_at old number))) outs all) (λ n. refl) (λ n. refl)
+    (talks_sent ring clients texts outs went came number (length (output_of (session_at old number))) old h))
 
 -- the link of one place is another, and what passed over it
 relinked : (texts sent : ℕ → List ℕ) (order : Order) (lanes : ℕ → Lane) (place : ℕ) (lane : Lane) (link : LinkState) (old : ProxyState) → place < length old.links
@@ -357,7 +356,7 @@ talks_pulled ring clients texts outs went came place piece now old below is h =
     }
 
 -- a reply was taken
-talks_replied : (ring : RingState) (clients : ℕ) (texts outs went came : ℕ → List ℕ) (place : ℕ) (old new : ProxyState) → place < length ring.servers
+pub talks_replied : (ring : RingState) (clients : ℕ) (texts outs went came : ℕ → List ℕ) (place : ℕ) (old new : ProxyState) → place < length ring.servers
     → Talks ring clients texts outs went came old → Answers place old new → Talks ring clients texts outs went came new
 talks_replied ring clients texts outs went came place old new below h answers =
     let up = h.up place below in
@@ -387,11 +386,7 @@ talks_carried ring clients texts outs went came place before after old new below
     (c.went ∙ ap (λ (bytes : List ℕ). bytes ++ take c.count (link_at old.links place).output) (sym went_was)) h in
     let pulled = talks_pulled ring clients texts outs (changed place (sent after.to) went) came place c.piece (received after.from) (pushed_at place c.count old) below
     (c.came ∙ ap (λ (bytes : List ℕ). bytes ++ c.piece) (sym came_was)) pushed in
-    elim c.turned [
-      | inl answers ↦ talks_replied ring clients texts outs (changed place (sent after.to) went) (changed place (received after.from) came) place
-          (pulled_at place c.piece (pushed_at place c.count old)) new below pulled answers
-      | inr same ↦ subst (λ (p : ProxyState). Talks ring clients texts outs (changed place (sent after.to) went) (changed place (received after.from) came) p) (sym same) pulled
-    ]
+    subst (λ (p : ProxyState). Talks ring clients texts outs (changed place (sent after.to) went) (changed place (received after.from) came) p) (sym c.after_is) pulled
 
 -- one client more is admitted
 pub talks_admitted : (ring : RingState) (clients : ℕ) (texts outs went came : ℕ → List ℕ) (old : ProxyState) → session_at old old.admitted ≡ None

@@ -59,11 +59,16 @@ pub record IsQuiet (clients servers : ℕ) (proxy : ProxyState) : Type 0 where
   pub answered : (client : ℕ) → client < clients → IsAnswered proxy client
   pub silent : (server : ℕ) → server < servers → IsSilent proxy server
 
--- What the calls of the caller's thread do, whatever texts, outputs and ends: one that moves no byte; a piece of a client's text; a client
--- more, with its text; each link moves bytes; each client is moved bytes; and all of a round.
+-- What the calls of the caller's thread do, whatever texts, outputs and ends: those that move no byte; replies of a server;
+-- a piece of a client's text; a client more, with its text; each link moves bytes; each client is moved bytes; and all of a round.
 abbrev pub StillTalks : ProxyState → ProxyState → Type 0
 StillTalks old new =
     (ring : RingState) (clients : ℕ) (texts outs went came : ℕ → List ℕ) → Talks ring clients texts outs went came old
+    → Talks ring clients texts outs went came new
+
+abbrev pub HasReplied : ℕ → ProxyState → ProxyState → Type 0
+HasReplied server old new =
+    (ring : RingState) (clients : ℕ) (texts outs went came : ℕ → List ℕ) → server < length ring.servers → Talks ring clients texts outs went came old
     → Talks ring clients texts outs went came new
 
 abbrev pub HasFed : ℕ → List ℕ → ProxyState → ProxyState → Type 0
@@ -96,7 +101,7 @@ pub record HasQuit (servers : ℕ) (ends now : List Ends) : Type 0 where
   pub went : (server : ℕ) → server < servers → went_to now server ≡ went_to ends server ++ codes "quit\r\n"
   pub came : (server : ℕ) → came_from now server ≡ came_from ends server
 
--- The caller's thread is through: all is answered, and `quit` was sent to each server behind all that its link sent.
+-- The caller's thread is through: all is answered, and `quit` was sent to each server after all that its link sent.
 pub record IsEnded (ring : RingState) (clients : ℕ) (texts : ℕ → List ℕ) (outputs : List Bytes) (ends : List Ends) (proxy : ProxyState) : Type 0 where
   pub went : ℕ → List ℕ
   pub talks : Talks ring clients texts (outs_of outputs) went (came_from ends) proxy

@@ -1,14 +1,17 @@
 //! The caller's thread: the proxy between the clients' pieces and the rings.
-ghost use Rattle.std.specs.Prelude.{◌≡◌, ℕ, ◌≤◌, ◌⊎◌, List, ◌++◌, length, take, OnOk};
+ghost use Rattle.std.specs.Prelude.{◌≡◌, ℕ, ◌≤◌, List, ◌++◌, length, take, OnOk};
 ghost use Rattle.rtrb.specs.Ring.{sent, received, SameConsumer};
 ghost use Rattle.mc_session.specs.SessionState.{link_at, with_link};
-ghost use Rattle.mc_proxy.specs.LinkTurns.{Answers};
-ghost use Rattle.mc_threads.specs.Links.{Carries, IsEmitted, SameEnds, pushed_at, pulled_at};
-ghost use Rattle.mc_threads.specs.Talks.{StillTalks};
+ghost use Rattle.mc_threads.specs.Links.{Carries, IsMoved, SameEnds, pushed_at, pulled_at};
+ghost use Rattle.mc_threads.specs.Talks.{HasReplied, StillTalks};
 
 use crate::errors::Ended;
 use mc_proxy::{LinkTurn, Proxy};
+use mc_session::{Emit, Turn};
 use rtrb::{Consumer, Producer};
+
+/// The most requests of a client, answers to it, or replies of a server that are taken in one round.
+pub const AT_ONCE: usize = 256;
 
 /// The caller's ends of the two rings of one server.
 #[derive(Drop)]
@@ -47,18 +50,8 @@ pub fn pull_in(
     Ok(())
 }
 
-/// Takes a reply of the server of a place, where one is there.
-pub fn take_reply(proxy: &mut Proxy, place: usize) -> Result<(), Ended>
-    ensures { OnOk result (Answers place proxy.old proxy.new ⊎ (proxy.new ≡ proxy.old)) }
-{
-    match proxy.link_turn(place)? {
-        LinkTurn::Took | LinkTurn::Idle => Ok(()),
-        LinkTurn::Strange => Err(Ended::Strange),
-    }
-}
-
-/// Moves what there is to move over one link, both ways, and takes a reply.
-pub fn carry(
+/// Moves what there is to move over one link, both ways.
+pub fn exchange(
     proxy: &mut Proxy,
     ends: &mut Ends,
     place: usize,
@@ -68,26 +61,80 @@ pub fn carry(
     ensures carries { OnOk result (Carries place ends.old ends.new proxy.old proxy.new) }
 {
     push_out(proxy, ends, place);
-    pull_in(proxy, ends, place, buffer)?;
-    take_reply(proxy, place)
+    pull_in(proxy, ends, place, buffer)
 }
 
-/// Takes a request of a client, where one waits and may be taken.
-pub fn ask(proxy: &mut Proxy, client: u64) -> Result<(), Ended>
-    ensures { OnOk result (StillTalks proxy.old proxy.new) }
+/// Takes a reply of the server of a place, where one has come whole: whether it did.
+fn take_reply(proxy: &mut Proxy, place: usize) -> Result<bool, Ended>
+    ensures { OnOk result (HasReplied place proxy.old proxy.new) }
 {
-    let _turn = proxy.turn(client)?;
+    let turn = proxy.link_turn(place)?;
+    match turn {
+        LinkTurn::Took => Ok(true),
+        LinkTurn::Idle => Ok(false),
+        LinkTurn::Strange => Err(Ended::Strange),
+    }
+}
+
+/// Takes the replies of the server of a place that have come whole, at most [`AT_ONCE`].
+pub fn take_replies(proxy: &mut Proxy, place: usize) -> Result<(), Ended>
+    ensures { OnOk result (HasReplied place proxy.old proxy.new) }
+{
+    for _ in 0..AT_ONCE {
+        if !take_reply(proxy, place)? {
+            return Ok(());
+        }
+    }
     Ok(())
 }
 
-/// Puts an answer out to a client, where one is known.
-pub fn answer(proxy: &mut Proxy, out: &mut Vec<u8>, client: u64) -> Result<(), Ended>
-    ensures { OnOk result (IsEmitted client proxy.old proxy.new out.old.items out.new.items) }
+/// Takes a request of a client, where one has come whole and need not wait: whether it did.
+fn ask(proxy: &mut Proxy, client: u64) -> Result<bool, Ended>
+    ensures { OnOk result (StillTalks proxy.old proxy.new) }
 {
-    proxy.emit(client)?;
-    let output = proxy.output(client);
-    let count = output.len();
-    out.extend_from_slice(output)?;
+    let turn = proxy.turn(client)?;
+    Ok(matches!(turn, Turn::Took))
+}
+
+/// Takes the requests of a client that need not wait, at most [`AT_ONCE`].
+pub fn ask_some(proxy: &mut Proxy, client: u64) -> Result<(), Ended>
+    ensures { OnOk result (StillTalks proxy.old proxy.new) }
+{
+    for _ in 0..AT_ONCE {
+        if !ask(proxy, client)? {
+            return Ok(());
+        }
+    }
+    Ok(())
+}
+
+/// Puts an answer out to a client, where one is known: whether it did.
+fn answer(proxy: &mut Proxy, client: u64) -> Result<bool, Ended>
+    ensures { OnOk result (StillTalks proxy.old proxy.new) }
+{
+    let emit = proxy.emit(client)?;
+    Ok(matches!(emit, Emit::Done))
+}
+
+/// Puts the answers out to a client that are known, at most [`AT_ONCE`].
+pub fn answer_some(proxy: &mut Proxy, client: u64) -> Result<(), Ended>
+    ensures { OnOk result (StillTalks proxy.old proxy.new) }
+{
+    for _ in 0..AT_ONCE {
+        if !answer(proxy, client)? {
+            return Ok(());
+        }
+    }
+    Ok(())
+}
+
+/// Moves all that was put out to a client.
+pub fn move_out(proxy: &mut Proxy, output: &mut Vec<u8>, client: u64) -> Result<(), Ended>
+    ensures { OnOk result (IsMoved client proxy.old proxy.new output.old.items output.new.items) }
+{
+    let more = proxy.output(client);
+    let count = more.len();
+    output.extend_from_slice(more)?;
     proxy.taken_out(client, count);
     Ok(())
 }

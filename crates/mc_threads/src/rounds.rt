@@ -6,7 +6,7 @@ ghost use Rattle.mc_threads.specs.Starts.{Each2};
 ghost use Rattle.mc_threads.specs.Talks.{HasAnswered, HasCarried, HasQuit, HasRound, IsAnswered, IsQuiet, IsSilent, StillTalks};
 
 use crate::errors::Ended;
-use crate::links::{Ends, answer, ask, carry};
+use crate::links::{Ends, answer_some, ask_some, exchange, move_out, take_replies};
 use crate::worker::piece;
 use mc_proxy::Proxy;
 use std::alloc::Global;
@@ -14,24 +14,25 @@ use std::sync::Wait;
 use std::sync::atomic::{AtomicBool, Ordering};
 use std::thread;
 
-/// Each client may have a request taken.
+/// Each client may have requests taken.
 fn ask_all(proxy: &mut Proxy, clients: usize) -> Result<(), Ended>
     ensures { OnOk result (StillTalks proxy.old proxy.new) }
 {
     for client in 0..clients {
-        ask(proxy, client as u64)?;
+        ask_some(proxy, client as u64)?;
     }
     Ok(())
 }
 
-/// Each link moves what there is to move, and may have a reply taken.
+/// Each link moves what there is to move, and may have replies taken.
 fn carry_all(proxy: &mut Proxy, ends: &mut Vec<Ends>, buffer: &mut Vec<u8>) -> Result<(), Ended>
     ensures len { vec_len ends.new ≡ vec_len ends.old }
     ensures rings { OnOk result (Each2 SameEnds (vec_len ends.old) ends.old.items ends.new.items) }
     ensures carried { OnOk result (HasCarried ends.old.items ends.new.items proxy.old proxy.new) }
 {
     for place in 0..ends.len() {
-        carry(proxy, &mut ends[place], place, buffer)?;
+        exchange(proxy, &mut ends[place], place, buffer)?;
+        take_replies(proxy, place)?;
     }
     Ok(())
 }
@@ -42,12 +43,13 @@ fn answer_all(proxy: &mut Proxy, outputs: &mut Vec<Vec<u8>>) -> Result<(), Ended
     ensures answered { OnOk result (HasAnswered outputs.old.items outputs.new.items proxy.old proxy.new) }
 {
     for client in 0..outputs.len() {
-        answer(proxy, &mut outputs[client], client as u64)?;
+        answer_some(proxy, client as u64)?;
+        move_out(proxy, &mut outputs[client], client as u64)?;
     }
     Ok(())
 }
 
-/// One round: each client may have a request taken, each link moves what there is to move, each client may be answered.
+/// One round: each client may have requests taken, each link moves what there is to move, each client may be answered.
 fn round(
     proxy: &mut Proxy,
     ends: &mut Vec<Ends>,

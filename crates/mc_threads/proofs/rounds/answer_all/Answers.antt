@@ -2,7 +2,7 @@ use Rattle.std.proofs.Common.{rules, ◌≡◌, ◌<◌, ◌∙◌, length, refl
 use Rattle.mc_account.specs.Stands.{changed}
 use Rattle.mc_threads.specs.Accounts.{Bytes, outs_of}
 use Rattle.mc_threads.proofs.AtLemmas.{at_map, at_set}
-use Rattle.mc_threads.proofs.TalkLemmas.{talks_answered, talks_as}
+use Rattle.mc_threads.proofs.TalkLemmas.{talks_as, talks_moved}
 use Rattle.mc_threads.proofs.rounds.answer_all.Goals as goal
 
 pub loop-client-preserved : goal.loop-client-preserved
@@ -15,8 +15,8 @@ loop-client-preserved c =
       answered = λ ring clients texts went came h.
           let was : outs_of outs client ≡ c.index_mut.result.now.items =
           at_map (λ (v : Bytes). v.items) outs client c.index_mut.result.now low ∙ ap (λ (v : Bytes). v.items) (sym c.index_mut.ensures.value) in
-          talks_as ring clients texts texts (changed client c.answer.new.out.items (outs_of outs)) (outs_of (set outs client c.answer.new.out)) went went came came c.answer.new.proxy
-          (λ n. refl) (λ n. sym (at_set (λ (v : Bytes). v.items) outs client c.answer.new.out low n)) (λ n. refl) (λ n. refl)
-          (talks_answered ring clients texts (outs_of outs) went came client c.loop-client.proxy c.answer.new.proxy c.index_mut.result.now.items c.answer.new.out.items
-          (c.loop-client.invariant.answered ring clients texts went came h) was c.in_ok-answer.ensures);
+          talks_as ring clients texts texts (changed client c.move_out.new.output.items (outs_of outs)) (outs_of (set outs client c.move_out.new.output)) went went came came c.move_out.new.proxy
+          (λ n. refl) (λ n. sym (at_set (λ (v : Bytes). v.items) outs client c.move_out.new.output low n)) (λ n. refl) (λ n. refl)
+          (talks_moved ring clients texts (outs_of outs) went came client c.answer_some.new.proxy c.move_out.new.proxy c.index_mut.result.now.items c.move_out.new.output.items
+          (c.in_ok-answer_some.ensures ring clients texts (outs_of outs) went came (c.loop-client.invariant.answered ring clients texts went came h)) was c.in_ok-move_out.ensures);
     }
