@@ -4,8 +4,10 @@ use crate::lent::{Meeting, Ticks};
 use mc_ring::{Address, Point, Ring};
 use mc_threads::{Clock, PoolConfig, Ran, ThreadsError, run_threads};
 use std::alloc::Global;
+use std::sync::Wait;
 use std::sync::atomic::Ordering;
 use std::test::Fail;
+use std::thread::Threads;
 
 const ADDRESSES: [&[u8]; 5] = [
     b"127.0.0.1:11211",
@@ -15,8 +17,11 @@ const ADDRESSES: [&[u8]; 5] = [
     b"127.0.0.1:11215",
 ];
 
-const ASKED: &[u8] = b"add a 0 0 1\r\nx\r\nadd a 0 0 1\r\ny\r\nappend a 9 9 1\r\nz\r\nreplace b 0 0 1\r\ny\r\nget a\r\ndelete a 0\r\ndelete a\r\n";
-const ANSWERED: &[u8] = b"STORED\r\nNOT_STORED\r\nSTORED\r\nNOT_STORED\r\nVALUE a 0 2\r\nxz\r\nEND\r\nDELETED\r\nNOT_FOUND\r\n";
+const ASKED: &[u8] =
+    b"add a 0 0 1\r\nx\r\nadd a 0 0 1\r\ny\r\nappend a 9 9 1\r\nz\r\nreplace b 0 0 1\r\ny\r\nget a\r\ndelete a 0\r\ndelete a\r\n";
+
+const ANSWERED: &[u8] =
+    b"STORED\r\nNOT_STORED\r\nSTORED\r\nNOT_STORED\r\nVALUE a 0 2\r\nxz\r\nEND\r\nDELETED\r\nNOT_FOUND\r\n";
 
 /// The first so many addresses.
 fn addresses(alloc: Global, servers: usize) -> Result<Vec<Address>, Fail> {
@@ -30,21 +35,17 @@ fn addresses(alloc: Global, servers: usize) -> Result<Vec<Address>, Fail> {
     Ok(all)
 }
 
-/// A pool of so many servers, with the points of their addresses.
-fn pool_of(alloc: Global, servers: usize) -> Result<PoolConfig, Fail> {
+/// A ring of so many servers, by their addresses.
+fn ring_of(alloc: Global, servers: usize) -> Result<Ring, Fail> {
     let addresses = addresses(alloc, servers)?;
     match Ring::new(alloc, addresses.as_slice()) {
-        Ok(ring) => Ok(PoolConfig {
-            ring,
-            budget: 67_108_864,
-            items: 1_000,
-        }),
+        Ok(ring) => Ok(ring),
         Err(_) => Err("ring".into()),
     }
 }
 
-/// A pool of two servers, the first of which owns `abc` and the second `a`.
-fn parted_pool(alloc: Global) -> Result<PoolConfig, Fail> {
+/// A ring of two servers, the first of which owns `abc` and the second `a`.
+fn parted_ring(alloc: Global) -> Result<Ring, Fail> {
     let addresses = addresses(alloc, 2)?;
     let points = [
         Point {
@@ -57,11 +58,7 @@ fn parted_pool(alloc: Global) -> Result<PoolConfig, Fail> {
         },
     ];
     match Ring::of_points(alloc, addresses.as_slice(), points.as_slice()) {
-        Ok(ring) => Ok(PoolConfig {
-            ring,
-            budget: 67_108_864,
-            items: 1_000,
-        }),
+        Ok(ring) => Ok(ring),
         Err(_) => Err("ring".into()),
     }
 }
@@ -96,42 +93,65 @@ fn inputs(
     Ok(all)
 }
 
+/// A run over a ring, with small caches.
+fn run<R: Threads + Wait + Sync>(
+    rt: &R,
+    alloc: Global,
+    ring: Ring,
+    inputs: &Vec<Vec<Vec<u8>>>,
+    clocks: Vec<Ticks>,
+    gate: &Meeting,
+) -> Result<Ran<Ticks>, ThreadsError> {
+    let config = PoolConfig {
+        ring,
+        budget: 1_000_000,
+        items: 1_000,
+    };
+    run_threads(rt, alloc, &config, inputs.as_slice(), clocks, gate)
+}
+
 /// A run that ends well.
-fn ran(
-    rt: &HostRuntime,
-    config: &PoolConfig,
+fn ran<R: Threads + Wait + Sync>(
+    rt: &R,
+    alloc: Global,
+    ring: Ring,
     inputs: &Vec<Vec<Vec<u8>>>,
     servers: usize,
     gate: &Meeting,
 ) -> Result<Ran<Ticks>, Fail> {
-    let alloc = rt.alloc();
-    match run_threads(
-        rt,
-        alloc,
-        config,
-        inputs.as_slice(),
-        clocks(alloc, servers, Some(100))?,
-        gate,
-    ) {
+    let clocks = clocks(alloc, servers, Some(100))?;
+    match run(rt, alloc, ring, inputs, clocks, gate) {
         Ok(ran) => Ok(ran),
         Err(_) => Err("the run was refused".into()),
     }
+}
+
+/// Whether a client was answered so.
+fn is_answered(ran: &Ran<Ticks>, client: usize, answer: &[u8]) -> bool {
+    match ran.outputs.get(client) {
+        Some(output) => output.as_slice() == answer,
+        None => false,
+    }
+}
+
+/// How many moments the clocks gave in all.
+fn moments(ran: &Ran<Ticks>) -> usize {
+    let mut all = 0usize;
+    for clock in &ran.clocks {
+        all = all.saturating_add(clock.given().len());
+    }
+    all
 }
 
 #[test]
 fn a_dialogue_over_servers(rt: HostRuntime) -> Result<(), Fail> {
     let alloc = rt.alloc();
     for servers in [1usize, 2, 5] {
-        let config = pool_of(alloc, servers)?;
+        let ring = ring_of(alloc, servers)?;
         let asked = inputs(alloc, 1, 1, ASKED)?;
-        let ran = ran(&rt, &config, &asked, servers, &Meeting::of(1, true))?;
-        assert_eq!(rt; ran.outputs.len(), 1);
-        assert_eq!(rt; ran.outputs[0].as_slice(), ANSWERED);
-        let mut moments = 0;
-        for clock in &ran.clocks {
-            moments += clock.given().len();
-        }
-        assert_eq!(rt; moments, 7 + servers);
+        let ran = ran(&rt, alloc, ring, &asked, servers, &Meeting::of(1, true))?;
+        assert!(rt; is_answered(&ran, 0, ANSWERED));
+        assert_eq!(rt; moments(&ran), servers.saturating_add(7));
     }
     Ok(())
 }
@@ -149,7 +169,9 @@ fn numbers_in(alloc: Global, output: &[u8]) -> Result<Vec<u32>, Fail> {
             is_value = !is_value;
             number = 0;
         } else if byte.is_ascii_digit() {
-            number = number.wrapping_mul(10).wrapping_add(u32::from(byte.wrapping_sub(b'0')));
+            number = number
+                .wrapping_mul(10)
+                .wrapping_add(u32::from(byte.wrapping_sub(b'0')));
         }
     }
     Ok(all)
@@ -158,9 +180,9 @@ fn numbers_in(alloc: Global, output: &[u8]) -> Result<Vec<u32>, Fail> {
 #[test]
 fn three_clients_count(rt: HostRuntime) -> Result<(), Fail> {
     let alloc = rt.alloc();
-    let config = pool_of(alloc, 1)?;
+    let ring = ring_of(alloc, 1)?;
     let asked = inputs(alloc, 3, 100, b"ma n N0 J1 v\r\n")?;
-    let ran = ran(&rt, &config, &asked, 1, &Meeting::of(1, true))?;
+    let ran = ran(&rt, alloc, ring, &asked, 1, &Meeting::of(1, true))?;
     let mut all = Vec::new(alloc);
     for output in &ran.outputs {
         let numbers = numbers_in(alloc, output.as_slice())?;
@@ -174,7 +196,7 @@ fn three_clients_count(rt: HostRuntime) -> Result<(), Fail> {
         expected.push(number)?;
     }
     assert_eq!(rt; all.as_slice(), expected.as_slice());
-    assert_eq!(rt; ran.clocks[0].given().len(), 301);
+    assert_eq!(rt; moments(&ran), 301);
     Ok(())
 }
 
@@ -185,8 +207,8 @@ fn workers_one_after_another(rt: HostRuntime) -> Result<(), Fail> {
     let alloc = rt.alloc();
     let gate = Meeting::of(2, true);
     let asked = inputs(alloc, 1, 1, b"get a abc\r\n")?;
-    let ran = ran(&rt, &parted_pool(alloc)?, &asked, 2, &gate)?;
-    assert_eq!(rt; ran.outputs[0].as_slice(), b"END\r\n".as_slice());
+    let ran = ran(&rt, alloc, parted_ring(alloc)?, &asked, 2, &gate)?;
+    assert!(rt; is_answered(&ran, 0, b"END\r\n"));
     assert_eq!(rt; gate.missed.load(Ordering::SeqCst), 0);
     assert_eq!(rt; gate.came_to(0), 2);
     assert_eq!(rt; gate.came_to(1), 2);
@@ -199,8 +221,8 @@ fn threads_always_refuse(rt: HostRuntime) -> Result<(), Fail> {
     let alloc = rt.alloc();
     let gate = Meeting::of(5, true);
     let asked = inputs(alloc, 1, 1, b"flush_all\r\n")?;
-    let ran = ran(&rt, &pool_of(alloc, 5)?, &asked, 5, &gate)?;
-    assert_eq!(rt; ran.outputs[0].as_slice(), b"OK\r\n".as_slice());
+    let ran = ran(&rt, alloc, ring_of(alloc, 5)?, &asked, 5, &gate)?;
+    assert!(rt; is_answered(&ran, 0, b"OK\r\n"));
     assert_eq!(rt; gate.missed.load(Ordering::SeqCst), 0);
     for server in 0..5 {
         assert_eq!(rt; gate.came_to(server), 2);
@@ -209,24 +231,19 @@ fn threads_always_refuse(rt: HostRuntime) -> Result<(), Fail> {
 }
 
 /// Why a run of one request gives up.
-fn refused(
-    rt: &HostRuntime,
+fn refused<R: Threads + Wait + Sync>(
+    rt: &R,
+    alloc: Global,
+    servers: usize,
     clients: usize,
+    clock_count: usize,
     moment: Option<u32>,
-    count: usize,
     gate: &Meeting,
 ) -> Result<ThreadsError, Fail> {
-    let alloc = rt.alloc();
-    let config = pool_of(alloc, 2)?;
+    let ring = ring_of(alloc, servers)?;
     let asked = inputs(alloc, clients, 1, b"get a\r\n")?;
-    match run_threads(
-        rt,
-        alloc,
-        &config,
-        asked.as_slice(),
-        clocks(alloc, count, moment)?,
-        gate,
-    ) {
+    let clocks = clocks(alloc, clock_count, moment)?;
+    match run(rt, alloc, ring, &asked, clocks, gate) {
         Ok(_) => Err("the run was not refused".into()),
         Err(error) => Ok(error),
     }
@@ -234,14 +251,20 @@ fn refused(
 
 #[test]
 fn runs_that_give_up(rt: HostRuntime) -> Result<(), Fail> {
+    let alloc = rt.alloc();
     let open = Meeting::of(1, true);
-    let few = refused(&rt, 1, Some(100), 1, &open)?;
+    let few = refused(&rt, alloc, 2, 1, 1, Some(100), &open)?;
     assert_eq!(rt; few, ThreadsError::ClockCount);
-    let many = refused(&rt, 1_025, Some(100), 2, &open)?;
+    let many = refused(&rt, alloc, 2, 1_025, 2, Some(100), &open)?;
     assert_eq!(rt; many, ThreadsError::TooManyClients);
-    let unkept = refused(&rt, 1, None, 2, &open)?;
+    let unkept = refused(&rt, alloc, 2, 1, 2, None, &open)?;
     assert_eq!(rt; unkept, ThreadsError::Memory);
-    let shut = refused(&rt, 1, Some(100), 2, &Meeting::of(1, false))?;
+    Ok(())
+}
+
+#[test]
+fn a_gate_that_stays_shut(rt: HostRuntime) -> Result<(), Fail> {
+    let shut = refused(&rt, rt.alloc(), 1, 1, 1, Some(100), &Meeting::of(1, false))?;
     assert_eq!(rt; shut, ThreadsError::GateShut);
     Ok(())
 }
