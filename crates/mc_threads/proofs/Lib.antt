@@ -1,0 +1,10 @@
+pub mod WorkLemmas
+pub mod ListLemmas
+pub mod TalkLemmas
+pub mod AtLemmas
+pub mod OpeningLemmas
+pub mod JoinLemmas
+pub mod GoodLemmas
+pub mod HistoryLemmas
+pub mod EntryLemmas
+pub mod SettledLemmas

@@ -1,0 +1,81 @@
+-- A proxy before its first round.
+use Rattle.std.proofs.Common.{◌≡◌, ⊎_elim, ◌⊎◌, inl, inr, ℕ, zero, suc, ◌<◌, true, List, [], ◌∷◌, length, refl, sym, ap, subst, arith}
+use Rattle.std.specs.Prelude.{replicate}
+use Rattle.std.proofs.lemmas.List.Elements.{All-nil}
+use Rattle.mc_request.specs.Requests.{requests_of, requests_within}
+use Rattle.mc_ring.specs.Rings.{IsRing, RingState}
+use Rattle.mc_link.specs.LinkState.{LinkState, down_link, up_link}
+use Rattle.mc_session.specs.SessionState.{link_at, with_link}
+use Rattle.mc_account.specs.Lanes.{LinkStands, fresh_lane}
+use Rattle.mc_account.specs.Orders.{Entry, IsSized}
+use Rattle.mc_account.proofs.LaneLemmas.{lane_fresh}
+use Rattle.mc_threads.specs.Talks.{Talks}
+
+-- of so many links, the first are up
+abbrev pub raised : ℕ → ℕ → List LinkState
+raised zero many = replicate many (down_link 0)
+raised (suc up) zero = []
+raised (suc up) (suc many) = up_link 1 ∷ raised up many
+
+-- one more
+pub raised-next : (up many : ℕ) → up < many → with_link up (up_link 1) (raised up many) ≡ raised (suc up) many
+raised-next up zero inside = absurd (omega (arith, inside))
+raised-next zero (suc many) inside = refl
+raised-next (suc up) (suc many) inside = ap (λ (links : List LinkState). up_link 1 ∷ links) (raised-next up many (omega (arith, inside)))
+
+-- the next one is down
+pub raised-at : (up many : ℕ) → up < many → link_at (raised up many) up ≡ down_link 0
+raised-at up zero inside = absurd (omega (arith, inside))
+raised-at zero (suc many) inside = refl
+raised-at (suc up) (suc many) inside = raised-at up many (omega (arith, inside))
+
+-- all of them
+pub raised-all : (many : ℕ) → raised many many ≡ replicate many (up_link 1)
+raised-all zero = refl
+raised-all (suc many) = ap (λ (links : List LinkState). up_link 1 ∷ links) (raised-all many)
+
+-- a link that is up, or none
+up_or_none : (n place : ℕ) → (link_at (replicate n (up_link 1)) place ≡ up_link 1) ⊎ (link_at (replicate n (up_link 1)) place ≡ down_link 0)
+up_or_none zero place = inr refl
+up_or_none (suc n) zero = inl refl
+up_or_none (suc n) (suc place) = up_or_none n place
+
+up_inside : (n place : ℕ) → place < n → (link_at (replicate n (up_link 1)) place).up ≡ true
+up_inside zero place inside = absurd (omega (arith, inside))
+up_inside (suc n) zero inside = refl
+up_inside (suc n) (suc place) inside = up_inside n place (omega (arith, inside))
+
+link_opens : (n place : ℕ) → LinkStands place [] (fresh_lane 0) (link_at (replicate n (up_link 1)) place)
+link_opens n place =
+    ⊎_elim
+    (λ up. subst (λ (l : LinkState). LinkStands place [] (fresh_lane 0) l) (sym up) (λ _. lane_fresh place 1 [] refl, λ down. absurd (down refl)))
+    (λ none. subst (λ (l : LinkState). LinkStands place [] (fresh_lane 0) l) (sym none) (λ up. absurd cc, λ _. record { nothing = refl; outcomes = refl }))
+    (up_or_none n place)
+
+pub no_requests : requests_of [] ≡ []
+unfolding requests_of requests_within
+no_requests = refl
+
+pub talks_opens : (ring : RingState) → IsRing ring
+    → Talks ring 0 (λ _. []) (λ _. []) (λ _. []) (λ _. []) (record { ring = ring; sessions = []; admitted = 0; links = replicate (length ring.servers) (up_link 1) })
+talks_opens ring is_ring = record {
+  order = [];
+  lanes = λ _. fresh_lane 0;
+  stands = record {
+    sized = All-nil IsSized;
+    numbered = λ number. refl;
+    sessions = λ number. record { untaken = []; rest = sym no_requests; done = []; unsettled = []; split = refl; settled = refl; unsent = []; answered = refl };
+    unused = λ number above. record { not_open = refl; nothing_came = refl; nothing_taken = refl; nothing_sent = refl };
+    links = λ place. link_opens (length ring.servers) place;
+  };
+  is_ring = is_ring;
+  rings = All-nil (λ (e : Entry). e.ring ≡ ring);
+  ring_is = refl;
+  admitted = refl;
+  is_open = λ client low. absurd (omega (arith, low));
+  bytes = λ client. All-nil (λ (b : ℕ). b < 256);
+  up = λ server low. up_inside (length ring.servers) server low;
+  since = λ server. refl;
+  went_is = λ server. refl;
+  came_is = λ server. refl;
+}

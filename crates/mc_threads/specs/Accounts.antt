@@ -1,0 +1,64 @@
+-- What a run of threads gives account of: this project's own.
+use Rattle.std.specs.Prelude.{ℕ, ◌≡◌, ◌<◌, true, Bool, false, List, [], ◌∷◌, ◌++◌, length, map, slice_index_or, All}
+use Rattle.std.specs.List.{list_all}
+use Rattle.std.specs.declared.vec.Vec.{Vec}
+use Rattle.std.specs.declared.alloc.Global.{Global}
+use Rattle.mc_request.specs.Requests.{requests_of}
+use Rattle.mc_ring.specs.Rings.{RingState}
+use Rattle.mc_route.specs.declared.outcomes.Outcome.{Outcome}
+use Rattle.mc_route.specs.declared.outcomes.Outcome.TheVariants.{Awaited, Lost, Reply}
+use Rattle.mc_cache.specs.CacheState.{CacheState}
+use Rattle.mc_account.specs.Orders.{AreInOrder, Entry as Asked, IsSized, Order, answers_of, commands_to, entries_of, taken_of}
+use Rattle.mc_history.specs.Histories.{IsLegal, tag_in}
+use Rattle.mc_history.specs.Named.{AreReplied, tags_of}
+use Rattle.mc_history.specs.declared.entries.Entry.{Entry}
+
+abbrev pub Bytes : Type 0
+Bytes = Vec ℕ Global
+
+-- pieces, joined
+abbrev pub joined : List Bytes → List ℕ
+joined [] = []
+joined (piece ∷ pieces) = piece.items ++ joined pieces
+
+-- of some lists the one at a place: nothing where there is none
+abbrev pub at : List (List ℕ) → ℕ → List ℕ
+at lists place = slice_index_or lists place []
+
+-- the text of each client, which is its pieces joined, and what each was put out
+abbrev pub texts_of : List (Vec Bytes Global) → ℕ → List ℕ
+texts_of inputs = at (map (λ pieces. joined pieces.items) inputs)
+
+abbrev pub outs_of : List Bytes → ℕ → List ℕ
+outs_of outputs = at (map (λ output. output.items) outputs)
+
+-- whether an outcome is a reply
+abbrev pub is_reply : Outcome → Bool
+is_reply Awaited = false
+is_reply Lost = false
+is_reply (Reply reply) = true
+
+-- What a run of threads gives account of, by an order in which all requests were taken: the clients' texts, what was put out to them,
+-- the servers' histories, and what the servers' clocks had given before the run and after it, all by number.
+pub record Accounts (ring : RingState) (opening : CacheState) (order : Order) (texts outs : ℕ → List ℕ) (histories : ℕ → List Entry) (began ended : ℕ → List ℕ) : Type 0 where
+  -- the order has all requests of each client, in the client's order; each was routed by this ring, and each of its commands was replied
+  pub asked : (client : ℕ) → taken_of client order ≡ requests_of (texts client)
+  pub numbered : (client : ℕ) → AreInOrder (entries_of client order)
+  pub rings : All (λ (e : Asked). e.ring ≡ ring) order
+  pub sized : All IsSized order
+  pub all_replied : All (λ (e : Asked). list_all is_reply e.outcomes ≡ true) order
+  -- each history is legal, and has the commands of the order to its server, each once and in that order
+  pub legal : (server : ℕ) → IsLegal order server opening (histories server)
+  pub commands : (server : ℕ) → map tag_in (histories server) ≡ tags_of (commands_to server order)
+  -- a reply is that of its server's history
+  pub replied : (server : ℕ) → AreReplied server order (histories server)
+  -- what was put out to a client is the answers to all its requests, in order, and nothing else
+  pub put : (client : ℕ) → outs client ≡ answers_of (entries_of client order)
+  -- what a server's clock gave in the run is the moments of its history, and one for `quit`
+  pub clocked : (server : ℕ) → server < length ring.servers
+      → (quit : ℕ) × (ended server ≡ began server ++ (map (λ (e : Entry). e.moment) (histories server) ++ quit ∷ []))
+
+-- the account: there is such an order, and there are such histories
+abbrev pub Account : RingState → CacheState → (ℕ → List ℕ) → (ℕ → List ℕ) → (ℕ → List ℕ) → (ℕ → List ℕ) → Type 0
+Account ring opening texts outs began ended =
+    (order : Order) × (histories : ℕ → List Entry) × Accounts ring opening order texts outs histories began ended

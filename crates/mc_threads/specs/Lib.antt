@@ -1,0 +1,5 @@
+pub mod Accounts
+pub mod Workers
+pub mod Links
+pub mod Starts
+pub mod Talks

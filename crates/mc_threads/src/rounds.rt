@@ -1,0 +1,179 @@
+//! The rounds of the caller's thread over all clients and links.
+ghost use Rattle.std.specs.Prelude.{◌≡◌, ℕ, ◌<◌, ◌++◌, vec_len, codes, OnOk, IsTrue};
+ghost use Rattle.rtrb.specs.Ring.{sent, received};
+ghost use Rattle.mc_threads.specs.Links.{SameEnds};
+ghost use Rattle.mc_threads.specs.Starts.{Each2};
+ghost use Rattle.mc_threads.specs.Talks.{HasAnswered, HasCarried, HasQuit, HasRound, IsAnswered, IsQuiet, IsSilent, StillTalks};
+
+use crate::errors::Ended;
+use crate::links::{Ends, answer_some, ask_some, exchange, move_out, take_replies};
+use crate::worker::piece;
+use mc_proxy::Proxy;
+use std::alloc::Global;
+use std::sync::Wait;
+use std::sync::atomic::{AtomicBool, Ordering};
+use std::thread;
+
+/// Each client may have requests taken.
+fn ask_all(proxy: &mut Proxy, clients: usize) -> Result<(), Ended>
+    ensures { OnOk result (StillTalks proxy.old proxy.new) }
+{
+    for client in 0..clients {
+        ask_some(proxy, client as u64)?;
+    }
+    Ok(())
+}
+
+/// Each link moves what there is to move, and may have replies taken.
+fn carry_all(proxy: &mut Proxy, ends: &mut Vec<Ends>, buffer: &mut Vec<u8>) -> Result<(), Ended>
+    ensures len { vec_len ends.new ≡ vec_len ends.old }
+    ensures rings { OnOk result (Each2 SameEnds (vec_len ends.old) ends.old.items ends.new.items) }
+    ensures carried { OnOk result (HasCarried ends.old.items ends.new.items proxy.old proxy.new) }
+{
+    for place in 0..ends.len() {
+        exchange(proxy, &mut ends[place], place, buffer)?;
+        take_replies(proxy, place)?;
+    }
+    Ok(())
+}
+
+/// Each client may be answered.
+fn answer_all(proxy: &mut Proxy, outputs: &mut Vec<Vec<u8>>) -> Result<(), Ended>
+    ensures len { vec_len outputs.new ≡ vec_len outputs.old }
+    ensures answered { OnOk result (HasAnswered outputs.old.items outputs.new.items proxy.old proxy.new) }
+{
+    for client in 0..outputs.len() {
+        answer_some(proxy, client as u64)?;
+        move_out(proxy, &mut outputs[client], client as u64)?;
+    }
+    Ok(())
+}
+
+/// One round: each client may have requests taken, each link moves what there is to move, each client may be answered.
+fn round(
+    proxy: &mut Proxy,
+    ends: &mut Vec<Ends>,
+    outputs: &mut Vec<Vec<u8>>,
+    buffer: &mut Vec<u8>,
+) -> Result<(), Ended>
+    ensures lens { (vec_len ends.new ≡ vec_len ends.old) × (vec_len outputs.new ≡ vec_len outputs.old) }
+    ensures rings { OnOk result (Each2 SameEnds (vec_len ends.old) ends.old.items ends.new.items) }
+    ensures round { OnOk result (HasRound outputs.old.items outputs.new.items ends.old.items ends.new.items proxy.old proxy.new) }
+{
+    ask_all(proxy, outputs.len())?;
+    carry_all(proxy, ends, buffer)?;
+    answer_all(proxy, outputs)?;
+    Ok(())
+}
+
+/// Whether all that came of a client is answered.
+fn is_answered(proxy: &Proxy, client: u64) -> bool
+    ensures { IsTrue result → IsAnswered proxy.now client }
+{
+    if proxy.ready(client) || proxy.unanswered(client) != 0 {
+        return false;
+    }
+    proxy.output(client).is_empty()
+}
+
+/// Whether all that came of all clients is answered.
+fn are_answered(proxy: &Proxy, clients: usize) -> bool
+    ensures { IsTrue result → ((client : ℕ) → client < clients → IsAnswered proxy.now client) }
+{
+    for client in 0..clients {
+        if !is_answered(proxy, client as u64) {
+            return false;
+        }
+    }
+    true
+}
+
+/// Whether nothing is to be sent to a server, and nothing is awaited from it.
+fn is_silent(proxy: &Proxy, place: usize) -> bool
+    ensures { IsTrue result → IsSilent proxy.now place }
+{
+    if proxy.waiting(place) != 0 {
+        return false;
+    }
+    proxy.link_output(place).is_empty()
+}
+
+/// Whether nothing is to be sent to any server, and nothing is awaited from any.
+fn are_silent(proxy: &Proxy, servers: usize) -> bool
+    ensures { IsTrue result → ((server : ℕ) → server < servers → IsSilent proxy.now server) }
+{
+    for place in 0..servers {
+        if !is_silent(proxy, place) {
+            return false;
+        }
+    }
+    true
+}
+
+/// Whether all is answered.
+fn is_quiet(proxy: &Proxy, clients: usize, servers: usize) -> bool
+    ensures { IsTrue result → IsQuiet clients servers proxy.now }
+{
+    if !are_answered(proxy, clients) {
+        return false;
+    }
+    are_silent(proxy, servers)
+}
+
+/// Rounds until all is answered.
+pub fn talk<R: Wait>(
+    rt: &R,
+    stop: &AtomicBool,
+    alloc: Global,
+    proxy: &mut Proxy,
+    ends: &mut Vec<Ends>,
+    outputs: &mut Vec<Vec<u8>>,
+) -> Result<(), Ended>
+    ensures lens { (vec_len ends.new ≡ vec_len ends.old) × (vec_len outputs.new ≡ vec_len outputs.old) }
+    ensures rings { OnOk result (Each2 SameEnds (vec_len ends.old) ends.old.items ends.new.items) }
+    ensures talked { OnOk result (HasRound outputs.old.items outputs.new.items ends.old.items ends.new.items proxy.old proxy.new) }
+    ensures quiet { OnOk result (IsQuiet (vec_len outputs.old) (vec_len ends.old) proxy.new) }
+{
+    let mut buffer = piece(alloc)?;
+    'rounds: for _ in rt.forever() {
+        if stop.load(Ordering::SeqCst) {
+            return Err(Ended::Stopped);
+        }
+        round(proxy, ends, outputs, &mut buffer)?;
+        if is_quiet(proxy, outputs.len(), ends.len()) {
+            return Ok(());
+        }
+        thread::yield_now();
+    }
+    unreachable!()
+}
+
+/// Sends `quit` to a server once there is room.
+fn close_one<R: Wait>(rt: &R, stop: &AtomicBool, ends: &mut Ends) -> Result<(), Ended>
+    ensures rings { OnOk result (SameEnds ends.old ends.new) }
+    ensures quit { OnOk result (sent ends.new.to ≡ sent ends.old.to ++ codes "quit\r\n") }
+    ensures came { OnOk result (received ends.new.from ≡ received ends.old.from) }
+{
+    'rounds: for _ in rt.forever() {
+        if stop.load(Ordering::SeqCst) {
+            return Err(Ended::Stopped);
+        }
+        if ends.to.push_entire_slice(b"quit\r\n".as_slice()).is_ok() {
+            return Ok(());
+        }
+        thread::yield_now();
+    }
+    unreachable!()
+}
+
+/// Sends `quit` to each server.
+pub fn close_all<R: Wait>(rt: &R, stop: &AtomicBool, ends: &mut Vec<Ends>) -> Result<(), Ended>
+    ensures len { vec_len ends.new ≡ vec_len ends.old }
+    ensures rings { OnOk result (Each2 SameEnds (vec_len ends.old) ends.old.items ends.new.items) }
+    ensures quit { OnOk result (HasQuit (vec_len ends.old) ends.old.items ends.new.items) }
+{
+    for place in 0..ends.len() {
+        close_one(rt, stop, &mut ends[place])?;
+    }
+    Ok(())
+}

@@ -1,0 +1,162 @@
+//! A run: one server on each thread, and the proxy on the caller's.
+ghost use Rattle.std.specs.Prelude.{◌≡◌, ℕ, ◌≢◌, ◌<◌, ◌↔◌, [], length, vec_len, map, IfOk, OnOk, IsErrOf};
+ghost use Rattle.mc_cache.specs.CacheState.{IsWithinBounds, opening_cache};
+ghost use Rattle.mc_proxy.specs.declared.limits.TheConstants.{MAX_SESSIONS};
+ghost use Rattle.mc_threads.specs.Accounts.{Account, at, outs_of, texts_of};
+ghost use Rattle.mc_threads.specs.Links.{SameEnds};
+ghost use Rattle.mc_threads.specs.Starts.{Each2};
+ghost use Rattle.mc_threads.specs.Talks.{HasEnded};
+
+use crate::errors::{Ended, ThreadsError, error_of};
+use crate::joins::{join_all, join_failed};
+use crate::links::Ends;
+use crate::opening::opened_proxy;
+use crate::rounds::{close_all, talk};
+use crate::start::{add, start_all};
+use crate::traits::{Clock, Gate};
+use crate::worker::Bounds;
+use mc_proxy::{MAX_SESSIONS, Proxy};
+use mc_ring::Ring;
+use std::alloc::Global;
+use std::sync::Wait;
+use std::sync::atomic::{AtomicBool, Ordering};
+use std::thread;
+use std::thread::{Scope, Threads};
+
+/// A pool: the ring by which requests are routed, with a server at each of its places, and the bounds of each server's cache.
+#[derive(Drop)]
+pub struct PoolConfig {
+    /// The ring.
+    pub ring: Ring,
+    /// The most that the items of a cache cost in all: the bytes of their keys and values, and 64 for each.
+    pub budget: u64,
+    /// The most items of a cache.
+    pub items: usize,
+}
+
+/// What each client was answered, and the clocks.
+#[derive(Drop)]
+pub struct Ran<C> {
+    /// The answers to each client's requests.
+    pub outputs: Vec<Vec<u8>>,
+    /// The clocks of the servers, in the order in which they were handed in.
+    pub clocks: Vec<C>,
+}
+
+/// Outputs with no byte, for so many clients.
+fn empty_outputs(alloc: Global, clients: usize) -> Result<Vec<Vec<u8>>, Ended>
+    ensures len { IfOk result (λ outputs. vec_len outputs ≡ clients) }
+    ensures empty { IfOk result (λ outputs. (client : ℕ) → outs_of outputs.items client ≡ []) }
+{
+    let mut outputs = Vec::new(alloc);
+    for _ in 0..clients {
+        add(&mut outputs, Vec::new(alloc))?;
+    }
+    Ok(outputs)
+}
+
+/// Rounds until all is answered, then `quit` to each server.
+fn talk_all<R: Wait>(
+    rt: &R,
+    stop: &AtomicBool,
+    alloc: Global,
+    proxy: &mut Proxy,
+    ends: &mut Vec<Ends>,
+    outputs: &mut Vec<Vec<u8>>,
+) -> Result<(), Ended>
+    ensures lens { (vec_len ends.new ≡ vec_len ends.old) × (vec_len outputs.new ≡ vec_len outputs.old) }
+    ensures rings { OnOk result (Each2 SameEnds (vec_len ends.old) ends.old.items ends.new.items) }
+    ensures ended { OnOk result (HasEnded outputs.old.items outputs.new.items ends.old.items ends.new.items proxy.old proxy.new) }
+{
+    talk(rt, stop, alloc, proxy, ends, outputs)?;
+    close_all(rt, stop, ends)?;
+    Ok(())
+}
+
+/// A run inside the scope of its threads.
+fn run_in<'s, E: 's, C: Clock + Send + Drop + 's, G: Gate + Sync, R: Threads + Wait + Sync>(
+    rt: &'s R,
+    scope: &Scope<'s, E>,
+    alloc: Global,
+    config: &PoolConfig,
+    inputs: &[Vec<Vec<u8>>],
+    clocks: Vec<C>,
+    gate: &'s G,
+    stop: &'s AtomicBool,
+) -> Result<Ran<C>, Ended>
+    requires bounds { IsWithinBounds config.now.budget config.now.items }
+    requires clocks { vec_len clocks ≡ length config.now.ring.servers }
+    ensures { IfOk result (λ ran. Account config.now.ring (opening_cache config.now.budget config.now.items 0) (texts_of inputs.now) (outs_of ran.outputs.items)
+        (at (map C.times clocks.items)) (at (map C.times ran.clocks.items))) }
+{
+    let mut proxy = opened_proxy(alloc, &config.ring, inputs)?;
+    let mut outputs = empty_outputs(alloc, inputs.len())?;
+    let bounds = Bounds {
+        budget: config.budget,
+        items: config.items,
+    };
+    let (mut ends, children) = match start_all(rt, scope, alloc, bounds, clocks, gate, stop) {
+        Ok(pair) => pair,
+        Err(error) => {
+            stop.store(true, Ordering::SeqCst);
+            return Err(error);
+        }
+    };
+    match talk_all(rt, stop, alloc, &mut proxy, &mut ends, &mut outputs) {
+        Ok(()) => {
+            let clocks = join_all(rt, alloc, children, &mut ends)?;
+            Ok(Ran { outputs, clocks })
+        }
+        Err(ended) => {
+            stop.store(true, Ordering::SeqCst);
+            Err(join_failed(rt, children, ended))
+        }
+    }
+}
+
+/// Runs a pool until all requests of its clients are answered: a server on a thread of its own for each clock, and the proxy on the
+/// caller's thread, with two rings of 65,536 bytes for each link.
+///
+/// `inputs` has the pieces of each client's text. Each server takes a request only where the gate lets it, at the next moment of its
+/// own clock. At the end it is sent `quit`, which it takes as any other request. The account says what each client is answered and what
+/// each clock gave.
+///
+/// At an error no output is handed out, and the clocks are dropped. This call may wait, and it does so for as long as the gate refuses.
+pub fn run_threads<C: Clock + Send + Drop, G: Gate + Sync, R: Threads + Wait + Sync>(
+    rt: &R,
+    alloc: Global,
+    config: &PoolConfig,
+    inputs: &[Vec<Vec<u8>>],
+    clocks: Vec<C>,
+    gate: &G,
+) -> Result<Ran<C>, ThreadsError>
+    requires { IsWithinBounds config.now.budget config.now.items }
+    ensures account { IfOk result (λ ran. Account config.now.ring (opening_cache config.now.budget config.now.items 0) (texts_of inputs.now) (outs_of ran.outputs.items)
+        (at (map C.times clocks.items)) (at (map C.times ran.clocks.items))) }
+    ensures clock_count { IsErrOf result ThreadsError.ClockCount ↔ (vec_len clocks ≢ length config.now.ring.servers) }
+    ensures too_many { IsErrOf result ThreadsError.TooManyClients
+        ↔ ((vec_len clocks ≡ length config.now.ring.servers) × (MAX_SESSIONS < length inputs.now)) }
+{
+    if clocks.len() != config.ring.servers().len() {
+        return Err(ThreadsError::ClockCount);
+    }
+    if inputs.len() > MAX_SESSIONS {
+        return Err(ThreadsError::TooManyClients);
+    }
+    let stop = AtomicBool::new(false);
+    let shared = &stop;
+    let ran = thread::scope(
+        thread::scope_env(),
+        rt,
+        move |scope| -> Result<Ran<C>, Ended>
+            requires bounds { IsWithinBounds config.now.budget config.now.items }
+            requires clocks { vec_len clocks ≡ length config.now.ring.servers }
+            ensures { IfOk result (λ ran. Account config.entry.now.ring (opening_cache config.entry.now.budget config.entry.now.items 0) (texts_of inputs.entry.now) (outs_of ran.outputs.items)
+                (at (map C.times clocks.items)) (at (map C.times ran.clocks.items))) }
+        { run_in(rt, scope, alloc, config, inputs, clocks, gate, shared) },
+    );
+    match ran {
+        Ok(ran) => Ok(ran),
+        Err(ended) => Err(error_of(ended)),
+    }
+}
