@@ -47,6 +47,7 @@ add tests/pools.py --worlds 100
 add tests/pool_mistakes.py 150
 add tests/spellings.py 5
 add tests/refused.py crates/mc_pool_rows/out/mc_pool_rows_tests pools::dialogues_of_a_pool_go_so
+add tests/refused.py crates/mc_pool_rows/out/mc_pool_rows_tests worlds::links_are_lost_and_back
 add tests/refused_scripts.py
 add tests/serverd.py crates/mc_serverd/out/mc_serverd
 add tests/proxyd.py crates/mc_proxyd/out/mc_proxyd crates/mc_serverd/out/mc_serverd

@@ -5,8 +5,9 @@ Usage: refused.py PROGRAM TEST     (crates/mc_pool_rows/out/mc_pool_rows_tests, 
 
 The program is run again and again with a library in front of the C library, which refuses the Nth allocation, for N from 1
 until none is left to refuse; and once more so with the two behind it refused too. The test has to make a call again that was
-refused memory, and then has to find all as it would have been. The library is built by the toolchain's own clang, in a
-temporary folder. A line is printed for each N at which the test fails; the last line is 'N passed, M failed', one for each way.
+refused memory, and then has to find all as it would have been; or, where a store was answered so, all else as the cache has it
+then. The library is built by the toolchain's own clang, in a temporary folder. A line is printed for each N at which the test
+fails; the last line is 'N passed, M failed', one for each way.
 """
 import os
 import shutil

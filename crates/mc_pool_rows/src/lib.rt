@@ -1,4 +1,4 @@
-//! Tests of rings, links and proxies, of what no clause says and no script can bring about.
+//! Tests of rings, links, proxies and worlds, of what no clause says and no script can bring about.
 //!
 //! `mc_rows` has those of servers. What is expected is worked out by hand from the protocol's rules, or is another program's
 //! figure, and is never taken from what the program wrote.
@@ -18,3 +18,5 @@ mod pools;
 mod proxy_pumps;
 #[cfg(test)]
 mod rings;
+#[cfg(test)]
+mod worlds;
