@@ -40,6 +40,7 @@ MOST_SERVERS = 64
 POOLS = 20
 CIRCLE = 1 << 32
 KEYS = 1_000_000
+PLACED_KEYS = 100_000
 EXPONENT = 0.99
 HOTTEST = (1, 10, 100, 1_000, 10_000)
 KEYS_OF_A_GET = 24
@@ -98,29 +99,32 @@ def key_of(rank):
     return b"key-%016d" % rank
 
 
-class Requests:
-    """What clients ask for: the key of a rank, from 1 on, is asked for as often as one part of the rank to the exponent."""
-
-    def __init__(self, count=KEYS):
-        hashes = [hash_of(key_of(rank)) for rank in range(1, count + 1)]
-        weights = [rank**-EXPONENT for rank in range(1, count + 1)]
-        order = sorted(range(count), key=hashes.__getitem__)
-        self.total = math.fsum(weights)
-        self.by_rank = list(itertools.accumulate(weights))
-        self.hashes = [hashes[at] for at in order]
-        self.sums = list(itertools.accumulate((weights[at] for at in order), initial=0.0))
-
-    def up_to(self, hash):
-        """The part of the requests whose keys have at most this hash."""
-        return self.sums[bisect.bisect_right(self.hashes, hash)] / self.total
-
-    def of_the_hottest(self, count):
-        return self.by_rank[count - 1] / self.total
-
-
 def circle_up_to(hash):
     """The part of all hashes that is at most this one."""
     return (hash + 1) / CIRCLE
+
+
+class Requests:
+    """What clients ask for: the key of a rank, from 1 on, is asked for as often as 1 / rank ** EXPONENT says.
+
+    The hottest keys are where their hashes are. All others are so many, and each so rare, that they count as spread evenly.
+    """
+
+    def __init__(self):
+        weights = [rank**-EXPONENT for rank in range(1, KEYS + 1)]
+        sums = list(itertools.accumulate(weights))
+        self.total, self.rest = sums[-1], sums[-1] - sums[PLACED_KEYS - 1]
+        self.by_rank = sums
+        placed = sorted((hash_of(key_of(rank)), weights[rank - 1]) for rank in range(1, PLACED_KEYS + 1))
+        self.hashes = [hash for hash, _ in placed]
+        self.sums = list(itertools.accumulate((weight for _, weight in placed), initial=0.0))
+
+    def up_to(self, hash):
+        """The part of the requests whose keys have at most this hash."""
+        return (self.sums[bisect.bisect_right(self.hashes, hash)] + self.rest * circle_up_to(hash)) / self.total
+
+    def of_the_hottest(self, count):
+        return self.by_rank[count - 1] / self.total
 
 
 def arcs(ring):
@@ -241,15 +245,11 @@ def table_of_moves(pools):
 def table_of_losses(pools):
     rows = []
     for count in SIZES:
-        lost = pools.each(pools.greatest, count)
-        rows.append([
-            str(count),
-            percent(1 / count),
-            middle([each / count for each in lost], percent, max),
-            percent(1 - (1 - 1 / count) ** KEYS_OF_A_GET),
-            percent(1 / count) if count > 1 else "",
-        ][:4])
-    return table(["Servers", "Keys that fail", "Where the fullest server is lost", f"Gets of {KEYS_OF_A_GET} keys that fail"], rows)
+        fullest = [share / count for share in pools.each(pools.greatest, count)]
+        of_many = 1 - (1 - 1 / count) ** KEYS_OF_A_GET
+        rows.append([str(count), percent(1 / count), middle(fullest, percent, max), percent(of_many)])
+    head = ["Servers, one of them lost", "Keys that fail", "If it is the fullest", f"Gets of {KEYS_OF_A_GET} keys that fail"]
+    return table(head, rows)
 
 
 def megabytes(bytes):
@@ -284,7 +284,7 @@ def carried(cost, share):
     return BUSY * 1e9 / cost.server / share
 
 
-def thousands(rate):
+def to_two_digits(rate):
     """A rate to two digits: no more of them mean anything."""
     digits = 2 - len(str(round(rate)))
     return f"{round(rate, digits):,.0f}"
@@ -295,7 +295,7 @@ def table_of_pools(pools):
     for count in SIZES:
         even, zipf = pools.ratio(count) / count, pools.hottest_ratio(count) / count
         rates = [carried(cost, share) for cost in COSTS_OF_A_POOL.values() for share in (even, zipf)]
-        rows.append([str(count), *map(thousands, rates)])
+        rows.append([str(count), *map(to_two_digits, rates)])
     head = ["Servers", *(f"{keys}, {way}" for way in COSTS_OF_A_POOL for keys in ("Even keys", "Zipf's law"))]
     return table(head, rows)
 
@@ -326,7 +326,7 @@ def table_of_machines(pools):
             f"{rate * BYTES_OF_A_REQUEST * 8 / 1e9:,.1f}",
         ])
     head = [
-        "Requests a second", "A client asks", "Processors' work, servers", "Proxies", "Servers", "Pools", "Proxies",
+        "Requests a second", "A client asks", "Work of servers, processors", "Work of proxies", "Servers", "Pools", "Proxies",
         f"Machines of {PROCESSORS_OF_A_MACHINE} processors", "Gbit a second",
     ]
     return table(head, rows)
@@ -391,17 +391,18 @@ def write(pools):
 
 
 def shares_are_those_of_single_keys(pools, count):
-    """A key is of the server whose part of the circle it is in; and it stays, or goes to the server that joins."""
-    ring, smaller = ring_of(0, count), ring_of(0, count - 1)
-    whole = Ring(servers_of(0, count))
+    """A key is of the server whose part of the circle it is in. Without the last server it is of the same, or was the last one's."""
+    whole, without = Ring(servers_of(0, count)), Ring(servers_of(0, count - 1))
+    parts = arcs(ring_of(0, count))
+    lasts = [last for last, _ in parts]
     for rank in range(1, SAMPLE + 1):
         key = key_of(rank)
         place = whole.owner(key)
-        want((key, next(place for last, place in arcs(ring) if last >= hash_of(key))), (key, place))
+        want((key, parts[bisect.bisect_left(lasts, hash_of(key))][1]), (key, place))
         if place != count - 1:
-            want((key, smaller.owner(key)), (key, place))
-    for parts in (pools.keys_of(0, count), pools.requests_of(0, count)):
-        want(round(math.fsum(parts), 9), 1.0)
+            want((key, without.owner(key)), (key, place))
+    for each in (pools.keys_of(0, count), pools.requests_of(0, count)):
+        want(round(math.fsum(each), 9), 1.0)
 
 
 def checks(pools):
