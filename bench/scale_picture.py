@@ -7,7 +7,6 @@ share. The picture has colours for a light ground and for a dark one.
 WIDTH, HEIGHT = 760, 420
 LEFT, RIGHT, TOP, BOTTOM = 70, 740, 60, 360
 APART = 22  # from the middle of a pool's column to its dots
-GROUND_OF_A_LOG = (0.5, 8)
 
 STYLE = """
 text { font: 13px system-ui, 'DejaVu Sans', sans-serif; fill: #1b1f24 }
