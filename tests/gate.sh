@@ -39,6 +39,7 @@ fi
 add rt ci
 add tests/edits.py --read
 add tests/cited.py
+add tests/proving.py
 add tests/examples.sh
 add tests/prefixes.py
 add tests/random.sh 5 2000
