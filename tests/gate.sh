@@ -40,6 +40,7 @@ add rt ci
 add tests/edits.py --read
 add tests/cited.py
 add tests/proving.py
+add bench/plot.py --check
 add tests/examples.sh
 add tests/prefixes.py
 add tests/random.sh 5 2000
