@@ -9,8 +9,9 @@ A crate is skipped where neither its text, nor that of a crate that it uses, nor
 is still there.
 
 Each crate has one job, or more where fewer crates are ready than processors are free. Of those that are ready, the one with the
-longest way up to a crate that was asked for comes first. On a terminal the last line says what is being proved, and how long it may
-yet take: that is from the seconds below, and from the pace so far. Else there is a line for each crate that is done.
+longest way up to a crate that was asked for comes first, and has the most. On a terminal the last line says what is being proved,
+and how long it may yet take: that is from the seconds below, and from the pace so far. Else there is a line for each crate that is
+done.
 
 --processors N takes N at a time; with no N, all that there are, but one for each 3 GB of free memory. --plan proves nothing: it
 prints when each crate would start and end. A failure ends all that runs; what rt said of the crate is printed, and the status is 1.
@@ -21,6 +22,7 @@ import contextlib
 import dataclasses
 import fcntl
 import hashlib
+import math
 import os
 import pathlib
 import shutil
@@ -34,19 +36,19 @@ TOP = pathlib.Path(__file__).resolve().parent
 BYTES_A_CHECK = 3_000_000_000
 PARTS = ("src", "specs", "proofs")  # what a proof reads of a crate
 STAMP = "proved.stamp"  # beside what rt built: of which text it is
-LOADING = 7  # seconds in which a check reads the libraries, with any number of jobs
-OVERHEAD = 0.06  # how much each further job adds to the work
+LOADING, ALONE = 7, 0.12  # what jobs cannot share: these seconds, and this part of a crate's
+OVERHEAD = 0.14  # how much each further job adds to what they share
 UNKNOWN = 60
 
 # Seconds of one job, on a processor that nothing else uses.
 SECONDS = {
-    "mc_account": 40,
+    "mc_account": 16,
     "mc_bench": 230,
     "mc_cache": 120,
     "mc_cache_laws": 21,
     "mc_fixtures": 34,
     "mc_forms": 22,
-    "mc_history": 30,
+    "mc_history": 12,
     "mc_item": 22,
     "mc_link": 66,
     "mc_one_map": 30,
@@ -55,11 +57,11 @@ SECONDS = {
     "mc_pool_rows": 150,
     "mc_pool_script": 80,
     "mc_program": 22,
-    "mc_proxy": 158,
-    "mc_proxy_pump": 43,
-    "mc_proxy_serve": 220,
-    "mc_proxyd": 52,
-    "mc_pump": 27,
+    "mc_proxy": 150,
+    "mc_proxy_pump": 65,
+    "mc_proxy_serve": 180,
+    "mc_proxyd": 90,
+    "mc_pump": 45,
     "mc_read_back": 52,
     "mc_reply": 86,
     "mc_reply_reader": 97,
@@ -68,20 +70,20 @@ SECONDS = {
     "mc_ring": 60,
     "mc_route": 88,
     "mc_rows": 110,
-    "mc_script": 91,
-    "mc_serve": 115,
-    "mc_server": 109,
-    "mc_serverd": 46,
-    "mc_session": 90,
-    "mc_sim": 43,
+    "mc_script": 100,
+    "mc_serve": 112,
+    "mc_server": 115,
+    "mc_serverd": 85,
+    "mc_session": 100,
+    "mc_sim": 85,
     "mc_socket": 32,
     "mc_spelling": 79,
     "mc_store": 86,
     "mc_stream": 18,
     "mc_text": 70,
     "mc_thread_rows": 60,
-    "mc_threads": 150,
-    "mc_world": 200,
+    "mc_threads": 190,
+    "mc_world": 260,
 }
 
 
@@ -159,8 +161,9 @@ class Texts:
 
 def seconds(name, jobs):
     """How long the proof of a crate may take."""
-    work = max(SECONDS.get(name, UNKNOWN) - LOADING, 0)
-    return LOADING + work * (1 + OVERHEAD * (jobs - 1)) / jobs
+    whole = SECONDS.get(name, UNKNOWN)
+    alone = min(LOADING + ALONE * whole, whole)
+    return alone + (whole - alone) * (1 + OVERHEAD * (jobs - 1)) / jobs
 
 
 class Schedule:
@@ -183,11 +186,12 @@ class Schedule:
         return sorted(found, key=lambda it: (-self.way(it), it))
 
     def start(self):
-        """Starts a crate, and gives it and its jobs: its share of the processors that are free. None where none can start."""
+        """Starts a crate, and gives it and its jobs: of the free processors the share of its way in those of all that are ready, rounded
+        up. None where none can start."""
         ready, free = self.ready(), self.processors - sum(self.running.values())
         if not ready or free < 1:
             return None
-        self.running[ready[0]] = -(-free // len(ready))
+        self.running[ready[0]] = math.ceil(free * self.way(ready[0]) / sum(map(self.way, ready)))
         return ready[0], self.running[ready[0]]
 
     def end(self, name):
