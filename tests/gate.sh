@@ -39,6 +39,9 @@ fi
 add rt ci
 add tests/edits.py --read
 add tests/cited.py
+add tests/believed.py --check
+add tests/proving.py
+add bench/plot.py --check
 add tests/examples.sh
 add tests/prefixes.py
 add tests/random.sh 5 2000

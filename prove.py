@@ -1,0 +1,454 @@
+#!/usr/bin/env python3
+"""Proves and builds crates and the crates that these use, side by side, lowest first.
+
+Usage: prove.py [--processors N] [--plan] CRATE ..
+
+A crate is proved by `rt lib`, a program by `rt run`, in a copy of its own: a crates.txt cut to what it needs, links to the libraries
+that it uses, and its own files. Once it is proved, the copy's out/ takes the place of the crate's, so there is never half of one.
+A crate is skipped where neither its text, nor that of a crate that it uses, nor the toolchain has changed since, and what rt built
+is still there.
+
+Each crate has one job, or more where fewer crates are ready than processors are free. Of those that are ready, the one with the
+longest way up to a crate that was asked for comes first, and has the most. On a terminal the last line says what is being proved,
+and how long it may yet take: that is from the seconds below, and from the pace so far. Else there is a line for each crate that is
+done.
+
+--processors N takes N at a time; with no N, all that there are, but one for each 3 GB of free memory. --plan proves nothing: it
+prints when each crate would start and end. A failure ends all that runs; what rt said of the crate is printed, and the status is 1.
+"""
+
+import argparse
+import contextlib
+import dataclasses
+import fcntl
+import hashlib
+import math
+import os
+import pathlib
+import shutil
+import signal
+import subprocess
+import sys
+import tempfile
+import time
+
+TOP = pathlib.Path(__file__).resolve().parent
+BYTES_A_CHECK = 3_000_000_000
+PARTS = ("src", "specs", "proofs")  # what a proof reads of a crate
+STAMP = "proved.stamp"  # beside what rt built: of which text it is
+LOADING, ALONE = 7, 0.12  # what jobs cannot share: these seconds, and this part of a crate's
+OVERHEAD = 0.14  # how much each further job adds to what they share
+UNKNOWN = 60
+
+# Seconds of one job, on a processor that nothing else uses.
+SECONDS = {
+    "mc_account": 16,
+    "mc_bench": 230,
+    "mc_cache": 120,
+    "mc_cache_laws": 21,
+    "mc_fixtures": 34,
+    "mc_forms": 22,
+    "mc_history": 12,
+    "mc_item": 22,
+    "mc_link": 66,
+    "mc_one_map": 30,
+    "mc_pool_laws": 40,
+    "mc_pool_play": 60,
+    "mc_pool_rows": 150,
+    "mc_pool_script": 80,
+    "mc_program": 22,
+    "mc_proxy": 150,
+    "mc_proxy_pump": 65,
+    "mc_proxy_serve": 180,
+    "mc_proxyd": 90,
+    "mc_pump": 45,
+    "mc_read_back": 52,
+    "mc_reply": 86,
+    "mc_reply_reader": 97,
+    "mc_request": 240,
+    "mc_request_reader": 54,
+    "mc_ring": 60,
+    "mc_route": 88,
+    "mc_rows": 110,
+    "mc_script": 100,
+    "mc_serve": 112,
+    "mc_server": 115,
+    "mc_serverd": 85,
+    "mc_session": 100,
+    "mc_sim": 85,
+    "mc_socket": 32,
+    "mc_spelling": 79,
+    "mc_store": 86,
+    "mc_stream": 18,
+    "mc_text": 70,
+    "mc_thread_rows": 60,
+    "mc_threads": 190,
+    "mc_world": 260,
+}
+
+
+class Failed(Exception):
+    """Why nothing more is proved."""
+
+
+# The crates.
+
+
+class Crates:
+    """The crates of crates.txt: of each its line, and which crates it uses."""
+
+    def __init__(self, text):
+        listed = (line.partition("#")[0].strip() for line in text.splitlines())
+        heads = {line.partition(":")[0].split()[0]: line for line in listed if line}
+        self.lines = heads
+        self.uses = {name: [it for it in line.partition(":")[2].split() if it in heads] for name, line in heads.items()}
+
+    def below(self, name):
+        """The crates that one needs."""
+        found = set(self.uses[name])
+        return found.union(*map(self.below, self.uses[name]))
+
+    def cut(self, name):
+        """A crates.txt of one crate and those below it."""
+        need = self.below(name) | {name}
+        return "".join(f"{line}\n" for it, line in self.lines.items() if it in need)
+
+
+def folder_of(name, top=TOP):
+    return top / "crates" / name
+
+
+def is_program(name):
+    return (folder_of(name) / "src" / "main.rt").is_file()
+
+
+def text_of(path):
+    """The text of a file, or None where there is none."""
+    return path.read_text() if path.is_file() else None
+
+
+class Texts:
+    """Sums of the text that the proof of each crate reads."""
+
+    def __init__(self, crates, toolchain):
+        self.crates, self.toolchain, self.sums = crates, toolchain, {}
+
+    def of(self, name):
+        """The sum of a crate's text, of those below it, and of the toolchain."""
+        if name not in self.sums:
+            handles = text_of(TOP / "HANDLES")
+            below = [self.of(it) for it in self.crates.uses[name]]
+            found = hashlib.sha256(repr((self.toolchain, handles, self.crates.lines[name], below)).encode())
+            for part in PARTS:
+                for path in sorted(it for it in (folder_of(name) / part).rglob("*") if it.is_file()):
+                    found.update(repr((str(path.relative_to(folder_of(name))), path.read_bytes())).encode())
+            self.sums[name] = found.hexdigest()
+        return self.sums[name]
+
+    def stamp(self, name, top=TOP):
+        """What is written beside a proved crate: the sum of its text, and what rt itself noted of it. None where rt built nothing."""
+        out = folder_of(name, top) / "out"
+        noted = text_of(out / f"{name}.stamp" if is_program(name) else out / "rlib" / "stamp")
+        return None if noted is None else f"{self.of(name)}\n{noted}\n"
+
+    def is_proved(self, name):
+        stamp = self.stamp(name)
+        return stamp is not None and text_of(folder_of(name) / "out" / STAMP) == stamp
+
+
+# What is next.
+
+
+def seconds(name, jobs):
+    """How long the proof of a crate may take."""
+    whole = SECONDS.get(name, UNKNOWN)
+    alone = min(LOADING + ALONE * whole, whole)
+    return alone + (whole - alone) * (1 + OVERHEAD * (jobs - 1)) / jobs
+
+
+class Schedule:
+    """What is to be proved yet, and what is being proved by how many jobs."""
+
+    def __init__(self, uses, processors):
+        self.uses, self.processors, self.running = dict(uses), processors, {}
+        self.ways = {}
+
+    def way(self, name):
+        """How long it takes from the start of a crate to the end of what uses it, at least."""
+        if name not in self.ways:
+            above = [self.way(it) for it, uses in self.uses.items() if name in uses]
+            self.ways[name] = seconds(name, 1) + max(above, default=0)
+        return self.ways[name]
+
+    def ready(self):
+        """The crates that can start, the one with the longest way first."""
+        found = [it for it, uses in self.uses.items() if it not in self.running and not any(below in self.uses for below in uses)]
+        return sorted(found, key=lambda it: (-self.way(it), it))
+
+    def start(self):
+        """Starts a crate, and gives it and its jobs: of the free processors the share of its way in those of all that are ready, rounded
+        up. None where none can start."""
+        ready, free = self.ready(), self.processors - sum(self.running.values())
+        if not ready or free < 1:
+            return None
+        self.running[ready[0]] = math.ceil(free * self.way(ready[0]) / sum(map(self.way, ready)))
+        return ready[0], self.running[ready[0]]
+
+    def end(self, name):
+        del self.running[name], self.uses[name]
+
+
+def simulated(schedule, since):
+    """When each crate may start and end, and by how many jobs, from now on. `since` is how long each has run that runs now."""
+    copy = Schedule(schedule.uses, schedule.processors)
+    copy.running = dict(schedule.running)
+    ends = {name: max(seconds(name, jobs) - since.get(name, 0), 1) for name, jobs in copy.running.items()}
+    now, rows = 0, []
+    while True:
+        while started := copy.start():
+            name, jobs = started
+            ends[name] = now + seconds(name, jobs)
+            rows.append((name, jobs, now, ends[name]))
+        if not ends:
+            return now, rows
+        name = min(ends, key=ends.get)
+        now = ends.pop(name)
+        copy.end(name)
+
+
+# One crate.
+
+
+def link_or_copy(one, other):
+    """Gives what rt built a second name: rt never writes into a library, nor into what it keeps of a proof, but makes it anew."""
+    if "/rlib/" in one or one.endswith(".oantt"):
+        os.link(one, other)
+    else:
+        shutil.copy2(one, other)
+
+
+def copied(crates, name, room):
+    """Makes the copy in which a crate is proved, and gives its top."""
+    top = room / name
+    folder = folder_of(name, top)
+    shutil.copytree(folder_of(name), folder, copy_function=link_or_copy, ignore=shutil.ignore_patterns("must-fail", STAMP))
+    (top / "crates.txt").write_text(crates.cut(name))
+    if (TOP / "HANDLES").is_file():
+        shutil.copy(TOP / "HANDLES", top)
+    for below in crates.below(name):
+        for part in (*PARTS, "out/rlib"):
+            source = folder_of(below) / part
+            if source.is_dir():
+                shutil.copytree(source, folder_of(below, top) / part, copy_function=link_or_copy)
+    return top
+
+
+@dataclasses.dataclass
+class Run:
+    """A crate that is being proved."""
+
+    name: str
+    top: pathlib.Path
+    process: subprocess.Popen
+    said: pathlib.Path
+    begun: float
+
+    def took(self):
+        return time.monotonic() - self.begun
+
+
+def begin(crates, name, jobs, room):
+    """Starts the proof of a crate in a copy."""
+    top = copied(crates, name, room)
+    folder, said = folder_of(name, top), room / f"{name}.said"
+    words = ["rt", "run" if is_program(name) else "lib", "--jobs", str(jobs)]
+    if is_program(name):
+        words += ["--", *(text_of(folder / "args") or "").split()]
+    with open(said, "w") as out, open(folder / "stdin" if (folder / "stdin").is_file() else os.devnull) as given:
+        process = subprocess.Popen(words, cwd=folder, stdin=given, stdout=out, stderr=subprocess.STDOUT)
+    return Run(name, top, process, said, time.monotonic())
+
+
+@contextlib.contextmanager
+def alone_in(folder, why):
+    """Waits until no other works in a folder, as rt does."""
+    held = os.open(folder, os.O_RDONLY)
+    try:
+        try:
+            fcntl.flock(held, fcntl.LOCK_EX | fcntl.LOCK_NB)
+        except BlockingIOError:
+            print(why, flush=True)
+            fcntl.flock(held, fcntl.LOCK_EX)
+        yield
+    finally:
+        os.close(held)
+
+
+def take(run, texts):
+    """Has what a run built take the place of the crate's out/. Whether the run proved the crate is seen by what rt noted: the status of
+    `rt run` is that of the program."""
+    folder, made = folder_of(run.name), folder_of(run.name, run.top) / "out"
+    stamp = texts.stamp(run.name, run.top)
+    if stamp is None or not is_program(run.name) and run.process.returncode:
+        raise Failed(f"{run.said.read_text(errors='replace')}{run.name} is not proved")
+    (made / STAMP).write_text(stamp)
+    with alone_in(folder, f"waiting for another rt to finish in {folder}"):
+        if (folder / "out").exists():
+            (folder / "out").rename(run.top / "before")
+        made.rename(folder / "out")
+    shutil.rmtree(run.top)
+
+
+# The screen.
+
+
+def clock(of):
+    return f"{int(of) // 60}:{int(of) % 60:02}"
+
+
+def about(of):
+    minutes = round(of / 60)
+    return "less than a minute" if of < 50 else "about a minute" if minutes <= 1 else f"about {minutes} minutes"
+
+
+class Screen:
+    """What is said while crates are proved."""
+
+    def __init__(self, count):
+        self.count, self.done, self.expected, self.taken = count, 0, 0, 0
+        self.is_live = sys.stdout.isatty() and os.environ.get("TERM") != "dumb"
+
+    def pace(self):
+        """How many seconds one expected second takes, from the crates that are done."""
+        return min(max(self.taken / self.expected, 0.3), 10) if self.expected else 1
+
+    def left(self, schedule, runs):
+        since = {run.name: run.took() / self.pace() for run in runs}
+        return about(simulated(schedule, since)[0] * self.pace())
+
+    def line(self, schedule, runs):
+        names = ", ".join(f"{run.name} {clock(run.took())}" for run in runs)
+        return f"{self.done} of {self.count} proved; now {names}; {self.left(schedule, runs)} to go"
+
+    def show(self, schedule, runs):
+        """Writes the last line of a terminal anew."""
+        if self.is_live and runs:
+            print(f"\r\033[K{self.line(schedule, runs)[: shutil.get_terminal_size().columns - 1]}", end="", flush=True)
+
+    def ended(self, run, jobs):
+        self.done += 1
+        self.expected += seconds(run.name, jobs)
+        self.taken += run.took()
+        print(f"{self.clear()}{self.done} of {self.count}: {run.name} is proved ({clock(run.took())})", end="", flush=True)
+
+    def more(self, schedule, runs):
+        """Ends the line of a crate with what comes after it."""
+        print(f"; {self.left(schedule, runs)} to go" if runs and not self.is_live else "", flush=True)
+
+    def clear(self):
+        return "\r\033[K" if self.is_live else ""
+
+
+# All of them.
+
+
+def stop(runs):
+    for run in runs:
+        run.process.terminate()
+    for run in runs:
+        run.process.wait()
+
+
+def prove(crates, texts, schedule, screen, room):
+    """Proves what the schedule has left."""
+    runs = []
+    try:
+        while schedule.uses:
+            while started := schedule.start():
+                runs.append(begin(crates, *started, room))
+            for run in [it for it in runs if it.process.poll() is not None]:
+                take(run, texts)
+                screen.ended(run, schedule.running[run.name])
+                runs.remove(run)
+                schedule.end(run.name)
+                while started := schedule.start():
+                    runs.append(begin(crates, *started, room))
+                screen.more(schedule, runs)
+            screen.show(schedule, runs)
+            time.sleep(0.2)
+    finally:
+        print(screen.clear(), end="", flush=True)
+        stop(runs)
+
+
+def room_for_copies():
+    """A folder for the copies, on the disk of the crates. In the checkout's own .git no command takes it for a part of the repository."""
+    return tempfile.TemporaryDirectory(prefix="prove-", dir=TOP / ".git" if (TOP / ".git").is_dir() else TOP)
+
+
+def usable_processors():
+    """As many checks as run side by side: one for each processor, and for each 3 GB of free memory."""
+    free = next((line for line in (text_of(pathlib.Path("/proc/meminfo")) or "").splitlines() if line.startswith("MemAvailable")), None)
+    held = int(free.split()[1]) * 1024 // BYTES_A_CHECK if free else 1
+    return max(min(len(os.sched_getaffinity(0)), held), 1)
+
+
+def print_plan(schedule):
+    whole, rows = simulated(schedule, {})
+    for name, jobs, start, end in rows:
+        print(f"{clock(start):>6} to {clock(end):>6}  {name}, {jobs} job{'s' * (jobs > 1)}")
+    print(f"{len(rows)} crates in {clock(whole)}, on {schedule.processors} processors that nothing else uses")
+
+
+def given_words():
+    words = argparse.ArgumentParser(description=__doc__, formatter_class=argparse.RawDescriptionHelpFormatter)
+    words.add_argument("--processors", type=int, metavar="N", default=usable_processors())
+    words.add_argument("--plan", action="store_true")
+    words.add_argument("crates", metavar="CRATE", nargs="+")
+    return words.parse_args()
+
+
+def prove_asked(crates, asked):
+    """Proves what was asked for and is not proved yet."""
+    toolchain = subprocess.run(["rt", "version"], stdout=subprocess.PIPE, text=True, check=True).stdout
+    texts = Texts(crates, toolchain)
+    need = {it for name in asked.crates for it in crates.below(name) | {name}}
+    left = {it: [below for below in crates.uses[it] if below in need] for it in crates.lines if it in need and not texts.is_proved(it)}
+    schedule, screen = Schedule(left, max(asked.processors, 1)), Screen(len(left))
+    if not left:
+        return
+    whole, _ = simulated(schedule, {})
+    print(f"{len(left)} of {len(need)} crates are to be proved; on {schedule.processors} free processors that takes {about(whole)}", flush=True)
+    with room_for_copies() as room:
+        prove(crates, texts, schedule, screen, pathlib.Path(room))
+
+
+def main():
+    asked = given_words()
+    crates = Crates((TOP / "crates.txt").read_text())
+    try:
+        for name in asked.crates:
+            if name not in crates.lines:
+                raise Failed(f"crates.txt lists no {name}")
+        if asked.plan:
+            need = {it for name in asked.crates for it in crates.below(name) | {name}}
+            print_plan(Schedule({it: crates.uses[it] for it in crates.lines if it in need}, max(asked.processors, 1)))
+            return 0
+        with alone_in(TOP / "crates", "waiting for another prove.py to end"):
+            prove_asked(crates, asked)
+    except (Failed, OSError, subprocess.SubprocessError) as error:
+        print(f"prove.py: {error}", file=sys.stderr)
+        return 1
+    except KeyboardInterrupt:
+        print("prove.py: ended; what was proved is kept", file=sys.stderr)
+        return 130
+    return 0
+
+
+def interrupt(*_):
+    raise KeyboardInterrupt
+
+
+if __name__ == "__main__":
+    signal.signal(signal.SIGTERM, interrupt)
+    sys.exit(main())
