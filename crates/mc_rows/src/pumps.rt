@@ -5,10 +5,13 @@ use mc_fixtures::{
     Call, Calls, MANY, MOMENT, MeagreStore, SCRIPTS, Sides, Sink, Source, WIDE, new_server,
     with_value,
 };
-use mc_pump::{MAX_ROUNDS, Pump, UNSENT_MARK, pump};
+use mc_pump::{MAX_ROUNDS, Pump, UNSENT_MARK, Watch, pump};
 use mc_server::Server;
 use std::alloc::{AllocError, Global};
 use std::test::Fail;
+
+/// More than any answer has.
+const WIDE_ANSWER: usize = 100_000_000;
 
 /// What a client sends, and what it is answered.
 struct Exchange {
@@ -36,8 +39,11 @@ fn pumped(
 ) -> Pump {
     let mut ended = false;
     let mut piece = [0u8; 16];
+    let mut watch = Watch::new(WIDE_ANSWER);
     for _ in 0..MANY {
-        let last = pump(server, number, &mut ended, source, sink, &mut piece, MOMENT);
+        let last = pump(
+            server, number, &mut ended, source, sink, &mut piece, MOMENT, &mut watch,
+        );
         if last == Pump::Done || last == Pump::Failed {
             return last;
         }
@@ -197,7 +203,10 @@ fn unsent_after_a_pump(
     sink: &mut Sink,
 ) -> usize {
     let mut piece = [0u8; 16];
-    let _ = pump(server, number, &mut false, source, sink, &mut piece, MOMENT);
+    let mut watch = Watch::new(WIDE_ANSWER);
+    let _ = pump(
+        server, number, &mut false, source, sink, &mut piece, MOMENT, &mut watch,
+    );
     server.output(number).len()
 }
 
@@ -232,6 +241,7 @@ fn a_pump_ends_though_more_comes(rt: HostRuntime) -> Result<(), Fail> {
     let mut source = Source::new(alloc, &[b'x'; 1_000], Calls::new(&[Moves(1)], None))?;
     let mut sink = Sink::new(alloc, Calls::new(&[Moves(1)], None));
     let mut piece = [0u8; 16];
+    let mut watch = Watch::new(WIDE_ANSWER);
     let last = pump(
         &mut server,
         number,
@@ -240,6 +250,7 @@ fn a_pump_ends_though_more_comes(rt: HostRuntime) -> Result<(), Fail> {
         &mut sink,
         &mut piece,
         MOMENT,
+        &mut watch,
     );
     assert!(rt; last == Pump::Again && source.calls.made == MAX_ROUNDS as usize);
     Ok(())
