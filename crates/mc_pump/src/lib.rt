@@ -13,15 +13,12 @@
 
 mod laws;
 mod limits;
-mod lines;
 mod pumps;
 mod rounds;
 mod watches;
 
 pub use laws::servers_stand_behind_a_stretch;
 pub use limits::UNSENT_MARK;
-pub use lines::Lines;
 pub use mc_stream::{MAX_ROUNDS, Pump};
 pub use pumps::pump;
-pub use rounds::exceeds;
 pub use watches::Watch;

@@ -19,7 +19,8 @@ use std::io::{Read, Write};
 /// sets it when a read gives no byte, and then reads no more; a caller hands in `false` at first.
 ///
 /// A request whose answer may have more bytes than the watch allows is not taken: the pump says [`Pump::Failed`] and has done
-/// nothing for it ([`exceeds`](crate::exceeds) is then still true). The watch counts the requests that are taken, and the bytes.
+/// nothing for it (its [bound](Server::bound) is then still above the limit). The watch counts the requests that are taken, and
+/// the bytes.
 pub fn pump<S: Store + Drop, R: Read, W: Write>(
     server: &mut Server<S>,
     number: u64,

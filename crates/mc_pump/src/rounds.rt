@@ -1,7 +1,5 @@
 //! A round: turns, a write, a read.
-ghost use Rattle.std.specs.Prelude.{◌≡◌, ◌<◌, ◌≤◌, ◌-◌, ◌^◌, ◌==◌, ◌&&◌, ℕ, List, [], Option, false, true, length, min, IfOk, IsSome};
-ghost use Rattle.std.specs.Bool.{OnTrue, OnFalse};
-ghost use Rattle.mc_server.specs.Rooms.{bound_of};
+ghost use Rattle.std.specs.Prelude.{◌≡◌, ◌<◌, ◌^◌, ◌==◌, ◌&&◌, ℕ, List, [], Option, false, length, IfOk, IsSome};
 ghost use Rattle.mc_server.specs.ServerState.{connection_at, output_of};
 ghost use Rattle.mc_server.specs.Turns.{is_closed_at, waiting_of};
 ghost use Rattle.mc_pump.specs.Stretches.{Stretch};
@@ -10,7 +8,7 @@ ghost use Rattle.mc_pump.specs.Rounds.{Receives, Sends, StopsAt, ends_by, pump_o
 
 use crate::limits::UNSENT_MARK;
 use crate::watches::Watch;
-use mc_server::{Server, Turn};
+use mc_server::{Limited, Server, Turn};
 use mc_store::Store;
 use mc_stream::{Pump, read_once, write_once};
 use std::io::{Read, Write};
@@ -88,32 +86,8 @@ fn is_read(stop: Stop, ended: bool) -> bool
     }
 }
 
-/// Whether what comes next of a connection is not to be taken, since its answer may have more bytes than the watch allows. Where
-/// its lines are short it has not.
-pub fn exceeds<S: Store + Drop>(server: &Server<S>, number: u64, watch: &Watch) -> bool
-    ensures long { OnTrue result (watch.now.lines.long ≡ true) }
-    ensures larger { OnTrue result (watch.now.most < bound_of (waiting_of (connection_at server.now number)) server.now.cache) }
-    ensures within { OnFalse result (watch.now.lines.long ≡ true
-        → min (bound_of (waiting_of (connection_at server.now number)) server.now.cache) (2 ^ 64 - 1) ≤ watch.now.most) }
-{
-    watch.lines.may_be_long() && is_larger(server, number, watch.most)
-}
-
-/// Whether the answer to what comes next of a connection may have more bytes than this many.
-#[inline(never)]
-fn is_larger<S: Store + Drop>(server: &Server<S>, number: u64, most: usize) -> bool
-    ensures larger { OnTrue result (most < bound_of (waiting_of (connection_at server.now number)) server.now.cache) }
-    ensures within { OnFalse result
-        (min (bound_of (waiting_of (connection_at server.now number)) server.now.cache) (2 ^ 64 - 1) ≤ most) }
-{
-    match server.bound(number) {
-        Ok(bound) => bound > most,
-        Err(_) => false,
-    }
-}
-
-/// Takes turns of a connection until none waits, or until as much is unsent as the mark. The error is how the pump stops: the
-/// answer to what comes next may be too large, or a turn was refused memory.
+/// Takes turns of a connection until none waits, or until as much is unsent as the mark. The error is how the pump stops: a turn
+/// was refused memory, or its answer may have more bytes than the watch allows.
 fn take_turns<S: Store + Drop>(
     server: &mut Server<S>,
     number: u64,
@@ -126,10 +100,10 @@ fn take_turns<S: Store + Drop>(
     ensures stop { IfOk result (λ stop. StopsAt stop (connection_at server.new number)) }
 {
     while server.output(number).len() < UNSENT_MARK {
-        if exceeds(server, number, watch) {
+        let Ok(limited) = server.turn_within(number, moment, watch.limit) else {
             return Err(Pump::Failed);
-        }
-        let Ok(turn) = server.turn(number, moment) else {
+        };
+        let Limited::Turned(turn) = limited else {
             return Err(Pump::Failed);
         };
         match turn {
@@ -207,7 +181,6 @@ fn receive<S: Store + Drop, R: Read>(
     }
     let (came, _) = piece.split_at(count);
     watch.tally.came(count);
-    watch.lines.note(came);
     match server.feed(number, came) {
         Ok(()) => Ok(true),
         Err(_) => Err(Pump::Failed),

@@ -3,11 +3,10 @@ ghost use Rattle.std.specs.Prelude.{◌≡◌, ◌<◌, ◌^◌, None, IsSome, l
 ghost use Rattle.mc_server.specs.ServerState.{connection_at};
 ghost use Rattle.mc_pump.specs.Pumps.{Pumps};
 
-use mc_pump::{Lines, Pump, Watch, exceeds, pump};
-use mc_server::Server;
+use mc_pump::{Pump, Watch, pump};
+use mc_server::{AnswerLimit, Server};
 use mc_socket::{Edge, Input};
 use mc_store::Store;
-use mc_watch::Tally;
 use mio::event::Event;
 use mio::net::TcpStream;
 
@@ -24,15 +23,13 @@ pub struct Client {
     queued: bool,
     /// Whether anything has happened since the last rest.
     busy: bool,
-    /// How long the lines that it sent may be.
-    lines: Lines,
     /// When its socket was reported last, or it was owed something.
     used: u64,
 }
 
 impl Client {
-    /// A client whose connection has this number, and came at a moment. An answer to it may have so many bytes.
-    pub fn new(stream: TcpStream, number: u64, most: usize, moment: u64) -> Self {
+    /// A client whose connection has this number, and came at a moment.
+    pub fn new(stream: TcpStream, number: u64, moment: u64) -> Self {
         Client {
             stream,
             number,
@@ -40,7 +37,6 @@ impl Client {
             edge: Edge::new(),
             queued: false,
             busy: false,
-            lines: Lines::new(most),
             used: moment,
         }
     }
@@ -64,18 +60,14 @@ impl Client {
         self.used
     }
 
-    /// How many bytes the answer may have that its next request was refused for, where it was.
-    pub fn refused<S: Store + Drop>(&self, server: &Server<S>, most: usize) -> Option<usize> {
-        let watch = Watch {
-            most,
-            lines: self.lines,
-            tally: Tally::new(),
-        };
-        if exceeds(server, self.number, &watch) {
-            server.bound(self.number).ok()
-        } else {
-            None
-        }
+    /// How many bytes the answer to its next request may have, where that is more than a limit.
+    pub fn refused<S: Store + Drop>(
+        &self,
+        server: &Server<S>,
+        limit: AnswerLimit,
+    ) -> Option<usize> {
+        let bound = server.bound(self.number).ok()?;
+        (bound > limit.bytes).then_some(bound)
     }
 
     /// Notes whether it waits in the queue of those that go on, and says whether it did.
@@ -88,15 +80,14 @@ impl Client {
         std::mem::replace(&mut self.busy, false)
     }
 
-    /// Carries its bytes, and serves what comes whole, where an answer may have so many bytes. What passed is counted. Which bytes
-    /// a socket gives, and which it takes, is not known.
+    /// Carries its bytes, and serves what comes whole, where the watch allows its answer. Which bytes a socket gives, and which it
+    /// takes, is not known.
     pub fn pump<S: Store + Drop>(
         &mut self,
         server: &mut Server<S>,
         piece: &mut [u8],
         moment: u64,
-        most: usize,
-        tally: &mut Tally,
+        watch: &mut Watch,
     ) -> Pump
         requires piece { 0 < length piece.old }
         requires moment { moment < 2 ^ 63 }
@@ -110,11 +101,6 @@ impl Client {
             edge: self.edge,
         };
         let mut output = &self.stream;
-        let mut watch = Watch {
-            most,
-            lines: self.lines,
-            tally: *tally,
-        };
         let pumped = pump(
             server,
             self.number,
@@ -123,11 +109,9 @@ impl Client {
             &mut output,
             piece,
             moment,
-            &mut watch,
+            watch,
         );
         self.edge = input.edge;
-        self.lines = watch.lines;
-        *tally = watch.tally;
         pumped
     }
 }

@@ -5,6 +5,7 @@ use crate::counts::Counts;
 use mc_item::{Body, Deadline};
 use mc_store::Store;
 use mc_text::Key;
+use std::cell::Cell;
 use std::rc::Rc;
 
 /// A store that does what another does, and counts it: so no layer between has to count. What it counts no contract says.
@@ -12,6 +13,8 @@ use std::rc::Rc;
 pub struct Counted<S: Store + Drop> {
     store: S,
     counts: Rc<Counts>,
+    /// Whether an item was brought to the front and not looked at since.
+    brought: Cell<bool>,
 }
 
 impl<S: Store + Drop> Counted<S> {
@@ -19,12 +22,24 @@ impl<S: Store + Drop> Counted<S> {
     pub fn new(store: S, counts: Rc<Counts>) -> Counted<S>
         ensures { result.store ≡ store }
     {
-        Counted { store, counts }
+        Counted {
+            store,
+            counts,
+            brought: Cell::new(false),
+        }
     }
 
     /// Whether a body is dead at the moment.
     fn is_dead(&self, body: &Body) -> bool {
         body.expiry.is_dead(self.counts.moment())
+    }
+
+    /// Notes that a retrieval looks at the item that it brought to the front: a dead one is no hit.
+    fn note_shown(&self, front: Option<&Body>) {
+        match front {
+            Some(body) if !self.is_dead(body) => self.counts.hit(),
+            _ => self.counts.miss(),
+        }
     }
 
     /// Notes what the store holds.
@@ -56,15 +71,19 @@ impl<S: Store + Drop> Store for Counted<S> {
 
     fn front(&self) -> Option<&Body> {
         let front = self.store.front();
-        if let Some(body) = front {
-            self.counts.look(self.is_dead(body));
+        if self.brought.get() {
+            self.brought.set(false);
+            self.note_shown(front);
         }
         front
     }
 
     fn bring(&mut self, key: &[u8]) -> bool {
         let held = self.store.bring(key);
-        self.counts.ask(held);
+        self.brought.set(held);
+        if !held {
+            self.counts.miss();
+        }
         held
     }
 

@@ -3,12 +3,10 @@
 use std::cell::Cell;
 
 /// What a store has done since it was made, as far as its operator asks. Whoever holds it sets the moment, by which an item is
-/// dead or not. Each number stays at its greatest once it has come there.
+/// dead or not. Each number begins again at 0 after 2^64 - 1.
 #[derive(Drop)]
 pub struct Counts {
     moment: Cell<u64>,
-    /// Whether an item was brought to the front and not looked at since.
-    brought: Cell<bool>,
     hits: Cell<u64>,
     misses: Cell<u64>,
     stores: Cell<u64>,
@@ -23,7 +21,6 @@ impl Counts {
     pub fn new() -> Counts {
         Counts {
             moment: Cell::new(0),
-            brought: Cell::new(false),
             hits: Cell::new(0),
             misses: Cell::new(0),
             stores: Cell::new(0),
@@ -44,19 +41,14 @@ impl Counts {
         self.moment.get()
     }
 
-    /// An item was asked for, to be brought to the front, and was there or not: a retrieval then looks at it.
-    pub fn ask(&self, held: bool) {
-        self.brought.set(held);
-        if !held {
-            add_one(&self.misses);
-        }
+    /// A key of a retrieval was held.
+    pub fn hit(&self) {
+        add_one(&self.hits);
     }
 
-    /// The first item was looked at, and is dead or not: that is a hit or a miss where it was brought there for it.
-    pub fn look(&self, dead: bool) {
-        if self.brought.replace(false) {
-            add_one(if dead { &self.misses } else { &self.hits });
-        }
+    /// A key of a retrieval was not held.
+    pub fn miss(&self) {
+        add_one(&self.misses);
     }
 
     /// An item was stored.
@@ -118,5 +110,5 @@ impl Counts {
 
 /// Adds one to a number.
 fn add_one(number: &Cell<u64>) {
-    number.set(number.get().saturating_add(1));
+    number.set(number.get().wrapping_add(1));
 }

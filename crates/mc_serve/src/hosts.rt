@@ -6,10 +6,11 @@ use crate::counts::Counts;
 use crate::options::PROGRAM;
 use crate::reports::Report;
 use crate::settings::Service;
-use mc_server::{MAX_CONNECTIONS, Server};
+use mc_pump::Watch;
+use mc_server::{AnswerLimit, MAX_CONNECTIONS, Server};
 use mc_socket::{KEPT_ROOM, PIECE_LEN, Step, step_after};
 use mc_store::Store;
-use mc_watch::{Seldom, Tally, earlier};
+use mc_watch::{Seldom, earlier};
 use mio::event::Event;
 use mio::net::TcpStream;
 use mio::{Interest, Registry, Token};
@@ -32,8 +33,8 @@ pub struct Host<S: Store + Drop> {
     /// Whether a client was busy since the last rest.
     busy: bool,
     service: Service,
-    /// What passed of all clients.
-    tally: Tally,
+    /// How large an answer may be, and what passed of all clients.
+    watch: Watch,
     /// What the server's store has done.
     counts: Rc<Counts>,
     /// How many clients were closed as they came.
@@ -61,7 +62,9 @@ impl<S: Store + Drop> Host<S> {
             going_on: Vec::with_capacity(alloc, MAX_CONNECTIONS)?,
             busy: false,
             service,
-            tally: Tally::new(),
+            watch: Watch::new(AnswerLimit {
+                bytes: service.answer,
+            }),
             counts,
             refused: 0,
             too_large: Seldom::new(),
@@ -100,7 +103,7 @@ impl<S: Store + Drop> Host<S> {
         // A client whose answers may come late is served all the same.
         let _ = stream.set_nodelay(true);
         let registered = registry.register(&mut stream, token, both);
-        let client = Client::new(stream, number, self.service.answer, moment);
+        let client = Client::new(stream, number, moment);
         if registered.is_err() || self.clients.insert(client).is_err() {
             let _ = self.server.close(number);
             self.refused = self.refused.saturating_add(1);
@@ -193,7 +196,7 @@ impl<S: Store + Drop> Host<S> {
             connections: self.clients.len(),
             accepted,
             refused: self.refused,
-            tally: self.tally,
+            tally: self.watch.tally,
             hits: self.counts.hits(),
             misses: self.counts.misses(),
             stores: self.counts.stores(),
@@ -212,19 +215,12 @@ impl<S: Store + Drop> Host<S> {
             return;
         };
         self.busy = true;
-        let most = self.service.answer;
-        let pumped = client.pump(
-            &mut self.server,
-            &mut self.piece,
-            moment,
-            most,
-            &mut self.tally,
-        );
+        let pumped = client.pump(&mut self.server, &mut self.piece, moment, &mut self.watch);
         match step_after(pumped) {
             Step::GoOn => self.enqueue(key),
             Step::Wait => self.server.give_back(client.number(), KEPT_ROOM),
             Step::Close => {
-                if let Some(bytes) = client.refused(&self.server, most) {
+                if let Some(bytes) = client.refused(&self.server, self.watch.limit) {
                     self.too_large.note(bytes as u64);
                 }
                 self.close(key);

@@ -1,8 +1,8 @@
 //! What passed.
-ghost use Rattle.std.specs.Prelude.{◌≡◌, ◌+◌, ◌-◌, ◌^◌, min};
+ghost use Rattle.std.specs.Prelude.{◌≡◌, ◌+◌, ◌%◌, ◌^◌};
 
-/// What passed: requests that were taken, bytes that were read and bytes that were written. Each count stays at its greatest
-/// once it has come there.
+/// What passed: requests that were taken, bytes that were read and bytes that were written. Each count begins again at 0 after
+/// 2^64 - 1.
 #[derive(Clone, Copy, Debug, PartialEq, Eq)]
 pub struct Tally {
     /// Requests and faults that were taken.
@@ -27,22 +27,22 @@ impl Tally {
 
     /// Counts a request that was taken.
     pub fn took(&mut self)
-        ensures { self.new ≡ record self.old { requests = min (self.old.requests + 1) (2 ^ 64 - 1) } }
+        ensures { self.new ≡ record self.old { requests = (self.old.requests + 1) % 2 ^ 64 } }
     {
-        self.requests = self.requests.saturating_add(1);
+        self.requests = self.requests.wrapping_add(1);
     }
 
     /// Counts bytes that were read.
     pub fn came(&mut self, count: usize)
-        ensures { self.new ≡ record self.old { read = min (self.old.read + count) (2 ^ 64 - 1) } }
+        ensures { self.new ≡ record self.old { read = (self.old.read + count) % 2 ^ 64 } }
     {
-        self.read = self.read.saturating_add(count as u64);
+        self.read = self.read.wrapping_add(count as u64);
     }
 
     /// Counts bytes that were written.
     pub fn went(&mut self, count: usize)
-        ensures { self.new ≡ record self.old { written = min (self.old.written + count) (2 ^ 64 - 1) } }
+        ensures { self.new ≡ record self.old { written = (self.old.written + count) % 2 ^ 64 } }
     {
-        self.written = self.written.saturating_add(count as u64);
+        self.written = self.written.wrapping_add(count as u64);
     }
 }

@@ -6,7 +6,7 @@ use Rattle.mc_request.specs.declared.parts.Taken.{Taken}
 use Rattle.mc_server.specs.Rooms.{bound_of, taken_bound}
 use Rattle.mc_server.specs.ServerState.{ConnectionState}
 use Rattle.mc_server.proofs.RoomLemmas.{room_within}
-use Rattle.mc_server.proofs.connections.Connection.turn.Goals as goal
+use Rattle.mc_server.proofs.connections.Connection.turn_within.Goals as goal
 
 -- the answer goes behind what was sent
 pub invariant_of-self-in-First : goal.invariant_of-self-in-First
