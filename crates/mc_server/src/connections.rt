@@ -127,6 +127,8 @@ impl Connection {
         ensures little { OnOk result (KeepsLittle self.new.reader) }
         ensures refused { (result ≡ Ok Refused)
             ↔ (limit.bytes < min (bound_of (rest_of self.old.reader []) cache.old) (2 ^ 64 - 1)) }
+        ensures unchanged { result ≡ Ok Refused → self.new ≡ self.old }
+        ensures cache_unchanged { result ≡ Ok Refused → cache.new ≡ cache.old }
         ensures only_memory { IsOkUnless result ServerError.Memory }
         ensures cause { OnErr result (0 < length (rest_of self.old.reader [])) }
         ensures err { OnErr result (self.new ≡ self.old) }
