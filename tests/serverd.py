@@ -124,9 +124,9 @@ def too_large_an_answer_is_refused():
     """A request whose answer may be larger than is allowed closes its connection, and is not made; others are served. It is said,
     at most once in a second. Where the request is cut plays no part."""
     keys = b" k" * 300
-    for answer, asks, bytes_said in (
-        (2_000_000, b"gat -1 k k\r\n", 2_002_048),
-        (268_435_456, b"gat -1" + keys + b"\r\n", 300_307_200),
+    for answer, asks in (
+        (2_000_000, b"gat -1 k k\r\n"),
+        (268_435_456, b"gat -1" + keys + b"\r\n"),
     ):
         with start(f"--answer {answer}") as server, server.connected() as other:
             asked(other, b"set k 0 0 1000000\r\n" + VALUE + b"\r\n", b"STORED\r\n")
@@ -137,7 +137,7 @@ def too_large_an_answer_is_refused():
                     want(received(client, 15), b"VERSION 1.6.0\r\n")
                     client.sendall(asks[cut:])
                     want(received_to_the_end(client), b"")
-            want(lines_said(server), [f"mc_serverd: request refused: its answer may have {bytes_said} bytes"])
+            want(lines_said(server), [f"mc_serverd: request refused: its answer may have more than {answer} bytes"])
             asked(other, b"get k\r\n", ANSWER)
             want_at_most(settles(server.memory) - before, 4 * len(ANSWER))
 

@@ -18,9 +18,8 @@ use std::io::{Read, Write};
 /// bytes or more are unsent, no turn is taken and nothing is read. `ended` says whether the input has ended: the pump
 /// sets it when a read gives no byte, and then reads no more; a caller hands in `false` at first.
 ///
-/// A request whose answer may have more bytes than the watch allows is not taken: the pump says [`Pump::Failed`] and has done
-/// nothing for it (its [bound](Server::bound) is then still above the limit). The watch counts the requests that are taken, and
-/// the bytes.
+/// A request whose answer may have more bytes than the watch allows is not taken: the pump says [`Pump::Failed`], and has done
+/// nothing for it. The watch notes that, and counts the requests that are taken, and the bytes.
 pub fn pump<S: Store + Drop, R: Read, W: Write>(
     server: &mut Server<S>,
     number: u64,

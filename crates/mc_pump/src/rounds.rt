@@ -104,6 +104,7 @@ fn take_turns<S: Store + Drop>(
             return Err(Pump::Failed);
         };
         let Limited::Turned(turn) = limited else {
+            watch.refused = true;
             return Err(Pump::Failed);
         };
         match turn {

@@ -1,4 +1,5 @@
 //! What is watched of connections while they are pumped.
+ghost use Rattle.std.specs.Prelude.{◌≡◌};
 
 use mc_server::AnswerLimit;
 use mc_watch::Tally;
@@ -10,14 +11,19 @@ pub struct Watch {
     pub limit: AnswerLimit,
     /// What passed.
     pub tally: Tally,
+    /// Whether a request was refused, since its answer might have more: no pump sets it back.
+    pub refused: bool,
 }
 
 impl Watch {
     /// A watch by which nothing has passed.
-    pub fn new(limit: AnswerLimit) -> Watch {
+    pub fn new(limit: AnswerLimit) -> Watch
+        ensures { result.limit ≡ limit }
+    {
         Watch {
             limit,
             tally: Tally::new(),
+            refused: false,
         }
     }
 }

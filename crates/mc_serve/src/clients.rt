@@ -4,7 +4,7 @@ ghost use Rattle.mc_server.specs.ServerState.{connection_at};
 ghost use Rattle.mc_pump.specs.Pumps.{Pumps};
 
 use mc_pump::{Pump, Watch, pump};
-use mc_server::{AnswerLimit, Server};
+use mc_server::Server;
 use mc_socket::{Edge, Input};
 use mc_store::Store;
 use mio::event::Event;
@@ -58,16 +58,6 @@ impl Client {
             self.used = moment;
         }
         self.used
-    }
-
-    /// How many bytes the answer to its next request may have, where that is more than a limit.
-    pub fn refused<S: Store + Drop>(
-        &self,
-        server: &Server<S>,
-        limit: AnswerLimit,
-    ) -> Option<usize> {
-        let bound = server.bound(self.number).ok()?;
-        (bound > limit.bytes).then_some(bound)
     }
 
     /// Notes whether it waits in the queue of those that go on, and says whether it did.

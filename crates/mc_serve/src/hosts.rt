@@ -39,7 +39,7 @@ pub struct Host<S: Store + Drop> {
     counts: Rc<Counts>,
     /// How many clients were closed as they came.
     refused: u64,
-    /// What is to be said of a request whose answer may be too large: how many bytes it may have.
+    /// What is to be said of a request whose answer may be too large: how many bytes it might have.
     too_large: Seldom,
     /// When a client may have been idle for too long, at the earliest.
     due: Option<u64>,
@@ -185,7 +185,9 @@ impl<S: Store + Drop> Host<S> {
     pub fn tell<R: Eprint>(&mut self, rt: &R, moment: u64) {
         if let Some(bytes) = self.too_large.take(moment) {
             // Where it cannot be said, all are served all the same.
-            let _ = eprintln!(rt; "{PROGRAM}: request refused: its answer may have {bytes} bytes");
+            let _ = eprintln!(rt;
+                "{PROGRAM}: request refused: its answer may have more than {bytes} bytes"
+            );
         }
     }
 
@@ -220,8 +222,8 @@ impl<S: Store + Drop> Host<S> {
             Step::GoOn => self.enqueue(key),
             Step::Wait => self.server.give_back(client.number(), KEPT_ROOM),
             Step::Close => {
-                if let Some(bytes) = client.refused(&self.server, self.watch.limit) {
-                    self.too_large.note(bytes as u64);
+                if mem::replace(&mut self.watch.refused, false) {
+                    self.too_large.note(self.watch.limit.bytes as u64);
                 }
                 self.close(key);
             }
