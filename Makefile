@@ -1,7 +1,11 @@
 # `make run` proves and runs the script program on its stored script; `make serve` proves and starts the server at its
-# defaults, `make pool` two servers and a proxy in front of them on free ports; `make test` is the merge gate.
+# defaults, `make pool` two servers and a proxy in front of them on free ports; `make test` is the merge gate. `make install`
+# proves and builds the three programs, and puts them with their manual pages and systemd units below PREFIX.
 # What a program needs is proved side by side (`prove.py`); `rt run` then finds nothing to prove.
-.PHONY: run serve pool test
+.PHONY: run serve pool install test
+
+PREFIX = /usr/local
+PROGRAMS = mc_serverd mc_proxyd mc_sim
 
 ifeq ($(shell command -v rt 2> /dev/null),)
 $(error the Rattle toolchain is missing: its command `rt` is not on the PATH (`rt version` names the toolchain))
@@ -18,6 +22,10 @@ serve:
 pool:
 	@./prove.py mc_serverd mc_proxyd
 	@tests/pool.py crates/mc_proxyd/out/mc_proxyd crates/mc_serverd/out/mc_serverd
+
+install:
+	@./prove.py $(PROGRAMS)
+	@install/install.sh $(DESTDIR)$(PREFIX) $(PREFIX) $(PROGRAMS)
 
 test:
 	@tests/gate.sh

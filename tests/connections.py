@@ -4,6 +4,7 @@
 takes what it says, or none of it. It has the methods of `Listener` (servers.py).
 """
 
+import os
 import resource
 import select
 import socket
@@ -12,6 +13,8 @@ import threading
 import time
 
 from checks import KILOBYTE, PATIENCE, Wrong, asked, is_served, received, received_to_the_end, want, want_at_most
+
+LARGE = 1_000_000  # bytes of a large value
 
 # Requests that nobody answers and that take a server longer than they take a client: each copies a value of 10,000 bytes and more.
 APPENDS = b"set k 0 0 10000 noreply\r\n%s\r\n" % bytes(10_000) + b"append k 0 0 1 noreply\r\nx\r\n" * 2_000
@@ -194,8 +197,65 @@ def who_sends_without_end_holds_nobody_up(start):
             want(sender.is_alive(), True)
 
 
-def checks_of_connections(start, more_dialogues={}):
-    """Each of them by its name, with all dialogues."""
+# What is said on standard error.
+
+
+def lines_said(program, count=1):
+    """The next lines on standard error, as far as they come."""
+    stream, came, deadline = program.process.stderr, b"", time.monotonic() + PATIENCE
+    while came.count(b"\n") < count and select.select([stream], [], [], max(0, deadline - time.monotonic()))[0]:
+        byte = os.read(stream.fileno(), 1)
+        if not byte:
+            break
+        came += byte
+    return came.decode().splitlines()
+
+
+def fields_of(line, name):
+    """The words `<key>=<value>` of a line that a program of this name has said."""
+    want(line.startswith(f"{name}: "), True)
+    return dict(word.split("=") for word in line.removeprefix(f"{name}: ").split())
+
+
+def few_open_files_are_told(start, name, own):
+    """Where fewer may be open than all connections and what the program has open itself may need, and only there."""
+    told = f"{name}: {1_024 + own} open files: 1024 connections can be served at a time"
+    for files, lines in ((1_024 + own, [told]), (1_025 + own, [])):
+        with start(limits=[(resource.RLIMIT_NOFILE, files)]) as program, program.connected() as client:
+            is_served(client)
+            if lines:
+                want(lines_said(program), lines)
+            want(select.select([program.process.stderr], [], [], 0)[0], [])
+
+
+# Clients that do nothing.
+
+
+def idle_clients_are_closed(start):
+    """One that has sent half a request as well; not one that asks now and then, and not one that its answers wait for."""
+    with start("--idle 1") as program:
+        idle, half, slow, busy = clients = [program.connected() for _ in range(4)]
+        try:
+            stored = b"set k 0 0 %d\r\n%s\r\n" % (LARGE, b"v" * LARGE)
+            shown = b"VALUE k 0 %d\r\n%s\r\nEND\r\n" % (LARGE, b"v" * LARGE)
+            asked(slow, stored, b"STORED\r\n")
+            slow.sendall(b"get k\r\n" * 20)
+            half.sendall(b"set a 0 0 5\r\nxy")
+            is_served(idle)
+            begun = time.monotonic()
+            while len(select.select([idle, half], [], [], 0.2)[0]) < 2 and time.monotonic() < begun + PATIENCE:
+                is_served(busy)
+            want([client.recv(100) for client in (idle, half)], [b"", b""])
+            want(1 <= time.monotonic() - begun + 0.01 < 3.5, True)
+            is_served(busy)
+            want(received(slow, 20 * len(shown)) == shown * 20, True)
+        finally:
+            for client in clients:
+                client.close()
+
+
+def checks_of_connections(start, program, own, more_dialogues={}):
+    """Each of them by its name, with all dialogues, of a program of a name that has so many files open itself."""
     for name, (sent, answers) in {**DIALOGUES, **more_dialogues}.items():
         yield f"{name}, whole", a_dialogue_is_answered, (start, sent, answers)
         yield f"{name}, in bytes", a_dialogue_comes_in_bytes, (start, sent, answers)
@@ -208,5 +268,7 @@ def checks_of_connections(start, more_dialogues={}):
         the_1025th_is_closed_at_once,
         who_sends_without_end_holds_nobody_up,
         no_descriptors_are_waited_for,
+        idle_clients_are_closed,
     ):
         yield check.__name__, check, (start,)
+    yield few_open_files_are_told.__name__, few_open_files_are_told, (start, program, own)

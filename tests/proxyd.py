@@ -39,14 +39,14 @@ from checks import (
     want_at_most,
     words_are_refused,
 )
-from connections import checks_of_connections
+from connections import checks_of_connections, fields_of, lines_said
 from rings import Ring, hash_of
 from servers import HOST, Proxy, Server, free_port
 
 HELP = pathlib.Path(__file__).with_name("proxyd.help").read_text()
 LOST = b"SERVER_ERROR link lost\r\n"
 LINK_MARK = 8_388_608  # as many unsent bytes on a link stop the requests that need it
-SECONDS_TO_RETURN = 2  # a lost link is tried again at least once a second
+SECONDS_TO_RETURN = 5  # a lost link is tried again at once, then after 1, after 1 to 2, after 2 to 4 seconds
 QUIET = 0.1  # seconds in which nothing comes where nothing is to come
 IDLE, PROCESSOR = 3, 0.1  # in as many seconds of doing nothing a proxy has as many of the processor at most
 
@@ -77,20 +77,25 @@ SETTINGS = {
 }
 
 USAGE = "\n\nUsage: mc_proxyd [OPTIONS] <server>..."
-UNKNOWN = "unexpected argument '--port' found\n\n  tip: to pass '--port' as a value, use '-- --port'\n\nUsage: mc_proxyd <server>..."
+UNKNOWN = "unexpected argument '--bind' found\n\n  tip: to pass '--bind' as a value, use '-- --bind'\n\nUsage: mc_proxyd <server>..."
 
 # Words that are refused, and why.
 REFUSED = {
-    "an_unknown_option": (["--port", "1"], UNKNOWN),
+    "an_unknown_option": (["--bind", "1"], UNKNOWN),
     "an_option_twice": (["--check", "--check"], "the argument '--check' cannot be used multiple times" + USAGE),
     "no_value": (["--listen"], "a value is required for '--listen <host:port>' but none was supplied"),
+    "nothing_held": (["--held", "0"], "invalid value '0' for '--held <bytes>': 0 is not in 1..=1099511627776"),
+    "no_milliseconds": (
+        ["--timeout", "1s"],
+        "invalid value '1s' for '--timeout <milliseconds>': invalid digit found in string",
+    ),
     "no_number": (["--accept", "x"], "invalid value 'x' for '--accept <n>': invalid digit found in string"),
     "a_number_below_0": (["--join-after=-1"], "invalid value '-1' for '--join-after <n>': invalid digit found in string"),
     "too_large_a_number": (
         ["--accept", "18446744073709551616"],
         "invalid value '18446744073709551616' for '--accept <n>': number too large to fit in target type",
     ),
-    "before_the_list_is_looked_at": (["x", "--port"], UNKNOWN),
+    "before_the_list_is_looked_at": (["x", "--bind"], UNKNOWN),
 }
 
 # What is no list of servers behind 127.0.0.1:1.
@@ -186,11 +191,11 @@ class Played(Pool):
         def __exit__(self, *_):
             self.listener.close()
 
-    def __init__(self, count=1):
+    def __init__(self, count=1, words=()):
         self.stack = contextlib.ExitStack()
         with self.stack:
             self.servers = [self.stack.enter_context(Played.Server()) for _ in range(count)]
-            self.enter_proxy((), ())
+            self.enter_proxy(words, ())
             self.links = [self.stack.enter_context(server.accept()) for server in self.servers]
             self.stack = self.stack.pop_all()
 
@@ -504,7 +509,7 @@ def nothing_is_said_where_it_cannot_be():
         for errors in (full, closed):
             with Proxy(PROXY.path, [f"{HOST}:{free_port()}"], stderr=errors) as proxy, proxy.connected() as client:
                 asked(client, b"get a\r\n", LOST)
-                time.sleep(SECONDS_TO_RETURN)
+                time.sleep(2)
                 is_served(client)
 
 
@@ -761,12 +766,107 @@ def who_ends_its_input_is_answered():
         want(received_to_the_end(client), b"END\r\n5\r\n")
 
 
+def who_is_kept_too_much_for_waits():
+    """Until it is owed nothing: no request of it is taken, and it is answered in order, and whole. Others are served."""
+    with Played(2, ["--held", "1000000"]) as pool, pool.connected() as client, pool.connected() as other:
+        mine, others = (pool.ring.key(place) for place in (0, 1))
+        _, _, get, shown = stored(mine, b"v" * 1_000_000)
+        client.sendall(b"get %s\r\n" % others + get)
+        want(received(pool.links[1], len(others) + 6), b"get %s\r\n" % others)
+        want(received(pool.links[0], len(get)), get)
+        pool.links[0].sendall(shown)
+        settles(pool.memory)
+        client.sendall(get * 2)
+        nothing_comes(pool.links[0])
+        other.sendall(get)
+        want(received(pool.links[0], len(get)), get)
+        pool.links[0].sendall(b"END\r\n")
+        want(received(other, 5), b"END\r\n")
+        nothing_comes(pool.links[0])
+        pool.links[1].sendall(b"END\r\n")
+        want(received(client, 5 + len(shown)) == b"END\r\n" + shown, True)
+        want(received(pool.links[0], 2 * len(get)), get * 2)
+        pool.links[0].sendall(b"END\r\n" * 2)
+        want(received(client, 10), b"END\r\n" * 2)
+
+
+def a_late_reply_loses_the_link():
+    """Once it is late by the oldest command that waits, and no sooner: what waits is told, and what comes then reaches nobody."""
+    with Played(2, ["--timeout", "400"]) as pool, pool.connected() as client, pool.connected() as other:
+        (mine, others), late = (pool.ring.key(place) for place in (0, 1)), pool.links[0]
+        begun = time.monotonic()
+        client.sendall(b"get %s\r\n" % mine)
+        want(received(late, len(mine) + 6), b"get %s\r\n" % mine)
+        time.sleep(0.2)
+        client.sendall(b"incr %s 1\r\n" % mine)
+        is_asked_and_answers(pool.links[1], other, others)
+        want(received(client, 2 * len(LOST)), LOST * 2)
+        want(0.39 < time.monotonic() - begun < 2, True)
+        is_said(pool, f"{pool.servers[0].address} lost: no reply in time")
+        pool.links[0] = pool.stack.enter_context(pool.servers[0].accept())
+        with contextlib.suppress(ConnectionError):
+            late.sendall(stored(mine)[3])
+        late.close()
+        time.sleep(QUIET)
+        is_asked_and_answers(pool.links[0], client, mine)
+        is_asked_and_answers(pool.links[1], other, others)
+        time.sleep(0.5)
+        is_asked_and_answers(pool.links[0], client, mine)
+
+
+def a_slow_server_that_answers_is_kept():
+    """Each of its replies comes in time, though one always waits."""
+    with Played(1, ["--timeout", "400"]) as pool, pool.connected() as client:
+        [link] = pool.links
+        client.sendall(b"get a\r\n")
+        for _ in range(4):
+            time.sleep(0.2)
+            client.sendall(b"get a\r\n")
+            want(received(link, 7), b"get a\r\n")
+            link.sendall(b"END\r\n")
+            want(received(client, 5), b"END\r\n")
+        want(received(link, 7), b"get a\r\n")
+        link.sendall(b"END\r\n")
+        want(received(client, 5), b"END\r\n")
+
+
+def a_report_is_said():
+    """Each second: what was done for clients, and what became of each server."""
+    with Played(2, ["--report", "1"]) as pool, pool.connected() as client:
+        keys = [pool.ring.key(place) for place in (0, 1)]
+        gets = [b"get %s\r\n" % key for key in keys]
+        client.sendall(gets[0] * 3 + gets[1] + b"version\r\n")
+        want(received(pool.links[0], 3 * len(gets[0])), gets[0] * 3)
+        want(received(pool.links[1], len(gets[1])), gets[1])
+        pool.links[0].sendall(b"END\r\n" * 2)
+        pool.links[1].sendall(b"?\r\n")
+        want(received(client, 10), b"END\r\n" * 2)
+        fields = {}
+        while fields.get("read") != str(3 * len(gets[0]) + len(gets[1]) + 9):
+            fields = fields_of(next_report(pool), "mc_proxyd")
+        servers = [fields_of(line, "mc_proxyd") for line in lines_said(pool, 2)]
+        want(int(fields.pop("uptime")) >= 1, True)
+        wanted = dict(connections=1, accepted=1, refused=0, requests=5, read=int(fields["read"]), written=10)
+        want(fields, {key: str(number) for key, number in wanted.items()})
+        first, second = (server.address for server in pool.servers)
+        want(servers[0], dict(server=first, state="up", losses="0", sent="3", lost="0", waiting="1"))
+        want({key: servers[1][key] for key in ("server", "losses", "sent", "lost")}, dict(server=second, losses="1", sent="1", lost="1"))
+
+
+def next_report(pool):
+    """The next line on standard error that tells of clients."""
+    while True:
+        [line] = lines_said(pool)
+        if " uptime=" in line:
+            return line
+
+
 def checks():
     """Each check by its name."""
     yield from checks_of_words(PROXY, SETTINGS, REFUSED, HELP)
     for name, words in BAD_LISTS.items():
         yield f"bad server list, {name}", bad_lists_are_told, (words,)
-    yield from checks_of_connections(start, DIALOGUES)
+    yield from checks_of_connections(start, "mc_proxyd", 7, DIALOGUES)
     for check in (
         no_server_is_refused,
         hashes_of_the_model,
@@ -797,6 +897,10 @@ def checks():
         bytes_that_nobody_awaits_lose_the_link,
         half_a_reply_is_no_reply,
         who_ends_its_input_is_answered,
+        who_is_kept_too_much_for_waits,
+        a_late_reply_loses_the_link,
+        a_slow_server_that_answers_is_kept,
+        a_report_is_said,
         a_server_that_reads_nothing_is_waited_for,
         a_slow_reader_is_waited_for,
         one_who_asks_too_much_waits,

@@ -29,7 +29,7 @@ from checks import (
     want,
     want_at_most,
 )
-from connections import checks_of_connections
+from connections import checks_of_connections, fields_of, lines_said
 from servers import HOST, Listener, free_port
 
 HELP = pathlib.Path(__file__).with_name("serverd.help").read_text()
@@ -38,20 +38,31 @@ ANSWER = b"VALUE k 0 1000000\r\n" + VALUE + b"\r\nEND\r\n"
 
 # --check: the words beside it, and what is printed of them.
 SETTINGS = {
-    "the_defaults": ("", "listen 127.0.0.1:11211 budget 67108864 items 65536 accept 0"),
-    "the_least": ("--listen a:1 --budget 1 --items 1 --accept 0", "listen a:1 budget 1 items 1 accept 0"),
-    "the_greatest": (
-        "--listen=Cache-7.example.org:65535 --budget=1099511627776 --items=16777216 --accept=18446744073709551615",
-        "listen Cache-7.example.org:65535 budget 1099511627776 items 16777216 accept 18446744073709551615",
+    "the_defaults": (
+        "",
+        "listen 127.0.0.1:11211 budget 67108864 items 65536 accept 0 answer 268435456 idle 0 report 0",
     ),
-    "in_another_order": ("--accept 3 --items 2", "listen 127.0.0.1:11211 budget 67108864 items 2 accept 3"),
+    "the_least": (
+        "--listen a:1 --budget 1 --items 1 --accept 0 --answer 1024 --idle 0 --report 0",
+        "listen a:1 budget 1 items 1 accept 0 answer 1024 idle 0 report 0",
+    ),
+    "the_greatest": (
+        "--listen=Cache-7.example.org:65535 --budget=1099511627776 --items=16777216 --accept=18446744073709551615"
+        " --answer=1099511627776 --idle=18446744073709551615 --report=18446744073709551615",
+        "listen Cache-7.example.org:65535 budget 1099511627776 items 16777216 accept 18446744073709551615"
+        " answer 1099511627776 idle 18446744073709551615 report 18446744073709551615",
+    ),
+    "in_another_order": (
+        "--report 4 --accept 3 --items 2",
+        "listen 127.0.0.1:11211 budget 67108864 items 2 accept 3 answer 268435456 idle 0 report 4",
+    ),
 }
 
 USAGE = "\n\nUsage: mc_serverd [OPTIONS]"
 
 # Words that are refused, and why.
 REFUSED = {
-    "an_unknown_option": (["--port", "1"], "unexpected argument '--port' found" + USAGE),
+    "an_unknown_option": (["--bind", "1"], "unexpected argument '--bind' found" + USAGE),
     "a_word": (["--check", "x"], "unexpected argument 'x' found" + USAGE),
     "an_option_twice": (["--check", "--check"], "the argument '--check' cannot be used multiple times" + USAGE),
     "no_value": (["--listen"], "a value is required for '--listen <host:port>' but none was supplied"),
@@ -65,6 +76,12 @@ REFUSED = {
         ["--items", "16777217"],
         "invalid value '16777217' for '--items <n>': 16777217 is not in 1..=16777216",
     ),
+    "too_small_an_answer": (
+        ["--answer", "1023"],
+        "invalid value '1023' for '--answer <bytes>': 1023 is not in 1024..=1099511627776",
+    ),
+    "no_seconds": (["--idle", "1s"], "invalid value '1s' for '--idle <seconds>': invalid digit found in string"),
+    "seconds_below_0": (["--report=-1"], "invalid value '-1' for '--report <seconds>': invalid digit found in string"),
     "no_number": (["--accept", "x"], "invalid value 'x' for '--accept <n>': invalid digit found in string"),
     "a_number_below_0": (["--accept=-1"], "invalid value '-1' for '--accept <n>': invalid digit found in string"),
     "too_large_a_number": (
@@ -101,6 +118,49 @@ def a_slow_reader_is_waited_for():
         want_at_most(grown, MARK + len(ANSWER) + 256 * KILOBYTE)
         is_served(other)
         want(received(slow, 100 * len(ANSWER)) == ANSWER * 100, True)
+
+
+def too_large_an_answer_is_refused():
+    """A request whose answer may be larger than is allowed closes its connection, and is not made; others are served. It is said,
+    at most once in a second. Where the request is cut plays no part."""
+    keys = b" k" * 300
+    for answer, asks in (
+        (2_000_000, b"gat -1 k k\r\n"),
+        (268_435_456, b"gat -1" + keys + b"\r\n"),
+    ):
+        with start(f"--answer {answer}") as server, server.connected() as other:
+            asked(other, b"set k 0 0 1000000\r\n" + VALUE + b"\r\n", b"STORED\r\n")
+            before = settles(server.memory)
+            for cut in (0, 1, len(asks) // 2, len(asks) - 1):
+                with server.connected() as client:
+                    client.sendall(b"version\r\n" + asks[:cut])
+                    want(received(client, 15), b"VERSION 1.6.0\r\n")
+                    client.sendall(asks[cut:])
+                    want(received_to_the_end(client), b"")
+            want(lines_said(server), [f"mc_serverd: request refused: its answer may have more than {answer} bytes"])
+            asked(other, b"get k\r\n", ANSWER)
+            want_at_most(settles(server.memory) - before, 4 * len(ANSWER))
+
+
+def a_report_is_said():
+    """Each second: what was done, and what there is."""
+    with start("--report 1 --items 3", [(resource.RLIMIT_NOFILE, 2_000)]) as server:
+        with server.connected() as gone, server.connected() as client:
+            is_served(gone)
+            gone.close()
+            sent = b"".join(b"set %s 0 0 1\r\nx\r\n" % key for key in (b"a", b"b", b"c", b"d"))
+            sent += b"get a b c d\r\nset e 0 -1 1\r\nx\r\nget e\r\nincr b 1\r\nadd d 0 0 1\r\nx\r\nmn\r\n"
+            answers = b"STORED\r\n" * 4 + b"".join(b"VALUE %s 0 1\r\nx\r\n" % key for key in (b"b", b"c", b"d")) + b"END\r\n"
+            answers += b"STORED\r\nEND\r\nNOT_FOUND\r\nNOT_STORED\r\nMN\r\n"
+            asked(client, sent, answers)
+            fields = {}
+            while fields.get("requests") != "11" and fields.get("uptime") != "9":
+                fields = fields_of(lines_said(server)[0], "mc_serverd")
+        uptime = int(fields.pop("uptime"))
+        want(1 <= uptime <= 8, True)
+        wanted = dict(connections=1, accepted=2, refused=0, requests=11, hits=3, misses=2, stores=5, evictions=2, expired=1)
+        wanted |= dict(items=2, bytes=2 * 66, read=len(sent) + 9, written=len(answers) + 15)
+        want(fields, {key: str(number) for key, number in wanted.items()})
 
 
 def idle_connections_hold_little():
@@ -148,10 +208,12 @@ def no_memory_closes_connections_alone():
 def checks():
     """Each check by its name."""
     yield from checks_of_words(PROGRAM, SETTINGS, REFUSED, HELP)
-    yield from checks_of_connections(start)
+    yield from checks_of_connections(start, "mc_serverd", 5)
     for check in (
         no_memory_to_start_is_told,
         a_slow_reader_is_waited_for,
+        too_large_an_answer_is_refused,
+        a_report_is_said,
         idle_connections_hold_little,
         no_memory_closes_connections_alone,
     ):

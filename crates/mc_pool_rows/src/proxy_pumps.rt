@@ -9,6 +9,7 @@ use mc_fixtures::{
 use mc_proxy::Proxy;
 use mc_proxy_pump::{Pump, pump_client, pump_link};
 use mc_server::Server;
+use mc_watch::Tally;
 use std::alloc::{AllocError, Global};
 use std::test::Fail;
 
@@ -140,7 +141,7 @@ fn serve(server: &mut Server<MeagreStore>, number: u64, link: &mut Stream) -> Re
 fn pump_server(proxy: &mut Proxy, link: &mut Stream, woken: &mut Vec<u64>) -> Result<(), Fail> {
     let mut piece = [0u8; 16];
     let Stream { source, sink } = link;
-    let pumped = pump_link(proxy, 0, source, sink, &mut piece, woken);
+    let pumped = pump_link(proxy, 0, source, sink, &mut piece, woken, &mut Tally::new());
     if (pumped == Pump::Failed || pumped == Pump::Done) && proxy.is_up(0) {
         proxy.lost(0)?;
     }
@@ -165,6 +166,7 @@ fn pumped(
             source,
             sink,
             &mut piece,
+            &mut Tally::new(),
         );
         if last == Pump::Done || last == Pump::Failed {
             return Ok(last);

@@ -1,5 +1,5 @@
 -- What a pump of a session does between a proxy and the two sides of its client's stream.
-use Rattle.std.specs.Prelude.{◌≡◌, ℕ, ◌≤◌, ◌⊎◌, Bool, true, false, List, [], length, Option, Some, None}
+use Rattle.std.specs.Prelude.{◌≡◌, ℕ, ◌≤◌, ◌⊎◌, ◌||◌, nat_lt, Bool, true, false, List, [], length, Option, Some, None}
 use Rattle.mc_ring.specs.Rings.{RingState}
 use Rattle.mc_link.specs.LinkState.{LinkState}
 use Rattle.mc_session.specs.Emits.{emitted}
@@ -22,6 +22,10 @@ is_closed_at (Some session) = session.reader.closed
 abbrev pub IsHeldUpAt : RingState → List LinkState → Option SessionState → Type 0
 IsHeldUpAt ring links None = ⊥
 IsHeldUpAt ring links (Some session) = IsHeldUp ring links session
+
+-- a request of a session is not answered, or an answer not sent; not so where it is not open
+abbrev pub is_owed_at : Option SessionState → Bool
+is_owed_at session = nat_lt 0 (unanswered_of session) || nat_lt 0 (length (output_of session))
 
 -- a session whose next answer is put out, where it is known: none where it is not known, or the session not open
 abbrev pub emitted_at : Option SessionState → Option SessionState

@@ -75,3 +75,8 @@ pub record Receives (number : ℕ) (side : Result Bool Pump) (old new : ProxySta
 abbrev pub pump_of : Result (Unit {0}) Pump → Pump
 pump_of (Ok u) = Again
 pump_of (Err pump) = pump
+
+-- the same of a part that says whether it moved anything
+abbrev pub pump_by : Result Bool Pump → Pump
+pump_by (Ok moved) = Again
+pump_by (Err pump) = pump

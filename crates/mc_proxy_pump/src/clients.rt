@@ -1,13 +1,14 @@
 //! The body of a session: bytes in, requests taken, answers out.
-ghost use Rattle.std.specs.Prelude.{◌≡◌, ◌<◌, ◌==◌, ◌&&◌, ℕ, List, [], Option, None, false, length, IfOk, IsSome};
+ghost use Rattle.std.specs.Prelude.{◌≡◌, ◌<◌, ◌==◌, ◌&&◌, ℕ, Bool, List, [], Option, None, Ok, false, length, IfOk, IsSome};
 ghost use Rattle.mc_proxy.specs.ProxyState.{output_of, session_at, unanswered_of};
 ghost use Rattle.mc_proxy.specs.Turns.{waiting_of};
 ghost use Rattle.mc_proxy_pump.specs.Calls.{Stretch};
-ghost use Rattle.mc_proxy_pump.specs.Clients.{PumpsClient, emitted_at, is_closed_at};
-ghost use Rattle.mc_proxy_pump.specs.Rounds.{HasAnswered, HowMany, Receives, Sends, StopsAt, TakesTurns, ends_by, pump_of, reads_by};
+ghost use Rattle.mc_proxy_pump.specs.Clients.{PumpsClient, emitted_at, is_closed_at, is_owed_at};
+ghost use Rattle.mc_proxy_pump.specs.Rounds.{HasAnswered, HowMany, Receives, Sends, StopsAt, TakesTurns, ends_by, pump_by, pump_of, reads_by};
 
 use mc_proxy::{Emit, Proxy, ProxyError, Turn, UNSENT_MARK};
 use mc_stream::{MAX_ROUNDS, Pump, read_once, write_once};
+use mc_watch::Tally;
 use std::io::{Read, Write};
 
 /// Carries a session's bytes between a proxy and the two sides of a stream that do not wait, takes its requests, and puts out
@@ -16,7 +17,8 @@ use std::io::{Read, Write};
 /// It does at most [`MAX_ROUNDS`] rounds. A round takes requests and puts answers out as far as it goes, writes what is unsent
 /// in one call, and reads once into `piece`, whose bytes before and after mean nothing. While a request has to wait for a mark,
 /// or [`UNSENT_MARK`] bytes or more are unsent, nothing is read. `ended` says whether the input has ended: the pump sets it when
-/// a read gives no byte, and then reads no more; a caller hands in `false` at first.
+/// a read gives no byte, and then reads no more; a caller hands in `false` at first. The tally counts the requests that are taken,
+/// and the bytes.
 ///
 /// Where it says [`Pump::Blocked`], the stream may move, a server may answer one of the session's commands, or a link whose
 /// mark a request waits for may be sent more of its bytes: then the pump is called again. Where the session is not open it says
@@ -28,6 +30,7 @@ pub fn pump_client<R: Read, W: Write>(
     reader: &mut R,
     writer: &mut W,
     piece: &mut [u8],
+    tally: &mut Tally,
 ) -> Pump
     requires piece { 0 < length piece.old }
     ensures pumps { IsSome (session_at proxy.old session) → PumpsClient session result proxy.old proxy.new
@@ -35,15 +38,54 @@ pub fn pump_client<R: Read, W: Write>(
     ensures not_open { session_at proxy.old session ≡ None → (result ≡ Pump.Failed) × (proxy.new ≡ proxy.old) }
 {
     // A session that is not open takes no turn.
-    let Ok(_) = proxy.turn(session) else {
+    let Ok(turn) = proxy.turn(session) else {
         return Pump::Failed;
     };
+    count_turn(turn, tally);
     for _ in 0..MAX_ROUNDS {
-        if let Err(pump) = round(proxy, session, ended, reader, writer, piece) {
+        if let Err(pump) = round(proxy, session, ended, reader, writer, piece, tally) {
             return pump;
         }
     }
     Pump::Again
+}
+
+/// Puts the answers out that are known, and writes what is unsent in one call, and says whether the writer took any. No request
+/// is taken, and nothing is read: it is for a session for which too much is kept already. Where nothing is owed, or the session
+/// is not open, it does nothing.
+///
+/// The error is how it stops, as that of a pump.
+pub fn pump_answers<W: Write>(
+    proxy: &mut Proxy,
+    session: u64,
+    writer: &mut W,
+    tally: &mut Tally,
+) -> Result<bool, Pump>
+    ensures pumps { (unread : Option (List ℕ)) (ended : Bool) → IsSome (session_at proxy.old session)
+        → PumpsClient session (pump_by result) proxy.old proxy.new unread unread (W.contents writer.old) (W.contents writer.new) ended ended }
+    ensures not_open { session_at proxy.old session ≡ None → (result ≡ Ok false) × (proxy.new ≡ proxy.old) }
+{
+    if !is_owed(proxy, session) {
+        return Ok(false);
+    }
+    let Ok(_) = put_out(proxy, session) else {
+        return Err(Pump::Failed);
+    };
+    send(proxy, session, writer, tally)
+}
+
+/// Whether a session has a request that is not answered, or an answer that is not sent.
+pub fn is_owed(proxy: &Proxy, session: u64) -> bool
+    ensures { result ≡ is_owed_at (session_at proxy.now session) }
+{
+    proxy.unanswered(session) > 0 || !proxy.output(session).is_empty()
+}
+
+/// Counts a request that a turn took, if it did.
+fn count_turn(turn: Turn, tally: &mut Tally) {
+    if turn == Turn::Took {
+        tally.took();
+    }
 }
 
 /// One round: requests and answers, a write, a read. The error is how the pump stops.
@@ -54,23 +96,24 @@ fn round<R: Read, W: Write>(
     reader: &mut R,
     writer: &mut W,
     piece: &mut [u8],
+    tally: &mut Tally,
 ) -> Result<(), Pump>
     requires is_open { IsSome (session_at proxy.old session) }
     requires piece { 0 < length piece.old }
     ensures { PumpsClient session (pump_of result) proxy.old proxy.new (R.remaining reader.old)
         (R.remaining reader.new) (W.contents writer.old) (W.contents writer.new) ended.old ended.new }
 {
-    let Ok(turn) = advance(proxy, session) else {
+    let Ok(turn) = advance(proxy, session, tally) else {
         return Err(Pump::Failed);
     };
     let is_marked = proxy.output(session).len() >= UNSENT_MARK;
-    let moved = send(proxy, session, writer)?;
+    let moved = send(proxy, session, writer, tally)?;
     if is_over(proxy, session, turn, *ended) {
         return Err(Pump::Done);
     }
     if is_read(turn, *ended, is_marked) {
         let can_send = moved && !proxy.output(session).is_empty();
-        return listen(proxy, session, ended, reader, piece, can_send);
+        return listen(proxy, session, ended, reader, piece, can_send, tally);
     }
     if moved {
         return Ok(());
@@ -108,14 +151,14 @@ fn is_read(turn: Turn, ended: bool, is_marked: bool) -> bool
 }
 
 /// Takes requests and puts answers out, as far as it goes, and says why no more is taken.
-fn advance(proxy: &mut Proxy, session: u64) -> Result<Turn, ProxyError>
+fn advance(proxy: &mut Proxy, session: u64, tally: &mut Tally) -> Result<Turn, ProxyError>
     requires is_open { IsSome (session_at proxy.old session) }
     ensures calls { Stretch session proxy.old proxy.new [] [] }
     ensures stop { IfOk result (λ turn. StopsAt turn proxy.new (session_at proxy.new session)) }
     ensures answered { IfOk result (λ turn. HasAnswered (session_at proxy.new session)) }
 {
     loop {
-        let stop = take_turns(proxy, session)?;
+        let stop = take_turns(proxy, session, tally)?;
         if !put_out(proxy, session)? {
             return Ok(stop);
         }
@@ -123,14 +166,14 @@ fn advance(proxy: &mut Proxy, session: u64) -> Result<Turn, ProxyError>
 }
 
 /// Takes requests until none waits, or none can be taken, and says why.
-fn take_turns(proxy: &mut Proxy, session: u64) -> Result<Turn, ProxyError>
+fn take_turns(proxy: &mut Proxy, session: u64, tally: &mut Tally) -> Result<Turn, ProxyError>
     requires is_open { IsSome (session_at proxy.old session) }
     ensures turns { TakesTurns session proxy.old proxy.new }
     ensures stop { IfOk result (λ turn. StopsAt turn proxy.new (session_at proxy.new session)) }
 {
     loop {
         match proxy.turn(session)? {
-            Turn::Took => {}
+            Turn::Took => tally.took(),
             Turn::Idle => return Ok(Turn::Idle),
             Turn::Waiting => return Ok(Turn::Waiting),
             Turn::Closing => return Ok(Turn::Closing),
@@ -156,7 +199,12 @@ fn put_out(proxy: &mut Proxy, session: u64) -> Result<bool, ProxyError>
 }
 
 /// Writes what is unsent, in one call, lets go of what the writer took, and says whether it took any.
-fn send<W: Write>(proxy: &mut Proxy, session: u64, writer: &mut W) -> Result<bool, Pump>
+fn send<W: Write>(
+    proxy: &mut Proxy,
+    session: u64,
+    writer: &mut W,
+    tally: &mut Tally,
+) -> Result<bool, Pump>
     requires { IsSome (session_at proxy.old session) }
     ensures { Sends session result proxy.old proxy.new (W.contents writer.old) (W.contents writer.new) }
 {
@@ -165,6 +213,7 @@ fn send<W: Write>(proxy: &mut Proxy, session: u64, writer: &mut W) -> Result<boo
         return Ok(false);
     }
     proxy.taken_out(session, count);
+    tally.went(count);
     Ok(true)
 }
 
@@ -176,6 +225,7 @@ fn listen<R: Read>(
     reader: &mut R,
     piece: &mut [u8],
     can_send: bool,
+    tally: &mut Tally,
 ) -> Result<(), Pump>
     requires is_open { IsSome (session_at proxy.old session) }
     requires none_waits { waiting_of (session_at proxy.old session) ≡ [] }
@@ -187,7 +237,7 @@ fn listen<R: Read>(
     ensures { (written : Option (List ℕ)) → PumpsClient session (pump_of result) proxy.old proxy.new
         (R.remaining reader.old) (R.remaining reader.new) written written ended.old ended.new }
 {
-    let moved = receive(proxy, session, ended, reader, piece)?;
+    let moved = receive(proxy, session, ended, reader, piece, tally)?;
     if moved || can_send {
         return Ok(());
     }
@@ -201,6 +251,7 @@ fn receive<R: Read>(
     ended: &mut bool,
     reader: &mut R,
     piece: &mut [u8],
+    tally: &mut Tally,
 ) -> Result<bool, Pump>
     requires is_open { IsSome (session_at proxy.old session) }
     requires none_waits { waiting_of (session_at proxy.old session) ≡ [] }
@@ -214,6 +265,7 @@ fn receive<R: Read>(
         return Ok(*ended);
     }
     let (came, _) = piece.split_at(count);
+    tally.came(count);
     match proxy.feed(session, came) {
         Ok(()) => Ok(true),
         Err(_) => Err(Pump::Failed),

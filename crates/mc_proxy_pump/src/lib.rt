@@ -3,7 +3,8 @@
 //! [`pump_client`] and [`pump_link`] are called again and again, as long as they say [`Pump::Again`], or [`Pump::Blocked`] and
 //! the stream or the proxy then moves. The streams are any reader and any writer: no socket is known here. [`MAX_ROUNDS`] and
 //! [`UNSENT_MARK`] are their limits. A pump of a link tells which sessions got replies, so that each of them is pumped once for
-//! all that came in a read: what came together goes out together.
+//! all that came in a read: what came together goes out together. [`pump_answers`] sends a session its answers and takes nothing of
+//! it, and [`is_owed`] says whether there are any.
 //!
 //! A pump does nothing to its proxy but calls for its own session, or for its own link, one behind another:
 //! `specs/Calls.antt` and `specs/LinkCalls.antt` have them, with the bytes that came and went by each. `specs/Clients.antt` and
@@ -15,7 +16,7 @@ mod clients;
 mod laws;
 mod links;
 
-pub use clients::pump_client;
+pub use clients::{is_owed, pump_answers, pump_client};
 pub use laws::{proxies_stand_behind_a_client, proxies_stand_behind_a_link};
 pub use links::pump_link;
 pub use mc_proxy::UNSENT_MARK;

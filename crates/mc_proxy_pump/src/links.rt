@@ -8,13 +8,14 @@ ghost use Rattle.mc_proxy_pump.specs.Rounds.{pump_of};
 
 use mc_proxy::{LinkTurn, Proxy};
 use mc_stream::{MAX_ROUNDS, Pump, read_once, write_once};
+use mc_watch::Tally;
 use std::io::{Read, Write};
 
 /// Carries a link's bytes between a proxy and the two sides of a stream that do not wait, and gives each command its reply.
 ///
 /// It does at most [`MAX_ROUNDS`] rounds. A round writes what is unsent in one call, reads once into `piece`, whose bytes before
 /// and after mean nothing, and takes all replies that have come whole. The sessions whose commands got their replies are put
-/// after those in `woken`, one that follows itself once. A link has no mark here: it is always read.
+/// after those in `woken`, one that follows itself once. A link has no mark here: it is always read. The tally counts the bytes.
 ///
 /// It says [`Pump::Done`] where the input has ended: then all replies that came whole are taken. It says [`Pump::Failed`] where
 /// the link is down or not there, where the stream failed, where a call was refused memory, and where what came is no reply,
@@ -27,6 +28,7 @@ pub fn pump_link<R: Read, W: Write>(
     writer: &mut W,
     piece: &mut [u8],
     woken: &mut Vec<u64>,
+    tally: &mut Tally,
 ) -> Pump
     requires piece { 0 < length piece.old }
     ensures pumps { (link_at proxy.old.links server).up ≡ true → PumpsLink server result proxy.old proxy.new
@@ -38,7 +40,7 @@ pub fn pump_link<R: Read, W: Write>(
         return Pump::Failed;
     }
     for _ in 0..MAX_ROUNDS {
-        if let Err(pump) = round(proxy, server, reader, writer, piece, woken) {
+        if let Err(pump) = round(proxy, server, reader, writer, piece, woken, tally) {
             return pump;
         }
     }
@@ -53,15 +55,16 @@ fn round<R: Read, W: Write>(
     writer: &mut W,
     piece: &mut [u8],
     woken: &mut Vec<u64>,
+    tally: &mut Tally,
 ) -> Result<(), Pump>
     requires is_up { (link_at proxy.old.links server).up ≡ true }
     requires piece { 0 < length piece.old }
     ensures { PumpsLink server (pump_of result) proxy.old proxy.new (R.remaining reader.old)
         (R.remaining reader.new) (W.contents writer.old) (W.contents writer.new) woken.old.items woken.new.items }
 {
-    let sent = send(proxy, server, writer)?;
+    let sent = send(proxy, server, writer, tally)?;
     let mut ended = false;
-    let came = receive(proxy, server, &mut ended, reader, piece)?;
+    let came = receive(proxy, server, &mut ended, reader, piece, tally)?;
     take_replies(proxy, server, woken)?;
     if ended {
         return Err(Pump::Done);
@@ -73,7 +76,12 @@ fn round<R: Read, W: Write>(
 }
 
 /// Writes what is unsent, in one call, lets go of what the writer took, and says whether it took any.
-fn send<W: Write>(proxy: &mut Proxy, server: usize, writer: &mut W) -> Result<bool, Pump>
+fn send<W: Write>(
+    proxy: &mut Proxy,
+    server: usize,
+    writer: &mut W,
+    tally: &mut Tally,
+) -> Result<bool, Pump>
     requires { (link_at proxy.old.links server).up ≡ true }
     ensures { SendsLink server result proxy.old proxy.new (W.contents writer.old) (W.contents writer.new) }
 {
@@ -82,6 +90,7 @@ fn send<W: Write>(proxy: &mut Proxy, server: usize, writer: &mut W) -> Result<bo
         return Ok(false);
     }
     proxy.link_taken_out(server, count);
+    tally.went(count);
     Ok(true)
 }
 
@@ -92,6 +101,7 @@ fn receive<R: Read>(
     ended: &mut bool,
     reader: &mut R,
     piece: &mut [u8],
+    tally: &mut Tally,
 ) -> Result<bool, Pump>
     requires is_up { (link_at proxy.old.links server).up ≡ true }
     requires goes_on { ended.old ≡ false }
@@ -103,6 +113,7 @@ fn receive<R: Read>(
         return Ok(*ended);
     }
     let (came, _) = piece.split_at(count);
+    tally.came(count);
     match proxy.link_feed(server, came) {
         Ok(()) => Ok(true),
         Err(_) => Err(Pump::Failed),

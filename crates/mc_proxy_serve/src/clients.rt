@@ -2,8 +2,9 @@
 ghost use Rattle.std.specs.Prelude.{◌<◌, length};
 
 use mc_proxy::Proxy;
-use mc_proxy_pump::{Pump, pump_client};
-use mc_socket::{Edge, Input};
+use mc_proxy_pump::{Pump, is_owed, pump_answers, pump_client};
+use mc_socket::{Edge, Input, Step, step_after};
+use mc_watch::Tally;
 use mio::event::Event;
 use mio::net::TcpStream;
 use std::mem;
@@ -21,11 +22,15 @@ pub struct Client {
     queued: bool,
     /// Whether anything has happened since the last rest.
     busy: bool,
+    /// In which second its socket was reported last, or it was owed something.
+    used: u64,
+    /// How many bytes it has sent, and servers have sent for it, since it was owed nothing: no fewer than are kept for it.
+    held: u64,
 }
 
 impl Client {
-    /// A client whose session has this number.
-    pub fn new(stream: TcpStream, session: u64) -> Self {
+    /// A client whose session has this number, and came in a second.
+    pub fn new(stream: TcpStream, session: u64, second: u64) -> Self {
         Client {
             stream,
             session,
@@ -33,6 +38,8 @@ impl Client {
             edge: Edge::new(),
             queued: false,
             busy: false,
+            used: second,
+            held: 0,
         }
     }
 
@@ -42,8 +49,17 @@ impl Client {
     }
 
     /// Notes what an event says of it.
-    pub fn note(&mut self, event: &Event) {
+    pub fn note(&mut self, event: &Event, second: u64) {
         self.edge.note(event);
+        self.used = second;
+    }
+
+    /// In which second its socket was reported last, or it was owed something, where it is owed something now or not.
+    pub fn used(&mut self, owed: bool, second: u64) -> u64 {
+        if owed {
+            self.used = second;
+        }
+        self.used
     }
 
     /// Notes whether it waits in the queue of those that go on, and says whether it did.
@@ -56,11 +72,59 @@ impl Client {
         mem::replace(&mut self.busy, false)
     }
 
-    /// Carries its bytes, takes its requests, and puts its answers out.
-    pub fn pump(&mut self, proxy: &mut Proxy, piece: &mut [u8]) -> Pump
+    /// Notes that servers have sent so many bytes among which there are replies to it.
+    pub fn hold(&mut self, bytes: u64) {
+        self.held = self.held.saturating_add(bytes);
+    }
+
+    /// Serves it as far as it goes, and says what is done with it then. Where more bytes are kept for it than this many, it is sent
+    /// its answers alone. What passed is counted.
+    pub fn serve(
+        &mut self,
+        proxy: &mut Proxy,
+        piece: &mut [u8],
+        tally: &mut Tally,
+        most: u64,
+    ) -> Step
         requires piece { 0 < length piece.old }
     {
         self.busy = true;
+        if self.held > most {
+            return self.drain(proxy, tally);
+        }
+        let before = tally.read;
+        let pumped = self.pump(proxy, piece, tally);
+        if is_owed(proxy, self.session) {
+            self.hold(tally.read.saturating_sub(before));
+        } else {
+            self.held = 0;
+        }
+        step_after(pumped)
+    }
+
+    /// Sends it its answers, and says what is done with it then. Once it is owed nothing, it is served again.
+    fn drain(&mut self, proxy: &mut Proxy, tally: &mut Tally) -> Step {
+        let mut output = &self.stream;
+        match pump_answers(proxy, self.session, &mut output, tally) {
+            Err(pump) => step_after(pump),
+            Ok(moved) => {
+                let owed = is_owed(proxy, self.session);
+                if !owed {
+                    self.held = 0;
+                }
+                if moved || !owed {
+                    Step::GoOn
+                } else {
+                    Step::Wait
+                }
+            }
+        }
+    }
+
+    /// Carries its bytes, takes its requests, and puts its answers out. What passed is counted.
+    fn pump(&mut self, proxy: &mut Proxy, piece: &mut [u8], tally: &mut Tally) -> Pump
+        requires piece { 0 < length piece.old }
+    {
         let mut input = Input {
             stream: &self.stream,
             edge: self.edge,
@@ -73,6 +137,7 @@ impl Client {
             &mut input,
             &mut output,
             piece,
+            tally,
         );
         self.edge = input.edge;
         pumped

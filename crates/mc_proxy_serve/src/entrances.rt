@@ -55,6 +55,11 @@ impl<'a> Entrance<'a> {
         self.door.is_shut() && self.next.is_none()
     }
 
+    /// How many clients were accepted.
+    pub fn accepted(&self) -> u64 {
+        self.door.accepted()
+    }
+
     /// Whether something is to be said of the server that joins.
     pub fn is_due(&self) -> bool {
         self.notices.is_due()
@@ -75,7 +80,7 @@ impl<'a> Entrance<'a> {
 
     /// Lets clients in while each line of the host was tried. With the client that the settings name a server joins, and that
     /// client is let in once the line to it was tried.
-    pub fn let_in<R: Net>(&mut self, host: &mut Host, rt: &R, registry: &Registry, second: u64) {
+    pub fn let_in<R: Net>(&mut self, host: &mut Host, rt: &R, registry: &Registry) {
         for _ in 0..MAX_ACCEPTS {
             if !host.is_settled() {
                 return;
@@ -90,12 +95,12 @@ impl<'a> Entrance<'a> {
             if self.next.is_none() {
                 return;
             }
-            self.join(host, rt, registry, second);
+            self.join(host, rt, registry);
         }
     }
 
     /// Has the server join, once the client has come with which it joins. Where it cannot, it is tried again with the next client.
-    fn join<R: Net>(&mut self, host: &mut Host, rt: &R, registry: &Registry, second: u64) {
+    fn join<R: Net>(&mut self, host: &mut Host, rt: &R, registry: &Registry) {
         let Some((server, with)) = self.join else {
             return;
         };
@@ -106,7 +111,7 @@ impl<'a> Entrance<'a> {
             Ok(()) => {
                 self.joined = true;
                 self.notices.note(Notice::Joined);
-                host.keep(rt, registry, second);
+                host.keep(rt, registry);
             }
             Err(cause) => self.notices.note(Notice::NotJoined(cause)),
         }

@@ -1,8 +1,9 @@
 //! A proxy that serves: clients and servers on sockets, over one [`mc_proxy::Proxy`].
 //!
 //! [`serve`] serves the clients that a listener accepts, and keeps a connection to each server of the ring as far as that is
-//! there: each is tried once before the first client is accepted, and while it is down at most once in a second. Connecting
-//! waits for nobody. [`ProxySettings`] says when it ends, and which server joins. Its bodies are
+//! there: each is tried once before the first client is accepted, and while it is down at most once in a second, and less often
+//! the longer it is. Connecting waits for nobody. [`ProxySettings`] says when it ends, how long a reply may take, when an idle
+//! client is closed, how often it says what it has done, and which server joins. Its bodies are
 //! [`mc_proxy_pump::pump_client`] and [`mc_proxy_pump::pump_link`], which have the law of a client's stream and of a
 //! server's. [`command`] and [`Options`] are the command line of [`PROGRAM`].
 //!
@@ -13,6 +14,7 @@
 #![tactic(auto)]
 
 mod clients;
+mod delays;
 mod entrances;
 mod hosts;
 mod limits;
@@ -20,8 +22,11 @@ mod lines;
 mod notices;
 mod options;
 mod pools;
+mod reports;
 mod serving;
 mod settings;
+mod waits;
+mod woken;
 
 pub use options::{ListError, Options, PROGRAM, command};
 pub use serving::serve;

@@ -3,5 +3,11 @@
 /// How often a round carries what came for clients and for servers, before it looks at its sockets again.
 pub const MAX_PASSES: u32 = 4;
 
-/// A connection to a server that is not there after so many seconds has failed.
-pub const CONNECT_SECONDS: u64 = 3;
+/// A connection to a server that is not there after so many milliseconds has failed.
+pub const CONNECT_MILLIS: u64 = 3000;
+
+/// Two connections to a server are begun with at least so many milliseconds between.
+pub const LEAST_DELAY: u64 = 1000;
+
+/// A round that waits because something is to be done unasked waits at most so many milliseconds.
+pub const MOST_PATIENCE: u64 = 3_600_000;

@@ -1,14 +1,19 @@
 //! The line to a server: its socket, if there is one, how far the connection is, and what is to be said of it.
 ghost use Rattle.std.specs.Prelude.{◌<◌, length};
 
-use crate::limits::CONNECT_SECONDS;
+use crate::delays::delay_after;
+use crate::limits::{CONNECT_MILLIS, LEAST_DELAY};
 use crate::notices::{Cause, Notice, Notices, tell};
+use crate::reports::LineReport;
+use crate::waits::Waits;
 use mc_proxy::Proxy;
 use mc_proxy_pump::{Pump, pump_link};
-use mc_socket::{Edge, Input};
+use mc_socket::{Edge, Input, keep_alive};
+use mc_watch::{Tally, earlier};
 use mio::event::Event;
 use mio::net::TcpStream;
 use mio::{Interest, Registry, Token};
+use std::alloc::Global;
 use std::mem;
 use std::net::{Net, SocketAddr, ToSocketAddrs};
 
@@ -29,27 +34,44 @@ pub struct Line {
     /// `<host>:<port>`.
     address: String,
     state: State,
-    /// In which second a connection was begun last.
-    begun: Option<u64>,
+    /// When a connection was begun last, in milliseconds.
+    begun: u64,
+    /// When the next one may be begun.
+    next: u64,
+    /// How many connections failed in a row.
+    failures: u32,
     /// Whether the first connection that was begun came to be, or failed.
     tried: bool,
     edge: Edge,
     /// Whether its socket may have something for it: only where it is up.
     stirred: bool,
     notices: Notices,
+    waits: Waits,
+    /// How often a connection was lost that was there.
+    losses: u64,
+    /// How many bytes have come since the last reply but one was taken: no fewer than are kept of a reply that is not whole.
+    unread: u64,
+    /// How many bytes the replies have at most that its last pump took.
+    brought: u64,
 }
 
 impl Line {
     /// A line to a server that no connection was begun to.
-    pub fn new(address: String) -> Line {
+    pub fn new(alloc: Global, address: String) -> Line {
         Line {
             address,
             state: State::Down,
-            begun: None,
+            begun: 0,
+            next: 0,
+            failures: 0,
             tried: false,
             edge: Edge::new(),
             stirred: false,
             notices: Notices::new(Notice::Back),
+            waits: Waits::new(alloc),
+            losses: 0,
+            unread: 0,
+            brought: 0,
         }
     }
 
@@ -80,28 +102,72 @@ impl Line {
         }
     }
 
-    /// Begins a connection where there is none and none was begun in this second; one that is not there after
-    /// [`CONNECT_SECONDS`] is let go first.
-    pub fn keep<R: Net>(&mut self, rt: &R, registry: &Registry, token: Token, second: u64) {
-        let begun = self.begun;
+    /// Begins a connection where there is none and it is time for one; one that is not there after [`CONNECT_MILLIS`] is let go
+    /// first. A random number says when the next is begun where this one fails.
+    pub fn keep<R: Net>(
+        &mut self,
+        rt: &R,
+        registry: &Registry,
+        token: Token,
+        now: u64,
+        random: u64,
+    ) {
         match self.state {
             State::Up(_) => {}
             State::Connecting(_) => {
-                if begun.map_or(
-                    true,
-                    |begun| second.saturating_sub(begun) >= CONNECT_SECONDS,
-                ) {
+                if now >= self.begun.saturating_add(CONNECT_MILLIS) {
+                    self.delay(now, random);
                     self.refuse(Cause::TimedOut);
                 }
             }
             State::Down => {
-                if begun != Some(second) {
-                    self.begun = Some(second);
+                if now >= self.next {
+                    self.begun = now;
+                    self.delay(now, random);
                     if let Err(cause) = self.connect(rt, registry, token) {
                         self.refuse(cause);
                     }
                 }
             }
+        }
+    }
+
+    /// Says when the next connection may be begun, where the one that is begun now fails, or has failed now.
+    fn delay(&mut self, now: u64, random: u64) {
+        let failures = self.failures.saturating_add(1);
+        self.next = now.saturating_add(delay_after(failures, random));
+    }
+
+    /// When something is to be done for it unasked, at the earliest: a connection is to be begun or given up, a reply is late, or
+    /// something is to be said. Nothing of it is late before `timeout` milliseconds; 0 for never.
+    pub fn due(&self, now: u64, timeout: u64) -> Option<u64> {
+        let own = match self.state {
+            State::Up(_) => self.late(timeout),
+            State::Connecting(_) => Some(self.begun.saturating_add(CONNECT_MILLIS)),
+            State::Down => Some(self.next),
+        };
+        let said = if self.is_due() {
+            Some(now.saturating_add(LEAST_DELAY))
+        } else {
+            None
+        };
+        earlier(own, said)
+    }
+
+    /// When the reply to the command that waits longest is late.
+    fn late(&self, timeout: u64) -> Option<u64> {
+        if timeout == 0 {
+            return None;
+        }
+        let oldest = self.waits.oldest()?;
+        Some(oldest.saturating_add(timeout))
+    }
+
+    /// Whether a reply is late.
+    pub fn is_late(&self, now: u64, timeout: u64) -> bool {
+        match self.late(timeout) {
+            Some(late) => self.is_up() && now >= late,
+            None => false,
         }
     }
 
@@ -112,6 +178,7 @@ impl Line {
         registry.register(&mut stream, token, Interest::READABLE | Interest::WRITABLE)?;
         // A server whose commands may come late is used all the same.
         let _ = stream.set_nodelay(true);
+        keep_alive(&stream);
         self.edge = Edge::new();
         self.state = State::Connecting(stream);
         Ok(())
@@ -135,6 +202,8 @@ impl Line {
         match mem::replace(&mut self.state, State::Down) {
             State::Connecting(stream) if proxy.back(server).is_ok() => {
                 self.tried = true;
+                self.failures = 0;
+                self.next = self.begun.saturating_add(LEAST_DELAY);
                 self.state = State::Up(stream);
                 self.notices.note(Notice::Back);
             }
@@ -146,10 +215,12 @@ impl Line {
     fn refuse(&mut self, cause: Cause) {
         self.state = State::Down;
         self.tried = true;
+        self.failures = self.failures.saturating_add(1);
         self.notices.note(Notice::Refused(cause));
     }
 
-    /// Carries its bytes, and gives commands their replies. The sessions that were answered are put behind `woken`.
+    /// Carries its bytes, and gives commands their replies. The sessions that were answered are put behind `woken`. What a strange
+    /// reply leaves without an answer is lost.
     pub fn pump(
         &mut self,
         proxy: &mut Proxy,
@@ -167,20 +238,79 @@ impl Line {
             edge: self.edge,
         };
         let mut output = stream;
-        let pumped = pump_link(proxy, server, &mut input, &mut output, piece, woken);
+        let before = proxy.waiting(server);
+        let mut tally = Tally::new();
+        let pumped = pump_link(
+            proxy,
+            server,
+            &mut input,
+            &mut output,
+            piece,
+            woken,
+            &mut tally,
+        );
         self.edge = input.edge;
         self.stirred = pumped == Pump::Again;
+        let fewer = before.saturating_sub(proxy.waiting(server));
+        if proxy.is_up(server) {
+            self.waits.answer(fewer);
+        } else {
+            self.waits.lose(fewer);
+        }
+        self.note_brought(tally.read, fewer > 0);
         pumped
     }
 
-    /// Lets the connection go, and loses the link if it is still up.
+    /// Notes that so many bytes came, and whether a reply was taken. What came after that is part of the next one.
+    fn note_brought(&mut self, came: u64, taken: bool) {
+        let unread = self.unread.saturating_add(came);
+        if taken {
+            self.brought = unread;
+            self.unread = came;
+        } else {
+            self.brought = 0;
+            self.unread = unread;
+        }
+    }
+
+    /// How many bytes the replies have at most that its last pump took.
+    pub fn brought(&self) -> u64 {
+        self.brought
+    }
+
+    /// Notes which commands wait at a moment, so that it is known once one has waited for too long.
+    pub fn note_waiting(&mut self, proxy: &Proxy, server: usize, now: u64) {
+        self.waits.note(proxy.waiting(server), now);
+    }
+
+    /// Lets the connection go, whose pump has failed, and loses the link if it is still up.
     pub fn lose(&mut self, proxy: &mut Proxy, server: usize) {
         let cause = self.cause_of_loss(proxy, server);
+        self.lose_by(proxy, server, cause);
+    }
+
+    /// Lets the connection go for a cause, and loses the link if it is still up.
+    pub fn lose_by(&mut self, proxy: &mut Proxy, server: usize, cause: Cause) {
+        self.waits.lose(proxy.waiting(server));
+        self.losses = self.losses.saturating_add(1);
         // A strange reply has lost the link before.
         let _ = proxy.lost(server);
         self.state = State::Down;
         self.stirred = false;
+        self.unread = 0;
         self.notices.note(Notice::Lost(cause));
+    }
+
+    /// What became of it, and of the commands that were put on it, of which so many wait.
+    pub fn report(&self, waiting: usize) -> LineReport<'_> {
+        LineReport {
+            server: self.address.as_str(),
+            up: self.is_up(),
+            losses: self.losses,
+            sent: self.waits.sent(waiting),
+            lost: self.waits.lost(),
+            waiting,
+        }
     }
 
     /// Why its pump has failed: where the link is lost by a strange reply, where not the connection is over, and else there was

@@ -17,9 +17,12 @@ pub enum Cause {
     /// The system refused the connection, and calls it so.
     #[error("{0}")]
     Connect(ErrorKind),
-    /// The connection was not there after [`CONNECT_SECONDS`](crate::limits::CONNECT_SECONDS).
+    /// The connection was not there after [`CONNECT_MILLIS`](crate::limits::CONNECT_MILLIS).
     #[error("timed out")]
     TimedOut,
+    /// The command that waits longest has had no reply for as long as the settings allow.
+    #[error("no reply in time")]
+    Late,
     /// What came is no reply to the command that waits longest, or no command waited.
     #[error("strange reply")]
     Strange,

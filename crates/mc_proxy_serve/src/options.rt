@@ -7,6 +7,12 @@ use mc_ring::{Address, Ring, RingError};
 use std::alloc::{AllocError, Global};
 use thiserror::Error;
 
+/// As many bytes kept for one client stop it, where nobody says otherwise: 256 MiB.
+const USUAL_HELD: u64 = 268_435_456;
+
+/// The most bytes that may be kept for one client: 1 TiB.
+const MOST_HELD: u64 = 1_099_511_627_776;
+
 /// The program's name.
 pub const PROGRAM: &str = "mc_proxyd";
 
@@ -68,6 +74,10 @@ impl<'a> Options<'a> {
             ring,
             settings: ProxySettings {
                 accept: matches.get_one::<u64>("accept").unwrap_or(0),
+                held: matches.get_one::<u64>("held").unwrap_or(USUAL_HELD),
+                timeout: matches.get_one::<u64>("timeout").unwrap_or(0),
+                idle: matches.get_one::<u64>("idle").unwrap_or(0),
+                report: matches.get_one::<u64>("report").unwrap_or(0),
                 join,
             },
             check: matches.get_flag("check"),
@@ -96,6 +106,10 @@ pub fn command<'a>(alloc: Global) -> Result<Command<'a>, AllocError> {
     Command::new(alloc, PROGRAM)
         .about("A memcached proxy: spreads keys over servers by libketama's ring")
         .arg(listen(alloc))?
+        .arg(held(alloc))?
+        .arg(timeout(alloc))?
+        .arg(idle(alloc))?
+        .arg(report(alloc))?
         .arg(accept(alloc))?
         .arg(join(alloc))?
         .arg(join_after(alloc))?
@@ -109,6 +123,44 @@ fn listen<'a>(alloc: Global) -> Arg<'a> {
         .value_name("host:port")
         .default_value("127.0.0.1:11212")
         .help("Where to listen: a host's name or IPv4 address, and a port from 1 to 65535")
+}
+
+fn held<'a>(alloc: Global) -> Arg<'a> {
+    Arg::new(alloc, "held")
+        .long("held")
+        .value_name("bytes")
+        .value_parser(ValueParser::unsigned(1, MOST_HELD))
+        .default_value("268435456")
+        .help(
+            "As many bytes of requests and replies kept for a client stop it until it is owed nothing: 1 to 1099511627776",
+        )
+}
+
+fn timeout<'a>(alloc: Global) -> Arg<'a> {
+    Arg::new(alloc, "timeout")
+        .long("timeout")
+        .value_name("milliseconds")
+        .value_parser(ValueParser::unsigned(0, u64::MAX))
+        .default_value("0")
+        .help("Lose the connection to a server that owes a reply for so long; 0 for never")
+}
+
+fn idle<'a>(alloc: Global) -> Arg<'a> {
+    Arg::new(alloc, "idle")
+        .long("idle")
+        .value_name("seconds")
+        .value_parser(ValueParser::unsigned(0, u64::MAX))
+        .default_value("0")
+        .help("Close a client that for so long sent nothing and was owed nothing; 0 for never")
+}
+
+fn report<'a>(alloc: Global) -> Arg<'a> {
+    Arg::new(alloc, "report")
+        .long("report")
+        .value_name("seconds")
+        .value_parser(ValueParser::unsigned(0, u64::MAX))
+        .default_value("0")
+        .help("Say on standard error, once in so many seconds, what was done; 0 for never")
 }
 
 fn accept<'a>(alloc: Global) -> Arg<'a> {

@@ -3,9 +3,12 @@ ghost use Rattle.std.specs.Prelude.{◌<◌, length};
 
 use crate::lines::Line;
 use crate::notices::Cause;
+use crate::options::PROGRAM;
+use crate::woken::Woken;
 use mc_proxy::{LINK_MARK, MAX_SESSIONS, Proxy, ProxyError};
 use mc_ring::{Address, Ring};
 use mc_socket::{KEPT_ROOM, Step, step_after};
+use mc_watch::earlier;
 use mio::event::Event;
 use mio::{Registry, Token};
 use std::alloc::{AllocError, Global};
@@ -16,16 +19,25 @@ use std::net::Net;
 pub struct Pool {
     alloc: Global,
     lines: Vec<Line>,
+    /// After how many milliseconds a command without a reply loses its link; 0 for never.
+    timeout: u64,
+    /// What says when lines that failed are tried again: another number at each try.
+    random: u64,
 }
 
 impl Pool {
-    /// Lines of which none was tried.
-    pub fn new(alloc: Global, ring: &Ring) -> Result<Pool, AllocError> {
+    /// Lines of which none was tried, and a random number to begin with.
+    pub fn new(alloc: Global, ring: &Ring, timeout: u64, random: u64) -> Result<Pool, AllocError> {
         let mut lines = Vec::with_capacity(alloc, ring.servers().len())?;
         for server in ring.servers() {
             lines.push(line_to(alloc, server)?)?;
         }
-        Ok(Pool { alloc, lines })
+        Ok(Pool {
+            alloc,
+            lines,
+            timeout,
+            random,
+        })
     }
 
     /// Whether each line was tried.
@@ -33,9 +45,13 @@ impl Pool {
         self.lines.iter().all(|line| line.is_tried())
     }
 
-    /// Whether each line is up, and nothing is to be said of any.
-    pub fn is_calm(&self) -> bool {
-        self.lines.iter().all(|line| line.is_up() && !line.is_due())
+    /// When something is to be done for a line unasked, at the earliest.
+    pub fn due(&self, now: u64) -> Option<u64> {
+        let mut due = None;
+        for line in self.lines.iter() {
+            due = earlier(due, line.due(now, self.timeout));
+        }
+        due
     }
 
     /// Whether the socket of a line may have something for it.
@@ -43,10 +59,34 @@ impl Pool {
         self.lines.iter().any(|line| line.is_stirred())
     }
 
-    /// Tries the lines that are down and were not tried in this second.
-    pub fn keep<R: Net>(&mut self, rt: &R, registry: &Registry, second: u64) {
+    /// Tries the lines that are down where it is time for them.
+    pub fn keep<R: Net>(&mut self, rt: &R, registry: &Registry, now: u64) {
+        let mut random = self.random;
         for (place, line) in self.lines.iter_mut().enumerate() {
-            line.keep(rt, registry, token_of(place), second);
+            random = next_random(random);
+            line.keep(rt, registry, token_of(place), now, random >> 32);
+        }
+        self.random = random;
+    }
+
+    /// Loses the lines on which a reply is late, and says whether there was one.
+    pub fn give_up(&mut self, proxy: &mut Proxy, now: u64) -> bool {
+        let mut any = false;
+        for (place, line) in self.lines.iter_mut().enumerate() {
+            if line.is_late(now, self.timeout) {
+                line.lose_by(proxy, place, Cause::Late);
+                any = true;
+            }
+        }
+        any
+    }
+
+    /// Says on standard error what became of each line.
+    pub fn report<R: Eprint>(&self, rt: &R, proxy: &Proxy) {
+        for (place, line) in self.lines.iter().enumerate() {
+            let report = line.report(proxy.waiting(place));
+            // Where it cannot be said, all are served all the same.
+            let _ = eprintln!(rt; "{PROGRAM}: {report}");
         }
     }
 
@@ -85,14 +125,15 @@ impl Pool {
 
     /// Carries the bytes of the lines that have something to send, or may have received something. The sessions that were
     /// answered are put after `woken`, and the places whose links are at their mark no more after `freed`. The result says
-    /// whether any other session may go on, since a line was lost. A line that fails is let go and its link is lost: the commands
+    /// whether any other session may go on, since a line was lost. What waits is noted at this moment. A line that fails is let go and its link is lost: the commands
     /// that wait on it are lost, and it is tried again.
     pub fn carry(
         &mut self,
         proxy: &mut Proxy,
         piece: &mut [u8],
-        woken: &mut Vec<u64>,
+        woken: &mut Woken,
         freed: &mut Vec<usize>,
+        now: u64,
     ) -> bool
         requires piece { 0 < length piece.old }
     {
@@ -102,7 +143,11 @@ impl Pool {
                 continue;
             }
             let was_marked = is_marked(proxy, place);
-            let pumped = line.pump(proxy, place, piece, woken);
+            let pumped = line.pump(proxy, place, piece, &mut woken.sessions);
+            woken.bring(line.brought());
+            if self.timeout > 0 {
+                line.note_waiting(proxy, place, now);
+            }
             match step_after(pumped) {
                 Step::GoOn => {}
                 Step::Wait => proxy.link_give_back(place, KEPT_ROOM),
@@ -138,5 +183,13 @@ fn token_of(place: usize) -> Token {
 
 /// A line to a server that no connection was begun to.
 fn line_to(alloc: Global, server: &Address) -> Result<Line, AllocError> {
-    Ok(Line::new(String::from_utf8_lossy(alloc, server.as_bytes())?))
+    let address = String::from_utf8_lossy(alloc, server.as_bytes())?;
+    Ok(Line::new(alloc, address))
+}
+
+/// The number after a random one: a step of a generator that has each number of 64 bits in turn.
+fn next_random(random: u64) -> u64 {
+    random
+        .wrapping_mul(6_364_136_223_846_793_005)
+        .wrapping_add(1_442_695_040_888_963_407)
 }

@@ -6,12 +6,15 @@
 #![tactic(auto)]
 
 use mc_program::{Failure, exit_status, read_words};
+use mc_proxy::MAX_SESSIONS;
 use mc_proxy_serve::{ListError, Options, PROGRAM, command, serve};
 use mc_ring::Ring;
 use mc_socket::bind;
 use mc_stream::ServeError;
+use mc_watch::{OWN_FILES, open_files, served};
 use std::net::Net;
 use std::process::ExitCode;
+use std::random::RandomSource;
 use std::rt::{Clock, Env};
 use std::sync::Wait;
 
@@ -26,7 +29,7 @@ fn main(rt: HostRuntime) -> ExitCode {
 /// Reads the words, and then prints how large the ring is, or serves.
 fn run<R>(rt: &R) -> Result<(), Failure>
 where
-    R: Env + Clock + Print + Eprint + Net + Wait + AllocGlobal,
+    R: Env + Clock + Print + Eprint + Net + RandomSource + Wait + AllocGlobal,
 {
     let alloc = rt.alloc();
     let words = read_words(rt)?;
@@ -41,6 +44,7 @@ where
         return print_size(rt, &ring);
     }
     let listener = bind(rt, alloc, listen)?;
+    tell_open_files(rt, ring.servers().len());
     // Whom the line does not reach is served all the same.
     let _ = println!(rt; "listening {listen}");
     serve(rt, alloc, listener, &settings, ring)?;
@@ -52,6 +56,20 @@ fn failure_of(error: ListError) -> Failure {
     match error {
         ListError::Bad => Failure::Refused("bad server list"),
         ListError::Memory => Failure::Serve(ServeError::Memory),
+    }
+}
+
+/// Says on standard error how many clients can be served beside the connections to servers, where the system allows fewer open
+/// files than all may need.
+fn tell_open_files<R: Eprint>(rt: &R, servers: usize) {
+    if let Some(files) = open_files() {
+        let clients = served(served(files, OWN_FILES), servers as u64);
+        if clients <= MAX_SESSIONS as u64 {
+            // Where it cannot be said, clients are served all the same.
+            let _ = eprintln!(rt;
+                "{PROGRAM}: {files} open files: {clients} connections can be served at a time"
+            );
+        }
     }
 }
 

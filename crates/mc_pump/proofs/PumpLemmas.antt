@@ -1,5 +1,5 @@
 -- Pumps: one after another, and what each part of a round adds.
-use Rattle.std.proofs.Common.{◌≡◌, ℕ, Bool, true, false, Ok, Err, List, [], ◌++◌, Option, Some}
+use Rattle.std.proofs.Common.{◌≡◌, ℕ, Bool, false, Ok, Err, List, [], ◌++◌, Option, Some}
 use Rattle.mc_server.specs.ServerState.{ConnectionState, ServerState, connection_at}
 use Rattle.mc_stream.specs.Sides.{IsStopOfSide}
 use Rattle.mc_pump.specs.Stretches.{Stretch}

@@ -3,7 +3,8 @@
 //! [`pump`] is called again and again, as long as it says [`Pump::Again`], or [`Pump::Blocked`] and the stream then moves.
 //! Its contract is the law of one connection, from the bytes that a reader gave to the bytes that a writer took.
 //! [`MAX_ROUNDS`] and [`UNSENT_MARK`] are its limits. The stream is any reader and any writer: no socket is known here.
-//! One call of a side of a stream is [`mc_stream::write_once`] or [`mc_stream::read_once`].
+//! One call of a side of a stream is [`mc_stream::write_once`] or [`mc_stream::read_once`]. A [`Watch`] says how large an answer may
+//! be, and what passed.
 //!
 //! `specs/Stretches.antt` has what a stretch of a connection does to a server, `mc_stream`'s `specs/Sides.antt` what the two
 //! sides of a stream carry, `specs/Pumps.antt` what a pump does between the two. [`servers_stand_behind_a_stretch`] is a law,
@@ -14,8 +15,10 @@ mod laws;
 mod limits;
 mod pumps;
 mod rounds;
+mod watches;
 
 pub use laws::servers_stand_behind_a_stretch;
 pub use limits::UNSENT_MARK;
 pub use mc_stream::{MAX_ROUNDS, Pump};
 pub use pumps::pump;
+pub use watches::Watch;

@@ -4,6 +4,7 @@ ghost use Rattle.mc_server.specs.ServerState.{connection_at};
 ghost use Rattle.mc_pump.specs.Pumps.{Pumps};
 
 use crate::rounds::round;
+use crate::watches::Watch;
 use mc_server::Server;
 use mc_store::Store;
 use mc_stream::{MAX_ROUNDS, Pump};
@@ -16,6 +17,9 @@ use std::io::{Read, Write};
 /// call, and reads once into `piece`, whose bytes before and after mean nothing. While [`UNSENT_MARK`](crate::UNSENT_MARK)
 /// bytes or more are unsent, no turn is taken and nothing is read. `ended` says whether the input has ended: the pump
 /// sets it when a read gives no byte, and then reads no more; a caller hands in `false` at first.
+///
+/// A request whose answer may have more bytes than the watch allows is not taken: the pump says [`Pump::Failed`], and has done
+/// nothing for it. The watch notes that, and counts the requests that are taken, and the bytes.
 pub fn pump<S: Store + Drop, R: Read, W: Write>(
     server: &mut Server<S>,
     number: u64,
@@ -24,6 +28,7 @@ pub fn pump<S: Store + Drop, R: Read, W: Write>(
     writer: &mut W,
     piece: &mut [u8],
     moment: u64,
+    watch: &mut Watch,
 ) -> Pump
     requires piece { 0 < length piece.old }
     requires moment { moment < 2 ^ 63 }
@@ -35,7 +40,7 @@ pub fn pump<S: Store + Drop, R: Read, W: Write>(
         return Pump::Failed;
     };
     for _ in 0..MAX_ROUNDS {
-        if let Err(pump) = round(server, number, ended, reader, writer, piece, moment) {
+        if let Err(pump) = round(server, number, ended, reader, writer, piece, moment, watch) {
             return pump;
         }
     }

@@ -7,7 +7,8 @@ ghost use Rattle.mc_pump.specs.Pumps.{Pumps};
 ghost use Rattle.mc_pump.specs.Rounds.{Receives, Sends, StopsAt, ends_by, pump_of, reads_by};
 
 use crate::limits::UNSENT_MARK;
-use mc_server::{Server, ServerError, Turn};
+use crate::watches::Watch;
+use mc_server::{Limited, Server, Turn};
 use mc_store::Store;
 use mc_stream::{Pump, read_once, write_once};
 use std::io::{Read, Write};
@@ -32,6 +33,7 @@ pub fn round<S: Store + Drop, R: Read, W: Write>(
     writer: &mut W,
     piece: &mut [u8],
     moment: u64,
+    watch: &mut Watch,
 ) -> Result<(), Pump>
     requires is_open { IsSome (connection_at server.old number) }
     requires piece { 0 < length piece.old }
@@ -39,16 +41,16 @@ pub fn round<S: Store + Drop, R: Read, W: Write>(
     ensures { Pumps number moment (pump_of result) server.old server.new (R.remaining reader.old)
         (R.remaining reader.new) (W.contents writer.old) (W.contents writer.new) ended.old ended.new }
 {
-    let Ok(stop) = take_turns(server, number, moment) else {
+    let Ok(stop) = take_turns(server, number, moment, watch) else {
         return Err(Pump::Failed);
     };
-    let moved = send(server, number, writer)?;
+    let moved = send(server, number, writer, watch)?;
     if is_over(server, number, stop, *ended) {
         return Err(Pump::Done);
     }
     if is_read(stop, *ended) {
         let can_send = moved && !server.output(number).is_empty();
-        return listen(server, number, ended, reader, piece, can_send);
+        return listen(server, number, ended, reader, piece, can_send, watch);
     }
     if moved {
         return Ok(());
@@ -84,20 +86,29 @@ fn is_read(stop: Stop, ended: bool) -> bool
     }
 }
 
-/// Takes turns of a connection until none waits, or until as much is unsent as the mark.
+/// Takes turns of a connection until none waits, or until as much is unsent as the mark. The error is how the pump stops: a turn
+/// was refused memory, or its answer may have more bytes than the watch allows.
 fn take_turns<S: Store + Drop>(
     server: &mut Server<S>,
     number: u64,
     moment: u64,
-) -> Result<Stop, ServerError>
+    watch: &mut Watch,
+) -> Result<Stop, Pump>
     requires is_open { IsSome (connection_at server.old number) }
     requires moment { moment < 2 ^ 63 }
     ensures turns { Stretch number moment server.old server.new [] [] }
     ensures stop { IfOk result (λ stop. StopsAt stop (connection_at server.new number)) }
 {
     while server.output(number).len() < UNSENT_MARK {
-        match server.turn(number, moment)? {
-            Turn::Took => {}
+        let Ok(limited) = server.turn_within(number, moment, watch.limit) else {
+            return Err(Pump::Failed);
+        };
+        let Limited::Turned(turn) = limited else {
+            watch.refused = true;
+            return Err(Pump::Failed);
+        };
+        match turn {
+            Turn::Took => watch.tally.took(),
             Turn::Idle => return Ok(Stop::Idle),
             Turn::Closing => return Ok(Stop::Closing),
         }
@@ -110,6 +121,7 @@ fn send<S: Store + Drop, W: Write>(
     server: &mut Server<S>,
     number: u64,
     writer: &mut W,
+    watch: &mut Watch,
 ) -> Result<bool, Pump>
     requires { IsSome (connection_at server.old number) }
     ensures { (moment : ℕ) → Sends number moment result server.old server.new (W.contents writer.old) (W.contents writer.new) }
@@ -119,6 +131,7 @@ fn send<S: Store + Drop, W: Write>(
         return Ok(false);
     }
     server.taken_out(number, count);
+    watch.tally.went(count);
     Ok(true)
 }
 
@@ -130,6 +143,7 @@ fn listen<S: Store + Drop, R: Read>(
     reader: &mut R,
     piece: &mut [u8],
     can_send: bool,
+    watch: &mut Watch,
 ) -> Result<(), Pump>
     requires is_open { IsSome (connection_at server.old number) }
     requires none_waits { waiting_of (connection_at server.old number) ≡ [] }
@@ -140,7 +154,7 @@ fn listen<S: Store + Drop, R: Read>(
     ensures { (moment : ℕ) (written : Option (List ℕ)) → Pumps number moment (pump_of result) server.old server.new
         (R.remaining reader.old) (R.remaining reader.new) written written ended.old ended.new }
 {
-    let moved = receive(server, number, ended, reader, piece)?;
+    let moved = receive(server, number, ended, reader, piece, watch)?;
     if moved || can_send {
         return Ok(());
     }
@@ -154,6 +168,7 @@ fn receive<S: Store + Drop, R: Read>(
     ended: &mut bool,
     reader: &mut R,
     piece: &mut [u8],
+    watch: &mut Watch,
 ) -> Result<bool, Pump>
     requires is_open { IsSome (connection_at server.old number) }
     requires below { length (output_of (connection_at server.old number)) < UNSENT_MARK }
@@ -166,6 +181,7 @@ fn receive<S: Store + Drop, R: Read>(
         return Ok(*ended);
     }
     let (came, _) = piece.split_at(count);
+    watch.tally.came(count);
     match server.feed(number, came) {
         Ok(()) => Ok(true),
         Err(_) => Err(Pump::Failed),

@@ -1,7 +1,7 @@
 //! A server on a socket and its clients, on threads of one process.
 
 use mc_fixtures::MOMENT;
-use mc_serve::{Seconds, Settings, serve};
+use mc_serve::{Seconds, Service, Settings, serve};
 use mio::net::TcpListener;
 use std::alloc::Global;
 use std::io::{Read, Write};
@@ -210,7 +210,8 @@ fn is_played<R: Net<Stream = TcpStream>>(
 #[test]
 fn dialogues_over_sockets_are_so(rt: HostRuntime) -> Result<(), Fail> {
     for dialogue in &DIALOGUES {
-        let Some(settings) = Settings::new(67_108_864, 1_000, dialogue.clients) else {
+        let Some(settings) = Settings::new(67_108_864, 1_000, Service::until(dialogue.clients))
+        else {
             return Err(Fail::from("no cache has these bounds"));
         };
         let listener = TcpListener::bind(&rt, SocketAddr::from((Ipv4Addr::LOCALHOST, 0)))?;

@@ -5,8 +5,8 @@ use mc_fixtures::{
     Call, Calls, MANY, MOMENT, MeagreStore, SCRIPTS, Sides, Sink, Source, WIDE, new_server,
     with_value,
 };
-use mc_pump::{MAX_ROUNDS, Pump, UNSENT_MARK, pump};
-use mc_server::Server;
+use mc_pump::{MAX_ROUNDS, Pump, UNSENT_MARK, Watch, pump};
+use mc_server::{AnswerLimit, Server};
 use std::alloc::{AllocError, Global};
 use std::test::Fail;
 
@@ -36,8 +36,11 @@ fn pumped(
 ) -> Pump {
     let mut ended = false;
     let mut piece = [0u8; 16];
+    let mut watch = Watch::new(AnswerLimit::none());
     for _ in 0..MANY {
-        let last = pump(server, number, &mut ended, source, sink, &mut piece, MOMENT);
+        let last = pump(
+            server, number, &mut ended, source, sink, &mut piece, MOMENT, &mut watch,
+        );
         if last == Pump::Done || last == Pump::Failed {
             return last;
         }
@@ -197,7 +200,10 @@ fn unsent_after_a_pump(
     sink: &mut Sink,
 ) -> usize {
     let mut piece = [0u8; 16];
-    let _ = pump(server, number, &mut false, source, sink, &mut piece, MOMENT);
+    let mut watch = Watch::new(AnswerLimit::none());
+    let _ = pump(
+        server, number, &mut false, source, sink, &mut piece, MOMENT, &mut watch,
+    );
     server.output(number).len()
 }
 
@@ -232,6 +238,7 @@ fn a_pump_ends_though_more_comes(rt: HostRuntime) -> Result<(), Fail> {
     let mut source = Source::new(alloc, &[b'x'; 1_000], Calls::new(&[Moves(1)], None))?;
     let mut sink = Sink::new(alloc, Calls::new(&[Moves(1)], None));
     let mut piece = [0u8; 16];
+    let mut watch = Watch::new(AnswerLimit::none());
     let last = pump(
         &mut server,
         number,
@@ -240,7 +247,35 @@ fn a_pump_ends_though_more_comes(rt: HostRuntime) -> Result<(), Fail> {
         &mut sink,
         &mut piece,
         MOMENT,
+        &mut watch,
     );
     assert!(rt; last == Pump::Again && source.calls.made == MAX_ROUNDS as usize);
+    Ok(())
+}
+
+/// A request whose answer may be larger than the limit is not taken, nor any after it: those before it are served.
+#[test]
+fn larger_answers_fail_a_pump(rt: HostRuntime) -> Result<(), Fail> {
+    let alloc = rt.alloc();
+    let mut server = server_with_value(alloc)?;
+    let number = server.admit()?;
+    let sent = b"get b\r\nget a\r\nset a 0 0 1\r\nx\r\n";
+    let mut source = Source::new(alloc, sent, Calls::new(&[Moves(usize::MAX)], None))?;
+    let mut sink = Sink::new(alloc, Calls::new(&[Moves(usize::MAX)], None));
+    let mut piece = [0u8; 64];
+    let mut watch = Watch::new(AnswerLimit { bytes: 500_000 });
+    let last = pump(
+        &mut server,
+        number,
+        &mut false,
+        &mut source,
+        &mut sink,
+        &mut piece,
+        MOMENT,
+        &mut watch,
+    );
+    let is_refused = last == Pump::Failed && server.bound(number)? == 501_024;
+    let is_one = watch.tally.requests == 1 && server.output(number) == b"END\r\n".as_slice();
+    assert!(rt; is_refused && is_one);
     Ok(())
 }

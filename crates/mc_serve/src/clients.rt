@@ -3,7 +3,7 @@ ghost use Rattle.std.specs.Prelude.{◌≡◌, ◌<◌, ◌^◌, None, IsSome, l
 ghost use Rattle.mc_server.specs.ServerState.{connection_at};
 ghost use Rattle.mc_pump.specs.Pumps.{Pumps};
 
-use mc_pump::{Pump, pump};
+use mc_pump::{Pump, Watch, pump};
 use mc_server::Server;
 use mc_socket::{Edge, Input};
 use mc_store::Store;
@@ -23,11 +23,13 @@ pub struct Client {
     queued: bool,
     /// Whether anything has happened since the last rest.
     busy: bool,
+    /// When its socket was reported last, or it was owed something.
+    used: u64,
 }
 
 impl Client {
-    /// A client whose connection has this number.
-    pub fn new(stream: TcpStream, number: u64) -> Self {
+    /// A client whose connection has this number, and came at a moment.
+    pub fn new(stream: TcpStream, number: u64, moment: u64) -> Self {
         Client {
             stream,
             number,
@@ -35,6 +37,7 @@ impl Client {
             edge: Edge::new(),
             queued: false,
             busy: false,
+            used: moment,
         }
     }
 
@@ -44,8 +47,17 @@ impl Client {
     }
 
     /// Notes what an event says of it.
-    pub fn note(&mut self, event: &Event) {
+    pub fn note(&mut self, event: &Event, moment: u64) {
         self.edge.note(event);
+        self.used = moment;
+    }
+
+    /// When its socket was reported last, or it was owed something, where it is owed something now or not.
+    pub fn used(&mut self, owed: bool, moment: u64) -> u64 {
+        if owed {
+            self.used = moment;
+        }
+        self.used
     }
 
     /// Notes whether it waits in the queue of those that go on, and says whether it did.
@@ -58,12 +70,14 @@ impl Client {
         std::mem::replace(&mut self.busy, false)
     }
 
-    /// Carries its bytes, and serves what comes whole. Which bytes a socket gives, and which it takes, is not known.
+    /// Carries its bytes, and serves what comes whole, where the watch allows its answer. Which bytes a socket gives, and which it
+    /// takes, is not known.
     pub fn pump<S: Store + Drop>(
         &mut self,
         server: &mut Server<S>,
         piece: &mut [u8],
         moment: u64,
+        watch: &mut Watch,
     ) -> Pump
         requires piece { 0 < length piece.old }
         requires moment { moment < 2 ^ 63 }
@@ -85,6 +99,7 @@ impl Client {
             &mut output,
             piece,
             moment,
+            watch,
         );
         self.edge = input.edge;
         pumped

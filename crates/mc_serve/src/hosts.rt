@@ -2,15 +2,22 @@
 ghost use Rattle.std.specs.Prelude.{◌<◌, ◌^◌, vec_len};
 
 use crate::clients::Client;
-use mc_server::{MAX_CONNECTIONS, Server};
+use crate::counts::Counts;
+use crate::options::PROGRAM;
+use crate::reports::Report;
+use crate::settings::Service;
+use mc_pump::Watch;
+use mc_server::{AnswerLimit, MAX_CONNECTIONS, Server};
 use mc_socket::{KEPT_ROOM, PIECE_LEN, Step, step_after};
 use mc_store::Store;
+use mc_watch::{Seldom, earlier};
 use mio::event::Event;
 use mio::net::TcpStream;
 use mio::{Interest, Registry, Token};
 use slab::Slab;
 use std::alloc::{AllocError, Global};
 use std::mem;
+use std::rc::Rc;
 
 /// A server and the sockets of its connections. A socket's token is its client's key.
 #[derive(Drop)]
@@ -25,12 +32,28 @@ pub struct Host<S: Store + Drop> {
     going_on: Vec<usize>,
     /// Whether a client was busy since the last rest.
     busy: bool,
+    service: Service,
+    /// How large an answer may be, and what passed of all clients.
+    watch: Watch,
+    /// What the server's store has done.
+    counts: Rc<Counts>,
+    /// How many clients were closed as they came.
+    refused: u64,
+    /// What is to be said of a request whose answer may be too large: how many bytes it might have.
+    too_large: Seldom,
+    /// When a client may have been idle for too long, at the earliest.
+    due: Option<u64>,
     ghost reads: { 0 < vec_len piece },
 }
 
 impl<S: Store + Drop> Host<S> {
-    /// A host without a client.
-    pub fn new(alloc: Global, server: Server<S>) -> Result<Self, AllocError> {
+    /// A host without a client, over a server whose store counts what it does.
+    pub fn new(
+        alloc: Global,
+        server: Server<S>,
+        counts: Rc<Counts>,
+        service: Service,
+    ) -> Result<Self, AllocError> {
         Ok(Host {
             server,
             clients: Slab::with_capacity(alloc, MAX_CONNECTIONS)?,
@@ -38,6 +61,14 @@ impl<S: Store + Drop> Host<S> {
             queue: Vec::with_capacity(alloc, MAX_CONNECTIONS)?,
             going_on: Vec::with_capacity(alloc, MAX_CONNECTIONS)?,
             busy: false,
+            service,
+            watch: Watch::new(AnswerLimit {
+                bytes: service.answer,
+            }),
+            counts,
+            refused: 0,
+            too_large: Seldom::new(),
+            due: None,
         })
     }
 
@@ -56,9 +87,15 @@ impl<S: Store + Drop> Host<S> {
         self.busy
     }
 
-    /// Takes a client in. One for whom there is no place or no memory is closed at once.
-    pub fn admit(&mut self, mut stream: TcpStream, registry: &Registry) {
+    /// When a client may have been idle for too long, at the earliest.
+    pub fn due(&self) -> Option<u64> {
+        self.due
+    }
+
+    /// Takes a client in at a moment. One for whom there is no place or no memory is closed at once.
+    pub fn admit(&mut self, mut stream: TcpStream, registry: &Registry, moment: u64) {
         let Ok(number) = self.server.admit() else {
+            self.refused = self.refused.saturating_add(1);
             return;
         };
         let token = Token(self.clients.vacant_key());
@@ -66,9 +103,26 @@ impl<S: Store + Drop> Host<S> {
         // A client whose answers may come late is served all the same.
         let _ = stream.set_nodelay(true);
         let registered = registry.register(&mut stream, token, both);
-        if registered.is_err() || self.clients.insert(Client::new(stream, number)).is_err() {
+        let client = Client::new(stream, number, moment);
+        if registered.is_err() || self.clients.insert(client).is_err() {
             let _ = self.server.close(number);
+            self.refused = self.refused.saturating_add(1);
+            return;
         }
+        self.expect(moment);
+    }
+
+    /// Expects a client that was used at a moment to be idle for too long once so many seconds have passed.
+    fn expect(&mut self, used: u64) {
+        if self.service.idle > 0 {
+            let due = used.saturating_add(self.service.idle).saturating_add(1);
+            self.due = earlier(self.due, Some(due));
+        }
+    }
+
+    /// Comes to a moment.
+    pub fn come_to(&mut self, moment: u64) {
+        self.counts.come_to(moment);
     }
 
     /// Serves the client of an event.
@@ -77,7 +131,7 @@ impl<S: Store + Drop> Host<S> {
     {
         let Token(key) = event.token();
         if let Some(client) = self.clients.get_mut(key) {
-            client.note(event);
+            client.note(event, moment);
             self.serve(key, moment);
         }
     }
@@ -99,9 +153,11 @@ impl<S: Store + Drop> Host<S> {
         self.going_on.clear();
     }
 
-    /// Gives back the memory that clients have reserved to whom nothing has happened since the last rest.
-    pub fn rest(&mut self) {
+    /// Gives back the memory that clients have reserved to whom nothing has happened since the last rest, and closes those that
+    /// have been idle for too long.
+    pub fn rest(&mut self, moment: u64) {
         self.busy = false;
+        self.due = None;
         for key in 0..MAX_CONNECTIONS {
             if let Some(client) = self.clients.get_mut(key) {
                 if client.take_busy() {
@@ -109,7 +165,47 @@ impl<S: Store + Drop> Host<S> {
                 } else {
                     self.server.give_back(client.number(), 0);
                 }
+                let owed = !self.server.output(client.number()).is_empty();
+                let used = client.used(owed, moment);
+                if self.is_too_idle(used, moment) {
+                    self.close(key);
+                } else {
+                    self.expect(used);
+                }
             }
+        }
+    }
+
+    /// Whether a client that was used at a moment has been idle for too long: moments are whole seconds, so that one more has to pass.
+    fn is_too_idle(&self, used: u64, moment: u64) -> bool {
+        self.service.idle > 0 && moment.saturating_sub(used) > self.service.idle
+    }
+
+    /// Says on standard error, at most once in a second, that a request was refused whose answer may be too large.
+    pub fn tell<R: Eprint>(&mut self, rt: &R, moment: u64) {
+        if let Some(bytes) = self.too_large.take(moment) {
+            // Where it cannot be said, all are served all the same.
+            let _ = eprintln!(rt;
+                "{PROGRAM}: request refused: its answer may have more than {bytes} bytes"
+            );
+        }
+    }
+
+    /// What it has done, in so many seconds in which so many connections were accepted.
+    pub fn report(&self, uptime: u64, accepted: u64) -> Report {
+        Report {
+            uptime,
+            connections: self.clients.len(),
+            accepted,
+            refused: self.refused,
+            tally: self.watch.tally,
+            hits: self.counts.hits(),
+            misses: self.counts.misses(),
+            stores: self.counts.stores(),
+            evictions: self.counts.evictions(),
+            expired: self.counts.expired(),
+            items: self.counts.items(),
+            bytes: self.counts.used(),
         }
     }
 
@@ -121,11 +217,16 @@ impl<S: Store + Drop> Host<S> {
             return;
         };
         self.busy = true;
-        let pumped = client.pump(&mut self.server, &mut self.piece, moment);
+        let pumped = client.pump(&mut self.server, &mut self.piece, moment, &mut self.watch);
         match step_after(pumped) {
             Step::GoOn => self.enqueue(key),
             Step::Wait => self.server.give_back(client.number(), KEPT_ROOM),
-            Step::Close => self.close(key),
+            Step::Close => {
+                if mem::replace(&mut self.watch.refused, false) {
+                    self.too_large.note(self.watch.limit.bytes as u64);
+                }
+                self.close(key);
+            }
         }
     }
 

@@ -3,7 +3,10 @@
 //! [`serve`] serves the connections of a listener ([`bind`]) over one cache, with [`Settings`], at the moments of a clock
 //! ([`Seconds`], [`SystemSeconds`]). Its body is [`mc_pump::pump`], which carries one connection's bytes between a server
 //! and the two sides of a stream, and has the law of one connection. [`command`] and [`Options`] are the command line of
-//! the program `mc_serverd`.
+//! the program [`PROGRAM`].
+//!
+//! On standard error it says, at most once in a second, that a request was refused whose answer may be too large, and, where the
+//! settings ask for it, what it has done. The store counts what it does, so that no layer between has to.
 //!
 //! [`serve`] waits for its sockets, and may wait for ever; [`bind`] looks a name up, and may wait for that; no other call waits.
 //! What a socket carries, no contract says. Proved of a client's turn are that its connection alone is pumped, at the moment that
@@ -12,14 +15,18 @@
 
 mod clients;
 mod clocks;
+mod counted;
+mod counts;
+mod duties;
 mod hosts;
 mod options;
+mod reports;
 mod serving;
 mod settings;
 
 pub use clocks::{Seconds, SystemSeconds};
 pub use mc_socket::{PIECE_LEN, bind};
 pub use mc_stream::ServeError;
-pub use options::{Options, command};
+pub use options::{Options, PROGRAM, command};
 pub use serving::serve;
-pub use settings::Settings;
+pub use settings::{Service, Settings, USUAL_ANSWER};

@@ -1,10 +1,16 @@
 //! The command line of a server.
 
-use crate::settings::Settings;
+use crate::settings::{Service, Settings};
 use clap::builder::ValueParser;
 use clap::{Arg, ArgAction, ArgMatches, Command};
 use mc_cache::{MAX_BUDGET, MAX_ITEMS};
 use std::alloc::{AllocError, Global};
+
+/// The fewest bytes that an answer may be allowed: what is counted for a request without a value.
+const LEAST_ANSWER: u64 = 1024;
+
+/// The program's name.
+pub const PROGRAM: &str = "mc_serverd";
 
 /// What a command line asks for.
 #[derive(Clone, Copy, Debug)]
@@ -22,10 +28,15 @@ impl<'a> Options<'a> {
     pub fn of(matches: &ArgMatches<'a>) -> Option<Options<'a>> {
         let budget = matches.get_one::<u64>("budget")?;
         let items = matches.get_one::<usize>("items")?;
-        let accept = matches.get_one::<u64>("accept")?;
+        let service = Service {
+            accept: matches.get_one::<u64>("accept")?,
+            answer: matches.get_one::<usize>("answer")?,
+            idle: matches.get_one::<u64>("idle")?,
+            report: matches.get_one::<u64>("report")?,
+        };
         Some(Options {
             listen: matches.get_str("listen")?,
-            settings: Settings::new(budget, items, accept)?,
+            settings: Settings::new(budget, items, service)?,
             check: matches.get_flag("check"),
         })
     }
@@ -33,11 +44,14 @@ impl<'a> Options<'a> {
 
 /// The command of a server program, with the meaning, the default and the limits of each option.
 pub fn command<'a>(alloc: Global) -> Result<Command<'a>, AllocError> {
-    Command::new(alloc, "mc_serverd")
+    Command::new(alloc, PROGRAM)
         .about("A memcached server: a cache that is proved, for clients of the text protocol")
         .arg(listen(alloc))?
         .arg(budget(alloc))?
         .arg(items(alloc))?
+        .arg(answer(alloc))?
+        .arg(idle(alloc))?
+        .arg(report(alloc))?
         .arg(accept(alloc))?
         .arg(check(alloc))
 }
@@ -68,6 +82,35 @@ fn items<'a>(alloc: Global) -> Arg<'a> {
         .value_parser(ValueParser::unsigned(1, MAX_ITEMS as u64))
         .default_value("65536")
         .help("The most items: 1 to 16777216; their table is reserved at the start")
+}
+
+fn answer<'a>(alloc: Global) -> Arg<'a> {
+    Arg::new(alloc, "answer")
+        .long("answer")
+        .value_name("bytes")
+        .value_parser(ValueParser::unsigned(LEAST_ANSWER, MAX_BUDGET))
+        .default_value("268435456")
+        .help(
+            "The most bytes of an answer: a request whose answer may have more closes its connection; 1024 to 1099511627776",
+        )
+}
+
+fn idle<'a>(alloc: Global) -> Arg<'a> {
+    Arg::new(alloc, "idle")
+        .long("idle")
+        .value_name("seconds")
+        .value_parser(ValueParser::unsigned(0, u64::MAX))
+        .default_value("0")
+        .help("Close a client that for so long sent nothing and was owed nothing; 0 for never")
+}
+
+fn report<'a>(alloc: Global) -> Arg<'a> {
+    Arg::new(alloc, "report")
+        .long("report")
+        .value_name("seconds")
+        .value_parser(ValueParser::unsigned(0, u64::MAX))
+        .default_value("0")
+        .help("Say on standard error, once in so many seconds, what was done; 0 for never")
 }
 
 fn accept<'a>(alloc: Global) -> Arg<'a> {

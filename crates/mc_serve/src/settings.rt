@@ -4,6 +4,34 @@ ghost use Rattle.mc_cache.specs.CacheState.{IsWithinBounds};
 
 use mc_cache::is_within_bounds;
 
+/// The most bytes that an answer may have, where nobody says otherwise: 256 MiB.
+pub const USUAL_ANSWER: usize = 268_435_456;
+
+/// How clients are served.
+#[derive(Clone, Copy, Debug)]
+pub struct Service {
+    /// After how many connections the server ends, once all of them are closed; 0 for never.
+    pub accept: u64,
+    /// The most bytes that an answer may have: a request whose answer may have more closes its connection.
+    pub answer: usize,
+    /// After how many seconds a client is closed that sent nothing and is owed nothing; 0 for never.
+    pub idle: u64,
+    /// In how many seconds the server says once what it has done; 0 for never.
+    pub report: u64,
+}
+
+impl Service {
+    /// The usual service, until so many connections were accepted.
+    pub fn until(accept: u64) -> Service {
+        Service {
+            accept,
+            answer: USUAL_ANSWER,
+            idle: 0,
+            report: 0,
+        }
+    }
+}
+
 /// What a server is started with. Its budget and its items are within the bounds of a cache.
 #[derive(Clone, Copy, Debug)]
 pub struct Settings {
@@ -11,16 +39,16 @@ pub struct Settings {
     pub budget: u64,
     /// The most items: 1 to [`MAX_ITEMS`](mc_cache::MAX_ITEMS).
     pub items: usize,
-    /// After how many connections the server ends, once all of them are closed; 0 for never.
-    pub accept: u64,
+    /// How clients are served.
+    pub service: Service,
     ghost within: { IsWithinBounds budget items },
 }
 
 impl Settings {
     /// These settings, where the budget and the items are within the bounds of a cache.
-    pub fn new(budget: u64, items: usize, accept: u64) -> Option<Settings>
+    pub fn new(budget: u64, items: usize, service: Service) -> Option<Settings>
         ensures some { IsSome result ↔ IsWithinBounds budget items }
-        ensures are { IfSome result (λ s. (s.budget ≡ budget) × (s.items ≡ items) × (s.accept ≡ accept)) }
+        ensures are { IfSome result (λ s. (s.budget ≡ budget) × (s.items ≡ items) × (s.service ≡ service)) }
     {
         if !is_within_bounds(budget, items) {
             return None;
@@ -28,7 +56,7 @@ impl Settings {
         Some(Settings {
             budget,
             items,
-            accept,
+            service,
         })
     }
 }

@@ -1,8 +1,9 @@
 //! A connection: its reader, and its answers.
-ghost use Rattle.std.specs.Prelude.{◌≡◌, ◌+◌, ◌-◌, ◌≤◌, ◌<◌, ◌^◌, ◌↔◌, ℕ, [], drop, length, min, IsTrue, IfOk, IsOkUnless, OnOk, OnErr};
+ghost use Rattle.std.specs.Prelude.{◌≡◌, ◌+◌, ◌-◌, ◌≤◌, ◌<◌, ◌^◌, ◌↔◌, ℕ, [], drop, length, min, Ok, IsTrue, IfOk, IsOkUnless, OnOk, OnErr};
 
 use crate::answering::{bound_for, room_for, serve};
-use crate::turns::{ServerError, Turn};
+use crate::limits::AnswerLimit;
+use crate::turns::{Limited, ServerError, Turn};
 use mc_cache::Cache;
 use mc_request_reader::{Peek, Reader};
 use mc_store::Store;
@@ -34,7 +35,8 @@ impl Connection {
     ghost use Rattle.mc_request_reader.specs.Reader.{rest_of, kept_of, KeepsLittle};
     ghost use Rattle.mc_server.specs.Rooms.{bound_of};
     ghost use Rattle.mc_server.specs.ServerState.{fresh_connection};
-    ghost use Rattle.mc_server.specs.Turns.{IsFed, IsTurn};
+    ghost use Rattle.mc_server.specs.Turns.{IsFed, IsLimitedTurn, IsTurn};
+    ghost use Rattle.mc_server.specs.declared.turns.Limited.TheVariants.{Refused};
 
     /// A connection to which nothing has come.
     pub fn new(alloc: Global) -> Self
@@ -83,10 +85,8 @@ impl Connection {
         }
     }
 
-    /// Takes the first request or fault that has come whole, and serves it at a moment.
-    ///
-    /// What it may need of memory is taken before anything is: room for the answer, and the block of a value that is
-    /// stored under a held key. Where none waits it needs none.
+    /// Takes the first request or fault that has come whole, and serves it at a moment: a [turn](Self::turn_within) without
+    /// a limit.
     pub fn turn<S: Store + Drop>(
         &mut self,
         cache: &mut Cache<S>,
@@ -103,14 +103,48 @@ impl Connection {
         ensures err { OnErr result (self.new ≡ self.old) }
         ensures cache_kept { OnErr result (cache.new ≡ cache.old) }
     {
+        match self.turn_within(cache, moment, AnswerLimit::none())? {
+            Limited::Turned(turn) => Ok(turn),
+            Limited::Refused => unreachable!(),
+        }
+    }
+
+    /// Takes the first request or fault that has come whole, and serves it at a moment, where its answer is within a limit.
+    ///
+    /// What it may need of memory is taken before anything is: room for the answer, and the block of a value that is
+    /// stored under a held key. Where none waits it needs none.
+    pub fn turn_within<S: Store + Drop>(
+        &mut self,
+        cache: &mut Cache<S>,
+        moment: u64,
+        limit: AnswerLimit,
+    ) -> Result<Limited, ServerError>
+        requires { moment < 2 ^ 63 }
+        ensures turn { (number : ℕ)
+            → IfOk result (λ limited. IsLimitedTurn number moment limited cache.old cache.new self.old self.new) }
+        ensures bounded { OnOk result (length self.new.output
+            ≤ length self.old.output + bound_of (rest_of self.old.reader []) cache.old) }
+        ensures little { OnOk result (KeepsLittle self.new.reader) }
+        ensures refused { (result ≡ Ok Refused)
+            ↔ (limit.bytes < min (bound_of (rest_of self.old.reader []) cache.old) (2 ^ 64 - 1)) }
+        ensures unchanged { result ≡ Ok Refused → self.new ≡ self.old }
+        ensures cache_unchanged { result ≡ Ok Refused → cache.new ≡ cache.old }
+        ensures only_memory { IsOkUnless result ServerError.Memory }
+        ensures cause { OnErr result (0 < length (rest_of self.old.reader [])) }
+        ensures err { OnErr result (self.new ≡ self.old) }
+        ensures cache_kept { OnErr result (cache.new ≡ cache.old) }
+    {
         match self.reader.peek() {
-            Peek::Closed => Ok(Turn::Closing),
-            Peek::More => Ok(Turn::Idle),
+            Peek::Closed => Ok(Limited::Turned(Turn::Closing)),
+            Peek::More => Ok(Limited::Turned(Turn::Idle)),
             Peek::First(asked, front) => {
+                if limit.is_passed(&asked, cache) {
+                    return Ok(Limited::Refused);
+                }
                 self.output.reserve(room_for(&asked, cache))?;
                 serve(asked, cache, moment, &mut self.output)?;
                 self.reader.consume(front);
-                Ok(Turn::Took)
+                Ok(Limited::Turned(Turn::Took))
             }
         }
     }

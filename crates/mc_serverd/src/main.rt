@@ -5,7 +5,9 @@
 #![tactic(auto)]
 
 use mc_program::{Failure, exit_status, read_words};
-use mc_serve::{Options, SystemSeconds, bind, command, serve};
+use mc_serve::{Options, PROGRAM, Service, SystemSeconds, bind, command, serve};
+use mc_server::MAX_CONNECTIONS;
+use mc_watch::{OWN_FILES, open_files, served};
 use std::net::Net;
 use std::process::ExitCode;
 use std::random::RandomSource;
@@ -15,7 +17,7 @@ use std::sync::Wait;
 fn main(rt: HostRuntime) -> ExitCode {
     let served = run(&rt);
     if let Err(failure) = &served {
-        failure.tell(&rt, "mc_serverd");
+        failure.tell(&rt, PROGRAM);
     }
     ExitCode::from(exit_status(&served))
 }
@@ -23,7 +25,7 @@ fn main(rt: HostRuntime) -> ExitCode {
 /// Reads the words, and then prints the settings or serves.
 fn run<R>(rt: &R) -> Result<(), Failure>
 where
-    R: Env + Clock + Print + Net + RandomSource + Wait + AllocGlobal,
+    R: Env + Clock + Print + Eprint + Net + RandomSource + Wait + AllocGlobal,
 {
     let alloc = rt.alloc();
     let words = read_words(rt)?;
@@ -35,6 +37,7 @@ where
         return check(rt, &options);
     }
     let listener = bind(rt, alloc, options.listen)?;
+    tell_open_files(rt);
     // Whom the line does not reach is served all the same.
     let _ = println!(rt; "listening {}", options.listen);
     serve(
@@ -51,7 +54,28 @@ where
 fn check<R: Print>(rt: &R, options: &Options<'_>) -> Result<(), Failure> {
     let listen = options.listen;
     let settings = options.settings;
-    let (budget, items, accept) = (settings.budget, settings.items, settings.accept);
-    let written = println!(rt; "listen {listen} budget {budget} items {items} accept {accept}");
+    let (budget, items) = (settings.budget, settings.items);
+    let Service {
+        accept,
+        answer,
+        idle,
+        report,
+    } = settings.service;
+    let written = println!(rt;
+        "listen {listen} budget {budget} items {items} accept {accept} answer {answer} idle {idle} report {report}"
+    );
     written.map_err(|_| Failure::Output)
+}
+
+/// Says on standard error how many connections can be served, where the system allows fewer open files than all may need.
+fn tell_open_files<R: Eprint>(rt: &R) {
+    if let Some(files) = open_files() {
+        let connections = served(files, OWN_FILES);
+        if connections <= MAX_CONNECTIONS as u64 {
+            // Where it cannot be said, clients are served all the same.
+            let _ = eprintln!(rt;
+                "{PROGRAM}: {files} open files: {connections} connections can be served at a time"
+            );
+        }
+    }
 }

@@ -2,6 +2,7 @@
 ghost use Rattle.std.specs.Prelude.{◌≡◌, true, IfOk};
 ghost use Rattle.mc_ring.specs.Addresses.{is_address};
 
+use crate::keeping::keep_alive;
 use mc_ring::{Address, RingError};
 use mc_stream::ServeError;
 use mio::net::TcpListener;
@@ -18,7 +19,9 @@ pub fn bind<R: Net>(rt: &R, alloc: Global, listen: &str) -> Result<TcpListener, 
     let found = listen.to_socket_addrs(rt).map_err(|_| ServeError::Listen)?;
     for address in found {
         if address.is_ipv4() {
-            return TcpListener::bind(rt, address).map_err(|_| ServeError::Listen);
+            let listener = TcpListener::bind(rt, address).map_err(|_| ServeError::Listen)?;
+            keep_alive(&listener);
+            return Ok(listener);
         }
     }
     Err(ServeError::Listen)

@@ -5,7 +5,8 @@
 //! [registered](Door::register) with reports it, which it is [told](Door::note), and [`Door::accept`] gives the
 //! connections, one by one. Of a connection's socket an [`Edge`] keeps what events say ([`Edge::note`]), and an [`Input`] is
 //! the reader over both, which asks the system for nothing that is known not to be there. [`step_after`] says what is done
-//! with a client whose pump ended, and [`Uptime`] how long a program has served. [`PIECE_LEN`], [`KEPT_ROOM`] and
+//! with a client whose pump ended, and [`Uptime`] and [`Stopwatch`] how long a program has served. [`keep_alive`] has the system
+//! look for peers that are gone without a word. [`PIECE_LEN`], [`KEPT_ROOM`] and
 //! [`PATIENCE`] are limits that all who serve sockets share.
 //!
 //! No call waits but [`bind`], which looks a name up. What a socket carries, and who comes, no contract says. Proved are how
@@ -16,13 +17,17 @@
 mod binding;
 mod doors;
 mod inputs;
+mod keeping;
 mod limits;
 mod steps;
+mod stopwatches;
 mod uptimes;
 
 pub use binding::bind;
 pub use doors::{Door, Waiting};
 pub use inputs::{Edge, Input};
+pub use keeping::keep_alive;
 pub use limits::{KEPT_ROOM, PATIENCE, PIECE_LEN};
 pub use steps::{Step, step_after};
+pub use stopwatches::Stopwatch;
 pub use uptimes::Uptime;

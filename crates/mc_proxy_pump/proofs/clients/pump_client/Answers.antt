@@ -10,7 +10,7 @@ use Rattle.mc_proxy_pump.proofs.clients.pump_client.Goals as goal
 pub loop-init : goal.loop-init
 loop-init g c =
     pumps_turns c.args.session Again c.args.proxy.now c.turn.new.self (g.R.Read.remaining c.args.reader.now) (g.W.Write.contents c.args.writer.now) c.args.ended.now
-    (stretch_turned c.args.session c.in-Ok.field-0 c.args.proxy.now c.turn.new.self c.in-Ok.ensures.turn) tt
+    (stretch_turned c.args.session c.in-Ok.turn c.args.proxy.now c.turn.new.self c.in-Ok.ensures.turn) tt
 
 pub round-requires-clause-is_open : goal.round-requires-clause-is_open
 round-requires-clause-is_open g c = c.loop.invariant.stretch.still_open

@@ -1,0 +1,147 @@
+//! A store that counts what it does.
+ghost use Rattle.std.specs.Prelude.{◌≡◌};
+
+use crate::counts::Counts;
+use mc_item::{Body, Deadline};
+use mc_store::Store;
+use mc_text::Key;
+use std::cell::Cell;
+use std::rc::Rc;
+
+/// A store that does what another does, and counts it: so no layer between has to count. What it counts no contract says.
+#[derive(Drop)]
+pub struct Counted<S: Store + Drop> {
+    store: S,
+    counts: Rc<Counts>,
+    /// Whether an item was brought to the front and not looked at since.
+    brought: Cell<bool>,
+}
+
+impl<S: Store + Drop> Counted<S> {
+    /// A store over another.
+    pub fn new(store: S, counts: Rc<Counts>) -> Counted<S>
+        ensures { result.store ≡ store }
+    {
+        Counted {
+            store,
+            counts,
+            brought: Cell::new(false),
+        }
+    }
+
+    /// Whether a body is dead at the moment.
+    fn is_dead(&self, body: &Body) -> bool {
+        body.expiry.is_dead(self.counts.moment())
+    }
+
+    /// Notes that a retrieval looks at the item that it brought to the front: a dead one is no hit.
+    fn note_shown(&self, front: Option<&Body>) {
+        match front {
+            Some(body) if !self.is_dead(body) => self.counts.hit(),
+            _ => self.counts.miss(),
+        }
+    }
+
+    /// Notes what the store holds.
+    fn note_held(&self) {
+        self.counts.hold(self.store.len(), self.store.used());
+    }
+}
+
+impl<S: Store + Drop> Store for Counted<S> {
+    ghost items = { λ c. S.items c.store };
+
+    ghost most = { λ c. S.most c.store };
+
+    fn len(&self) -> usize {
+        self.store.len()
+    }
+
+    fn used(&self) -> u64 {
+        self.store.used()
+    }
+
+    fn longest(&self) -> usize {
+        self.store.longest()
+    }
+
+    fn peek(&self, key: &[u8]) -> Option<&Body> {
+        self.store.peek(key)
+    }
+
+    fn front(&self) -> Option<&Body> {
+        let front = self.store.front();
+        if self.brought.get() {
+            self.brought.set(false);
+            self.note_shown(front);
+        }
+        front
+    }
+
+    fn bring(&mut self, key: &[u8]) -> bool {
+        let held = self.store.bring(key);
+        self.brought.set(held);
+        if !held {
+            self.counts.miss();
+        }
+        held
+    }
+
+    fn expire(&mut self, key: &[u8], expiry: Deadline) -> bool {
+        self.store.expire(key, expiry)
+    }
+
+    fn mark(&mut self, key: &[u8], stale: bool, won: bool, cas: u64) -> bool {
+        self.store.mark(key, stale, won, cas)
+    }
+
+    fn take(&mut self, key: &[u8]) -> Option<Body> {
+        let taken = self.store.take(key);
+        if let Some(body) = &taken {
+            if self.is_dead(body) {
+                self.counts.expire();
+            }
+            self.note_held();
+        }
+        taken
+    }
+
+    fn replace(&mut self, key: &[u8], body: Body) -> Result<Body, Body> {
+        // A body with the number 0 is lent for a moment, while the held one is written to.
+        let is_stored = body.cas > 0;
+        let replaced = self.store.replace(key, body);
+        if let Ok(before) = &replaced {
+            if self.is_dead(before) {
+                self.counts.expire();
+            }
+            if is_stored {
+                self.counts.store();
+                self.note_held();
+            }
+        }
+        replaced
+    }
+
+    fn put_front(&mut self, key: Key, body: Body) -> Result<(), (Key, Body)> {
+        let put = self.store.put_front(key, body);
+        if put.is_ok() {
+            self.counts.store();
+            self.note_held();
+        }
+        put
+    }
+
+    fn drop_last(&mut self) -> Option<(Key, Body)> {
+        let last = self.store.drop_last();
+        if last.is_some() {
+            self.counts.evict();
+            self.note_held();
+        }
+        last
+    }
+
+    fn clear(&mut self) {
+        self.store.clear();
+        self.note_held();
+    }
+}

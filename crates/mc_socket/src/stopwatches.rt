@@ -1,0 +1,49 @@
+//! How long a program has served, to the millisecond.
+ghost use Rattle.std.specs.Prelude.{◌≡◌, ◌≤◌, ℕ};
+
+use std::marker::Model;
+use std::rt::Clock;
+use std::time::Instant;
+
+/// How long a program has served, in milliseconds of a clock that nobody sets. It never goes back. Contracts see the
+/// milliseconds that it told last.
+#[derive(Drop)]
+pub struct Stopwatch {
+    start: Option<Instant>,
+    millis: u64,
+}
+
+impl Model for Stopwatch {
+    ghost Value = { ℕ };
+
+    ghost view = { λ s. s.millis };
+}
+
+impl Stopwatch {
+    /// It starts now.
+    pub fn new<R: Clock>(rt: &R) -> Stopwatch
+        ensures { result ≡ 0 }
+    {
+        Stopwatch {
+            start: Instant::now(rt).ok(),
+            millis: 0,
+        }
+    }
+
+    /// The milliseconds since it started, and never fewer than it told before. Where the monotonic clock cannot be read, each
+    /// call is a second later than the one before.
+    pub fn millis<R: Clock>(&mut self, rt: &R) -> u64
+        ensures told { result ≡ self.new }
+        ensures never_back { self.old ≤ result }
+    {
+        let passed = match self.start.and_then(|start| start.elapsed(rt).ok()) {
+            Some(elapsed) => elapsed
+                .as_secs()
+                .saturating_mul(1000)
+                .saturating_add(elapsed.subsec_millis() as u64),
+            None => self.millis.saturating_add(1000),
+        };
+        self.millis = self.millis.max(passed);
+        self.millis
+    }
+}

@@ -1,0 +1,108 @@
+//! When something is said.
+ghost use Rattle.std.specs.Prelude.{◌≡◌, ◌≢◌, ◌≤◌, ◌<◌, ◌↔◌, ◌+◌, ◌-◌, ◌^◌, None, Some, min, IsTrue, IfSome, OnSome};
+ghost use Rattle.std.specs.Bool.{OnTrue, OnFalse};
+ghost use Rattle.mc_watch.specs.Paces.{earlier, next_of};
+
+/// When something is due that comes once in so many seconds.
+#[derive(Clone, Copy, Debug)]
+pub struct Pace {
+    /// In how many seconds it comes once; 0 for never.
+    pub every: u64,
+    /// In which second it is due.
+    pub next: u64,
+}
+
+impl Pace {
+    /// Once in so many seconds, and first after as many from a second on; 0 for never.
+    pub fn new(every: u64, second: u64) -> Pace
+        ensures { result ≡ record { every = every; next = next_of every second } }
+    {
+        Pace {
+            every,
+            next: second.saturating_add(every),
+        }
+    }
+
+    /// In which second it is due; none where it never is.
+    pub fn due(&self) -> Option<u64>
+        ensures never { self.now.every ≡ 0 → result ≡ None }
+        ensures due { 0 < self.now.every → result ≡ Some self.now.next }
+    {
+        if self.every == 0 {
+            None
+        } else {
+            Some(self.next)
+        }
+    }
+
+    /// Whether it is due in a second. Then it is due again as many seconds later.
+    pub fn comes(&mut self, second: u64) -> bool
+        ensures due { IsTrue result ↔ ((0 < self.old.every) × (self.old.next ≤ second)) }
+        ensures came { OnTrue result (self.new ≡ record self.old { next = next_of self.old.every second }) }
+        ensures waits { OnFalse result (self.new ≡ self.old) }
+    {
+        if self.every == 0 || second < self.next {
+            return false;
+        }
+        self.next = second.saturating_add(self.every);
+        true
+    }
+}
+
+/// What is to be said, of which no more than one is said in a second: what comes between two that are said is left out.
+#[derive(Clone, Copy, Debug)]
+pub struct Seldom {
+    /// What is to be said: the first that came since the last look.
+    pub what: Option<u64>,
+    /// In which second something was said last.
+    pub second: Option<u64>,
+}
+
+impl Seldom {
+    /// Nothing was said, and nothing is to be said.
+    pub fn new() -> Seldom
+        ensures { result ≡ record { what = None; second = None } }
+    {
+        Seldom {
+            what: None,
+            second: None,
+        }
+    }
+
+    /// Notes what is to be said, where nothing is yet.
+    pub fn note(&mut self, what: u64)
+        ensures first { self.old.what ≡ None → self.new ≡ record self.old { what = Some what } }
+        ensures later { self.old.what ≢ None → self.new ≡ self.old }
+    {
+        if self.what.is_none() {
+            self.what = Some(what);
+        }
+    }
+
+    /// What is said in a second: nothing where something was said in it before. What was to be said is then forgotten.
+    pub fn take(&mut self, second: u64) -> Option<u64>
+        ensures once { self.old.second ≡ Some second → result ≡ None }
+        ensures what { self.old.second ≢ Some second → result ≡ self.old.what }
+        ensures said { OnSome result (self.new ≡ record { what = None; second = Some second }) }
+        ensures forgotten { self.new.what ≡ None }
+    {
+        let what = self.what;
+        self.what = None;
+        if self.second == Some(second) || what.is_none() {
+            return None;
+        }
+        self.second = Some(second);
+        what
+    }
+}
+
+/// The earlier of two moments that may be there.
+pub fn earlier(one: Option<u64>, other: Option<u64>) -> Option<u64>
+    ensures { result ≡ earlier one other }
+{
+    match (one, other) {
+        (Some(one), Some(other)) => Some(one.min(other)),
+        (Some(one), None) => Some(one),
+        (None, other) => other,
+    }
+}
