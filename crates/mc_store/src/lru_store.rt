@@ -2,14 +2,14 @@
 ghost use Rattle.std.specs.Prelude.{◌≡◌, ◌≤◌, ◌<◌, ◌^◌, ◌↔◌, [], ◌+◌, Some, IfOk, IsErrOf};
 ghost use Rattle.mc_store.specs.Items.{cost_sum};
 
+use crate::epoch_cache::EpochCache;
 use crate::stores::Store;
-use lru::LruCache;
+use crate::sums::Sums;
 use mc_item::{Body, Deadline, cost};
-use mc_text::{Key, KeyBytes};
+use mc_text::Key;
 use std::alloc::{AllocError, Global};
 use std::hash::{BuildHasher, BuildHasherDefault, FoldHasher};
 use std::marker::Model;
-use std::mem;
 use std::num::NonZeroUsize;
 use thiserror::Error;
 
@@ -58,23 +58,21 @@ pub type FixedHasher = BuildHasherDefault<FoldHasher>;
 /// comes once in a store's life. Where memory is refused, so is the item, and nothing has changed.
 #[derive(Drop)]
 pub struct LruStore<H: BuildHasher> {
-    cache: LruCache<Key, Body, H>,
-    used: u64,
-    /// No value is longer. It rises with the values that are put in, and falls where all items are taken out.
-    longest: usize,
+    cache: EpochCache<H>,
+    sums: Sums,
 }
 
 impl<H: BuildHasher> Model for LruStore<H> {
-    ghost use Rattle.std.specs.Prelude.{◌≡◌, ◌≤◌, ◌<◌, ◌^◌, ℕ, List};
+    ghost use Rattle.std.specs.Prelude.{ℕ, List};
     ghost use Rattle.lru.specs.LruCache.{LruCache as Entries};
     ghost use Rattle.mc_item.specs.declared.bodies.Body.{Body as Bodies};
-    ghost use Rattle.mc_store.specs.Items.{cost_sum, longest_of};
+    ghost use Rattle.mc_store.specs.Sums.{IsSumOf};
 
     ghost Value = { Entries (List ℕ) Bodies };
 
     ghost view = { λ s. s.cache };
 
-    ghost invariant = { λ s. (s.used ≡ cost_sum s.cache.entries) × (s.used < 2 ^ 63) × (longest_of s.cache.entries ≤ s.longest) };
+    ghost invariant = { λ s. IsSumOf s.sums s.cache.entries };
 }
 
 impl LruStore<FixedHasher> {
@@ -99,16 +97,14 @@ impl<H: BuildHasher + Drop> LruStore<H> {
     {
         let most = items.checked_add(1).ok_or(StoreError::TooMany)?;
         let room = NonZeroUsize::new(most).ok_or(StoreError::TooMany)?;
-        let cache = LruCache::with_hasher(alloc, room, hasher)?;
+        let cache = EpochCache::with_hasher(alloc, room, hasher)?;
         Ok(LruStore {
             cache,
-            used: 0,
-            longest: 0,
+            sums: Sums::none(),
         })
     }
 }
 
-#[tactic(auto, using(crate::proofs::KeptLemmas::costs, crate::proofs::LruLemmas::lru_words))]
 impl<H: BuildHasher> Store for LruStore<H> {
     ghost items = { λ s. s.entries };
 
@@ -119,87 +115,68 @@ impl<H: BuildHasher> Store for LruStore<H> {
     }
 
     fn used(&self) -> u64 {
-        self.used
+        self.sums.used
     }
 
     fn longest(&self) -> usize {
-        self.longest
+        self.sums.longest()
     }
 
     fn peek(&self, key: &[u8]) -> Option<&Body> {
-        self.cache.peek(KeyBytes { bytes: key })
+        self.cache.peek(key)
     }
 
     fn front(&self) -> Option<&Body> {
-        match self.cache.peek_mru() {
-            Some((_, body)) => Some(body),
-            None => None,
-        }
+        self.cache.front()
     }
 
     fn bring(&mut self, key: &[u8]) -> bool {
-        self.cache.promote(KeyBytes { bytes: key })
+        self.cache.bring(key)
     }
 
     fn expire(&mut self, key: &[u8], expiry: Deadline) -> bool {
-        let Some(body) = self.cache.get_mut(KeyBytes { bytes: key }) else {
-            return false;
-        };
-        body.expiry = expiry;
-        true
+        self.cache.expire(key, expiry)
     }
 
     fn mark(&mut self, key: &[u8], stale: bool, won: bool, cas: u64) -> bool {
-        let Some(body) = self.cache.get_mut(KeyBytes { bytes: key }) else {
-            return false;
-        };
-        body.stale = stale;
-        body.won = won;
-        body.cas = cas;
-        true
+        self.cache.mark(key, stale, won, cas)
     }
 
     fn take(&mut self, key: &[u8]) -> Option<Body> {
-        match self.cache.pop_entry(KeyBytes { bytes: key }) {
-            Some((own, body)) => {
-                self.used -= cost(&own, &body);
-                Some(body)
-            }
-            None => None,
-        }
+        let (own, body) = self.cache.take(key)?;
+        self.sums.take_away(cost(&own, &body), body.value.len());
+        Some(body)
     }
 
     fn replace(&mut self, key: &[u8], body: Body) -> Result<Body, Body> {
         let length = body.value.len();
-        match self.cache.get_mut(KeyBytes { bytes: key }) {
-            Some(held) => {
-                let before = mem::replace(held, body);
-                self.used -= before.value.len() as u64;
-                self.used += length as u64;
-                self.longest = self.longest.max(length);
+        match self.cache.replace(key, body) {
+            Ok(before) => {
+                let shorter = before.value.len();
+                self.sums.take_away(shorter as u64, shorter);
+                self.sums.add(length as u64, length);
                 Ok(before)
             }
-            None => Err(body),
+            Err(body) => Err(body),
         }
     }
 
     fn put_front(&mut self, key: Key, body: Body) -> Result<(), (Key, Body)> {
         let price = cost(&key, &body);
         let length = body.value.len();
-        match self.cache.put(key, body) {
-            Ok(_) => {
-                self.used += price;
-                self.longest = self.longest.max(length);
+        match self.cache.put_front(key, body) {
+            Ok(()) => {
+                self.sums.add(price, length);
                 Ok(())
             }
-            Err(failed) => Err(failed.value),
+            Err(back) => Err(back),
         }
     }
 
     fn drop_last(&mut self) -> Option<(Key, Body)> {
-        match self.cache.pop_lru() {
+        match self.cache.drop_last() {
             Some(last) => {
-                self.used -= cost(&last.0, &last.1);
+                self.sums.take_away(cost(&last.0, &last.1), last.1.value.len());
                 Some(last)
             }
             None => None,
@@ -208,7 +185,6 @@ impl<H: BuildHasher> Store for LruStore<H> {
 
     fn clear(&mut self) {
         self.cache.clear();
-        self.used = 0;
-        self.longest = 0;
+        self.sums = Sums::none();
     }
 }
