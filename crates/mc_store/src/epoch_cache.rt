@@ -1,5 +1,5 @@
 //! EpochCache: lru's cache with a clear that takes the same time for any number of items.
-ghost use Rattle.std.specs.Prelude.{◌≡◌, ◌∷◌, ◌++◌, ◌+◌, ◌≤◌, ◌<◌, ◌^◌, [], length, is_some, None, Some, IfOk, OnOk, IfErr, OnErr, IfSome, IfNone};
+ghost use Rattle.std.specs.Prelude.{◌≡◌, ◌∷◌, ◌++◌, ◌+◌, ◌≤◌, ◌<◌, ◌^◌, [], length, take, is_some, None, Some, IfOk, OnOk, IfErr, OnErr, IfSome, IfNone};
 ghost use Rattle.std.specs.NonZero.{non_zero_usize_get};
 ghost use Rattle.std.specs.Option.{option_copied};
 ghost use Rattle.lru.specs.LruCache.{lru_cache};
@@ -235,11 +235,13 @@ impl<H: BuildHasher> EpochCache<H> {
     pub fn clear(&mut self)
         ensures { self.new ≡ lru_cache [] self.old.cap }
     {
+        let Some(next) = self.epoch.checked_add(1) else {
+            self.cache.clear();
+            self.count = 0;
+            return;
+        };
+        self.epoch = next;
         self.count = 0;
-        match self.epoch.checked_add(1) {
-            Some(next) => self.epoch = next,
-            None => self.cache.clear(),
-        }
     }
 }
 
@@ -267,7 +269,7 @@ fn let_go<H: BuildHasher>(cache: &mut LruCache<Key, Held, H>, count: usize, pric
 /// Lets all entries go but the first `count`.
 fn let_all_go<H: BuildHasher>(cache: &mut LruCache<Key, Held, H>, count: usize)
     requires { count ≤ length cache.old.entries }
-    ensures length { length cache.new.entries ≡ count }
+    ensures front { cache.new.entries ≡ take count cache.old.entries }
     ensures cap { cache.new.cap ≡ cache.old.cap }
 {
     while cache.len() > count {
