@@ -197,22 +197,23 @@ found_is key old entry found =
       | Some held ↦ λ some. let its : (key, held) ≡ entry = cc in (sym (ap (λ (e : List ℕ × Held). e.0) its), ap (λ (e : List ℕ × Held). Some e.1) its)
     ]) at
 
-pub record IsTaken (key : List ℕ) (epoch count : ℕ) (old new : Entries) (entry : List ℕ × Held) : Type 0 where
-  pub others : ℕ
-  pub one_more : count ≡ suc others
+pub record IsTaken (key : List ℕ) (epoch count less : ℕ) (old new : Entries) (entry : List ℕ × Held) : Type 0 where
+  pub some : 0 < count
   pub own : entry.0 ≡ key
   pub body : body_at key (live count old) ≡ Some entry.1.body
-  pub parted : IsParted epoch others new
-  pub left : live others new ≡ without key (live count old)
+  pub parted : IsParted epoch less new
+  pub left : live less new ≡ without key (live count old)
 
-pub takes : (key : List ℕ) (epoch count : ℕ) (old new : Entries) (entry : List ℕ × Held) → IsParted epoch count old
-    → lookup_entry (bytes_eq key) old ≡ Some entry → new ≡ remove_entry (bytes_eq key) old → entry.1.epoch ≡ epoch
-    → IsTaken key epoch count old new entry
-takes key epoch count old new entry parted found is now =
+pub takes : (key : List ℕ) (epoch count less : ℕ) (old new : Entries) (entry : List ℕ × Held) → IsParted epoch count old
+    → lookup_entry (bytes_eq key) old ≡ Some entry → new ≡ remove_entry (bytes_eq key) old → entry.1.epoch ≡ epoch → less ≡ count - 1
+    → IsTaken key epoch count less old new entry
+takes key epoch count less old new entry parted found is now one_less =
     let there = found_is key old entry found in
     let at : IsLiveAt key epoch count old entry.1 = live_is key epoch count old entry.1 parted there.1 now in
+    let more : count ≡ suc at.others = at.one_more in
+    let next : less ≡ at.others = omega arith in
     let cuts : new ≡ cut key old = is ∙ remove_is key old in
-    record { others = at.others; one_more = at.one_more; own = there.0; body = at.body; parted = rw cuts at.parted; left = rw cuts at.left }
+    record { some = omega arith; own = there.0; body = at.body; parted = rw (next, cuts) at.parted; left = rw (next, cuts) at.left }
 
 pub takes_dead : (key : List ℕ) (epoch count : ℕ) (old new : Entries) (entry : List ℕ × Held) → IsParted epoch count old
     → lookup_entry (bytes_eq key) old ≡ Some entry → new ≡ remove_entry (bytes_eq key) old → entry.1.epoch ≢ epoch
@@ -238,21 +239,29 @@ takes_none key epoch count old new parted none is =
     let rest : IsParted epoch count (cut key old) × (live count (cut key old) ≡ live count old) = parted_cut key epoch count old parted absent in
     (rw cuts rest.0, rw cuts rest.1, absent)
 
--- what putting an entry leaves, where there is room for one more that is live
-pub puts : (epoch count cap : ℕ) (old new : Entries) (key : List ℕ) (held : Held) → IsParted epoch count old
-    → body_at key (live count old) ≡ None → length (live count old) < cap → held.epoch ≡ epoch
-    → new ≡ put_entries bytes_eq (record { entries = old; cap = cap }) key held
-    → IsParted epoch (suc count) new × (live (suc count) new ≡ (key, held.body) ∷ live count old)
-puts epoch count cap old new key held parted absent room now is =
-    let few : count ≤ cap - 1 = omega (arith, length-live epoch count old parted) in
+-- where a put leaves the entries that were there, and what it puts in front
+puts_tail : (count cap : ℕ) (old new : Entries) (key : List ℕ) (held : Held)
+    → new ≡ put_entries bytes_eq (record { entries = old; cap = cap }) key held → (body_at key (live count old) ≡ None)
+    → (epoch : ℕ) → IsParted epoch count old → count ≤ cap - 1
+    → (tail : Entries) × (new ≡ (key, held) ∷ tail) × IsParted epoch count tail × (live count tail ≡ live count old)
+puts_tail count cap old new key held is absent epoch parted few =
     let kept : IsParted epoch count (take (cap - 1) old) × (live count (take (cap - 1) old) ≡ live count old) = parted_take epoch count (cap - 1) old parted few in
-    let without_it : IsParted epoch count (cut key old) × (live count (cut key old) ≡ live count old) = parted_cut key epoch count old parted absent in
-    let put : (tail : Entries) × (new ≡ (key, held) ∷ tail) × IsParted epoch count tail × (live count tail ≡ live count old) =
+    let others : IsParted epoch count (cut key old) × (live count (cut key old) ≡ live count old) = parted_cut key epoch count old parted absent in
     (elim (held_at key old) as (λ (o : Option Held). held_at key old ≡ o → (tail : Entries) × (new ≡ (key, held) ∷ tail) × IsParted epoch count tail × (live count tail ≡ live count old)) [
       | None ↦ λ at. (take (cap - 1) old, is ∙ rw (entry_is key old, at) refl, kept.0, kept.1)
-      | Some before ↦ λ at. (cut key old, is ∙ rw (entry_is key old, at, remove_is key old) refl, without_it.0, without_it.1)
-    ]) refl in
-    (rw put.1 (now, put.2), rw put.1 (ap (λ (is : Items). (key, held.body) ∷ is) put.3))
+      | Some before ↦ λ at. (cut key old, is ∙ rw (entry_is key old, at, remove_is key old) refl, others.0, others.1)
+    ]) refl
+
+-- what putting an entry leaves, where there is room for one more that is live
+pub puts : (epoch count more cap : ℕ) (old new : Entries) (key : List ℕ) (held : Held) → IsParted epoch count old
+    → body_at key (live count old) ≡ None → length (live count old) < cap → held.epoch ≡ epoch → more ≡ count + 1
+    → new ≡ put_entries bytes_eq (record { entries = old; cap = cap }) key held
+    → IsParted epoch more new × (live more new ≡ (key, held.body) ∷ live count old)
+puts epoch count more cap old new key held parted absent room now one_more is =
+    let few : count ≤ cap - 1 = omega (arith, length-live epoch count old parted) in
+    let put = puts_tail count cap old new key held is absent epoch parted few in
+    let next : more ≡ suc count = omega arith in
+    (rw (next, put.1) (now, put.2), rw (next, put.1) (ap (λ (is : Items). (key, held.body) ∷ is) put.3))
 
 -- the first entry is the first item
 pub fronts : (epoch count : ℕ) (entries : Entries) (entry : List ℕ × Held) → IsParted epoch count entries → count ≢ 0
@@ -286,27 +295,26 @@ pops_live epoch (entry ∷ front) last parted =
     let again = pops_live epoch front last parted.1 in
     ((parted.0, again.0), ap (λ (is : Items). (entry.0, entry.1.body) ∷ is) again.1)
 
-pub record IsPopped (epoch count : ℕ) (old new : Entries) (last : List ℕ × Held) : Type 0 where
-  pub others : ℕ
-  pub one_more : count ≡ suc others
-  pub parted : IsParted epoch others new
-  pub ends : live count old ≡ live others new ++ (last.0, last.1.body) ∷ []
+pub record IsPopped (epoch count less : ℕ) (old new : Entries) (last : List ℕ × Held) : Type 0 where
+  pub some : 0 < count
+  pub parted : IsParted epoch less new
+  pub ends : live count old ≡ live less new ++ (last.0, last.1.body) ∷ []
 
-pub pops : (epoch count : ℕ) (old new : Entries) (last : List ℕ × Held) → IsParted epoch count old → length old ≡ count
-    → last_entry old ≡ Some last → new ≡ take (length old - 1) old → IsPopped epoch count old new last
-pops epoch count old new last parted all found is =
+pub pops : (epoch count less : ℕ) (old new : Entries) (last : List ℕ × Held) → IsParted epoch count old → length old ≡ count
+    → last_entry old ≡ Some last → new ≡ take (length old - 1) old → less ≡ count - 1 → IsPopped epoch count less old new last
+pops epoch count less old new last parted all found is one_less =
     let ends : old ≡ new ++ last ∷ [] = subst (λ (es : Entries). old ≡ es ++ last ∷ []) (sym is) (last_is old last found) in
     let whole : IsParted epoch (length (new ++ last ∷ [])) (new ++ last ∷ []) =
     subst (λ (es : Entries). IsParted epoch (length es) es) ends (subst (λ (n : ℕ). IsParted epoch n old) (sym all) parted) in
     let parts = pops_live epoch new last whole in
     let many : length old ≡ length (new ++ last ∷ []) = ap length ends in
-    let more : count ≡ suc (length new) = omega (arith, many, length_push new last) in
+    let next : length new ≡ less = omega (arith, many, length_push new last) in
     record {
-      others = length new;
-      one_more = more;
-      parted = parts.0;
-      ends = subst (λ (n : ℕ). live n old ≡ live (length new) new ++ (last.0, last.1.body) ∷ []) all
-      (subst (λ (es : Entries). live (length es) es ≡ live (length new) new ++ (last.0, last.1.body) ∷ []) (sym ends) parts.1);
+      some = omega (arith, many, length_push new last);
+      parted = subst (λ (n : ℕ). IsParted epoch n new) next parts.0;
+      ends = subst (λ (n : ℕ). live n old ≡ live less new ++ (last.0, last.1.body) ∷ []) all
+      (subst (λ (es : Entries). live (length es) es ≡ live less new ++ (last.0, last.1.body) ∷ []) (sym ends)
+      (subst (λ (n : ℕ). live (length (new ++ last ∷ [])) (new ++ last ∷ []) ≡ live n new ++ (last.0, last.1.body) ∷ []) next parts.1));
     }
 
 -- one more entry that goes from the back
@@ -324,3 +332,26 @@ goes_some initial old new out is some taken =
       | None ↦ λ none. let nothing : length old ≡ 0 = ap length (last_none old none) in absurd (omega arith)
       | Some last ↦ λ found. let gone = goes_one initial old new out last is found taken in (last ∷ out, gone.0, gone.1)
     ]) refl
+
+-- where all but the live ones go
+length-all : (epoch count : ℕ) (entries : Entries) → IsParted epoch count entries → length (take count entries) ≡ count
+length-all epoch zero entries parted = refl
+length-all epoch (suc count) [] parted = absurd parted
+length-all epoch (suc count) (entry ∷ entries) parted = ap suc (length-all epoch count entries parted.1)
+
+pub leaves_all : (epoch count : ℕ) (old new : Entries) → IsParted epoch count old → new ≡ take count old
+    → IsParted epoch count new × (live count new ≡ live count old) × (length new ≡ count)
+leaves_all epoch count old new parted is =
+    let rest : IsParted epoch count (take count old) × (live count (take count old) ≡ live count old) = parted_take epoch count count old parted (omega arith) in
+    (rw is rest.0, rw is rest.1, rw is (length-all epoch count old parted))
+
+-- where none is left
+pub pops_none : (epoch count : ℕ) (old new : Entries) → IsParted epoch count old → last_entry old ≡ None → new ≡ take (length old - 1) old
+    → IsParted epoch count new × (live count new ≡ []) × (live count old ≡ [])
+pops_none epoch count old new parted none taken =
+    let nothing : old ≡ [] = last_none old none in
+    let few : count ≤ length old = count-fits epoch count old parted in
+    let size : length old ≡ 0 = ap length nothing in
+    let zeros : count ≡ 0 = omega arith in
+    let still : new ≡ [] = taken ∙ ap (λ (es : Entries). take (length es - 1) es) nothing in
+    (rw (zeros, still) tt, rw zeros refl, rw zeros refl)

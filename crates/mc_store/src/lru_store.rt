@@ -143,9 +143,13 @@ impl<H: BuildHasher> Store for LruStore<H> {
     }
 
     fn take(&mut self, key: &[u8]) -> Option<Body> {
-        let (own, body) = self.cache.take(key)?;
-        self.sums.take_away(cost(&own, &body), body.value.len());
-        Some(body)
+        match self.cache.take(key) {
+            Some(item) => {
+                self.sums.take_away(cost(&item.0, &item.1), item.1.value.len());
+                Some(item.1)
+            }
+            None => None,
+        }
     }
 
     fn replace(&mut self, key: &[u8], body: Body) -> Result<Body, Body> {
