@@ -70,7 +70,9 @@ impl<H: BuildHasher> EpochCache<H> {
     pub fn peek(&self, key: &[u8]) -> Option<&Body>
         ensures { option_copied result ≡ body_at key.now self.now.entries }
     {
-        let held = self.cache.peek(KeyBytes { bytes: key })?;
+        let Some(held) = self.cache.peek(KeyBytes { bytes: key }) else {
+            return None;
+        };
         if held.epoch != self.epoch {
             return None;
         }
