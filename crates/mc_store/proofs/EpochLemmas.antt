@@ -1,5 +1,5 @@
 -- The live ones of entries of several epochs.
-use Rattle.std.proofs.Common.{◌≡◌, ◌≢◌, ℕ, zero, suc, ◌+◌, ◌-◌, ◌<◌, ◌≤◌, Bool, true, false, cond, List, [], ◌∷◌, ◌++◌, length, take, drop, Option, Some, None, is_some, refl, sym, ap, ◌∙◌, subst, arith, append_assoc}
+use Rattle.std.proofs.Common.{◌≡◌, ◌≢◌, ℕ, zero, suc, ◌+◌, ◌-◌, ◌<◌, ◌≤◌, true, false, cond, List, [], ◌∷◌, ◌++◌, length, take, drop, Option, Some, None, refl, sym, ap, ◌∙◌, subst, arith, append_assoc}
 use Rattle.std.specs.Prelude.{slice_get}
 use Rattle.std.specs.Str.{bytes_eq}
 use Rattle.std.specs.Map.{lookup, lookup_entry, remove_entry, set_value}
@@ -10,7 +10,8 @@ use Rattle.mc_item.specs.declared.bodies.Body.{Body}
 use Rattle.mc_store.specs.declared.held.Held.{Held}
 use Rattle.mc_store.specs.Items.{Items, body_at, front_body, without}
 use Rattle.mc_store.specs.Epochs.{Entries, live, AreDead, IsParted, IsLetGo}
-use Rattle.mc_store.proofs.LruLemmas.{held_at, cut, lookup_is, remove_is, entry_is, promoted_is, set_is, last_is, last_none}
+use Rattle.mc_store.proofs.DeadLemmas.{IsFewer, dead_take_fewer, dead_cut_fewer}
+use Rattle.mc_store.proofs.LruLemmas.{held_at, cut, lookup_is, remove_is, entry_is, set_is, last_is, last_none}
 
 -- what is dead stays so where an entry is taken out
 dead_cut : (key : List ℕ) (epoch : ℕ) (entries : Entries) → AreDead epoch entries → AreDead epoch (cut key entries)
@@ -127,6 +128,7 @@ pub record IsLiveAt (key : List ℕ) (epoch count : ℕ) (entries : Entries) (he
   pub body : body_at key (live count entries) ≡ Some held.body
   pub parted : IsParted epoch others (cut key entries)
   pub left : live others (cut key entries) ≡ without key (live count entries)
+  pub dead : drop others (cut key entries) ≡ drop count entries
 
 live_is : (key : List ℕ) (epoch count : ℕ) (entries : Entries) (held : Held) → IsParted epoch count entries → held_at key entries ≡ Some held
     → held.epoch ≡ epoch → IsLiveAt key epoch count entries held
@@ -137,12 +139,13 @@ live_is key epoch (suc count) (entry ∷ entries) held parted at now =
     let parts = (elim (bytes_eq entry.0 key) as (λ v. cond v (Some entry.1) (held_at key entries) ≡ Some held
     → (others : ℕ) × (suc count ≡ suc others) × (cond v (Some entry.1.body) (body_at key (live count entries)) ≡ Some held.body)
     × IsParted epoch others (cond v entries (entry ∷ cut key entries))
-    × (live others (cond v entries (entry ∷ cut key entries)) ≡ cond v (live count entries) ((entry.0, entry.1.body) ∷ without key (live count entries)))) [
-      | true ↦ λ first. let its : entry.1 ≡ held = cc in (count, refl, ap (λ (h : Held). Some h.body) its, parted.1, refl)
+    × (live others (cond v entries (entry ∷ cut key entries)) ≡ cond v (live count entries) ((entry.0, entry.1.body) ∷ without key (live count entries)))
+    × (drop others (cond v entries (entry ∷ cut key entries)) ≡ drop count entries)) [
+      | true ↦ λ first. let its : entry.1 ≡ held = cc in (count, refl, ap (λ (h : Held). Some h.body) its, parted.1, refl, refl)
       | false ↦ λ further. let rest : IsLiveAt key epoch count entries held = again further in
-          (suc rest.others, ap suc rest.one_more, rest.body, (parted.0, rest.parted), ap (λ (is : Items). (entry.0, entry.1.body) ∷ is) rest.left)
+          (suc rest.others, ap suc rest.one_more, rest.body, (parted.0, rest.parted), ap (λ (is : Items). (entry.0, entry.1.body) ∷ is) rest.left, rest.dead)
     ]) at in
-    record { others = parts.0; one_more = parts.1; body = parts.2; parted = parts.3; left = parts.4 }
+    record { others = parts.0; one_more = parts.1; body = parts.2; parted = parts.3; left = parts.4; dead = parts.5 }
 
 -- what a look-up tells of the live ones
 pub looks_live : (key : List ℕ) (epoch count : ℕ) (entries : Entries) (held : Held) → IsParted epoch count entries
@@ -161,6 +164,7 @@ pub record IsWritten (key : List ℕ) (epoch count : ℕ) (old new : Entries) (b
   pub parted : IsParted epoch count new
   pub held : body_at key (live count old) ≡ Some before
   pub items : live count new ≡ (key, after) ∷ without key (live count old)
+  pub dead : drop count new ≡ drop count old
 
 pub writes : (key : List ℕ) (epoch count : ℕ) (old new : Entries) (held after : Held) → IsParted epoch count old
     → lookup (bytes_eq key) old ≡ Some held → held.epoch ≡ epoch → after.epoch ≡ epoch
@@ -173,6 +177,7 @@ writes key epoch count old new held after parted found now still is =
       parted = rw (first, there.one_more) (still, there.parted);
       held = there.body;
       items = rw (first) (subst (λ (n : ℕ). live n ((key, after) ∷ cut key old) ≡ (key, after.body) ∷ without key (live count old)) (sym there.one_more) (ap (λ (is : Items). (key, after.body) ∷ is) there.left));
+      dead = rw (first) (subst (λ (n : ℕ). drop n ((key, after) ∷ cut key old) ≡ drop count old) (sym there.one_more) there.dead);
     }
 
 -- what letting a dead entry go leaves that a look-up has promoted
@@ -243,25 +248,26 @@ takes_none key epoch count old new parted none is =
 puts_tail : (count cap : ℕ) (old new : Entries) (key : List ℕ) (held : Held)
     → new ≡ put_entries bytes_eq (record { entries = old; cap = cap }) key held → (body_at key (live count old) ≡ None)
     → (epoch : ℕ) → IsParted epoch count old → count ≤ cap - 1
-    → (tail : Entries) × (new ≡ (key, held) ∷ tail) × IsParted epoch count tail × (live count tail ≡ live count old)
+    → (tail : Entries) × (new ≡ (key, held) ∷ tail) × IsParted epoch count tail × (live count tail ≡ live count old) × IsFewer (drop count old) (drop count tail)
 puts_tail count cap old new key held is absent epoch parted few =
     let kept : IsParted epoch count (take (cap - 1) old) × (live count (take (cap - 1) old) ≡ live count old) = parted_take epoch count (cap - 1) old parted few in
     let others : IsParted epoch count (cut key old) × (live count (cut key old) ≡ live count old) = parted_cut key epoch count old parted absent in
-    (elim (held_at key old) as (λ (o : Option Held). held_at key old ≡ o → (tail : Entries) × (new ≡ (key, held) ∷ tail) × IsParted epoch count tail × (live count tail ≡ live count old)) [
-      | None ↦ λ at. (take (cap - 1) old, is ∙ rw (entry_is key old, at) refl, kept.0, kept.1)
-      | Some before ↦ λ at. (cut key old, is ∙ rw (entry_is key old, at, remove_is key old) refl, others.0, others.1)
+    (elim (held_at key old) as (λ (o : Option Held). held_at key old ≡ o → (tail : Entries) × (new ≡ (key, held) ∷ tail) × IsParted epoch count tail × (live count tail ≡ live count old)
+    × IsFewer (drop count old) (drop count tail)) [
+      | None ↦ λ at. (take (cap - 1) old, is ∙ rw (entry_is key old, at) refl, kept.0, kept.1, dead_take_fewer count (cap - 1) old)
+      | Some before ↦ λ at. (cut key old, is ∙ rw (entry_is key old, at, remove_is key old) refl, others.0, others.1, dead_cut_fewer key count old absent)
     ]) refl
 
 -- what putting an entry leaves, where there is room for one more that is live
 pub puts : (epoch count more cap : ℕ) (old new : Entries) (key : List ℕ) (held : Held) → IsParted epoch count old
     → body_at key (live count old) ≡ None → length (live count old) < cap → held.epoch ≡ epoch → more ≡ count + 1
     → new ≡ put_entries bytes_eq (record { entries = old; cap = cap }) key held
-    → IsParted epoch more new × (live more new ≡ (key, held.body) ∷ live count old)
+    → IsParted epoch more new × (live more new ≡ (key, held.body) ∷ live count old) × IsFewer (drop count old) (drop more new)
 puts epoch count more cap old new key held parted absent room now one_more is =
     let few : count ≤ cap - 1 = omega (arith, length-live epoch count old parted) in
     let put = puts_tail count cap old new key held is absent epoch parted few in
     let next : more ≡ suc count = omega arith in
-    (rw (next, put.1) (now, put.2), rw (next, put.1) (ap (λ (is : Items). (key, held.body) ∷ is) put.3))
+    (rw (next, put.1) (now, put.2), rw (next, put.1) (ap (λ (is : Items). (key, held.body) ∷ is) put.3), rw (next, put.1) put.4)
 
 -- the first entry is the first item
 pub fronts : (epoch count : ℕ) (entries : Entries) (entry : List ℕ × Held) → IsParted epoch count entries → count ≢ 0
@@ -313,8 +319,8 @@ pops epoch count less old new last parted all found is one_less =
       some = omega (arith, many, length_push new last);
       parted = subst (λ (n : ℕ). IsParted epoch n new) next parts.0;
       ends = subst (λ (n : ℕ). live n old ≡ live less new ++ (last.0, last.1.body) ∷ []) all
-      (subst (λ (es : Entries). live (length es) es ≡ live less new ++ (last.0, last.1.body) ∷ []) (sym ends)
-      (subst (λ (n : ℕ). live (length (new ++ last ∷ [])) (new ++ last ∷ []) ≡ live n new ++ (last.0, last.1.body) ∷ []) next parts.1));
+          (subst (λ (es : Entries). live (length es) es ≡ live less new ++ (last.0, last.1.body) ∷ []) (sym ends)
+          (subst (λ (n : ℕ). live (length (new ++ last ∷ [])) (new ++ last ∷ []) ≡ live n new ++ (last.0, last.1.body) ∷ []) next parts.1));
     }
 
 -- one more entry that goes from the back

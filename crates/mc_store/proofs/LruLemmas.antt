@@ -1,10 +1,10 @@
 -- What lru's words say of entries whose keys are bytes.
-use Rattle.std.proofs.Common.{◌≡◌, ℕ, ◌-◌, Bool, true, false, cond, List, [], ◌∷◌, ◌++◌, length, take, drop, Option, Some, None, refl, sym, ap, ◌∙◌, subst, arith}
+use Rattle.std.proofs.Common.{◌≡◌, ℕ, ◌-◌, true, false, cond, List, [], ◌∷◌, ◌++◌, length, take, Option, Some, None, refl, sym, subst, arith}
 use Rattle.std.specs.Cmp.Lexicographic.{same_text, nat_list_eq_equiv}
 use Rattle.std.specs.Str.{bytes_eq}
 use Rattle.std.specs.Map.{lookup, lookup_entry, remove_entry, set_value}
 use Rattle.std.specs.Option.{option_map}
-use Rattle.lru.specs.LruCache.{promoted, last_entry, put_entries}
+use Rattle.lru.specs.LruCache.{promoted, last_entry}
 use Rattle.lru.proofs.Pairs.{cut_end, last_of_push}
 use Rattle.mc_store.specs.declared.held.Held.{Held}
 use Rattle.mc_store.specs.Epochs.{Entries}

@@ -25,6 +25,12 @@ IsParted epoch zero entries = AreDead epoch entries
 IsParted epoch (suc count) [] = ⊥
 IsParted epoch (suc count) (entry ∷ entries) = (entry.1.epoch ≡ epoch) × IsParted epoch count entries
 
+-- what a contract sees of such entries: the live items and the dead entries, most recent first, and how many entries there may be
+pub record LiveAndDead : Type 0 where
+  pub items : Items
+  pub dead : Entries
+  pub cap : ℕ
+
 -- what entries cost
 abbrev pub entry_costs : Entries → ℕ
 entry_costs [] = 0
@@ -36,3 +42,7 @@ pub record IsLetGo (price count : ℕ) (before after : Entries) : Type 0 where
   pub parts : before ≡ after ++ gone
   pub stay : count ≤ length after
   pub enough : (length after ≡ count) ⊎ ((2 ≤ length gone) × (price ≤ entry_costs gone))
+
+-- none is left, or two fewer at least, and what is left costs so much less at least
+abbrev pub IsGivenBack : ℕ → Entries → Entries → Type 0
+IsGivenBack price before after = (after ≡ []) ⊎ ((length after + 2 ≤ length before) × (price + entry_costs after ≤ entry_costs before))

@@ -2,13 +2,13 @@
 ghost use Rattle.std.specs.Prelude.{◌≡◌, ◌∷◌, ◌++◌, ◌+◌, ◌≤◌, ◌<◌, ◌^◌, [], length, take, is_some, None, Some, IfOk, OnOk, IfErr, OnErr, IfSome, IfNone};
 ghost use Rattle.std.specs.NonZero.{non_zero_usize_get};
 ghost use Rattle.std.specs.Option.{option_copied};
-ghost use Rattle.lru.specs.LruCache.{lru_cache};
-ghost use Rattle.mc_store.specs.Epochs.{IsLetGo};
+ghost use Rattle.mc_item.specs.Costs.{cost_of};
+ghost use Rattle.mc_store.specs.Epochs.{IsLetGo, IsGivenBack};
 ghost use Rattle.mc_store.specs.Items.{body_at, front_body, without, brought, expiring, marking};
 
 use crate::held::Held;
 use lru::LruCache;
-use mc_item::{Body, Deadline, cost, cost_at};
+use mc_item::{Body, Deadline, cost};
 use mc_text::{Key, KeyBytes};
 use std::alloc::{AllocError, Global};
 use std::hash::BuildHasher;
@@ -18,10 +18,11 @@ use std::num::NonZeroUsize;
 
 /// The items in lru's cache, each with the epoch in which it was put.
 ///
-/// The items of the cache's own epoch are live, and stand in front of all others. [`EpochCache::clear`] begins the next epoch: then
-/// all entries are dead. What is dead is not counted and not found. It goes from the back with later puts, or where its key is asked for.
+/// The entries of the cache's own epoch are live, and come before all others. [`EpochCache::clear`] begins the next epoch, in which
+/// all entries are dead. What is dead is not counted and not found. Dead entries go from the back with later puts, or where their key
+/// is asked for.
 ///
-/// Contracts see the live items, and the greatest number of entries, live and dead together.
+/// Contracts see the live items, the dead entries, and the greatest number of entries, live and dead together.
 #[derive(Drop)]
 pub struct EpochCache<H: BuildHasher> {
     cache: LruCache<Key, Held, H>,
@@ -31,15 +32,12 @@ pub struct EpochCache<H: BuildHasher> {
 }
 
 impl<H: BuildHasher> Model for EpochCache<H> {
-    ghost use Rattle.std.specs.Prelude.{ℕ, List};
-    ghost use Rattle.lru.specs.LruCache.{LruCache as Entries, lru_cache};
-    ghost use Rattle.mc_item.specs.declared.bodies.Body.{Body as Bodies};
+    ghost use Rattle.std.specs.Prelude.{drop};
+    ghost use Rattle.mc_store.specs.Epochs.{LiveAndDead, live, IsParted};
 
-    ghost Value = { Entries (List ℕ) Bodies };
+    ghost Value = { LiveAndDead };
 
-    ghost use Rattle.mc_store.specs.Epochs.{live, IsParted};
-
-    ghost view = { λ s. lru_cache (live s.count s.cache.entries) s.cache.cap };
+    ghost view = { λ s. record { items = live s.count s.cache.entries; dead = drop s.count s.cache.entries; cap = s.cache.cap } };
 
     ghost invariant = { λ s. IsParted s.epoch s.count s.cache.entries };
 }
@@ -47,7 +45,8 @@ impl<H: BuildHasher> Model for EpochCache<H> {
 impl<H: BuildHasher + Drop> EpochCache<H> {
     /// A cache with no item and room for so many entries, whose keys this hasher hashes.
     pub fn with_hasher(alloc: Global, room: NonZeroUsize, hasher: H) -> Result<Self, AllocError>
-        ensures { IfOk result (λ c. c ≡ lru_cache [] (non_zero_usize_get room)) }
+        ensures items { IfOk result (λ c. c.items ≡ []) }
+        ensures cap { IfOk result (λ c. c.cap ≡ non_zero_usize_get room) }
     {
         let cache = LruCache::with_hasher(alloc, room, hasher)?;
         Ok(EpochCache {
@@ -61,19 +60,19 @@ impl<H: BuildHasher + Drop> EpochCache<H> {
 impl<H: BuildHasher> EpochCache<H> {
     /// How many items there are.
     pub fn len(&self) -> usize
-        ensures { result ≡ length self.now.entries }
+        ensures { result ≡ length self.now.items }
     {
         self.count
     }
 
     /// The body under the key. The order stays.
     pub fn peek(&self, key: &[u8]) -> Option<&Body>
-        ensures { option_copied result ≡ body_at key.now self.now.entries }
+        ensures { option_copied result ≡ body_at key.now self.now.items }
     {
         let Some(held) = self.cache.peek(KeyBytes { bytes: key }) else {
             return None;
         };
-        if held.epoch != self.epoch {
+        if self.epoch != held.epoch {
             return None;
         }
         Some(&held.body)
@@ -81,7 +80,7 @@ impl<H: BuildHasher> EpochCache<H> {
 
     /// The body of the first item.
     pub fn front(&self) -> Option<&Body>
-        ensures { option_copied result ≡ front_body self.now.entries }
+        ensures { option_copied result ≡ front_body self.now.items }
     {
         if self.count == 0 {
             return None;
@@ -94,8 +93,8 @@ impl<H: BuildHasher> EpochCache<H> {
 
     /// Moves the key's item to the front, and says whether there is one.
     pub fn bring(&mut self, key: &[u8]) -> bool
-        ensures held { result ≡ is_some (body_at key.now self.old.entries) }
-        ensures items { self.new.entries ≡ brought key.now (body_at key.now self.old.entries) self.old.entries }
+        ensures held { result ≡ is_some (body_at key.now self.old.items) }
+        ensures items { self.new.items ≡ brought key.now (body_at key.now self.old.items) self.old.items }
         ensures cap { self.new.cap ≡ self.old.cap }
     {
         let Some(held) = self.cache.get_mut(KeyBytes { bytes: key }) else {
@@ -110,8 +109,8 @@ impl<H: BuildHasher> EpochCache<H> {
 
     /// Sets the expiry of the key's item, moves it to the front, and says whether there is one.
     pub fn expire(&mut self, key: &[u8], expiry: Deadline) -> bool
-        ensures held { result ≡ is_some (body_at key.now self.old.entries) }
-        ensures items { self.new.entries ≡ brought key.now (expiring expiry (body_at key.now self.old.entries)) self.old.entries }
+        ensures held { result ≡ is_some (body_at key.now self.old.items) }
+        ensures items { self.new.items ≡ brought key.now (expiring expiry (body_at key.now self.old.items)) self.old.items }
         ensures cap { self.new.cap ≡ self.old.cap }
     {
         let Some(held) = self.cache.get_mut(KeyBytes { bytes: key }) else {
@@ -127,8 +126,8 @@ impl<H: BuildHasher> EpochCache<H> {
 
     /// Sets the two marks and the number of the key's item, moves it to the front, and says whether there is one.
     pub fn mark(&mut self, key: &[u8], stale: bool, won: bool, cas: u64) -> bool
-        ensures held { result ≡ is_some (body_at key.now self.old.entries) }
-        ensures items { self.new.entries ≡ brought key.now (marking stale won cas (body_at key.now self.old.entries)) self.old.entries }
+        ensures held { result ≡ is_some (body_at key.now self.old.items) }
+        ensures items { self.new.items ≡ brought key.now (marking stale won cas (body_at key.now self.old.items)) self.old.items }
         ensures cap { self.new.cap ≡ self.old.cap }
     {
         let Some(held) = self.cache.get_mut(KeyBytes { bytes: key }) else {
@@ -146,9 +145,9 @@ impl<H: BuildHasher> EpochCache<H> {
 
     /// Takes the key's item out.
     pub fn take(&mut self, key: &[u8]) -> Option<(Key, Body)>
-        ensures item { IfSome result (λ item. (item.0 ≡ key.now) × (body_at key.now self.old.entries ≡ Some item.1)) }
-        ensures none { IfNone result (body_at key.now self.old.entries ≡ None) }
-        ensures items { self.new.entries ≡ without key.now self.old.entries }
+        ensures item { IfSome result (λ item. (item.0 ≡ key.now) × (body_at key.now self.old.items ≡ Some item.1)) }
+        ensures none { IfNone result (body_at key.now self.old.items ≡ None) }
+        ensures items { self.new.items ≡ without key.now self.old.items }
         ensures cap { self.new.cap ≡ self.old.cap }
     {
         match self.cache.pop_entry(KeyBytes { bytes: key }) {
@@ -163,17 +162,18 @@ impl<H: BuildHasher> EpochCache<H> {
         }
     }
 
-    /// Puts a body under a key that is held, moves its item to the front, and gives the old body. Then it lets dead entries go,
-    /// as [`EpochCache::put_front`] does.
+    /// Puts a body under a key that is held, moves its item to the front, and gives the old body. Then it lets dead entries go: all, or
+    /// two at least that cost at least as many bytes as the value has.
     ///
     /// Where the key is not held, `Err` hands the body back.
     pub fn replace(&mut self, key: &[u8], body: Body) -> Result<Body, Body>
-        ensures before { IfOk result (λ before. body_at key.now self.old.entries ≡ Some before) }
-        ensures ok { OnOk result (self.new.entries ≡ (key.now, body) ∷ without key.now self.old.entries) }
-        ensures absent { OnErr result (body_at key.now self.old.entries ≡ None) }
+        ensures before { IfOk result (λ before. body_at key.now self.old.items ≡ Some before) }
+        ensures ok { OnOk result (self.new.items ≡ (key.now, body) ∷ without key.now self.old.items) }
+        ensures absent { OnErr result (body_at key.now self.old.items ≡ None) }
         ensures back { IfErr result (λ back. back ≡ body) }
-        ensures err { OnErr result (self.new.entries ≡ self.old.entries) }
+        ensures err { OnErr result (self.new.items ≡ self.old.items) }
         ensures cap { self.new.cap ≡ self.old.cap }
+        ensures given_back { OnOk result (IsGivenBack (length body.value) self.old.dead self.new.dead) }
     {
         let Some(held) = self.cache.get_mut(KeyBytes { bytes: key }) else {
             return Err(body);
@@ -193,12 +193,13 @@ impl<H: BuildHasher> EpochCache<H> {
     ///
     /// Where there is no memory, `Err` hands the key and the body back.
     pub fn put_front(&mut self, key: Key, body: Body) -> Result<(), (Key, Body)>
-        requires absent { body_at key self.old.entries ≡ None }
-        requires room { length self.old.entries < self.old.cap }
-        ensures ok { OnOk result (self.new.entries ≡ (key, body) ∷ self.old.entries) }
+        requires absent { body_at key self.old.items ≡ None }
+        requires room { length self.old.items < self.old.cap }
+        ensures ok { OnOk result (self.new.items ≡ (key, body) ∷ self.old.items) }
         ensures back { IfErr result (λ back. back ≡ (key, body)) }
-        ensures err { OnErr result (self.new.entries ≡ self.old.entries) }
+        ensures err { OnErr result (self.new.items ≡ self.old.items) }
         ensures cap { self.new.cap ≡ self.old.cap }
+        ensures given_back { IsGivenBack (cost_of key body.value) self.old.dead self.new.dead }
     {
         let_go(&mut self.cache, self.count, cost(&key, &body));
         let held = Held {
@@ -219,8 +220,8 @@ impl<H: BuildHasher> EpochCache<H> {
 
     /// Takes the last item out, and lets all dead entries go before.
     pub fn drop_last(&mut self) -> Option<(Key, Body)>
-        ensures last { IfSome result (λ last. self.old.entries ≡ self.new.entries ++ last ∷ []) }
-        ensures empty { IfNone result ((self.old.entries ≡ []) × (self.new.entries ≡ [])) }
+        ensures last { IfSome result (λ last. self.old.items ≡ self.new.items ++ last ∷ []) }
+        ensures empty { IfNone result ((self.old.items ≡ []) × (self.new.items ≡ [])) }
         ensures cap { self.new.cap ≡ self.old.cap }
     {
         let_all_go(&mut self.cache, self.count);
@@ -235,7 +236,8 @@ impl<H: BuildHasher> EpochCache<H> {
 
     /// Takes all items out: they are dead from now on. Only after the last epoch of 64 bits the entries go one by one.
     pub fn clear(&mut self)
-        ensures { self.new ≡ lru_cache [] self.old.cap }
+        ensures items { self.new.items ≡ [] }
+        ensures cap { self.new.cap ≡ self.old.cap }
     {
         let Some(next) = self.epoch.checked_add(1) else {
             self.cache.clear();

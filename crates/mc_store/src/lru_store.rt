@@ -37,25 +37,33 @@ impl From<AllocError> for StoreError {
 /// The hasher of [`LruStore::new`], whose seed is fixed: a script gives the same steps each time.
 pub type FixedHasher = BuildHasherDefault<FoldHasher>;
 
-/// The items in a cache that finds them by a hash, in the order of their last use. What they cost is kept beside them.
+/// The items in a cache that finds them by a hash, in the order of their last use. Sums over them are kept beside them.
 ///
 /// Contracts see the items and the greatest number of them that the cache holds. What they cost together stays below 2^63.
 ///
 /// # Work
 ///
 /// A call with a key hashes it once and searches the table once, but `put_front`, which does both twice and then looks for
-/// a free place. `drop_last` hashes the last key once and searches for it once. `len`, `used`, `longest` and `front` do neither. So none
-/// of these takes longer where more items stand, as long as the hash spreads the keys, but for what is said of `put_front`
-/// below. `clear` and the end of the store take out one item after the other.
+/// a free place. `drop_last` hashes the last key once and searches for it once. `len`, `used`, `longest`, `front` and `clear` do neither.
+/// So none of these takes longer where more items are held, as long as the hash spreads the keys, but for what is said of `put_front`
+/// below.
+///
+/// `clear` begins a new epoch, which makes all entries dead. They are not counted and not found, and they are let go later: by
+/// each `put_front` two of them or more, until they cost as much as the item or none is left; by each `replace` that finds its key as
+/// many for the new value; and one by a call with its key. Each that is let go costs what a `drop_last` does. `drop_last` lets all
+/// of them go first. While dead entries are left no store makes the entries cost more, or be more, live and dead together. So a store
+/// that is kept within a budget and a limit has no dead ones left when it drops an item. The end of the store takes
+/// out one entry after the other.
 ///
 /// # Memory
 ///
 /// The constructor takes the table whole: for 9 * 2^k items, the least such number that is enough. Only `put_front` takes
-/// memory, a block for the item. A key that is taken out of a crowded part of the table leaves its place counted as taken;
-/// where no place is left by that count, as may be after long eviction, `put_front` first lays the table out anew, which
-/// takes time for each item but hashes none. That is done in place where the items, the new one with them, are at most half
-/// of what the table is for. Else the table is doubled, which takes memory too; then they are at most half of it, so this
-/// comes once in a store's life. Where memory is refused, so is the item, and nothing has changed.
+/// memory, a block for the item. The blocks of dead entries stay taken until they are let go. A key that is taken out of a crowded
+/// part of the table leaves its place counted as taken; where no place is left by that count, as may be after long eviction or a
+/// clear, `put_front` first lays the table out anew, which takes time for each entry but hashes none. That is done in place where the
+/// entries, the new one with them, are at most half of what the table is for. Else the table is doubled, which takes memory too; then
+/// they are at most half of it, so this comes once in a store's life. Where memory is refused, so is the item, and the items are as
+/// they were.
 #[derive(Drop)]
 pub struct LruStore<H: BuildHasher> {
     cache: EpochCache<H>,
@@ -64,15 +72,15 @@ pub struct LruStore<H: BuildHasher> {
 
 impl<H: BuildHasher> Model for LruStore<H> {
     ghost use Rattle.std.specs.Prelude.{ℕ, List};
-    ghost use Rattle.lru.specs.LruCache.{LruCache as Entries};
+    ghost use Rattle.lru.specs.LruCache.{LruCache as Entries, lru_cache};
     ghost use Rattle.mc_item.specs.declared.bodies.Body.{Body as Bodies};
     ghost use Rattle.mc_store.specs.Sums.{IsSumOf};
 
     ghost Value = { Entries (List ℕ) Bodies };
 
-    ghost view = { λ s. s.cache };
+    ghost view = { λ s. lru_cache s.cache.items s.cache.cap };
 
-    ghost invariant = { λ s. IsSumOf s.sums s.cache.entries };
+    ghost invariant = { λ s. IsSumOf s.sums s.cache.items };
 }
 
 impl LruStore<FixedHasher> {
@@ -145,7 +153,8 @@ impl<H: BuildHasher> Store for LruStore<H> {
     fn take(&mut self, key: &[u8]) -> Option<Body> {
         match self.cache.take(key) {
             Some(item) => {
-                self.sums.take_away(cost(&item.0, &item.1), item.1.value.len());
+                self.sums
+                    .take_away(cost(&item.0, &item.1), item.1.value.len());
                 Some(item.1)
             }
             None => None,
@@ -180,7 +189,8 @@ impl<H: BuildHasher> Store for LruStore<H> {
     fn drop_last(&mut self) -> Option<(Key, Body)> {
         match self.cache.drop_last() {
             Some(last) => {
-                self.sums.take_away(cost(&last.0, &last.1), last.1.value.len());
+                self.sums
+                    .take_away(cost(&last.0, &last.1), last.1.value.len());
                 Some(last)
             }
             None => None,

@@ -1,6 +1,7 @@
 //! Sums: what a store knows of all its items.
 ghost use Rattle.std.specs.Prelude.{◌≡◌, ◌+◌, ◌<◌, ◌≤◌, ◌^◌, [], length};
 ghost use Rattle.mc_store.specs.Items.{Items, longest_of};
+ghost use Rattle.mc_store.specs.declared.sums.TheConstants.{LONG};
 ghost use Rattle.mc_store.specs.Sums.{IsSumOf, long_one, with_value, without_value};
 
 /// A value of more bytes is long.
@@ -31,7 +32,8 @@ impl Sums {
 
     /// A number of bytes that no value is longer than: at most [`LONG`] where no value is long.
     pub fn longest(self) -> usize
-        ensures { (items : Items) → IsSumOf self items → longest_of items ≤ result }
+        ensures bound { (items : Items) → IsSumOf self items → longest_of items ≤ result }
+        ensures short { self.long ≡ 0 → result ≤ LONG }
     {
         if self.long == 0 {
             return self.longest.min(LONG);

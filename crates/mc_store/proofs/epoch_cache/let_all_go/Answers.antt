@@ -1,4 +1,4 @@
-use Rattle.std.proofs.Common.{◌≡◌, ◌<◌, List, ℕ, length, ap, ◌∙◌, arith}
+use Rattle.std.proofs.Common.{◌<◌, List, ℕ, length, ap, ◌∙◌, arith}
 use Rattle.lru.specs.LruCache.{LruCache}
 use Rattle.mc_store.specs.declared.held.Held.{Held}
 use Rattle.mc_store.proofs.EpochLemmas.{goes_some}

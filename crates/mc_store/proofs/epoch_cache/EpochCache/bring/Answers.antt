@@ -1,8 +1,7 @@
-use Rattle.std.proofs.Common.{◌≡◌, List, ℕ, Some, sym, ap, refl}
-use Rattle.std.specs.Map.{lookup, set_value}
+use Rattle.std.proofs.Common.{List, ℕ, sym, ap, refl}
+use Rattle.std.specs.Map.{set_value}
 use Rattle.std.specs.Str.{bytes_eq}
 use Rattle.lru.specs.LruCache.{LruCache, promoted}
-use Rattle.mc_item.specs.declared.bodies.Body.{Body}
 use Rattle.mc_store.specs.declared.held.Held.{Held}
 use Rattle.mc_store.specs.Epochs.{Entries}
 use Rattle.mc_store.proofs.EpochLemmas.{looks_none, lets_go, writes, IsWritten}

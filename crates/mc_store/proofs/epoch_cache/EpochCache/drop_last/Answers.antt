@@ -1,8 +1,7 @@
-use Rattle.std.proofs.Common.{◌≡◌, ◌-◌, ◌∷◌, ◌++◌, [], List, ℕ, length, refl, sym, ap, ◌∙◌}
+use Rattle.std.proofs.Common.{◌≡◌, ◌-◌, List, ℕ, length, refl, sym, ap, ◌∙◌}
 use Rattle.lru.specs.LruCache.{LruCache}
-use Rattle.mc_item.specs.declared.bodies.Body.{Body}
 use Rattle.mc_store.specs.declared.held.Held.{Held}
-use Rattle.mc_store.specs.Epochs.{Entries, live, IsParted}
+use Rattle.mc_store.specs.Epochs.{LiveAndDead, live, IsParted}
 use Rattle.mc_store.proofs.EpochLemmas.{count-fits, leaves_all, pops, pops_none, IsPopped}
 use Rattle.mc_store.proofs.epoch_cache.EpochCache.drop_last.Goals as goal
 
@@ -29,7 +28,7 @@ returns-in-Some-clause-last g c =
     let popped : IsPopped c.self.inside.epoch c.self.inside.count (c.self.inside.count - 1) c.let_all_go.new.cache.entries c.pop_lru.new.self.entries (c.in-Some.key, c.in-Some.held) =
     pops c.self.inside.epoch c.self.inside.count (c.self.inside.count - 1) c.let_all_go.new.cache.entries c.pop_lru.new.self.entries (c.in-Some.key, c.in-Some.held)
     left.0 left.2 (sym c.in-Some.ensures.value) (ap (λ (s : LruCache (List ℕ) Held). s.entries) c.pop_lru.ensures.entries) refl in
-    let shown : live c.self.inside.count c.self.inside.cache.entries ≡ c.args.self.now.entries = ap (λ (s : LruCache (List ℕ) Body). s.entries) c.self.view_is in
+    let shown : live c.self.inside.count c.self.inside.cache.entries ≡ c.args.self.now.items = ap (λ (s : LiveAndDead). s.items) c.self.view_is in
     sym shown ∙ sym left.1 ∙ popped.ends
 
 pub invariant_of-self-in-None : goal.invariant_of-self-in-None
@@ -50,5 +49,5 @@ returns-in-None-clause-empty g c =
     leaves_all c.self.inside.epoch c.self.inside.count c.self.inside.cache.entries c.let_all_go.new.cache.entries c.self.invariant c.let_all_go.ensures.front in
     let none = pops_none c.self.inside.epoch c.self.inside.count c.let_all_go.new.cache.entries c.pop_lru.new.self.entries left.0
     (sym c.in-None.ensures.value) (ap (λ (s : LruCache (List ℕ) Held). s.entries) c.pop_lru.ensures.entries) in
-    let shown : live c.self.inside.count c.self.inside.cache.entries ≡ c.args.self.now.entries = ap (λ (s : LruCache (List ℕ) Body). s.entries) c.self.view_is in
+    let shown : live c.self.inside.count c.self.inside.cache.entries ≡ c.args.self.now.items = ap (λ (s : LiveAndDead). s.items) c.self.view_is in
     (sym shown ∙ sym left.1 ∙ none.2, none.1)

@@ -1,4 +1,4 @@
-use Rattle.std.proofs.Common.{◌≡◌, length, sym}
+use Rattle.std.proofs.Common.{sym}
 use Rattle.mc_store.proofs.EpochLemmas.{length-live}
 use Rattle.mc_store.proofs.epoch_cache.EpochCache.len.Goals as goal
 

@@ -5,5 +5,5 @@ use Rattle.mc_store.proofs.lru_store.LruStoreStore.expire.Goals as goal
 
 pub invariant_of-self : goal.invariant_of-self
 invariant_of-self g c =
-    sum_brought c.args.key.now (λ (b : Body). record b { expiry = c.args.expiry }) c.self.inside.cache.entries c.expire.new.self.entries c.self.inside.sums
+    sum_brought c.args.key.now (λ (b : Body). record b { expiry = c.args.expiry }) c.self.inside.cache.items c.expire.new.self.items c.self.inside.sums
     c.self.invariant (λ b. refl) c.expire.ensures.items

@@ -5,5 +5,5 @@ use Rattle.mc_store.proofs.lru_store.LruStoreStore.mark.Goals as goal
 
 pub invariant_of-self : goal.invariant_of-self
 invariant_of-self g c =
-    sum_brought c.args.key.now (λ (b : Body). record b { cas = c.args.cas; stale = c.args.stale; won = c.args.won }) c.self.inside.cache.entries c.mark.new.self.entries c.self.inside.sums
+    sum_brought c.args.key.now (λ (b : Body). record b { cas = c.args.cas; stale = c.args.stale; won = c.args.won }) c.self.inside.cache.items c.mark.new.self.items c.self.inside.sums
     c.self.invariant (λ b. refl) c.mark.ensures.items

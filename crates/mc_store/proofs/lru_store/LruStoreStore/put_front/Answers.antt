@@ -1,12 +1,14 @@
-use Rattle.std.proofs.Common.{◌<◌, arith}
+use Rattle.std.proofs.Common.{List, ℕ, ap, arith}
+use Rattle.lru.specs.LruCache.{LruCache}
+use Rattle.mc_item.specs.declared.bodies.Body.{Body}
 use Rattle.mc_store.proofs.SumLemmas.{long_least, sum_put}
 use Rattle.mc_store.proofs.lru_store.LruStoreStore.put_front.Goals as goal
 
 pub add-requires-clause-long : goal.add-requires-clause-long
 add-requires-clause-long g c =
-    omega (arith, c.self.invariant.used, c.self.invariant.fits, c.self.invariant.long, long_least c.self.inside.cache.entries)
+    omega (arith, c.self.invariant.used, c.self.invariant.fits, c.self.invariant.long, long_least c.self.inside.cache.items)
 
 pub invariant_of-self : goal.invariant_of-self
 invariant_of-self g c =
-    sum_put c.args.key c.args.body c.self.inside.cache.entries c.put_front.new.self.entries c.self.inside.sums c.add.new.self c.cost-price.result c.len-length.result
-    c.self.invariant (rw c.self.view_is c.requires.cost) c.in-Ok.ensures.ok c.cost-price.ensures c.len-length.ensures c.add.ensures
+    sum_put c.args.key c.args.body c.self.inside.cache.items c.put_front.new.self.items c.self.inside.sums c.add.new.self c.cost-price.result c.len-length.result
+    c.self.invariant (rw (ap (λ (s : LruCache (List ℕ) Body). s.entries) c.self.view_is) c.requires.cost) c.in-Ok.ensures.ok c.cost-price.ensures c.len-length.ensures c.add.ensures
