@@ -2,14 +2,14 @@
 ghost use Rattle.std.specs.Prelude.{◌≡◌, ◌≤◌, ◌<◌, ◌^◌, ◌↔◌, [], ◌+◌, Some, IfOk, IsErrOf};
 ghost use Rattle.mc_store.specs.Items.{cost_sum};
 
+use crate::epoch_cache::EpochCache;
 use crate::stores::Store;
-use lru::LruCache;
+use crate::sums::Sums;
 use mc_item::{Body, Deadline, cost};
-use mc_text::{Key, KeyBytes};
+use mc_text::Key;
 use std::alloc::{AllocError, Global};
 use std::hash::{BuildHasher, BuildHasherDefault, FoldHasher};
 use std::marker::Model;
-use std::mem;
 use std::num::NonZeroUsize;
 use thiserror::Error;
 
@@ -37,44 +37,50 @@ impl From<AllocError> for StoreError {
 /// The hasher of [`LruStore::new`], whose seed is fixed: a script gives the same steps each time.
 pub type FixedHasher = BuildHasherDefault<FoldHasher>;
 
-/// The items in a cache that finds them by a hash, in the order of their last use. What they cost is kept beside them.
+/// The items in a cache that finds them by a hash, in the order of their last use. Sums over them are kept beside them.
 ///
 /// Contracts see the items and the greatest number of them that the cache holds. What they cost together stays below 2^63.
 ///
 /// # Work
 ///
 /// A call with a key hashes it once and searches the table once, but `put_front`, which does both twice and then looks for
-/// a free place. `drop_last` hashes the last key once and searches for it once. `len`, `used`, `longest` and `front` do neither. So none
-/// of these takes longer where more items stand, as long as the hash spreads the keys, but for what is said of `put_front`
-/// below. `clear` and the end of the store take out one item after the other.
+/// a free place. `drop_last` hashes the last key once and searches for it once. `len`, `used`, `longest`, `front` and `clear` do neither.
+/// So none of these takes longer where more items are held, as long as the hash spreads the keys, but for what is said of `put_front`
+/// below.
+///
+/// `clear` begins a new epoch, which makes all entries dead. They are not counted and not found, and they are let go later: by
+/// each `put_front` two of them or more, until they cost as much as the item or none is left; by each `replace` that finds its key as
+/// many for the new value; and one by a call with its key. Each that is let go costs what a `drop_last` does. `drop_last` lets all
+/// of them go first. While dead entries are left no store makes the entries cost more, or be more, live and dead together. So a store
+/// that is kept within a budget and a limit has no dead ones left when it drops an item. The end of the store takes
+/// out one entry after the other.
 ///
 /// # Memory
 ///
 /// The constructor takes the table whole: for 9 * 2^k items, the least such number that is enough. Only `put_front` takes
-/// memory, a block for the item. A key that is taken out of a crowded part of the table leaves its place counted as taken;
-/// where no place is left by that count, as may be after long eviction, `put_front` first lays the table out anew, which
-/// takes time for each item but hashes none. That is done in place where the items, the new one with them, are at most half
-/// of what the table is for. Else the table is doubled, which takes memory too; then they are at most half of it, so this
-/// comes once in a store's life. Where memory is refused, so is the item, and nothing has changed.
+/// memory, a block for the item. The blocks of dead entries stay taken until they are let go. A key that is taken out of a crowded
+/// part of the table leaves its place counted as taken; where no place is left by that count, as may be after long eviction or a
+/// clear, `put_front` first lays the table out anew, which takes time for each entry but hashes none. That is done in place where the
+/// entries, the new one with them, are at most half of what the table is for. Else the table is doubled, which takes memory too; then
+/// they are at most half of it, so this comes once in a store's life. Where memory is refused, so is the item, and the items are as
+/// they were.
 #[derive(Drop)]
 pub struct LruStore<H: BuildHasher> {
-    cache: LruCache<Key, Body, H>,
-    used: u64,
-    /// No value is longer. It rises with the values that are put in, and falls where all items are taken out.
-    longest: usize,
+    cache: EpochCache<H>,
+    sums: Sums,
 }
 
 impl<H: BuildHasher> Model for LruStore<H> {
-    ghost use Rattle.std.specs.Prelude.{◌≡◌, ◌≤◌, ◌<◌, ◌^◌, ℕ, List};
-    ghost use Rattle.lru.specs.LruCache.{LruCache as Entries};
+    ghost use Rattle.std.specs.Prelude.{ℕ, List};
+    ghost use Rattle.lru.specs.LruCache.{LruCache as Entries, lru_cache};
     ghost use Rattle.mc_item.specs.declared.bodies.Body.{Body as Bodies};
-    ghost use Rattle.mc_store.specs.Items.{cost_sum, longest_of};
+    ghost use Rattle.mc_store.specs.Sums.{IsSumOf};
 
     ghost Value = { Entries (List ℕ) Bodies };
 
-    ghost view = { λ s. s.cache };
+    ghost view = { λ s. lru_cache s.cache.items s.cache.cap };
 
-    ghost invariant = { λ s. (s.used ≡ cost_sum s.cache.entries) × (s.used < 2 ^ 63) × (longest_of s.cache.entries ≤ s.longest) };
+    ghost invariant = { λ s. IsSumOf s.sums s.cache.items };
 }
 
 impl LruStore<FixedHasher> {
@@ -99,16 +105,14 @@ impl<H: BuildHasher + Drop> LruStore<H> {
     {
         let most = items.checked_add(1).ok_or(StoreError::TooMany)?;
         let room = NonZeroUsize::new(most).ok_or(StoreError::TooMany)?;
-        let cache = LruCache::with_hasher(alloc, room, hasher)?;
+        let cache = EpochCache::with_hasher(alloc, room, hasher)?;
         Ok(LruStore {
             cache,
-            used: 0,
-            longest: 0,
+            sums: Sums::none(),
         })
     }
 }
 
-#[tactic(auto, using(crate::proofs::KeptLemmas::costs, crate::proofs::LruLemmas::lru_words))]
 impl<H: BuildHasher> Store for LruStore<H> {
     ghost items = { λ s. s.entries };
 
@@ -119,51 +123,39 @@ impl<H: BuildHasher> Store for LruStore<H> {
     }
 
     fn used(&self) -> u64 {
-        self.used
+        self.sums.used
     }
 
     fn longest(&self) -> usize {
-        self.longest
+        self.sums.longest()
     }
 
     fn peek(&self, key: &[u8]) -> Option<&Body> {
-        self.cache.peek(KeyBytes { bytes: key })
+        self.cache.peek(key)
     }
 
     fn front(&self) -> Option<&Body> {
-        match self.cache.peek_mru() {
-            Some((_, body)) => Some(body),
-            None => None,
-        }
+        self.cache.front()
     }
 
     fn bring(&mut self, key: &[u8]) -> bool {
-        self.cache.promote(KeyBytes { bytes: key })
+        self.cache.bring(key)
     }
 
     fn expire(&mut self, key: &[u8], expiry: Deadline) -> bool {
-        let Some(body) = self.cache.get_mut(KeyBytes { bytes: key }) else {
-            return false;
-        };
-        body.expiry = expiry;
-        true
+        self.cache.expire(key, expiry)
     }
 
     fn mark(&mut self, key: &[u8], stale: bool, won: bool, cas: u64) -> bool {
-        let Some(body) = self.cache.get_mut(KeyBytes { bytes: key }) else {
-            return false;
-        };
-        body.stale = stale;
-        body.won = won;
-        body.cas = cas;
-        true
+        self.cache.mark(key, stale, won, cas)
     }
 
     fn take(&mut self, key: &[u8]) -> Option<Body> {
-        match self.cache.pop_entry(KeyBytes { bytes: key }) {
-            Some((own, body)) => {
-                self.used -= cost(&own, &body);
-                Some(body)
+        match self.cache.take(key) {
+            Some(item) => {
+                self.sums
+                    .take_away(cost(&item.0, &item.1), item.1.value.len());
+                Some(item.1)
             }
             None => None,
         }
@@ -171,35 +163,34 @@ impl<H: BuildHasher> Store for LruStore<H> {
 
     fn replace(&mut self, key: &[u8], body: Body) -> Result<Body, Body> {
         let length = body.value.len();
-        match self.cache.get_mut(KeyBytes { bytes: key }) {
-            Some(held) => {
-                let before = mem::replace(held, body);
-                self.used -= before.value.len() as u64;
-                self.used += length as u64;
-                self.longest = self.longest.max(length);
+        match self.cache.replace(key, body) {
+            Ok(before) => {
+                let shorter = before.value.len();
+                self.sums.take_away(shorter as u64, shorter);
+                self.sums.add(length as u64, length);
                 Ok(before)
             }
-            None => Err(body),
+            Err(body) => Err(body),
         }
     }
 
     fn put_front(&mut self, key: Key, body: Body) -> Result<(), (Key, Body)> {
         let price = cost(&key, &body);
         let length = body.value.len();
-        match self.cache.put(key, body) {
-            Ok(_) => {
-                self.used += price;
-                self.longest = self.longest.max(length);
+        match self.cache.put_front(key, body) {
+            Ok(()) => {
+                self.sums.add(price, length);
                 Ok(())
             }
-            Err(failed) => Err(failed.value),
+            Err(back) => Err(back),
         }
     }
 
     fn drop_last(&mut self) -> Option<(Key, Body)> {
-        match self.cache.pop_lru() {
+        match self.cache.drop_last() {
             Some(last) => {
-                self.used -= cost(&last.0, &last.1);
+                self.sums
+                    .take_away(cost(&last.0, &last.1), last.1.value.len());
                 Some(last)
             }
             None => None,
@@ -208,7 +199,6 @@ impl<H: BuildHasher> Store for LruStore<H> {
 
     fn clear(&mut self) {
         self.cache.clear();
-        self.used = 0;
-        self.longest = 0;
+        self.sums = Sums::none();
     }
 }

@@ -25,7 +25,7 @@ pub trait Store {
     fn used(&self) -> u64
         ensures { result ≡ cost_sum (items self.now) };
 
-    /// A number of bytes that no value is longer than. It may stay larger than that once the longest value has gone.
+    /// A number of bytes that no value is longer than. It may be larger than the longest value that is there.
     fn longest(&self) -> usize
         ensures { longest_of (items self.now) ≤ result };
 

@@ -1,28 +1,15 @@
-use Rattle.std.proofs.Common.{◌≡◌, ℕ, ◌+◌, ◌-◌, ◌∷◌, [], ◌++◌, List, length, take, sym, ap, arith}
-use Rattle.lru.specs.LruCache.{LruCache}
-use Rattle.mc_item.specs.declared.bodies.Body.{Body}
-use Rattle.mc_store.specs.Items.{Items, item_cost, cost_sum}
-use Rattle.mc_store.proofs.LongestLemmas.{longest_of-last}
-use Rattle.mc_store.proofs.LruLemmas.{pops}
+use Rattle.mc_store.proofs.SumLemmas.{last_fits, sum_last}
 use Rattle.mc_store.proofs.lru_store.LruStoreStore.drop_last.Goals as goal
 
-pub overflow_sub-self : goal.overflow_sub-self
-overflow_sub-self g c =
-    let old : Items = c.self.inside.cache.entries in
-    let at : c.pop_lru.new.self.entries ≡ take (length old - 1) old =
-    ap (λ (s : LruCache (List ℕ) Body). s.entries) c.pop_lru.ensures.entries in
-    let popped : (old ≡ c.pop_lru.new.self.entries ++ c.in-Some.last ∷ []) × (cost_sum old ≡ cost_sum c.pop_lru.new.self.entries + item_cost c.in-Some.last) =
-    pops old c.pop_lru.new.self.entries c.in-Some.last (sym c.in-Some.ensures.value) at in
-    omega (arith, popped.1, c.self.invariant.0, c.cost.ensures)
+pub take_away-requires-clause-used : goal.take_away-requires-clause-used
+take_away-requires-clause-used g c =
+    rw c.cost.ensures (last_fits c.self.inside.cache.items c.drop_last.new.self.items c.in-Some.last c.self.inside.sums c.self.invariant c.in-Some.ensures.last).0
+
+pub take_away-requires-clause-long : goal.take_away-requires-clause-long
+take_away-requires-clause-long g c =
+    rw c.len.ensures (last_fits c.self.inside.cache.items c.drop_last.new.self.items c.in-Some.last c.self.inside.sums c.self.invariant c.in-Some.ensures.last).1
 
 pub invariant_of-self : goal.invariant_of-self
 invariant_of-self g c =
-    let old : Items = c.self.inside.cache.entries in
-    let at : c.pop_lru.new.self.entries ≡ take (length old - 1) old =
-    ap (λ (s : LruCache (List ℕ) Body). s.entries) c.pop_lru.ensures.entries in
-    let popped : (old ≡ c.pop_lru.new.self.entries ++ c.in-Some.last ∷ []) × (cost_sum old ≡ cost_sum c.pop_lru.new.self.entries + item_cost c.in-Some.last) =
-    pops old c.pop_lru.new.self.entries c.in-Some.last (sym c.in-Some.ensures.value) at in (
-      omega (arith, popped.1, c.self.invariant.0, c.cost.ensures),
-      omega (arith, c.self.invariant.1),
-      omega (arith, longest_of-last old c.pop_lru.new.self.entries c.in-Some.last popped.0, c.self.invariant.2),
-    )
+    sum_last c.self.inside.cache.items c.drop_last.new.self.items c.in-Some.last c.self.inside.sums c.take_away.new.self c.cost.result c.len.result
+    c.self.invariant c.in-Some.ensures.last c.cost.ensures c.len.ensures c.take_away.ensures

@@ -1,0 +1,363 @@
+-- The live ones of entries of several epochs.
+use Rattle.std.proofs.Common.{◌≡◌, ◌≢◌, ℕ, zero, suc, ◌+◌, ◌-◌, ◌<◌, ◌≤◌, true, false, cond, List, [], ◌∷◌, ◌++◌, length, take, drop, Option, Some, None, refl, sym, ap, ◌∙◌, subst, arith, append_assoc}
+use Rattle.std.specs.Prelude.{slice_get}
+use Rattle.std.specs.Str.{bytes_eq}
+use Rattle.std.specs.Map.{lookup, lookup_entry, remove_entry, set_value}
+use Rattle.std.specs.Option.{option_map}
+use Rattle.std.proofs.lemmas.List.{length_push}
+use Rattle.lru.specs.LruCache.{promoted, last_entry, put_entries}
+use Rattle.mc_item.specs.declared.bodies.Body.{Body}
+use Rattle.mc_store.specs.declared.held.Held.{Held}
+use Rattle.mc_store.specs.Items.{Items, body_at, front_body, without}
+use Rattle.mc_store.specs.Epochs.{Entries, live, AreDead, IsParted, IsLetGo}
+use Rattle.mc_store.proofs.DeadLemmas.{IsFewer, dead_take_fewer, dead_cut_fewer}
+use Rattle.mc_store.proofs.LruLemmas.{held_at, cut, lookup_is, remove_is, entry_is, set_is, last_is, last_none}
+
+-- what is dead stays so where an entry is taken out
+dead_cut : (key : List ℕ) (epoch : ℕ) (entries : Entries) → AreDead epoch entries → AreDead epoch (cut key entries)
+dead_cut key epoch [] dead = tt
+dead_cut key epoch (entry ∷ entries) dead =
+    let again : AreDead epoch (cut key entries) = dead_cut key epoch entries dead.1 in
+    elim (bytes_eq entry.0 key) as (λ v. AreDead epoch (cond v entries (entry ∷ cut key entries))) [
+      | true ↦ dead.1
+      | false ↦ (dead.0, again)
+    ]
+
+-- what is held by dead entries is dead
+dead_held : (key : List ℕ) (epoch : ℕ) (entries : Entries) (held : Held) → AreDead epoch entries → held_at key entries ≡ Some held → held.epoch < epoch
+dead_held key epoch [] held dead at = absurd cc
+dead_held key epoch (entry ∷ entries) held dead at =
+    let again : held_at key entries ≡ Some held → held.epoch < epoch = dead_held key epoch entries held dead.1 in
+    (elim (bytes_eq entry.0 key) as (λ v. cond v (Some entry.1) (held_at key entries) ≡ Some held → held.epoch < epoch) [
+      | true ↦ λ first. let its : entry.1 ≡ held = cc in subst (λ (h : Held). h.epoch < epoch) its dead.0
+      | false ↦ λ further. again further
+    ]) at
+
+-- the front of dead entries
+dead_front : (epoch : ℕ) (front gone : Entries) → AreDead epoch (front ++ gone) → AreDead epoch front
+dead_front epoch [] gone dead = tt
+dead_front epoch (entry ∷ front) gone dead = (dead.0, dead_front epoch front gone dead.1)
+
+dead_take : (epoch n : ℕ) (entries : Entries) → AreDead epoch entries → AreDead epoch (take n entries)
+dead_take epoch zero entries dead = tt
+dead_take epoch (suc n) [] dead = tt
+dead_take epoch (suc n) (entry ∷ entries) dead = (dead.0, dead_take epoch n entries dead.1)
+
+-- all entries are dead in the next epoch
+dead_next : (epoch next : ℕ) (entries : Entries) → AreDead epoch entries → next ≡ epoch + 1 → AreDead next entries
+dead_next epoch next [] dead is = tt
+dead_next epoch next (entry ∷ entries) dead is = (omega (arith, dead.0), dead_next epoch next entries dead.1 is)
+
+pub all_dead : (epoch count next : ℕ) (entries : Entries) → IsParted epoch count entries → next ≡ epoch + 1 → AreDead next entries
+all_dead epoch zero next entries parted is = dead_next epoch next entries parted is
+all_dead epoch (suc count) next [] parted is = tt
+all_dead epoch (suc count) next (entry ∷ entries) parted is =
+    let now : entry.1.epoch ≡ epoch = parted.0 in
+    (omega arith, all_dead epoch count next entries parted.1 is)
+
+-- there are so many live ones
+pub length-live : (epoch count : ℕ) (entries : Entries) → IsParted epoch count entries → length (live count entries) ≡ count
+length-live epoch zero entries parted = refl
+length-live epoch (suc count) [] parted = absurd parted
+length-live epoch (suc count) (entry ∷ entries) parted = ap suc (length-live epoch count entries parted.1)
+
+pub count-fits : (epoch count : ℕ) (entries : Entries) → IsParted epoch count entries → count ≤ length entries
+count-fits epoch zero entries parted = omega arith
+count-fits epoch (suc count) [] parted = absurd parted
+count-fits epoch (suc count) (entry ∷ entries) parted = omega (arith, count-fits epoch count entries parted.1)
+
+-- the same entries are live in a front that has so many
+pub parted_front : (epoch count : ℕ) (front gone : Entries) → IsParted epoch count (front ++ gone) → count ≤ length front
+    → IsParted epoch count front × (live count front ≡ live count (front ++ gone))
+parted_front epoch zero front gone parted fits = (dead_front epoch front gone parted, refl)
+parted_front epoch (suc count) [] gone parted fits = absurd (omega arith)
+parted_front epoch (suc count) (entry ∷ front) gone parted fits =
+    let again : IsParted epoch count front × (live count front ≡ live count (front ++ gone)) = parted_front epoch count front gone parted.1 (omega arith) in
+    ((parted.0, again.0), ap (λ (is : Items). (entry.0, entry.1.body) ∷ is) again.1)
+
+pub parted_take : (epoch count n : ℕ) (entries : Entries) → IsParted epoch count entries → count ≤ n
+    → IsParted epoch count (take n entries) × (live count (take n entries) ≡ live count entries)
+parted_take epoch zero n entries parted fits = (dead_take epoch n entries parted, refl)
+parted_take epoch (suc count) zero entries parted fits = absurd (omega arith)
+parted_take epoch (suc count) (suc n) [] parted fits = absurd parted
+parted_take epoch (suc count) (suc n) (entry ∷ entries) parted fits =
+    let again : IsParted epoch count (take n entries) × (live count (take n entries) ≡ live count entries) = parted_take epoch count n entries parted.1 (omega arith) in
+    ((parted.0, again.0), ap (λ (is : Items). (entry.0, entry.1.body) ∷ is) again.1)
+
+-- the live ones stay where an entry is taken out whose key is not live
+parted_cut : (key : List ℕ) (epoch count : ℕ) (entries : Entries) → IsParted epoch count entries → body_at key (live count entries) ≡ None
+    → IsParted epoch count (cut key entries) × (live count (cut key entries) ≡ live count entries)
+parted_cut key epoch zero entries parted absent = (dead_cut key epoch entries parted, refl)
+parted_cut key epoch (suc count) [] parted absent = absurd parted
+parted_cut key epoch (suc count) (entry ∷ entries) parted absent =
+    let again : body_at key (live count entries) ≡ None → IsParted epoch count (cut key entries) × (live count (cut key entries) ≡ live count entries) =
+    parted_cut key epoch count entries parted.1 in
+    (elim (bytes_eq entry.0 key) as (λ v. cond v (Some entry.1.body) (body_at key (live count entries)) ≡ None
+    → IsParted epoch (suc count) (cond v entries (entry ∷ cut key entries)) × (live (suc count) (cond v entries (entry ∷ cut key entries)) ≡ (entry.0, entry.1.body) ∷ live count entries)) [
+      | true ↦ λ found. absurd cc
+      | false ↦ λ further. let rest = again further in ((parted.0, rest.0), ap (λ (is : Items). (entry.0, entry.1.body) ∷ is) rest.1)
+    ]) absent
+
+-- what is not held is not live
+absent_is : (key : List ℕ) (count : ℕ) (entries : Entries) → held_at key entries ≡ None → body_at key (live count entries) ≡ None
+absent_is key zero entries none = refl
+absent_is key (suc count) [] none = refl
+absent_is key (suc count) (entry ∷ entries) none =
+    let again : held_at key entries ≡ None → body_at key (live count entries) ≡ None = absent_is key count entries in
+    (elim (bytes_eq entry.0 key) as (λ v. cond v (Some entry.1) (held_at key entries) ≡ None → cond v (Some entry.1.body) (body_at key (live count entries)) ≡ None) [
+      | true ↦ λ found. absurd cc
+      | false ↦ λ further. again further
+    ]) none
+
+-- nor is what was put in another epoch
+dead_is : (key : List ℕ) (epoch count : ℕ) (entries : Entries) (held : Held) → IsParted epoch count entries → held_at key entries ≡ Some held
+    → held.epoch ≢ epoch → body_at key (live count entries) ≡ None
+dead_is key epoch zero entries held parted at other = refl
+dead_is key epoch (suc count) [] held parted at other = absurd parted
+dead_is key epoch (suc count) (entry ∷ entries) held parted at other =
+    let again : held_at key entries ≡ Some held → body_at key (live count entries) ≡ None = λ further. dead_is key epoch count entries held parted.1 further other in
+    (elim (bytes_eq entry.0 key) as (λ v. cond v (Some entry.1) (held_at key entries) ≡ Some held → cond v (Some entry.1.body) (body_at key (live count entries)) ≡ None) [
+      | true ↦ λ first. let its : entry.1 ≡ held = cc in absurd (other (ap (λ (h : Held). h.epoch) (sym its) ∙ parted.0))
+      | false ↦ λ further. again further
+    ]) at
+
+-- a live entry, and what is left without it
+pub record IsLiveAt (key : List ℕ) (epoch count : ℕ) (entries : Entries) (held : Held) : Type 0 where
+  pub others : ℕ
+  pub one_more : count ≡ suc others
+  pub body : body_at key (live count entries) ≡ Some held.body
+  pub parted : IsParted epoch others (cut key entries)
+  pub left : live others (cut key entries) ≡ without key (live count entries)
+  pub dead : drop others (cut key entries) ≡ drop count entries
+
+live_is : (key : List ℕ) (epoch count : ℕ) (entries : Entries) (held : Held) → IsParted epoch count entries → held_at key entries ≡ Some held
+    → held.epoch ≡ epoch → IsLiveAt key epoch count entries held
+live_is key epoch zero entries held parted at now = absurd (omega (arith, dead_held key epoch entries held parted at, now))
+live_is key epoch (suc count) [] held parted at now = absurd parted
+live_is key epoch (suc count) (entry ∷ entries) held parted at now =
+    let again : held_at key entries ≡ Some held → IsLiveAt key epoch count entries held = λ further. live_is key epoch count entries held parted.1 further now in
+    let parts = (elim (bytes_eq entry.0 key) as (λ v. cond v (Some entry.1) (held_at key entries) ≡ Some held
+    → (others : ℕ) × (suc count ≡ suc others) × (cond v (Some entry.1.body) (body_at key (live count entries)) ≡ Some held.body)
+    × IsParted epoch others (cond v entries (entry ∷ cut key entries))
+    × (live others (cond v entries (entry ∷ cut key entries)) ≡ cond v (live count entries) ((entry.0, entry.1.body) ∷ without key (live count entries)))
+    × (drop others (cond v entries (entry ∷ cut key entries)) ≡ drop count entries)) [
+      | true ↦ λ first. let its : entry.1 ≡ held = cc in (count, refl, ap (λ (h : Held). Some h.body) its, parted.1, refl, refl)
+      | false ↦ λ further. let rest : IsLiveAt key epoch count entries held = again further in
+          (suc rest.others, ap suc rest.one_more, rest.body, (parted.0, rest.parted), ap (λ (is : Items). (entry.0, entry.1.body) ∷ is) rest.left, rest.dead)
+    ]) at in
+    record { others = parts.0; one_more = parts.1; body = parts.2; parted = parts.3; left = parts.4; dead = parts.5 }
+
+-- what a look-up tells of the live ones
+pub looks_live : (key : List ℕ) (epoch count : ℕ) (entries : Entries) (held : Held) → IsParted epoch count entries
+    → lookup (bytes_eq key) entries ≡ Some held → held.epoch ≡ epoch → IsLiveAt key epoch count entries held
+looks_live key epoch count entries held parted found now = live_is key epoch count entries held parted (sym (lookup_is key entries) ∙ found) now
+
+pub looks_dead : (key : List ℕ) (epoch count : ℕ) (entries : Entries) (held : Held) → IsParted epoch count entries
+    → lookup (bytes_eq key) entries ≡ Some held → held.epoch ≢ epoch → body_at key (live count entries) ≡ None
+looks_dead key epoch count entries held parted found other = dead_is key epoch count entries held parted (sym (lookup_is key entries) ∙ found) other
+
+pub looks_none : (key : List ℕ) (count : ℕ) (entries : Entries) → lookup (bytes_eq key) entries ≡ None → body_at key (live count entries) ≡ None
+looks_none key count entries none = absent_is key count entries (sym (lookup_is key entries) ∙ none)
+
+-- what a write to a live body leaves
+pub record IsWritten (key : List ℕ) (epoch count : ℕ) (old new : Entries) (before after : Body) : Type 0 where
+  pub parted : IsParted epoch count new
+  pub held : body_at key (live count old) ≡ Some before
+  pub items : live count new ≡ (key, after) ∷ without key (live count old)
+  pub dead : drop count new ≡ drop count old
+
+pub writes : (key : List ℕ) (epoch count : ℕ) (old new : Entries) (held after : Held) → IsParted epoch count old
+    → lookup (bytes_eq key) old ≡ Some held → held.epoch ≡ epoch → after.epoch ≡ epoch
+    → new ≡ set_value (bytes_eq key) (promoted (bytes_eq key) old) after → IsWritten key epoch count old new held.body after.body
+writes key epoch count old new held after parted found now still is =
+    let at : held_at key old ≡ Some held = sym (lookup_is key old) ∙ found in
+    let there : IsLiveAt key epoch count old held = live_is key epoch count old held parted at now in
+    let first : new ≡ (key, after) ∷ cut key old = is ∙ set_is key old held after at in
+    record {
+      parted = rw (first, there.one_more) (still, there.parted);
+      held = there.body;
+      items = rw (first) (subst (λ (n : ℕ). live n ((key, after) ∷ cut key old) ≡ (key, after.body) ∷ without key (live count old)) (sym there.one_more) (ap (λ (is : Items). (key, after.body) ∷ is) there.left));
+      dead = rw (first) (subst (λ (n : ℕ). drop n ((key, after) ∷ cut key old) ≡ drop count old) (sym there.one_more) there.dead);
+    }
+
+-- what letting a dead entry go leaves that a look-up has promoted
+pub lets_go : (key : List ℕ) (epoch count : ℕ) (old new : Entries) (held : Held) → IsParted epoch count old
+    → lookup (bytes_eq key) old ≡ Some held → held.epoch ≢ epoch
+    → new ≡ drop 1 (set_value (bytes_eq key) (promoted (bytes_eq key) old) held)
+    → IsParted epoch count new × (live count new ≡ live count old) × (body_at key (live count old) ≡ None)
+lets_go key epoch count old new held parted found other is =
+    let at : held_at key old ≡ Some held = sym (lookup_is key old) ∙ found in
+    let absent : body_at key (live count old) ≡ None = dead_is key epoch count old held parted at other in
+    let left : new ≡ cut key old = is ∙ ap (λ (es : Entries). drop 1 es) (set_is key old held held at) in
+    let rest : IsParted epoch count (cut key old) × (live count (cut key old) ≡ live count old) = parted_cut key epoch count old parted absent in
+    (rw left rest.0, rw left rest.1, absent)
+
+-- what taking the entry out leaves
+found_is : (key : List ℕ) (old : Entries) (entry : List ℕ × Held) → lookup_entry (bytes_eq key) old ≡ Some entry
+    → (entry.0 ≡ key) × (held_at key old ≡ Some entry.1)
+found_is key old entry found =
+    let at : option_map (λ (held : Held). (key, held)) (held_at key old) ≡ Some entry = sym (entry_is key old) ∙ found in
+    (elim (held_at key old) as (λ (o : Option Held). option_map (λ (held : Held). (key, held)) o ≡ Some entry → (entry.0 ≡ key) × (o ≡ Some entry.1)) [
+      | None ↦ λ none. absurd cc
+      | Some held ↦ λ some. let its : (key, held) ≡ entry = cc in (sym (ap (λ (e : List ℕ × Held). e.0) its), ap (λ (e : List ℕ × Held). Some e.1) its)
+    ]) at
+
+pub record IsTaken (key : List ℕ) (epoch count less : ℕ) (old new : Entries) (entry : List ℕ × Held) : Type 0 where
+  pub some : 0 < count
+  pub own : entry.0 ≡ key
+  pub body : body_at key (live count old) ≡ Some entry.1.body
+  pub parted : IsParted epoch less new
+  pub left : live less new ≡ without key (live count old)
+
+pub takes : (key : List ℕ) (epoch count less : ℕ) (old new : Entries) (entry : List ℕ × Held) → IsParted epoch count old
+    → lookup_entry (bytes_eq key) old ≡ Some entry → new ≡ remove_entry (bytes_eq key) old → entry.1.epoch ≡ epoch → less ≡ count - 1
+    → IsTaken key epoch count less old new entry
+takes key epoch count less old new entry parted found is now one_less =
+    let there = found_is key old entry found in
+    let at : IsLiveAt key epoch count old entry.1 = live_is key epoch count old entry.1 parted there.1 now in
+    let more : count ≡ suc at.others = at.one_more in
+    let next : less ≡ at.others = omega arith in
+    let cuts : new ≡ cut key old = is ∙ remove_is key old in
+    record { some = omega arith; own = there.0; body = at.body; parted = rw (next, cuts) at.parted; left = rw (next, cuts) at.left }
+
+pub takes_dead : (key : List ℕ) (epoch count : ℕ) (old new : Entries) (entry : List ℕ × Held) → IsParted epoch count old
+    → lookup_entry (bytes_eq key) old ≡ Some entry → new ≡ remove_entry (bytes_eq key) old → entry.1.epoch ≢ epoch
+    → IsParted epoch count new × (live count new ≡ live count old) × (body_at key (live count old) ≡ None)
+takes_dead key epoch count old new entry parted found is other =
+    let there = found_is key old entry found in
+    let absent : body_at key (live count old) ≡ None = dead_is key epoch count old entry.1 parted there.1 other in
+    let cuts : new ≡ cut key old = is ∙ remove_is key old in
+    let rest : IsParted epoch count (cut key old) × (live count (cut key old) ≡ live count old) = parted_cut key epoch count old parted absent in
+    (rw cuts rest.0, rw cuts rest.1, absent)
+
+none_is : (key : List ℕ) (held : Option Held) → ◌≡◌ {A = Option (List ℕ × Held)} (option_map (λ (h : Held). (key, h)) held) None → held ≡ None
+none_is key None none = refl
+none_is key (Some held) none = absurd cc
+
+pub takes_none : (key : List ℕ) (epoch count : ℕ) (old new : Entries) → IsParted epoch count old
+    → lookup_entry (bytes_eq key) old ≡ None → new ≡ remove_entry (bytes_eq key) old
+    → IsParted epoch count new × (live count new ≡ live count old) × (body_at key (live count old) ≡ None)
+takes_none key epoch count old new parted none is =
+    let nothing : held_at key old ≡ None = none_is key (held_at key old) (sym (entry_is key old) ∙ none) in
+    let absent : body_at key (live count old) ≡ None = absent_is key count old nothing in
+    let cuts : new ≡ cut key old = is ∙ remove_is key old in
+    let rest : IsParted epoch count (cut key old) × (live count (cut key old) ≡ live count old) = parted_cut key epoch count old parted absent in
+    (rw cuts rest.0, rw cuts rest.1, absent)
+
+-- where a put leaves the entries that were there, and what it puts in front
+puts_tail : (count cap : ℕ) (old new : Entries) (key : List ℕ) (held : Held)
+    → new ≡ put_entries bytes_eq (record { entries = old; cap = cap }) key held → (body_at key (live count old) ≡ None)
+    → (epoch : ℕ) → IsParted epoch count old → count ≤ cap - 1
+    → (tail : Entries) × (new ≡ (key, held) ∷ tail) × IsParted epoch count tail × (live count tail ≡ live count old) × IsFewer (drop count old) (drop count tail)
+puts_tail count cap old new key held is absent epoch parted few =
+    let kept : IsParted epoch count (take (cap - 1) old) × (live count (take (cap - 1) old) ≡ live count old) = parted_take epoch count (cap - 1) old parted few in
+    let others : IsParted epoch count (cut key old) × (live count (cut key old) ≡ live count old) = parted_cut key epoch count old parted absent in
+    (elim (held_at key old) as (λ (o : Option Held). held_at key old ≡ o → (tail : Entries) × (new ≡ (key, held) ∷ tail) × IsParted epoch count tail × (live count tail ≡ live count old)
+    × IsFewer (drop count old) (drop count tail)) [
+      | None ↦ λ at. (take (cap - 1) old, is ∙ rw (entry_is key old, at) refl, kept.0, kept.1, dead_take_fewer count (cap - 1) old)
+      | Some before ↦ λ at. (cut key old, is ∙ rw (entry_is key old, at, remove_is key old) refl, others.0, others.1, dead_cut_fewer key count old absent)
+    ]) refl
+
+-- what putting an entry leaves, where there is room for one more that is live
+pub puts : (epoch count more cap : ℕ) (old new : Entries) (key : List ℕ) (held : Held) → IsParted epoch count old
+    → body_at key (live count old) ≡ None → length (live count old) < cap → held.epoch ≡ epoch → more ≡ count + 1
+    → new ≡ put_entries bytes_eq (record { entries = old; cap = cap }) key held
+    → IsParted epoch more new × (live more new ≡ (key, held.body) ∷ live count old) × IsFewer (drop count old) (drop more new)
+puts epoch count more cap old new key held parted absent room now one_more is =
+    let few : count ≤ cap - 1 = omega (arith, length-live epoch count old parted) in
+    let put = puts_tail count cap old new key held is absent epoch parted few in
+    let next : more ≡ suc count = omega arith in
+    (rw (next, put.1) (now, put.2), rw (next, put.1) (ap (λ (is : Items). (key, held.body) ∷ is) put.3), rw (next, put.1) put.4)
+
+-- the first entry is the first item
+pub fronts : (epoch count : ℕ) (entries : Entries) (entry : List ℕ × Held) → IsParted epoch count entries → count ≢ 0
+    → slice_get entries 0 ≡ Some entry → front_body (live count entries) ≡ Some entry.1.body
+fronts epoch zero entries entry parted some found = absurd (some refl)
+fronts epoch (suc count) [] entry parted some found = absurd parted
+fronts epoch (suc count) (first ∷ entries) entry parted some found =
+    let its : first ≡ entry = cc in
+    ap (λ (e : List ℕ × Held). Some e.1.body) its
+
+pub fronts_none : (epoch count : ℕ) (entries : Entries) → IsParted epoch count entries → slice_get entries 0 ≡ None
+    → front_body (live count entries) ≡ None
+fronts_none epoch zero entries parted none = refl
+fronts_none epoch (suc count) [] parted none = absurd parted
+fronts_none epoch (suc count) (first ∷ entries) parted none = absurd cc
+
+-- what letting entries go leaves
+pub leaves : (epoch count price : ℕ) (old new : Entries) → IsParted epoch count old → IsLetGo price count old new
+    → IsParted epoch count new × (live count new ≡ live count old)
+leaves epoch count price old new parted go =
+    let rest : IsParted epoch count new × (live count new ≡ live count (new ++ go.gone)) =
+    parted_front epoch count new go.gone (subst (λ (es : Entries). IsParted epoch count es) go.parts parted) go.stay in
+    (rest.0, rest.1 ∙ ap (λ (es : Entries). live count es) (sym go.parts))
+
+-- of entries that are all live the last is the last item
+pops_live : (epoch : ℕ) (front : Entries) (last : List ℕ × Held) → IsParted epoch (length (front ++ last ∷ [])) (front ++ last ∷ [])
+    → IsParted epoch (length front) front
+    × (live (length (front ++ last ∷ [])) (front ++ last ∷ []) ≡ live (length front) front ++ (last.0, last.1.body) ∷ [])
+pops_live epoch [] last parted = (tt, refl)
+pops_live epoch (entry ∷ front) last parted =
+    let again = pops_live epoch front last parted.1 in
+    ((parted.0, again.0), ap (λ (is : Items). (entry.0, entry.1.body) ∷ is) again.1)
+
+pub record IsPopped (epoch count less : ℕ) (old new : Entries) (last : List ℕ × Held) : Type 0 where
+  pub some : 0 < count
+  pub parted : IsParted epoch less new
+  pub ends : live count old ≡ live less new ++ (last.0, last.1.body) ∷ []
+
+pub pops : (epoch count less : ℕ) (old new : Entries) (last : List ℕ × Held) → IsParted epoch count old → length old ≡ count
+    → last_entry old ≡ Some last → new ≡ take (length old - 1) old → less ≡ count - 1 → IsPopped epoch count less old new last
+pops epoch count less old new last parted all found is one_less =
+    let ends : old ≡ new ++ last ∷ [] = subst (λ (es : Entries). old ≡ es ++ last ∷ []) (sym is) (last_is old last found) in
+    let whole : IsParted epoch (length (new ++ last ∷ [])) (new ++ last ∷ []) =
+    subst (λ (es : Entries). IsParted epoch (length es) es) ends (subst (λ (n : ℕ). IsParted epoch n old) (sym all) parted) in
+    let parts = pops_live epoch new last whole in
+    let many : length old ≡ length (new ++ last ∷ []) = ap length ends in
+    let next : length new ≡ less = omega (arith, many, length_push new last) in
+    record {
+      some = omega (arith, many, length_push new last);
+      parted = subst (λ (n : ℕ). IsParted epoch n new) next parts.0;
+      ends = subst (λ (n : ℕ). live n old ≡ live less new ++ (last.0, last.1.body) ∷ []) all
+          (subst (λ (es : Entries). live (length es) es ≡ live less new ++ (last.0, last.1.body) ∷ []) (sym ends)
+          (subst (λ (n : ℕ). live (length (new ++ last ∷ [])) (new ++ last ∷ []) ≡ live n new ++ (last.0, last.1.body) ∷ []) next parts.1));
+    }
+
+-- one more entry that goes from the back
+pub goes_one : (initial old new out : Entries) (last : List ℕ × Held) → initial ≡ old ++ out → last_entry old ≡ Some last → new ≡ take (length old - 1) old
+    → (initial ≡ new ++ (last ∷ out)) × (length old ≡ length new + 1)
+goes_one initial old new out last is found taken =
+    let ends : old ≡ new ++ last ∷ [] = subst (λ (es : Entries). old ≡ es ++ last ∷ []) (sym taken) (last_is old last found) in
+    (is ∙ ap (λ (es : Entries). es ++ out) ends ∙ append_assoc new (last ∷ []) out, ap length ends ∙ length_push new last)
+
+-- there is one where there is an entry
+pub goes_some : (initial old new out : Entries) → initial ≡ old ++ out → 0 < length old → new ≡ take (length old - 1) old
+    → (more : Entries) × (initial ≡ new ++ more) × (length old ≡ length new + 1)
+goes_some initial old new out is some taken =
+    (elim (last_entry old) as (λ (o : Option (List ℕ × Held)). last_entry old ≡ o → (more : Entries) × (initial ≡ new ++ more) × (length old ≡ length new + 1)) [
+      | None ↦ λ none. let nothing : length old ≡ 0 = ap length (last_none old none) in absurd (omega arith)
+      | Some last ↦ λ found. let gone = goes_one initial old new out last is found taken in (last ∷ out, gone.0, gone.1)
+    ]) refl
+
+-- where all but the live ones go
+length-all : (epoch count : ℕ) (entries : Entries) → IsParted epoch count entries → length (take count entries) ≡ count
+length-all epoch zero entries parted = refl
+length-all epoch (suc count) [] parted = absurd parted
+length-all epoch (suc count) (entry ∷ entries) parted = ap suc (length-all epoch count entries parted.1)
+
+pub leaves_all : (epoch count : ℕ) (old new : Entries) → IsParted epoch count old → new ≡ take count old
+    → IsParted epoch count new × (live count new ≡ live count old) × (length new ≡ count)
+leaves_all epoch count old new parted is =
+    let rest : IsParted epoch count (take count old) × (live count (take count old) ≡ live count old) = parted_take epoch count count old parted (omega arith) in
+    (rw is rest.0, rw is rest.1, rw is (length-all epoch count old parted))
+
+-- where none is left
+pub pops_none : (epoch count : ℕ) (old new : Entries) → IsParted epoch count old → last_entry old ≡ None → new ≡ take (length old - 1) old
+    → IsParted epoch count new × (live count new ≡ []) × (live count old ≡ [])
+pops_none epoch count old new parted none taken =
+    let nothing : old ≡ [] = last_none old none in
+    let few : count ≤ length old = count-fits epoch count old parted in
+    let size : length old ≡ 0 = ap length nothing in
+    let zeros : count ≡ 0 = omega arith in
+    let still : new ≡ [] = taken ∙ ap (λ (es : Entries). take (length es - 1) es) nothing in
+    (rw (zeros, still) tt, rw zeros refl, rw zeros refl)

@@ -1,0 +1,282 @@
+//! EpochCache: lru's cache with a clear that takes the same time for any number of items.
+ghost use Rattle.std.specs.Prelude.{◌≡◌, ◌∷◌, ◌++◌, ◌+◌, ◌≤◌, ◌<◌, ◌^◌, [], length, take, is_some, None, Some, IfOk, OnOk, IfErr, OnErr, IfSome, IfNone};
+ghost use Rattle.std.specs.NonZero.{non_zero_usize_get};
+ghost use Rattle.std.specs.Option.{option_copied};
+ghost use Rattle.mc_item.specs.Costs.{cost_of};
+ghost use Rattle.mc_store.specs.Epochs.{IsLetGo, IsGivenBack};
+ghost use Rattle.mc_store.specs.Items.{body_at, front_body, without, brought, expiring, marking};
+
+use crate::held::Held;
+use lru::LruCache;
+use mc_item::{Body, Deadline, cost};
+use mc_text::{Key, KeyBytes};
+use std::alloc::{AllocError, Global};
+use std::hash::BuildHasher;
+use std::marker::Model;
+use std::mem;
+use std::num::NonZeroUsize;
+
+/// The items in lru's cache, each with the epoch in which it was put.
+///
+/// The entries of the cache's own epoch are live, and come before all others. [`EpochCache::clear`] begins the next epoch, in which
+/// all entries are dead. What is dead is not counted and not found. Dead entries go from the back with later puts, or where their key
+/// is asked for.
+///
+/// Contracts see the live items, the dead entries, and the greatest number of entries, live and dead together.
+#[derive(Drop)]
+pub struct EpochCache<H: BuildHasher> {
+    cache: LruCache<Key, Held, H>,
+    epoch: u64,
+    /// How many entries are live: the first ones.
+    count: usize,
+}
+
+impl<H: BuildHasher> Model for EpochCache<H> {
+    ghost use Rattle.std.specs.Prelude.{drop};
+    ghost use Rattle.mc_store.specs.Epochs.{LiveAndDead, live, IsParted};
+
+    ghost Value = { LiveAndDead };
+
+    ghost view = { λ s. record { items = live s.count s.cache.entries; dead = drop s.count s.cache.entries; cap = s.cache.cap } };
+
+    ghost invariant = { λ s. IsParted s.epoch s.count s.cache.entries };
+}
+
+impl<H: BuildHasher + Drop> EpochCache<H> {
+    /// A cache with no item and room for so many entries, whose keys this hasher hashes.
+    pub fn with_hasher(alloc: Global, room: NonZeroUsize, hasher: H) -> Result<Self, AllocError>
+        ensures items { IfOk result (λ c. c.items ≡ []) }
+        ensures cap { IfOk result (λ c. c.cap ≡ non_zero_usize_get room) }
+    {
+        let cache = LruCache::with_hasher(alloc, room, hasher)?;
+        Ok(EpochCache {
+            cache,
+            epoch: 0,
+            count: 0,
+        })
+    }
+}
+
+impl<H: BuildHasher> EpochCache<H> {
+    /// How many items there are.
+    pub fn len(&self) -> usize
+        ensures { result ≡ length self.now.items }
+    {
+        self.count
+    }
+
+    /// The body under the key. The order stays.
+    pub fn peek(&self, key: &[u8]) -> Option<&Body>
+        ensures { option_copied result ≡ body_at key.now self.now.items }
+    {
+        let Some(held) = self.cache.peek(KeyBytes { bytes: key }) else {
+            return None;
+        };
+        if self.epoch != held.epoch {
+            return None;
+        }
+        Some(&held.body)
+    }
+
+    /// The body of the first item.
+    pub fn front(&self) -> Option<&Body>
+        ensures { option_copied result ≡ front_body self.now.items }
+    {
+        if self.count == 0 {
+            return None;
+        }
+        match self.cache.peek_mru() {
+            Some((_, held)) => Some(&held.body),
+            None => None,
+        }
+    }
+
+    /// Moves the key's item to the front, and says whether there is one.
+    pub fn bring(&mut self, key: &[u8]) -> bool
+        ensures held { result ≡ is_some (body_at key.now self.old.items) }
+        ensures items { self.new.items ≡ brought key.now (body_at key.now self.old.items) self.old.items }
+        ensures cap { self.new.cap ≡ self.old.cap }
+    {
+        let Some(held) = self.cache.get_mut(KeyBytes { bytes: key }) else {
+            return false;
+        };
+        if held.epoch != self.epoch {
+            let _ = self.cache.pop_mru();
+            return false;
+        }
+        true
+    }
+
+    /// Sets the expiry of the key's item, moves it to the front, and says whether there is one.
+    pub fn expire(&mut self, key: &[u8], expiry: Deadline) -> bool
+        ensures held { result ≡ is_some (body_at key.now self.old.items) }
+        ensures items { self.new.items ≡ brought key.now (expiring expiry (body_at key.now self.old.items)) self.old.items }
+        ensures cap { self.new.cap ≡ self.old.cap }
+    {
+        let Some(held) = self.cache.get_mut(KeyBytes { bytes: key }) else {
+            return false;
+        };
+        if held.epoch != self.epoch {
+            let _ = self.cache.pop_mru();
+            return false;
+        }
+        held.body.expiry = expiry;
+        true
+    }
+
+    /// Sets the two marks and the number of the key's item, moves it to the front, and says whether there is one.
+    pub fn mark(&mut self, key: &[u8], stale: bool, won: bool, cas: u64) -> bool
+        ensures held { result ≡ is_some (body_at key.now self.old.items) }
+        ensures items { self.new.items ≡ brought key.now (marking stale won cas (body_at key.now self.old.items)) self.old.items }
+        ensures cap { self.new.cap ≡ self.old.cap }
+    {
+        let Some(held) = self.cache.get_mut(KeyBytes { bytes: key }) else {
+            return false;
+        };
+        if held.epoch != self.epoch {
+            let _ = self.cache.pop_mru();
+            return false;
+        }
+        held.body.stale = stale;
+        held.body.won = won;
+        held.body.cas = cas;
+        true
+    }
+
+    /// Takes the key's item out.
+    pub fn take(&mut self, key: &[u8]) -> Option<(Key, Body)>
+        ensures item { IfSome result (λ item. (item.0 ≡ key.now) × (body_at key.now self.old.items ≡ Some item.1)) }
+        ensures none { IfNone result (body_at key.now self.old.items ≡ None) }
+        ensures items { self.new.items ≡ without key.now self.old.items }
+        ensures cap { self.new.cap ≡ self.old.cap }
+    {
+        match self.cache.pop_entry(KeyBytes { bytes: key }) {
+            Some((own, held)) => {
+                if held.epoch != self.epoch {
+                    return None;
+                }
+                self.count -= 1;
+                Some((own, held.body))
+            }
+            None => None,
+        }
+    }
+
+    /// Puts a body under a key that is held, moves its item to the front, and gives the old body. Then it lets dead entries go: all, or
+    /// two at least that cost at least as many bytes as the value has.
+    ///
+    /// Where the key is not held, `Err` hands the body back.
+    pub fn replace(&mut self, key: &[u8], body: Body) -> Result<Body, Body>
+        ensures before { IfOk result (λ before. body_at key.now self.old.items ≡ Some before) }
+        ensures ok { OnOk result (self.new.items ≡ (key.now, body) ∷ without key.now self.old.items) }
+        ensures absent { OnErr result (body_at key.now self.old.items ≡ None) }
+        ensures back { IfErr result (λ back. back ≡ body) }
+        ensures err { OnErr result (self.new.items ≡ self.old.items) }
+        ensures cap { self.new.cap ≡ self.old.cap }
+        ensures given_back { OnOk result (IsGivenBack (length body.value) self.old.dead self.new.dead) }
+    {
+        let Some(held) = self.cache.get_mut(KeyBytes { bytes: key }) else {
+            return Err(body);
+        };
+        if held.epoch != self.epoch {
+            let _ = self.cache.pop_mru();
+            return Err(body);
+        }
+        let price = body.value.len() as u64;
+        let before = mem::replace(&mut held.body, body);
+        let_go(&mut self.cache, self.count, price);
+        Ok(before)
+    }
+
+    /// Puts an item in front, under a key that is not held. Before that it lets dead entries go: all, or two at least that cost at least as
+    /// much as the item.
+    ///
+    /// Where there is no memory, `Err` hands the key and the body back.
+    pub fn put_front(&mut self, key: Key, body: Body) -> Result<(), (Key, Body)>
+        requires absent { body_at key self.old.items ≡ None }
+        requires room { length self.old.items < self.old.cap }
+        ensures ok { OnOk result (self.new.items ≡ (key, body) ∷ self.old.items) }
+        ensures back { IfErr result (λ back. back ≡ (key, body)) }
+        ensures err { OnErr result (self.new.items ≡ self.old.items) }
+        ensures cap { self.new.cap ≡ self.old.cap }
+        ensures given_back { IsGivenBack (cost_of key body.value) self.old.dead self.new.dead }
+    {
+        let_go(&mut self.cache, self.count, cost(&key, &body));
+        let held = Held {
+            body,
+            epoch: self.epoch,
+        };
+        match self.cache.put(key, held) {
+            Ok(_) => {
+                self.count += 1;
+                Ok(())
+            }
+            Err(failed) => {
+                let (key, held) = failed.value;
+                Err((key, held.body))
+            }
+        }
+    }
+
+    /// Takes the last item out, and lets all dead entries go before.
+    pub fn drop_last(&mut self) -> Option<(Key, Body)>
+        ensures last { IfSome result (λ last. self.old.items ≡ self.new.items ++ last ∷ []) }
+        ensures empty { IfNone result ((self.old.items ≡ []) × (self.new.items ≡ [])) }
+        ensures cap { self.new.cap ≡ self.old.cap }
+    {
+        let_all_go(&mut self.cache, self.count);
+        match self.cache.pop_lru() {
+            Some((key, held)) => {
+                self.count -= 1;
+                Some((key, held.body))
+            }
+            None => None,
+        }
+    }
+
+    /// Takes all items out: they are dead from now on. Only after the last epoch of 64 bits the entries go one by one.
+    pub fn clear(&mut self)
+        ensures items { self.new.items ≡ [] }
+        ensures cap { self.new.cap ≡ self.old.cap }
+    {
+        let Some(next) = self.epoch.checked_add(1) else {
+            self.cache.clear();
+            self.count = 0;
+            return;
+        };
+        self.epoch = next;
+        self.count = 0;
+    }
+}
+
+/// Lets entries go, the last one first, but none of the first `count`: all others, or two at least that cost at least `price`.
+fn let_go<H: BuildHasher>(cache: &mut LruCache<Key, Held, H>, count: usize, price: u64)
+    requires { count ≤ length cache.old.entries }
+    ensures go { IsLetGo price count cache.old.entries cache.new.entries }
+    ensures fits { length cache.new.entries < 2 ^ 63 }
+    ensures cap { cache.new.cap ≡ cache.old.cap }
+{
+    let mut gone: u64 = 0;
+    let mut freed: u64 = 0;
+    while cache.len() > count {
+        if gone >= 2 && freed >= price {
+            break;
+        }
+        let Some(last) = cache.pop_lru() else {
+            break;
+        };
+        freed = freed.saturating_add(cost(&last.0, &last.1.body));
+        gone = gone.saturating_add(1);
+    }
+}
+
+/// Lets all entries go but the first `count`.
+fn let_all_go<H: BuildHasher>(cache: &mut LruCache<Key, Held, H>, count: usize)
+    requires { count ≤ length cache.old.entries }
+    ensures front { cache.new.entries ≡ take count cache.old.entries }
+    ensures cap { cache.new.cap ≡ cache.old.cap }
+{
+    while cache.len() > count {
+        let _ = cache.pop_lru();
+    }
+}

@@ -1,0 +1,71 @@
+//! Sums: what a store knows of all its items.
+ghost use Rattle.std.specs.Prelude.{◌≡◌, ◌+◌, ◌<◌, ◌≤◌, ◌^◌, [], length};
+ghost use Rattle.mc_store.specs.Items.{Items, longest_of};
+ghost use Rattle.mc_store.specs.declared.sums.TheConstants.{LONG};
+ghost use Rattle.mc_store.specs.Sums.{IsSumOf, long_one, with_value, without_value};
+
+/// A value of more bytes is long.
+pub const LONG: usize = 65_536;
+
+/// What the items of a store cost, how many values are long, and a bound for the longest.
+#[derive(Clone, Copy, Debug)]
+pub struct Sums {
+    /// What the items cost, in bytes.
+    pub used: u64,
+    /// How many values have more than [`LONG`] bytes.
+    pub long: u64,
+    /// The length of the longest value that was put since the store was empty or cleared.
+    pub longest: usize,
+}
+
+impl Sums {
+    /// The sums of no item.
+    pub fn none() -> Sums
+        ensures { IsSumOf result [] }
+    {
+        Sums {
+            used: 0,
+            long: 0,
+            longest: 0,
+        }
+    }
+
+    /// A number of bytes that no value is longer than: at most [`LONG`] where no value is long.
+    pub fn longest(self) -> usize
+        ensures bound { (items : Items) → IsSumOf self items → longest_of items ≤ result }
+        ensures short { self.long ≡ 0 → result ≤ LONG }
+    {
+        if self.long == 0 {
+            return self.longest.min(LONG);
+        }
+        self.longest
+    }
+
+    /// Adds a value of so many bytes, which costs so much.
+    pub fn add(&mut self, price: u64, length: usize)
+        requires used { self.old.used + price < 2 ^ 64 }
+        requires long { self.old.long + 1 < 2 ^ 64 }
+        ensures { self.new ≡ with_value price length self.old }
+    {
+        self.used += price;
+        self.long += long_one(length);
+        self.longest = self.longest.max(length);
+    }
+
+    /// Takes away a value of so many bytes, which costs so much.
+    pub fn take_away(&mut self, price: u64, length: usize)
+        requires used { price ≤ self.old.used }
+        requires long { long_one length ≤ self.old.long }
+        ensures { self.new ≡ without_value price length self.old }
+    {
+        self.used -= price;
+        self.long -= long_one(length);
+    }
+}
+
+/// 1 for the length of a long value, else 0.
+fn long_one(length: usize) -> u64
+    ensures { result ≡ long_one length }
+{
+    if LONG < length { 1 } else { 0 }
+}
