@@ -199,10 +199,11 @@ class Schedule:
 
 
 def simulated(schedule, since):
-    """When each crate may start and end, and by how many jobs, from now on. `since` is how long each has run that runs now."""
+    """When each crate may start and end, and by how many jobs, from now on. `since` is how long each has run that runs now: one that
+    takes longer than it should goes on for a quarter of that."""
     copy = Schedule(schedule.uses, schedule.processors)
     copy.running = dict(schedule.running)
-    ends = {name: max(seconds(name, jobs) - since.get(name, 0), 1) for name, jobs in copy.running.items()}
+    ends = {name: max(seconds(name, jobs) - since.get(name, 0), since.get(name, 0) / 4) for name, jobs in copy.running.items()}
     now, rows = 0, []
     while True:
         while started := copy.start():

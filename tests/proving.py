@@ -4,7 +4,7 @@
 Usage: proving.py
 
 It is tried in temporary repositories whose `rt` is a stand-in that proves nothing: it notes when it begins and ends and where, waits
-a little, and writes what `rt` leaves in out/. A crate whose text says so fails, takes long, or is a program with a status of its own.
+a little, and writes what `rt` leaves in out/. A crate whose text says so fails, or takes long, or does not end.
 The last line is 'N passed, M failed'.
 """
 
@@ -53,7 +53,7 @@ out = crate / "out"
 if "slow" in text:
     tell(ended=None)
     time.sleep(60)
-time.sleep(0.3)
+time.sleep(2 if "long" in text else 0.2)
 tell(ended=time.monotonic())
 if "wrong" in text:
     sys.exit(f"a goal of {crate.name} is left")
@@ -155,6 +155,8 @@ def lowest_come_first(repository):
 
 
 def those_that_are_ready_run_side_by_side(repository):
+    for name in ("left", "middle", "right"):
+        repository.write(name, "long")
     notes, _ = repository.prove("high")
     want([overlap(notes["left"], notes[it]) for it in ("low", "middle", "right", "high")], [False, True, True, False])
 
@@ -230,7 +232,7 @@ def what_was_built_since_is_not_trusted(repository):
 
 
 def a_failure_is_printed_and_ends_all(repository):
-    repository.write("middle", "wrong")
+    repository.write("middle", "wrong, after long")
     repository.write("left", "slow")
     notes, said = repository.prove("program", status=1)
     want([it in said for it in ("a goal of middle is left", "middle is not proved")], [True] * 2)
