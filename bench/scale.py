@@ -65,7 +65,7 @@ COSTS_OF_A_POOL = {
     "32 at a time": Cost(nine_gets_to_a_set(861, 1_118), nine_gets_to_a_set(2_423, 2_188)),
 }
 
-# How many times as much a request costs where few come together: bench/scale_load.py over 64 servers and 8 proxies, each server 2 to 4
+# How many times as much a request costs where few come together: bench/scale_load.py over 64 servers and 8 proxies, each server 1 or 2
 # in a hundred busy, beside 2 servers and 1 proxy in the same minutes, 2026-11-25.
 FEW_TOGETHER = {"one at a time": Cost(3.0, 1.7), "32 at a time": Cost(4.8, 2.3)}
 
