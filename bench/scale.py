@@ -65,9 +65,14 @@ COSTS_OF_A_POOL = {
     "32 at a time": Cost(nine_gets_to_a_set(861, 1_118), nine_gets_to_a_set(2_423, 2_188)),
 }
 
-# Bytes that a proxy has resident: at its start and for each link by bench/scale_load.py, for each client under load by
-# bench/RESULTS.md (500 clients).
-START_OF_A_PROXY, LINK_OF_A_PROXY, CLIENT_OF_A_PROXY = 1_900_000, 10_000, 9_400
+# How many times as much a request costs where few come together: bench/scale_load.py over 64 servers and 8 proxies, each server 1 or 2
+# in a hundred busy, beside 2 servers and 1 proxy in the same minutes, 2026-11-25.
+FEW_TOGETHER = {"one at a time": Cost(3.0, 1.7), "32 at a time": Cost(4.8, 2.3)}
+
+# Bytes that a proxy has resident: at its start and for each link under load by bench/scale_load.py; for each client that sends 8 gets
+# at a time by bench/RESULTS.md (500 clients), and for each that sends 100 sets at a time by bench/scale_load.py.
+START_OF_A_PROXY, LINK_OF_A_PROXY = 2_000_000, 6_500
+CLIENTS_OF_A_PROXY = {"8 gets at a time": 9_400, "100 sets at a time": 96_000}
 
 BUSY = 0.6  # as busy a processor is to be at most
 PROCESSORS_OF_A_MACHINE = 16
@@ -261,7 +266,7 @@ def table_of_connections(_):
     for proxies, servers in POOLS_OF_PROXIES:
         clients = proxies * MOST_CONNECTIONS
         idle = START_OF_A_PROXY + servers * LINK_OF_A_PROXY
-        full = idle + MOST_CONNECTIONS * CLIENT_OF_A_PROXY
+        full = [idle + MOST_CONNECTIONS * each for each in CLIENTS_OF_A_PROXY.values()]
         rows.append([
             f"{proxies:,}",
             str(servers),
@@ -269,12 +274,11 @@ def table_of_connections(_):
             f"{proxies:,}",
             f"{clients:,}",
             f"{clients * servers:,}",
-            megabytes(proxies * idle),
-            megabytes(proxies * full),
+            *(megabytes(proxies * each) for each in full),
         ])
     head = [
         "Proxies", "Servers", "Links", "Connections of a server", "Clients at most", "Connections without proxies",
-        "Memory of all proxies, idle", "With all clients",
+        *(f"Memory of all proxies, {way}" for way in CLIENTS_OF_A_PROXY),
     ]
     return table(head, rows)
 
@@ -309,11 +313,17 @@ def servers_for(pools, rate, cost):
     return needed
 
 
+def programs_for(pools, rate, cost):
+    """How many servers and how many proxies carry a rate."""
+    return servers_for(pools, rate, cost), math.ceil(rate * cost.proxy / 1e9 / BUSY)
+
+
 def table_of_machines(pools):
     rows = []
     for rate, (way, cost) in itertools.product(RATES, COSTS_OF_A_POOL.items()):
-        servers = servers_for(pools, rate, cost)
-        proxies = math.ceil(rate * cost.proxy / 1e9 / BUSY)
+        servers, proxies = programs_for(pools, rate, cost)
+        more = FEW_TOGETHER[way]
+        dear = programs_for(pools, rate, Cost(cost.server * more.server, cost.proxy * more.proxy))
         rows.append([
             f"{rate:,}",
             way,
@@ -323,11 +333,12 @@ def table_of_machines(pools):
             f"{math.ceil(servers / SIZES[-1])}",
             f"{proxies:,}",
             f"{math.ceil((servers + proxies) / PROCESSORS_OF_A_MACHINE):,}",
+            f"{math.ceil(sum(dear) / PROCESSORS_OF_A_MACHINE):,}",
             f"{rate * BYTES_OF_A_REQUEST * 8 / 1e9:,.1f}",
         ])
     head = [
         "Requests a second", "A client asks", "Work of servers, processors", "Work of proxies", "Servers", "Pools", "Proxies",
-        f"Machines of {PROCESSORS_OF_A_MACHINE} processors", "Gbit a second",
+        f"Machines of {PROCESSORS_OF_A_MACHINE} processors", "Where few come together", "Gbit a second",
     ]
     return table(head, rows)
 

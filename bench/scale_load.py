@@ -17,6 +17,7 @@ import contextlib
 import random
 import select
 import statistics
+import subprocess
 import sys
 import time
 from pathlib import Path
@@ -51,7 +52,7 @@ class Pool:
         self.program, self.stack = asked.server, stack
         self.servers = [stack.enter_context(Server(asked.server)) for _ in range(asked.servers)]
         self.addresses = [server.address for server in self.servers]
-        self.proxies = [stack.enter_context(Proxy(asked.proxy, self.addresses)) for _ in range(asked.proxies)]
+        self.proxies = [stack.enter_context(Proxy(asked.proxy, self.addresses, stderr=subprocess.DEVNULL)) for _ in range(asked.proxies)]
         self.ring = Ring(self.addresses)
         self.down = None  # the place of the server that is lost
 
