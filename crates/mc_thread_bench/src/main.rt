@@ -71,7 +71,7 @@ fn play<R: Print + Threads + Wait + Sync + AllocGlobal>(
         _ => bail!("usage: mc_thread_bench [threads | one | load] SERVERS REQUESTS"),
     };
     println!(rt;
-        "{how}, {servers} servers, {CLIENTS} clients, {requests} requests: {} answers, {} hits",
+        "{how}: servers {servers}, clients {CLIENTS}, requests {requests}, answers {}, hits {}",
         tally.answers, tally.hits
     )?;
     Ok(())
