@@ -68,6 +68,15 @@ def row_of(servers, requests, rounds):
     return f"| {' | '.join(told)} |"
 
 
+def run(asked):
+    told_machine(asked)
+    print("| Servers | On threads: requests a second | ns a request | On one thread: requests a second | ns a request | Ratio |")
+    print("|---|---|---|---|---|---|")
+    for servers in map(int, asked.servers.split(",")):
+        rounds = [round_of(asked.program, servers, asked.requests, number) for number in range(asked.rounds)]
+        print(row_of(servers, asked.requests, rounds), flush=True)
+
+
 def told_machine(asked):
     models = [line for line in pathlib.Path("/proc/cpuinfo").read_text().splitlines() if line.startswith("model name")]
     model = models[0].partition(": ")[2] if models else platform.machine()
@@ -75,23 +84,17 @@ def told_machine(asked):
     print(f"{asked.requests:,} requests of 8 clients, {asked.rounds} rounds. Load of the machine at the start: {os.getloadavg()[0]:.2f}.\n")
 
 
-def arguments():
-    parser = argparse.ArgumentParser(description=__doc__.splitlines()[0])
-    parser.add_argument("program", help="the built mc_thread_bench")
-    parser.add_argument("--requests", type=int, default=1_000_000, help="how many requests, a multiple of 8")
-    parser.add_argument("--servers", default="1,2,4", help="numbers of servers")
-    parser.add_argument("--rounds", type=int, default=5, help="rounds of each number of servers, at least 2")
-    return parser.parse_args()
-
-
 def main():
-    asked = arguments()
-    told_machine(asked)
-    print("| Servers | on threads: requests a second | processor ns a request | on one thread: requests a second | processor ns a request | Ratio |")
-    print("|---|---|---|---|---|---|")
-    for servers in map(int, asked.servers.split(",")):
-        rounds = [round_of(asked.program, servers, asked.requests, number) for number in range(asked.rounds)]
-        print(row_of(servers, asked.requests, rounds), flush=True)
+    words = argparse.ArgumentParser(description=__doc__, formatter_class=argparse.RawDescriptionHelpFormatter)
+    words.add_argument("program", metavar="PROGRAM")
+    words.add_argument("--requests", type=int, default=1_000_000, help="of all clients, a multiple of 8 (1,000,000)")
+    words.add_argument("--servers", default="1,2,4", help="numbers of servers, with commas (1,2,4)")
+    words.add_argument("--rounds", type=int, default=5, help="of each number of servers (5)")
+    asked = words.parse_args()
+    if asked.rounds < 2 or asked.requests % 8 != 0:
+        words.error("there are two rounds or more, and as many requests for each client")
+    run(asked)
 
 
-main()
+if __name__ == "__main__":
+    main()
