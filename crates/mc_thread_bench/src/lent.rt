@@ -1,0 +1,36 @@
+//! What is lent to a run on threads: clocks, and a gate.
+
+use crate::loads::MOMENT;
+use mc_threads::{Clock, Gate};
+
+/// A clock that gives one moment again and again.
+#[derive(Drop)]
+pub struct Ticks {
+    pub times: Vec<u64>,
+}
+
+impl Clock for Ticks {
+    ghost times = { λ c. c.times.items };
+
+    fn now(&mut self) -> Option<u64> {
+        match self.times.push(MOMENT) {
+            Ok(()) => Some(MOMENT),
+            Err(_) => None,
+        }
+    }
+
+    fn given(&self) -> &[u64] {
+        self.times.as_slice()
+    }
+}
+
+/// A gate that is always open.
+pub struct Open;
+
+impl Gate for Open {
+    fn may_take(&self, _server: usize, _taken: u64) -> bool {
+        true
+    }
+
+    fn took(&self, _server: usize) {}
+}

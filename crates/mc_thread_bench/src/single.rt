@@ -1,0 +1,168 @@
+//! The same pool on one thread.
+
+use crate::loads::{BUDGET, CLIENTS, ITEMS, MOMENT, ring_of};
+use crate::tallies::Tally;
+use anyhow::bail;
+use mc_cache::Cache;
+use mc_item::CasCounter;
+use mc_proxy::{LinkTurn, Proxy, ProxyError};
+use mc_server::{Server, ServerError, Turn};
+use mc_session::{Emit, Turn as ClientTurn};
+use mc_store::{FixedHasher, LruStore};
+use std::alloc::{AllocError, Global};
+
+/// The most requests of a client, replies of a server, or answers to a client that are taken in one round: as many as on threads.
+const AT_ONCE: u64 = 256;
+
+/// A server over a hashed store, with one connection.
+type Served = Server<LruStore<FixedHasher>>;
+
+/// Answers what the clients send, by so many servers.
+pub fn play(alloc: Global, servers: u64, inputs: &[Vec<Vec<u8>>]) -> anyhow::Result<Tally> {
+    let mut proxy = opened_proxy(alloc, servers, inputs)?;
+    let mut served = opened_servers(alloc, servers)?;
+    let mut outputs = empty_outputs(alloc)?;
+    for _ in 0..u64::MAX {
+        round(&mut proxy, &mut served, &mut outputs)?;
+        if is_quiet(&proxy) {
+            break;
+        }
+    }
+    Ok(Tally::of(outputs.as_slice()))
+}
+
+/// A proxy whose links are all up, to which all that the clients send has come.
+fn opened_proxy(alloc: Global, servers: u64, inputs: &[Vec<Vec<u8>>]) -> anyhow::Result<Proxy> {
+    let mut proxy = Proxy::new(alloc, ring_of(alloc, servers)?)?;
+    for place in 0..servers {
+        proxy.back(place as usize)?;
+    }
+    for pieces in inputs {
+        admit(&mut proxy, pieces)?;
+    }
+    Ok(proxy)
+}
+
+/// Admits a client that sends these pieces.
+fn admit(proxy: &mut Proxy, pieces: &Vec<Vec<u8>>) -> Result<(), ProxyError> {
+    let client = proxy.admit()?;
+    for piece in pieces {
+        proxy.feed(client, piece.as_slice())?;
+    }
+    Ok(())
+}
+
+/// So many servers over empty caches.
+fn opened_servers(alloc: Global, count: u64) -> anyhow::Result<Vec<Served>> {
+    let mut servers = Vec::new(alloc);
+    for _ in 0..count {
+        servers.push(opened_server(alloc)?)?;
+    }
+    Ok(servers)
+}
+
+fn opened_server(alloc: Global) -> anyhow::Result<Served> {
+    let store = LruStore::new(alloc, ITEMS)?;
+    let cache = Cache::new(alloc, store, BUDGET, ITEMS, CasCounter::starting_at(0));
+    let mut server = Server::new(alloc, cache);
+    server.admit()?;
+    Ok(server)
+}
+
+/// An output with no byte for each client.
+fn empty_outputs(alloc: Global) -> Result<Vec<Vec<u8>>, AllocError> {
+    let mut outputs = Vec::new(alloc);
+    for _ in 0..CLIENTS {
+        outputs.push(Vec::new(alloc))?;
+    }
+    Ok(outputs)
+}
+
+/// One round: each client may have requests taken, each server answers what came to it, each client may be answered.
+fn round(
+    proxy: &mut Proxy,
+    servers: &mut Vec<Served>,
+    outputs: &mut Vec<Vec<u8>>,
+) -> anyhow::Result<()> {
+    for client in 0..CLIENTS {
+        ask(proxy, client)?;
+    }
+    for place in 0..servers.len() {
+        serve(proxy, place, &mut servers[place])?;
+        take_replies(proxy, place)?;
+    }
+    for client in 0..outputs.len() {
+        answer(proxy, client as u64, &mut outputs[client])?;
+    }
+    Ok(())
+}
+
+/// Takes the requests of a client that need not wait.
+fn ask(proxy: &mut Proxy, client: u64) -> Result<(), ProxyError> {
+    for _ in 0..AT_ONCE {
+        if proxy.turn(client)? != ClientTurn::Took {
+            break;
+        }
+    }
+    Ok(())
+}
+
+/// Moves what is on the link of a place to its server, has it answered, and moves the answers back.
+fn serve(proxy: &mut Proxy, place: usize, server: &mut Served) -> anyhow::Result<()> {
+    let sent = proxy.link_output(place);
+    let count = sent.len();
+    server.feed(0, sent)?;
+    proxy.link_taken_out(place, count);
+    take_requests(server)?;
+    let replied = server.output(0);
+    let count = replied.len();
+    proxy.link_feed(place, replied)?;
+    server.taken_out(0, count);
+    Ok(())
+}
+
+/// Answers all requests that have come to a server.
+fn take_requests(server: &mut Served) -> Result<(), ServerError> {
+    for _ in 0..u64::MAX {
+        if server.turn(0, MOMENT)? != Turn::Took {
+            break;
+        }
+    }
+    Ok(())
+}
+
+/// Takes replies of the server of a place.
+fn take_replies(proxy: &mut Proxy, place: usize) -> anyhow::Result<()> {
+    for _ in 0..AT_ONCE {
+        match proxy.link_turn(place)? {
+            LinkTurn::Took => {}
+            LinkTurn::Idle => break,
+            LinkTurn::Strange => bail!("a strange reply"),
+        }
+    }
+    Ok(())
+}
+
+/// Answers a client as far as answers are known.
+fn answer(proxy: &mut Proxy, client: u64, output: &mut Vec<u8>) -> anyhow::Result<()> {
+    for _ in 0..AT_ONCE {
+        if proxy.emit(client)? != Emit::Done {
+            break;
+        }
+    }
+    let more = proxy.output(client);
+    let count = more.len();
+    output.extend_from_slice(more)?;
+    proxy.taken_out(client, count);
+    Ok(())
+}
+
+/// Whether all clients are answered.
+fn is_quiet(proxy: &Proxy) -> bool {
+    for client in 0..CLIENTS {
+        if proxy.ready(client) || proxy.unanswered(client) != 0 {
+            return false;
+        }
+    }
+    true
+}
