@@ -262,37 +262,36 @@ impl Host {
 
     /// Serves the clients whose commands were answered.
     fn answer(&mut self) {
-        self.note_brought();
         self.woken.gather();
-        for index in 0..self.woken.sessions.len() {
-            let Some((session, _)) = self.woken.at(index) else {
+        for _ in 0..self.woken.len() {
+            let Some(key) = self.take_woken() else {
                 break;
             };
-            if let Some(key) = self.keys.get(&session).copied() {
-                self.serve(key);
-            }
+            self.serve(key);
         }
-        self.woken.clear();
     }
 
-    /// Notes how many bytes were brought to the clients whose commands were answered.
-    fn note_brought(&mut self) {
-        for index in 0..self.woken.sessions.len() {
-            let Some((session, brought)) = self.woken.at(index) else {
-                break;
-            };
+    /// Takes a client whose commands were answered, and notes what was brought to it.
+    fn take_woken(&mut self) -> Option<usize> {
+        for _ in 0..self.woken.len() {
+            let (session, brought) = self.woken.take()?;
             if let Some(key) = self.keys.get(&session).copied() {
                 if let Some(client) = self.clients.get_mut(key) {
                     client.hold(brought);
+                    return Some(key);
                 }
             }
         }
+        None
     }
 
     /// Serves all clients.
     fn serve_all(&mut self) {
-        self.note_brought();
-        self.woken.clear();
+        for _ in 0..self.woken.len() {
+            if self.take_woken().is_none() {
+                break;
+            }
+        }
         self.freed.clear();
         for key in 0..MAX_SESSIONS {
             self.serve(key);

@@ -123,10 +123,11 @@ impl Pool {
         }
     }
 
-    /// Carries the bytes of the lines that have something to send, or may have received something. The sessions that were
-    /// answered are put after `woken`, and the places whose links are at their mark no more after `freed`. The result says
-    /// whether any other session may go on, since a line was lost. What waits is noted at this moment. A line that fails is let go and its link is lost: the commands
-    /// that wait on it are lost, and it is tried again.
+    /// Carries the bytes of the lines that have something to send, or may have received something, at a moment. The sessions that
+    /// were answered are put after `woken`, and the places whose links are at their mark no more after `freed`. The result says
+    /// whether any other session may go on, since a line was lost or there was no memory to note one.
+    ///
+    /// A line that fails is let go and its link is lost: the commands that wait on it are lost, and it is tried again.
     pub fn carry(
         &mut self,
         proxy: &mut Proxy,
@@ -143,8 +144,8 @@ impl Pool {
                 continue;
             }
             let was_marked = is_marked(proxy, place);
-            let pumped = line.pump(proxy, place, piece, &mut woken.sessions);
-            woken.bring(line.brought());
+            let pumped = line.pump(proxy, place, piece, &mut woken.pumped);
+            others |= !woken.bring(line.brought());
             if self.timeout > 0 {
                 line.note_waiting(proxy, place, now);
             }

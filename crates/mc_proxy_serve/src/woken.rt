@@ -5,56 +5,56 @@ use std::alloc::{AllocError, Global};
 /// The sessions that go on since commands of theirs were answered, and how many bytes were brought to each at most.
 #[derive(Drop)]
 pub struct Woken {
-    /// The numbers of the sessions. Pumps of links put them here.
-    pub sessions: Vec<u64>,
-    /// The bytes, by the places of the sessions.
-    brought: Vec<u64>,
+    /// The numbers of the sessions that the pump of one link has woken. The pump puts them here.
+    pub pumped: Vec<u64>,
+    /// The sessions that all pumps have woken, each with the bytes that a pump brought to it.
+    brought: Vec<(u64, u64)>,
 }
 
 impl Woken {
     /// Nobody, with room for so many.
     pub fn with_capacity(alloc: Global, capacity: usize) -> Result<Woken, AllocError> {
         Ok(Woken {
-            sessions: Vec::with_capacity(alloc, capacity)?,
+            pumped: Vec::with_capacity(alloc, capacity)?,
             brought: Vec::with_capacity(alloc, capacity)?,
         })
     }
 
     /// Whether there is nobody.
     pub fn is_empty(&self) -> bool {
-        self.sessions.is_empty()
+        self.brought.is_empty()
     }
 
-    /// Forgets all.
-    pub fn clear(&mut self) {
-        self.sessions.clear();
-        self.brought.clear();
+    /// How often a pump has woken a session.
+    pub fn len(&self) -> usize {
+        self.brought.len()
     }
 
-    /// Notes that a pump has brought so many bytes to those that it woke: to the last one before too, which it may have woken
-    /// again. Where there is no memory to note it, they are brought nothing.
-    pub fn bring(&mut self, bytes: u64) {
-        if let Some(last) = self.brought.last_mut() {
-            *last = last.saturating_add(bytes);
+    /// Notes that a pump has brought so many bytes to those that it woke, and says whether there was memory to note it.
+    pub fn bring(&mut self, bytes: u64) -> bool {
+        let mut noted = true;
+        for session in self.pumped.iter() {
+            noted &= self.brought.push((*session, bytes)).is_ok();
         }
-        for _ in self.brought.len()..self.sessions.len() {
-            if self.brought.push(bytes).is_err() {
-                break;
-            }
-        }
+        self.pumped.clear();
+        noted
     }
 
-    /// The session of a place, and how many bytes were brought to it.
-    pub fn at(&self, place: usize) -> Option<(u64, u64)> {
-        let session = self.sessions.get(place).copied()?;
-        let brought = self.brought.get(place).copied().unwrap_or(0);
-        Some((session, brought))
-    }
-
-    /// Puts the sessions in order, each once, and forgets what was brought to them.
+    /// Puts them in order, so that each is taken once.
     pub fn gather(&mut self) {
-        self.brought.clear();
-        self.sessions.sort_unstable();
-        self.sessions.dedup();
+        self.brought.sort_unstable_by_key(|one| one.0);
+    }
+
+    /// Takes a session, with all that was brought to it where they are in order.
+    pub fn take(&mut self) -> Option<(u64, u64)> {
+        let (session, mut bytes) = self.brought.pop()?;
+        for _ in 0..self.brought.len() {
+            match self.brought.last() {
+                Some((other, more)) if *other == session => bytes = bytes.saturating_add(*more),
+                _ => break,
+            }
+            self.brought.pop();
+        }
+        Some((session, bytes))
     }
 }
