@@ -19,10 +19,7 @@ use Rattle.std.specs.Option.{option_map}
 use Rattle.std.specs.Prelude.{unwrap_or}
 use Rattle.mc_request.specs.declared.meta.MetaGet.{MetaGet}
 use Rattle.mc_request.specs.declared.meta.MetaCommand.TheVariants as metas
-use Rattle.mc_request.specs.declared.meta.MetaCommand.{MetaCommand}
-use Rattle.mc_request.specs.declared.parts.Update as updates
-use Rattle.mc_request.specs.declared.parts.Update.TheVariants.{Store, Touch, Delete, Count, FlushAll}
-use Rattle.mc_server.specs.Rooms.{keys_room, update_value_room, meta_value_room, room_of, taken_bound}
+use Rattle.mc_server.specs.Rooms.{keys_room, meta_value_room, room_of, taken_bound}
 
 -- where no value gets longer, no more room is needed
 pub keys_room-shrinks : (beside : ℕ) (keys : List (List ℕ)) (s t : CacheState)
@@ -91,18 +88,16 @@ room_within (Whole MetaNoop) s good = omega arith
 room_within (Whole Version) s good = omega arith
 room_within (Whole Quit) s good = omega arith
 
--- a meta command shows no more than the longest value that is held, or the longest that there is
-update_room-most : (update : updates.Update (List ℕ) (List ℕ)) → update_value_room update ≤ 1048576
-update_room-most (Store mode compare key flags exptime block) = omega arith
-update_room-most (Count key counting) = omega arith
-update_room-most (Touch key exptime) = omega arith
-update_room-most (Delete key compare invalidate) = omega arith
-update_room-most (FlushAll delay) = omega arith
+-- and what a caller is told is at most sixteen times that room
+keys_bound : (keys : List (List ℕ)) (s : CacheState) → keys_room 1024 keys s ≤ 16 * keys_room 384 keys s
+keys_bound [] s = omega arith
+keys_bound (key ∷ keys) s = omega (arith, keys_bound keys s)
 
-pub meta_room-most : (command : MetaCommand (List ℕ) (List ℕ)) (s : CacheState) (most : ℕ) → longest_of s.items ≤ most → 1048576 ≤ most
-    → meta_value_room command s ≤ most
-meta_room-most (metas.Get key get) s most longest any = omega (arith, longest, get_room-longest key get s)
-meta_room-most (metas.Update update show) s most longest any = elim show.value as (λ v. cond v (update_value_room update) 0 ≤ most) [
-  | true ↦ omega (arith, any, update_room-most update)
-  | false ↦ omega arith
-]
+pub bound_within : (what : Taken) (s : CacheState) → taken_bound what s ≤ 16 * room_of what s
+bound_within (Faulty fault) s = omega arith
+bound_within (Whole (Get keys exptime with_cas)) s = omega (arith, keys_bound keys s)
+bound_within (Whole (Update update noreply)) s = omega arith
+bound_within (Whole (Meta command form)) s = omega arith
+bound_within (Whole MetaNoop) s = omega arith
+bound_within (Whole Version) s = omega arith
+bound_within (Whole Quit) s = omega arith

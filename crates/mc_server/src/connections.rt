@@ -138,10 +138,11 @@ impl Connection {
             Peek::Closed => Ok(Limited::Turned(Turn::Closing)),
             Peek::More => Ok(Limited::Turned(Turn::Idle)),
             Peek::First(asked, front) => {
-                if limit.is_passed(&asked, cache) {
+                let room = room_for(&asked, cache);
+                if limit.is_passed(room, &asked, cache) {
                     return Ok(Limited::Refused);
                 }
-                self.output.reserve(room_for(&asked, cache))?;
+                self.output.reserve(room)?;
                 serve(asked, cache, moment, &mut self.output)?;
                 self.reader.consume(front);
                 Ok(Limited::Turned(Turn::Took))

@@ -2,13 +2,15 @@
 ghost use Rattle.std.specs.Prelude.{◌≡◌, ◌≤◌, ◌<◌, ◌^◌, ◌-◌, ◌↔◌, true, min, IsTrue};
 ghost use Rattle.mc_request.specs.LinesSeen.{asked_of};
 ghost use Rattle.mc_request.specs.WellFormed.{is_well_formed};
-ghost use Rattle.mc_server.specs.Rooms.{keys_room, taken_bound};
+ghost use Rattle.mc_server.specs.Rooms.{room_of, taken_bound};
 
-use crate::answering::{COMMAND_BOUND, bound_for};
+use crate::answering::bound_for;
 use mc_cache::Cache;
 use mc_request::Asked;
 use mc_store::Store;
-use mc_text::{VALUE_LIMIT, WordIter};
+
+/// No bound is more than so many times the room for the answer.
+const BOUND_BY_ROOM: usize = 16;
 
 /// The most bytes that an answer may have, by the bound that [`Server::bound`](crate::Server::bound) gives.
 #[derive(Clone, Copy, Debug, PartialEq, Eq)]
@@ -25,37 +27,21 @@ impl AnswerLimit {
         AnswerLimit { bytes: usize::MAX }
     }
 
-    /// Whether the answer to what is asked may have more bytes. A look at each key comes only where the longest value under each
-    /// would be too much.
-    pub fn is_passed<S: Store + Drop>(self, asked: &Asked<'_>, cache: &Cache<S>) -> bool
-        requires { is_well_formed (asked_of asked.now) ≡ true }
+    /// Whether the answer to what is asked may have more bytes, where so much room is enough for it. The bound looks each key up,
+    /// and is asked for only where that room is large.
+    pub fn is_passed<S: Store + Drop>(
+        self,
+        room: usize,
+        asked: &Asked<'_>,
+        cache: &Cache<S>,
+    ) -> bool
+        requires well_formed { is_well_formed (asked_of asked.now) ≡ true }
+        requires room { min (room_of (asked_of asked.now) cache.now) (2 ^ 64 - 1) ≤ room }
         ensures { IsTrue result ↔ (self.bytes < min (taken_bound (asked_of asked.now) cache.now) (2 ^ 64 - 1)) }
     {
-        most_for(asked, cache) > self.bytes && bound_for(asked, cache) > self.bytes
+        if room <= self.bytes / BOUND_BY_ROOM {
+            return false;
+        }
+        bound_for(asked, cache) > self.bytes
     }
-}
-
-/// A bound on the answer to what is asked that is found without a look at its keys.
-fn most_for<S: Store + Drop>(asked: &Asked<'_>, cache: &Cache<S>) -> usize
-    ensures { min (taken_bound (asked_of asked.now) cache.now) (2 ^ 64 - 1) ≤ result }
-{
-    match asked {
-        Asked::Get { keys, .. } => most_for_keys(keys, cache),
-        Asked::Meta { .. } => COMMAND_BOUND.saturating_add(cache.longest().max(VALUE_LIMIT)),
-        Asked::Update { .. } | Asked::MetaNoop | Asked::Version | Asked::Quit | Asked::Faulty(_) =>
-            COMMAND_BOUND,
-    }
-}
-
-/// The longest value and what is beside it, for as many keys as the bytes of their text allow; [`usize::MAX`] where that may be
-/// it or more.
-fn most_for_keys<S: Store + Drop>(keys: &WordIter<'_>, cache: &Cache<S>) -> usize
-    ensures { min (keys_room COMMAND_BOUND keys.now cache.now) (2 ^ 64 - 1) ≤ result }
-{
-    let longest = cache.longest();
-    if longest > VALUE_LIMIT {
-        return usize::MAX;
-    }
-    let each = longest + COMMAND_BOUND;
-    each.saturating_mul(keys.text().len() + 1)
 }
