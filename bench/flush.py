@@ -5,7 +5,7 @@ Usage: flush.py SERVER [--beside PROGRAM] [--items N] [--flushes N]
 
 SERVER is the built mc_serverd, beside Debian's memcached with one thread. Each is filled with N items (1,000,000) of 20 and 100
 bytes, and flushed; then it is filled again, and flushed again, five times. One connection sends the flush_all and another a get
-behind it. Told are the milliseconds until the answer of that get, at the median and at most; the same for its next get; what one
+after it. Told are the milliseconds until the answer of that get, at the median and at most; the same for its next get; what one
 store costs the server while it is filled, by the clock of its process, for the first time and after a flush; and what it has
 resident when it is filled for the first time and for the last.
 
