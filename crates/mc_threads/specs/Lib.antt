@@ -1,5 +1,5 @@
 pub mod Accounts
-pub mod Ranks
+pub mod Causes
 pub mod Workers
 pub mod Links
 pub mod Starts

@@ -2,7 +2,7 @@
 ghost use Rattle.std.specs.Prelude.{◌≡◌, ◌≤◌, ◌+◌, ◌++◌, ◌∷◌, [], vec_len, map, None, Ok, IfOk};
 ghost use Rattle.rtrb.specs.Ring.{sent, received};
 ghost use Rattle.mc_threads.specs.Accounts.{at};
-ghost use Rattle.mc_threads.specs.Ranks.{rank_of};
+ghost use Rattle.mc_threads.specs.Causes.{rank_of};
 ghost use Rattle.mc_threads.specs.Starts.{Each1, Each2, HasWorked, IsOf};
 ghost use Rattle.mc_threads.specs.Talks.{came_from, went_to};
 
