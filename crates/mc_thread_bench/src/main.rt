@@ -20,6 +20,7 @@ use std::env::{self, Args};
 use std::rt::Env;
 use std::sync::Wait;
 use std::thread::Threads;
+use std::time::Clock;
 use tallies::Tally;
 
 /// How many requests a run without arguments has.
@@ -30,7 +31,7 @@ fn main(rt: HostRuntime) -> anyhow::Result<()> {
 }
 
 /// Plays what the arguments say.
-fn run<R: Env + Print + Threads + Wait + Sync + AllocGlobal>(rt: &R) -> anyhow::Result<()> {
+fn run<R: Env + Print + Threads + Wait + Clock + Sync + AllocGlobal>(rt: &R) -> anyhow::Result<()> {
     let mut arguments = env::args(rt)?;
     let _program = arguments.next();
     let Some(how) = arguments.next() else {
@@ -47,7 +48,7 @@ fn number(arguments: &mut Args, missing: &'static str) -> anyhow::Result<u64> {
 }
 
 /// Plays few requests, on threads and on one thread.
-fn play_all<R: Print + Threads + Wait + Sync + AllocGlobal>(rt: &R) -> anyhow::Result<()> {
+fn play_all<R: Print + Threads + Wait + Clock + Sync + AllocGlobal>(rt: &R) -> anyhow::Result<()> {
     for servers in [1, 2, 4] {
         play(rt, "threads", servers, FEW)?;
         play(rt, "one", servers, FEW)?;
@@ -56,7 +57,7 @@ fn play_all<R: Print + Threads + Wait + Sync + AllocGlobal>(rt: &R) -> anyhow::R
 }
 
 /// Plays so many requests over so many servers, and prints what came of it.
-fn play<R: Print + Threads + Wait + Sync + AllocGlobal>(
+fn play<R: Print + Threads + Wait + Clock + Sync + AllocGlobal>(
     rt: &R,
     how: &str,
     servers: u64,

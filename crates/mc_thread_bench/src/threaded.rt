@@ -7,9 +7,10 @@ use mc_threads::{PoolConfig, run_threads};
 use std::alloc::{AllocError, Global};
 use std::sync::Wait;
 use std::thread::Threads;
+use std::time::Clock;
 
 /// Answers what the clients send, by so many servers on threads of their own.
-pub fn play<R: Threads + Wait + Sync>(
+pub fn play<R: Threads + Wait + Clock + Sync>(
     rt: &R,
     alloc: Global,
     servers: u64,

@@ -8,6 +8,7 @@ use std::sync::Wait;
 use std::sync::atomic::Ordering;
 use std::test::Fail;
 use std::thread::Threads;
+use std::time::Clock as Time;
 
 const ADDRESSES: [&[u8]; 5] = [
     b"127.0.0.1:11211",
@@ -94,7 +95,7 @@ fn inputs(
 }
 
 /// A run over a ring, with small caches.
-fn run<R: Threads + Wait + Sync>(
+fn run<R: Threads + Wait + Time + Sync>(
     rt: &R,
     alloc: Global,
     ring: Ring,
@@ -111,7 +112,7 @@ fn run<R: Threads + Wait + Sync>(
 }
 
 /// A run that ends well.
-fn ran<R: Threads + Wait + Sync>(
+fn ran<R: Threads + Wait + Time + Sync>(
     rt: &R,
     alloc: Global,
     ring: Ring,
@@ -231,7 +232,7 @@ fn threads_always_refuse(rt: HostRuntime) -> Result<(), Fail> {
 }
 
 /// Why a run of one request gives up.
-fn refused<R: Threads + Wait + Sync>(
+fn refused<R: Threads + Wait + Time + Sync>(
     rt: &R,
     alloc: Global,
     servers: usize,

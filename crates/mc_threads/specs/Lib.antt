@@ -1,4 +1,5 @@
 pub mod Accounts
+pub mod Causes
 pub mod Workers
 pub mod Links
 pub mod Starts

@@ -1,7 +1,8 @@
 //! Joining the workers.
-ghost use Rattle.std.specs.Prelude.{◌≡◌, ◌+◌, ◌++◌, ◌∷◌, [], vec_len, map, None, Ok, IfOk};
+ghost use Rattle.std.specs.Prelude.{◌≡◌, ◌≤◌, ◌+◌, ◌++◌, ◌∷◌, [], vec_len, map, None, Ok, IfOk};
 ghost use Rattle.rtrb.specs.Ring.{sent, received};
 ghost use Rattle.mc_threads.specs.Accounts.{at};
+ghost use Rattle.mc_threads.specs.Causes.{rank_of};
 ghost use Rattle.mc_threads.specs.Starts.{Each1, Each2, HasWorked, IsOf};
 ghost use Rattle.mc_threads.specs.Talks.{came_from, went_to};
 
@@ -82,7 +83,9 @@ pub fn join_failed<C: Clock + Drop, R: Threads>(
     rt: &R,
     children: Vec<Child<C>>,
     ended: Ended,
-) -> Ended {
+) -> Ended
+    ensures { rank_of result ≤ rank_of ended }
+{
     let mut least = ended;
     for child in children {
         if let Err(other) = child.join(rt) {

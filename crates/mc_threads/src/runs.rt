@@ -22,6 +22,7 @@ use std::sync::Wait;
 use std::sync::atomic::{AtomicBool, Ordering};
 use std::thread;
 use std::thread::{Scope, Threads};
+use std::time::Clock as Time;
 
 /// A pool: the ring by which requests are routed, with a server at each of its places, and the bounds of each server's cache.
 #[derive(Drop)]
@@ -74,7 +75,7 @@ fn talk_all<R: Wait>(
 }
 
 /// A run inside the scope of its threads.
-fn run_in<'s, E: 's, C: Clock + Send + Drop + 's, G: Gate + Sync, R: Threads + Wait + Sync>(
+fn run_in<'s, E: 's, C: Clock + Send + Drop + 's, G: Gate + Sync, R: Threads + Wait + Time + Sync>(
     rt: &'s R,
     scope: &Scope<'s, E>,
     alloc: Global,
@@ -86,8 +87,10 @@ fn run_in<'s, E: 's, C: Clock + Send + Drop + 's, G: Gate + Sync, R: Threads + W
 ) -> Result<Ran<C>, Ended>
     requires bounds { IsWithinBounds config.now.budget config.now.items }
     requires clocks { vec_len clocks ≡ length config.now.ring.servers }
-    ensures { IfOk result (λ ran. Account config.now.ring (opening_cache config.now.budget config.now.items 0) (texts_of inputs.now) (outs_of ran.outputs.items)
+    ensures account { IfOk result (λ ran. Account config.now.ring (opening_cache config.now.budget config.now.items 0) (texts_of inputs.now) (outs_of ran.outputs.items)
         (at (map C.times clocks.items)) (at (map C.times ran.clocks.items))) }
+    ensures outputs { IfOk result (λ ran. vec_len ran.outputs ≡ length inputs.now) }
+    ensures clocks { IfOk result (λ ran. vec_len ran.clocks ≡ vec_len clocks) }
 {
     let mut proxy = opened_proxy(alloc, &config.ring, inputs)?;
     let mut outputs = empty_outputs(alloc, inputs.len())?;
@@ -95,13 +98,23 @@ fn run_in<'s, E: 's, C: Clock + Send + Drop + 's, G: Gate + Sync, R: Threads + W
         budget: config.budget,
         items: config.items,
     };
-    let (mut ends, children) = match start_all(rt, scope, alloc, bounds, clocks, gate, stop) {
-        Ok(pair) => pair,
-        Err(error) => {
-            stop.store(true, Ordering::SeqCst);
-            return Err(error);
-        }
-    };
+    let mut ends = Vec::new(alloc);
+    let mut children = Vec::new(alloc);
+    let started = start_all(
+        rt,
+        scope,
+        alloc,
+        bounds,
+        clocks,
+        gate,
+        stop,
+        &mut ends,
+        &mut children,
+    );
+    if let Err(ended) = started {
+        stop.store(true, Ordering::SeqCst);
+        return Err(join_failed(rt, children, ended));
+    }
     match talk_all(rt, stop, alloc, &mut proxy, &mut ends, &mut outputs) {
         Ok(()) => {
             let clocks = join_all(rt, alloc, children, &mut ends)?;
@@ -122,7 +135,7 @@ fn run_in<'s, E: 's, C: Clock + Send + Drop + 's, G: Gate + Sync, R: Threads + W
 /// each clock gave.
 ///
 /// At an error no output is handed out, and the clocks are dropped. This call may wait, and it does so for as long as the gate refuses.
-pub fn run_threads<C: Clock + Send + Drop, G: Gate + Sync, R: Threads + Wait + Sync>(
+pub fn run_threads<C: Clock + Send + Drop, G: Gate + Sync, R: Threads + Wait + Time + Sync>(
     rt: &R,
     alloc: Global,
     config: &PoolConfig,
@@ -133,6 +146,8 @@ pub fn run_threads<C: Clock + Send + Drop, G: Gate + Sync, R: Threads + Wait + S
     requires { IsWithinBounds config.now.budget config.now.items }
     ensures account { IfOk result (λ ran. Account config.now.ring (opening_cache config.now.budget config.now.items 0) (texts_of inputs.now) (outs_of ran.outputs.items)
         (at (map C.times clocks.items)) (at (map C.times ran.clocks.items))) }
+    ensures outputs { IfOk result (λ ran. vec_len ran.outputs ≡ length inputs.now) }
+    ensures clocks { IfOk result (λ ran. vec_len ran.clocks ≡ vec_len clocks) }
     ensures clock_count { IsErrOf result ThreadsError.ClockCount ↔ (vec_len clocks ≢ length config.now.ring.servers) }
     ensures too_many { IsErrOf result ThreadsError.TooManyClients
         ↔ ((vec_len clocks ≡ length config.now.ring.servers) × (MAX_SESSIONS < length inputs.now)) }
@@ -151,8 +166,10 @@ pub fn run_threads<C: Clock + Send + Drop, G: Gate + Sync, R: Threads + Wait + S
         move |scope| -> Result<Ran<C>, Ended>
             requires bounds { IsWithinBounds config.now.budget config.now.items }
             requires clocks { vec_len clocks ≡ length config.now.ring.servers }
-            ensures { IfOk result (λ ran. Account config.entry.now.ring (opening_cache config.entry.now.budget config.entry.now.items 0) (texts_of inputs.entry.now) (outs_of ran.outputs.items)
+            ensures account { IfOk result (λ ran. Account config.entry.now.ring (opening_cache config.entry.now.budget config.entry.now.items 0) (texts_of inputs.entry.now) (outs_of ran.outputs.items)
                 (at (map C.times clocks.items)) (at (map C.times ran.clocks.items))) }
+            ensures outputs { IfOk result (λ ran. vec_len ran.outputs ≡ length inputs.entry.now) }
+            ensures clocks { IfOk result (λ ran. vec_len ran.clocks ≡ vec_len clocks) }
         { run_in(rt, scope, alloc, config, inputs, clocks, gate, shared) },
     );
     match ran {
