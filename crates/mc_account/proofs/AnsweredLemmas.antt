@@ -1,4 +1,4 @@
--- What clients were answered, by where a proxy stands.
+-- What clients were answered, by where a proxy is.
 use Rattle.std.proofs.Common.{◌≡◌, ◌∙◌, ℕ, ◌+◌, true, List, ◌++◌, length, take, Option, Some, None, refl, ap, subst, arith}
 use Rattle.std.specs.List.{list_all}
 use Rattle.std.proofs.lemmas.List.{length-append, length-map}

@@ -1,4 +1,4 @@
--- A proxy stands after each call of a link: one lemma for each.
+-- A proxy holds after each call of a link: one lemma for each.
 use Rattle.std.proofs.Common.{◌≡◌, ◌≢◌, ◌∙◌, ⊎_elim, ℕ, ◌<◌, ◌≤◌, Bool, true, false, List, [], ◌∷◌, ◌++◌, length, map, Option, Some, None, refl, sym, ap, subst, arith}
 use Rattle.std.specs.Prelude.{All}
 use Rattle.std.specs.List.{list_all}
@@ -28,7 +28,7 @@ use Rattle.mc_account.proofs.LaneLemmas.{IsOldest, Pending, is_oldest, lane_fres
 use Rattle.mc_account.proofs.SessionLemmas.{left_noted, note_absent, owners_elsewhere, session_noted, session_same}
 use Rattle.mc_account.proofs.StandsLemmas.{changed-other, changed-own}
 
--- a proxy stands but for the link of one place, of which nothing is said
+-- a proxy holds but for the link of one place, of which nothing is said
 pub record StandsBut (texts sent : ℕ → List ℕ) (order : Order) (lanes : ℕ → Lane) (place : ℕ) (sessions : Sessions) (admitted : ℕ) (links : List LinkState) : Type 0 where
   pub sized : All IsSized order
   pub numbered : (number : ℕ) → AreInOrder (entries_of number order)
@@ -46,7 +46,7 @@ stands_but texts sent order lanes place old h = record {
   others = λ other differ. h.links other;
 }
 
--- it stands, where that link does too
+-- it holds, where that link does too
 stands_with : (texts sent : ℕ → List ℕ) (order : Order) (lanes lanes' : ℕ → Lane) (place : ℕ) (links : List LinkState) (new : ProxyState)
     → StandsBut texts sent order lanes place new.sessions new.admitted links → LinkStands place order (lanes' place) (link_at new.links place)
     → ((other : ℕ) → place ≢ other → lanes' other ≡ lanes other) → ((other : ℕ) → place ≢ other → link_at new.links other ≡ link_at links other)

@@ -30,7 +30,7 @@ renoted-append tag outcome (c ∷ cs) ds [] ys h = absurd cc
 renoted-append tag outcome (c ∷ cs) ds (x ∷ xs) ys h =
     ap (λ (zs : List Outcome). (if same_tag c.1 tag then outcome else x) ∷ zs) (renoted-append tag outcome cs ds xs ys (cc))
 
--- where it stands among none of them, nothing changes
+-- where it is among none of them, nothing changes
 pub renoted_absent : (tag : Tag) (outcome : Outcome) (cs : List Tagged) (xs : List Outcome) → count tag cs ≡ 0 → length cs ≡ length xs → renoted tag outcome cs xs ≡ xs
 renoted_absent tag outcome [] [] none h = refl
 renoted_absent tag outcome [] (x ∷ xs) none h = absurd cc
@@ -53,7 +53,7 @@ renoted_told tag outcome (c ∷ cs) (x ∷ xs) known h =
     and_from (is_told (if same_tag c.1 tag then outcome else x)) (list_all is_told (renoted tag outcome cs xs))
     (elim (same_tag c.1 tag) as (λ v. is_told (if v then outcome else x) ≡ true) [ true ↦ known | false ↦ parts.0 ]) again
 
--- where it stands once, one outcome changes
+-- where it is once, one outcome changes
 pub renoted_at : (tag : Tag) (outcome : Outcome) (front back : List Tagged) (c : Tagged) (xs ys : List Outcome) (x : Outcome)
     → c.1 ≡ tag → length front ≡ length xs → length back ≡ length ys → count tag front ≡ 0 → count tag back ≡ 0
     → renoted tag outcome (front ++ c ∷ back) (xs ++ x ∷ ys) ≡ xs ++ outcome ∷ ys

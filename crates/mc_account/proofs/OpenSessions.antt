@@ -49,7 +49,7 @@ without_other number other (s ∷ others) differ =
       | false ↦ λ is. ap (λ (o : Option SessionState). if s.0 == other then Some s.1 else o) again
     ]) refl
 
--- a session behind the others is the one of a number that was not open
+-- a session after the others is the one of a number that was not open
 pub fresh_own : (number : ℕ) (session : SessionState) (open_ones : Sessions) → session_in open_ones number ≡ None
     → session_in (open_ones ++ (number, session) ∷ []) number ≡ Some session
 fresh_own number session [] none = rw (own_number number) refl

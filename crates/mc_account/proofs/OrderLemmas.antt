@@ -23,7 +23,7 @@ passes_joined test xs ys left right = list_all-append test xs ys ∙ and_from (l
 pub passes_parts : {X : Type 0} (test : X → Bool) (xs ys : List X) → list_all test (xs ++ ys) ≡ true → (list_all test xs ≡ true) × (list_all test ys ≡ true)
 passes_parts test xs ys both = and_parts (list_all test xs) (list_all test ys) (sym (list_all-append test xs ys) ∙ both)
 
--- what was taken of a session in an order and in another one behind it
+-- what was taken of a session in an order and in another one after it
 pub entries-append : (n : ℕ) (es fs : Order) → entries_of n (es ++ fs) ≡ entries_of n es ++ entries_of n fs
 entries-append n [] fs = refl
 entries-append n (e ∷ es) fs =

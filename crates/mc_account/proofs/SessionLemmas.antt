@@ -1,4 +1,4 @@
--- Where a session stands, after each of its calls and where an outcome is noted.
+-- Where a session is, after each of its calls and where an outcome is noted.
 use Rattle.std.proofs.Common.{◌≡◌, ◌≢◌, ◌∙◌, ⊎_elim, ℕ, suc, ◌+◌, ◌-◌, ◌<◌, ◌≤◌, ◌==◌, Bool, true, false, if◌then◌else◌, List, [], ◌∷◌, ◌++◌, length, map, drop, take, Option, Some, None, refl, sym, ap, ap₂, subst, append_assoc, append-nil, arith}
 use Rattle.std.specs.Prelude.{nat_lt}
 use Rattle.std.specs.List.{list_all}
@@ -26,7 +26,7 @@ use Rattle.mc_account.proofs.OpenSessions.{other_number}
 use Rattle.mc_account.proofs.OrderLemmas.{answers-push, entries-note, entries_push_own, note-append, numbered_behind, passes_joined, taken-note}
 use Rattle.mc_account.proofs.TagLemmas.{owners, owners-append, owners_later, owners_of, unsettled-append, unsettled_none, unsettled_of, unsettled_owners, unsettled_owners-le, weight}
 
--- where a session stands depends on nothing of an order but what was taken of it
+-- where a session is depends on nothing of an order but what was taken of it
 pub session_same : (number : ℕ) (order longer : Order) (text text' sent sent' : List ℕ) (session : Option SessionState)
     → entries_of number longer ≡ entries_of number order → text' ≡ text → sent' ≡ sent
     → SessionStandsAt number order text sent session → SessionStandsAt number longer text' sent' session
@@ -66,7 +66,7 @@ session_fresh number order none = record {
   taken = ap (λ (es : Order). length es) (sym none);
 }
 
--- a session that is open stands, and so it does once it is left
+-- a session that is open holds, and so it does once it is left
 pub session_left : (number : ℕ) (order : Order) (text sent : List ℕ) (session : Option SessionState) → SessionStandsAt number order text sent session
     → SessionLeft number order text sent
 session_left number order text sent None h = h

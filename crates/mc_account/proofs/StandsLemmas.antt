@@ -1,4 +1,4 @@
--- A proxy stands after each call of a session: one lemma for each.
+-- A proxy holds after each call of a session: one lemma for each.
 use Rattle.std.proofs.Common.{◌≡◌, ◌≢◌, ◌∙◌, ⊎_elim, ℕ, ◌<◌, Bool, true, if◌then◌else◌, List, [], ◌∷◌, ◌++◌, map, take, drop, Option, Some, None, refl, sym, ap, subst, arith}
 use Rattle.std.specs.Prelude.{All}
 use Rattle.std.specs.List.{list_all}
@@ -42,7 +42,7 @@ grown-nothing number other count bytes =
     (λ e. changed-other number other (bytes number ++ take count []) bytes e.1)
     (eqb_tells number other)
 
--- where an open session of a proxy stands
+-- where an open session of a proxy holds
 pub stood : (texts sent : ℕ → List ℕ) (order : Order) (lanes : ℕ → Lane) (proxy : ProxyState) (number : ℕ) (session : SessionState)
     → ProxyStands texts sent order lanes proxy → session_at proxy number ≡ Some session → SessionStands number order (texts number) (sent number) session
 stood texts sent order lanes proxy number session h was =

@@ -1,4 +1,4 @@
--- A tag is of one command: it stands once in what was taken, and among the commands to one place alone.
+-- A tag is of one command: it is once in what was taken, and among the commands to one place alone.
 use Rattle.std.proofs.Common.{◌≡◌, ◌≢◌, ℕ, suc, ◌+◌, ◌<◌, ◌≤◌, ◌==◌, Bool, true, false, ◌&&◌, not, if◌then◌else◌, List, [], ◌∷◌, ◌++◌, length, map, refl, ap, arith}
 use Rattle.std.specs.Prelude.{All}
 use Rattle.std.specs.List.{list_all}
@@ -29,7 +29,7 @@ same_tag_self t =
     and_from ((t.session == t.session) && (t.request == t.request)) (t.atom == t.atom)
     (and_from (t.session == t.session) (t.request == t.request) (own_number t.session) (own_number t.request)) (own_number t.atom)
 
--- how often a tag stands among commands
+-- how often a tag is among commands
 abbrev pub count : Tag → List Tagged → ℕ
 count tag [] = 0
 count tag (c ∷ cs) = weight (same_tag c.1 tag) + count tag cs
@@ -38,7 +38,7 @@ pub count-append : (tag : Tag) (cs ds : List Tagged) → count tag (cs ++ ds) �
 count-append tag [] ds = omega arith
 count-append tag (c ∷ cs) ds = omega (arith, count-append tag cs ds)
 
--- the commands of a request behind the one that a tag is of
+-- the commands of a request after the one that a tag is of
 pub count_past : (tag : Tag) (place session request at : ℕ) (commands : List Routed) → tag.atom < at → count tag (commands_from place session request at commands) ≡ 0
 count_past tag place session request at [] h = refl
 count_past tag place session request at (command ∷ commands) h =
@@ -64,7 +64,7 @@ count_apart tag place session request at (command ∷ commands) h =
       | false ↦ again
     ])
 
--- the command of a number, and those behind it
+-- the command of a number, and those after it
 count_with_next : (tag : Tag) (place other session request at : ℕ) (commands : List Routed)
     → count tag (commands_from place session request (suc at) commands) + count tag (commands_from other session request (suc at) commands) ≤ 1
     → weight (same_tag (tag_of session request at) tag)
@@ -209,7 +209,7 @@ unsettled_none tag (e ∷ es) h =
     let apart : (not (is_settled e) && owns tag e) ≡ false = and_left (not (is_settled e)) (owns tag e) (ap not parts.0) in
     rw apart (omega (arith, unsettled_none tag es parts.1))
 
--- how often a tag stands among commands of which it is not known what became
+-- how often a tag is among commands of which it is not known what became
 abbrev pub awaited : Tag → List Tagged → List Outcome → ℕ
 awaited tag [] xs = 0
 awaited tag (c ∷ cs) [] = 0

@@ -61,6 +61,6 @@ pub record IsDown (place : ℕ) (order : Order) (link : LinkState) : Type 0 wher
   pub nothing : link ≡ down_link link.generation
   pub outcomes : list_all is_told (outcomes_to place order) ≡ true
 
--- where the link of a place stands
+-- where the link of a place is
 abbrev pub LinkStands : ℕ → Order → Lane → LinkState → Type 0
 LinkStands place order lane link = (link.up ≡ true → LaneStands place order lane link) × (link.up ≢ true → IsDown place order link)

@@ -33,7 +33,7 @@ pub record SessionLeft (number : ℕ) (order : Order) (text sent : List ℕ) : T
   pub unsent : List ℕ
   pub answered : sent ++ unsent ≡ answers_of done
 
--- where the session of a number stands, if it is open, or was left
+-- where the session of a number is, if it is open, or was left
 abbrev pub SessionStandsAt : ℕ → Order → List ℕ → List ℕ → Option SessionState → Type 0
 SessionStandsAt number order text sent None = SessionLeft number order text sent
 SessionStandsAt number order text sent (Some session) = SessionStands number order text sent session
@@ -45,7 +45,7 @@ pub record IsUnused (number : ℕ) (order : Order) (text sent : List ℕ) (sessi
   pub nothing_taken : entries_of number order ≡ []
   pub nothing_sent : sent ≡ []
 
--- A proxy stands where this order leaves it, where these texts have come to its sessions and these bytes were taken out, both
+-- A proxy is where this order leaves it, where these texts have come to its sessions and these bytes were taken out, both
 -- by number, and this passed over its links, by place.
 pub record ProxyStands (texts sent : ℕ → List ℕ) (order : Order) (lanes : ℕ → Lane) (proxy : ProxyState) : Type 0 where
   pub sized : All IsSized order

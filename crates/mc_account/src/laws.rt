@@ -26,7 +26,7 @@ ghost use Rattle.mc_account.specs.Orders.{AreInOrder, Entry, IsSized, Order, Tag
 ghost use Rattle.mc_account.specs.Answered.{AreAnswers, WasAnswered, answered_at};
 ghost use Rattle.mc_account.specs.Stands.{ProxyStands, changed, grown};
 
-/// A proxy that was just made stands where nothing was taken.
+/// A proxy that was just made is where nothing was taken.
 pub fn a_proxy_opens()
     ensures { (ring : RingState)
         → ProxyStands (λ _. []) (λ _. []) [] (λ _. fresh_lane 0)
@@ -39,7 +39,7 @@ pub fn admitted_sessions_stand()
         → ProxyStands texts sent order lanes old → session_at old old.admitted ≡ None → ProxyStands texts sent order lanes (with_fresh old) }
 {}
 
-/// `feed`: the session's text has the piece behind it.
+/// `feed`: the session's text has the piece after it.
 pub fn pieces_stand()
     ensures { (texts sent : ℕ → List ℕ) (order : Order) (lanes : ℕ → Lane) (number : ℕ) (piece : List ℕ) (old new : ProxyState)
         → ProxyStands texts sent order lanes old → number < old.admitted → Steps number old new (Alone (IsFed piece))
@@ -117,7 +117,7 @@ pub fn server_bytes_stand()
         }) }
 {}
 
-/// `link_turn`, where it took a reply: it is noted in the order, and stands behind the replies of the link.
+/// `link_turn`, where it took a reply: it is noted in the order, and is after the replies of the link.
 pub fn replies_stand()
     ensures { (texts sent : ℕ → List ℕ) (order : Order) (lanes : ℕ → Lane) (place : ℕ) (old new : ProxyState)
         → ProxyStands texts sent order lanes old → (link_at old.links place).up ≡ true → (answers : Answers place old new)

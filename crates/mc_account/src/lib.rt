@@ -4,7 +4,7 @@
 //! says what passed over a link since it came up, `specs/Stands.antt` where all of it leaves a proxy (`ProxyStands`): what was
 //! put on each link is the joined spellings of that order's commands to its server, what came is the joined spellings of the
 //! replies taken and the unread bytes, and each client's output is the answers to its first requests. No server and no socket
-//! stands in it. `specs/Lookups.antt` finds a command and what became of it by its tag, and `specs/Answered.antt` says which
+//! is in it. `specs/Lookups.antt` finds a command and what became of it by its tag, and `specs/Answered.antt` says which
 //! bytes are answers.
 //!
 //! Each function is a law; all of them do nothing. Most say how a call of [`mc_proxy::Proxy`] keeps it, by what the call's contract

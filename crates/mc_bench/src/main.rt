@@ -1,8 +1,8 @@
 //! Measures how fast a server takes bytes that come in pieces.
 //!
 //! With no argument each case runs at a thousandth of its size, and its line tells how many bytes were fed and how
-//! many answered. With the argument `measure` each case runs at full size, and its line tells the speed too. Behind
-//! each case stands the same at a tenth of the size: the time for a byte is to be the same. With the argument `ring`
+//! many answered. With the argument `measure` each case runs at full size, and its line tells the speed too. After
+//! each case is the same at a tenth of the size: the time for a byte is to be the same. With the argument `ring`
 //! it is measured how fast a ring finds the owners of keys, and with `store` how fast a cache answers over each store.
 //!
 //! `case KIND SIZE PIECE` runs one case alone, and `load KIND SIZE PIECE` only makes what its client would send. So a tool

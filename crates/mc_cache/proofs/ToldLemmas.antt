@@ -1,4 +1,4 @@
--- What a meta command is told of an update: the item that it shows stands first.
+-- What a meta command is told of an update: the item that it shows is first.
 use Rattle.std.proofs.Common.{◌≡◌, ℕ, ℤ, ◌+◌, ◌^◌, ◌∙◌, nat_le, ◌==◌, Bool, true, false, cond, List, [], ◌∷◌, length, Option, Some, None, Result, Ok, Err, refl, sym, ap, subst}
 use Rattle.std.specs.Prelude.{IfSome, unwrap_or}
 use Rattle.std.specs.Option.{option_map, option_or}
@@ -32,11 +32,11 @@ stores Stored = true
 stores (Number number) = true
 stores other = false
 
--- where an outcome says so, the key's item stands first
+-- where an outcome says so, the key's item is first
 abbrev IsFirst : List ℕ → Outcome → Type 0
 IsFirst key outcome = stores outcome.1 ≡ true → body_at key outcome.0.items ≡ front_body outcome.0.items
 
--- what is put in front stands first, if it is kept
+-- what is put in front is first, if it is kept
 kept-front : (key : List ℕ) (body : Body) (keeps : Bool) (rest : Items)
     → body_at key (cond keeps ((key, body) ∷ rest) []) ≡ front_body (cond keeps ((key, body) ∷ rest) [])
 kept-front key body true rest = ap (λ own. cond own (Some body) (body_at key rest)) (own_key key)
@@ -128,7 +128,7 @@ count_step-first s key None counting moment refused = count_none-first s key cou
 count_step-first s key (Some body) counting moment refused =
     count_by-first s key body (compared counting.compare (Some body)) counting moment refused (compared-none counting.compare (Some body))
 
--- the item that an update stores stands first
+-- the item that an update stores is first
 update_step-first : (s : CacheState) (update : Update (List ℕ) (List ℕ)) (moment : ℕ) (refused : Bool) → stores (update_step s update moment refused).1 ≡ true
     → held_under (key_in update) (update_step s update moment refused).0 ≡ front_body (update_step s update moment refused).0.items
 update_step-first s (Store mode compare key flags exptime value) moment refused =
@@ -207,7 +207,7 @@ told_under s update moment refused after show reply result is says =
     told_outcome s update moment refused after show reply result is says
     ∙ ap (λ (r : Reply (List ℕ)). (after, r)) (told_same s update moment refused after show reply result is says)
 
--- what is made stands first
+-- what is made is first
 pub made_value : (s after : CacheState) (key : List ℕ) (content : Content) (refused : Bool) → stored s key content refused Stored ≡ (after, Stored)
     → value_at key after.items ≡ front_value after.items
 made_value s after key content refused is =

@@ -24,7 +24,7 @@ needs_filling recache moment body = body.stale || is_low recache (left_of body.e
 
 -- the marks of an item that is stale or not, where a client was told to fill it or not, and where it is to be filled:
 -- who is told so first has won, and who comes later is told that another was sent
--- source: protocol.txt, "Meta Get", W, X and Z; which of them stand together is this project's own
+-- source: protocol.txt, "Meta Get", W, X and Z; which of them are together is this project's own
 abbrev pub marks_by : Bool → Bool → Bool → Marks
 marks_by false won needs = if won then Sent else if needs then Won else Plain
 marks_by true won needs = if won then StaleSent else if needs then WonStale else Plain
@@ -32,7 +32,7 @@ marks_by true won needs = if won then StaleSent else if needs then WonStale else
 abbrev pub marks_of : Option ℕ → ℕ → Body → Marks
 marks_of recache moment body = marks_by body.stale body.won (needs_filling recache moment body)
 
--- what stands behind a flag, where it is asked for
+-- what is after a flag, where it is asked for
 abbrev pub asked : {A : Type 0} → Bool → A → Option A
 asked false shown = None
 asked true shown = Some shown

@@ -115,7 +115,7 @@ impl<S: Store + Drop> Cache<S> {
 
     /// The command `Get`, with the key lent. It takes no memory, and no value gets longer.
     ///
-    /// The item that a hit shows stands first: [`Cache::front_value`] is its value.
+    /// The item that a hit shows is first: [`Cache::front_value`] is its value.
     pub fn get(
         &mut self,
         key: &[u8],
@@ -190,7 +190,7 @@ impl<S: Store + Drop> Cache<S> {
     /// The meta command `Get`, which is `mg`, with the key lent. No value gets longer.
     ///
     /// It takes memory only where the key is not held and an item is made: where there is none the reply is
-    /// `Fault::OutOfMemory`, and nothing changes but what the moment brings. The item whose value the reply shows stands
+    /// `Fault::OutOfMemory`, and nothing changes but what the moment brings. The item whose value the reply shows is
     /// first: [`Cache::front_value`] is its value.
     pub fn meta_get(&mut self, key: &[u8], get: &MetaGet, moment: u64) -> Reply<()>
         requires moment { moment < 2 ^ 63 }
@@ -210,7 +210,7 @@ impl<S: Store + Drop> Cache<S> {
     /// The meta command `Update`, which is `ms`, `md` or `ma`, with the key and the block lent: the same as
     /// [`Cache::update`], with a reply that shows what was stored.
     ///
-    /// The item that the reply shows stands first: [`Cache::front_value`] is its value.
+    /// The item that the reply shows is first: [`Cache::front_value`] is its value.
     ///
     /// # Errors
     ///

@@ -1,4 +1,4 @@
-//! What the tests of several crates stand on: a store that is refused memory, servers over it, the two sides of a stream in
+//! What the tests of several crates are on: a store that is refused memory, servers over it, the two sides of a stream in
 //! memory, and texts.
 //!
 //! [`new_server`] is a server as a [`Setup`] says, over a [`MeagreStore`], which has memory for so many new keys.

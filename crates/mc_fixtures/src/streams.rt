@@ -73,7 +73,7 @@ pub struct Source {
     pub bytes: Vec<u8>,
     /// How many of them were given.
     given: usize,
-    /// Whether it blocks behind its bytes, in place of the end.
+    /// Whether it blocks after its bytes, in place of the end.
     is_open: bool,
     pub calls: Calls,
 }

@@ -150,7 +150,7 @@ stand_apart {R} f may spell h r q xs ys cr cq e =
     let pair = ok_same (r, xs) (q, ys) (read f (spell r ++ xs)) (read_whole f may spell h r xs cr) (ap (read f) e ∙ read_whole f may spell h q ys cq) in
     (ap (λ (x : R × List ℕ). x.0) pair, ap (λ (x : R × List ℕ). x.1) pair)
 
--- what is left behind what was taken
+-- what is left after what was taken
 pub drop-taken : (u left s : List ℕ) → u ≡ s ++ left → (length left ≤ length u) × (drop (length u - length left) u ≡ left)
 drop-taken u left s e =
     let sizes : length u ≡ length s + length left = ap (length {A = ℕ}) e ∙ length-append s left in

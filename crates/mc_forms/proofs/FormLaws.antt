@@ -66,7 +66,7 @@ begun_one f u n one h = record { some = omega arith; begun = λ more few. with_n
 begun_now : {R : Type 0} (f : Form R) (u : List ℕ) (n : ℕ) → BegunFor f u n → Begun f u
 begun_now f u n h = subst (Begun f) (append-nil u) (h.begun [] h.some)
 
--- what is begun behind a field
+-- what is begun after a field
 begun_behind : (front u s more w : List ℕ) (b : ℕ) (rest : List ℕ) → u ≡ front ++ s → (s ++ more) ++ b ∷ rest ≡ w → (u ++ more) ++ b ∷ rest ≡ front ++ w
 begun_behind front u s more w b rest e f =
     ap (λ (r : List ℕ). (r ++ more) ++ b ∷ rest) e ∙ ap (λ (r : List ℕ). r ++ b ∷ rest) (append_assoc front s more)
@@ -250,7 +250,7 @@ block_read size f behind h = record {
     longer : (w u : List ℕ) → 0 < length w → 0 < length (w ++ u)
     longer w u p = omega (arith, length-append w u)
 
-    -- bytes that make a block of those that came, and one behind it
+    -- bytes that make a block of those that came, and one after it
     filled : (u : List ℕ) → length u ≤ size → Begun (Block size f) u
     filled u h =
         let zeros = replicate (size - length u) 0 in

@@ -153,7 +153,7 @@ pub record IsBehind {R : Type 0} (f : Form R) : Type 0 where
 pub clear_number : {R : Type 0} (most : ℕ) (f : ℕ → Form R) → most < 2 ^ 64 → ((n : ℕ) → IsBehind (f n)) → IsClear (Number most f)
 clear_number most f bound h = (bound, λ n. plain (f n) (h n).clear (h n).leads, λ n. (h n).clear)
 
--- a block with a text behind it
+-- a block with a text after it
 pub clear_block : {R : Type 0} (size b : ℕ) (bytes : List ℕ) (f : List ℕ → Form R) → ((block : List ℕ) → IsClear (f block)) → IsClear (Block size (λ block. Text (b ∷ bytes) (f block)))
 clear_block size b bytes f h = (λ block p. omega arith, h)
 
@@ -175,7 +175,7 @@ clear_lines (Or f g) h =
     let each = both (are_clear f) (are_clear g) sides.0 in
     clear_or f g (clear_lines f each.0) (clear_lines g each.1) sides.1
 
--- a number that may be asked for, behind a text that begins with no digit
+-- a number that may be asked for, after a text that begins with no digit
 pub behind_number_if : {R : Type 0} (asked : Bool) (text : List ℕ) (most : ℕ) (f : Option ℕ → Form R) → is_plain (Bytes text) ≡ true → most < 2 ^ 64
     → ((n : Option ℕ) → IsBehind (f n)) → IsBehind (number_if asked text most f)
 behind_number_if true text most f starts bound h = record { clear = clear_number most (λ n. f (Some n)) bound (λ n. h (Some n)); leads = starts_and starts }

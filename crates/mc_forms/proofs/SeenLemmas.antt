@@ -16,7 +16,7 @@ bind_all (Err e) f g h = refl
 abbrev asked_for : ℕ × List ℕ → Result (Option ℕ × List ℕ) Unready
 asked_for x = Ok (Some x.0, x.1)
 
--- a number that may have been asked for, and what is behind it
+-- a number that may have been asked for, and what is after it
 pub read-number_if : {R : Type 0} (asked : Bool) (text : List ℕ) (most : ℕ) (f : Option ℕ → Form R) (u : List ℕ)
     → read (number_if asked text most f) u ≡ number_if_at asked text most u >>= (λ x. read (f x.0) x.1)
 read-number_if true text most f u = bind_all (text_at text u) (λ rest. number_at most rest) asked_for (λ x. read (f x.0) x.1)

@@ -49,7 +49,7 @@ abbrev pub or_if : {R : Type 0} → Bool → Form R → Form R → Form R
 or_if true f g = Or f g
 or_if false f g = g
 
--- a number behind a text, where it is asked for
+-- a number after a text, where it is asked for
 abbrev pub number_if : {R : Type 0} → Bool → List ℕ → ℕ → (Option ℕ → Form R) → Form R
 number_if true text most f = Text text (Number most (λ n. f (Some n)))
 number_if false text most f = f None
@@ -66,7 +66,7 @@ or_else (Ok x) other = Ok x
 or_else (Err (More wanted)) other = Err (More wanted)
 or_else (Err Strange) other = other
 
--- the bytes behind a text
+-- the bytes after a text
 unfoldable pub text_at : List ℕ → List ℕ → Result (List ℕ) Unready
 text_at [] u = Ok u
 text_at (t ∷ ts) [] = Err (More 1)
@@ -76,7 +76,7 @@ text_at (t ∷ ts) (b ∷ u) = if b == t then text_at ts u else Err Strange
 abbrev pub is_digit : ℕ → Bool
 is_digit b = nat_le 48 b && nat_le b 57
 
--- a number that has begun so, and the bytes behind it, the first of which is no digit
+-- a number that has begun so, and the bytes after it, the first of which is no digit
 unfoldable pub digits_at : ℕ → ℕ → List ℕ → Result (ℕ × List ℕ) Unready
 digits_at most n [] = Err (More 1)
 digits_at most n (b ∷ u) =
@@ -84,16 +84,16 @@ digits_at most n (b ∷ u) =
     (if nat_lt 0 n && nat_le (10 * n + (b - 48)) most then digits_at most (10 * n + (b - 48)) u else Err Strange)
     else Ok (n, b ∷ u)
 
--- a number of at most so much, and the bytes behind it
+-- a number of at most so much, and the bytes after it
 unfoldable pub number_at : ℕ → List ℕ → Result (ℕ × List ℕ) Unready
 number_at most [] = Err (More 1)
 number_at most (b ∷ u) = if is_digit b && nat_le (b - 48) most then digits_at most (b - 48) u else Err Strange
 
--- so many bytes, and those behind them, of which one has come: it may be strange
+-- so many bytes, and those after them, of which one has come: it may be strange
 unfoldable pub block_at : ℕ → List ℕ → Result (List ℕ × List ℕ) Unready
 block_at size u = if nat_lt size (length u) then Ok (take size u, drop size u) else Err (More (size - length u + 1))
 
--- what stands at the front of the bytes, and the bytes behind it
+-- what is at the front of the bytes, and the bytes after it
 abbrev pub read : {R : Type 0} → Form R → List ℕ → Result (R × List ℕ) Unready
 read (Done r) u = Ok (r, u)
 read (Text text f) u = text_at text u >>= λ rest. read f rest

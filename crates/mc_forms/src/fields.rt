@@ -5,7 +5,7 @@ ghost use Rattle.mc_forms.specs.Seen.{seen_by, number_if_at};
 
 use crate::unready::Unready;
 
-/// The bytes behind this text.
+/// The bytes after this text.
 #[inline(always)]
 pub fn text<'a>(text: &[u8], unread: &'a [u8]) -> Result<&'a [u8], Unready>
     ensures { seen_by (λ rest. rest.now) result ≡ text_at text.now unread.now }
@@ -22,7 +22,7 @@ pub fn text<'a>(text: &[u8], unread: &'a [u8]) -> Result<&'a [u8], Unready>
     }
 }
 
-/// A number of at most so much without a leading zero, and the bytes behind it. A byte that is no digit has come.
+/// A number of at most so much without a leading zero, and the bytes after it. A byte that is no digit has come.
 #[tactic(auto, unfolding(crate::specs::Forms::number_at))]
 pub fn number(most: u64, unread: &[u8]) -> Result<(u64, &[u8]), Unready>
     ensures read { seen_by (λ x. (x.0, x.1.now)) result ≡ number_at most unread.now }
@@ -71,7 +71,7 @@ fn with_digit(most: u64, value: u64, digit: u64) -> Option<u64>
     }
 }
 
-/// So many bytes, and the bytes behind them, of which at least one has come.
+/// So many bytes, and the bytes after them, of which at least one has come.
 #[tactic(auto, unfolding(crate::specs::Forms::block_at))]
 pub fn block(size: u32, unread: &[u8]) -> Result<(&[u8], &[u8]), Unready>
     ensures { seen_by (λ x. (x.0.now, x.1.now)) result ≡ block_at size unread.now }
@@ -84,7 +84,7 @@ pub fn block(size: u32, unread: &[u8]) -> Result<(&[u8], &[u8]), Unready>
     }
 }
 
-/// A number behind a text, where it is asked for, and the bytes behind it.
+/// A number after a text, where it is asked for, and the bytes after it.
 pub fn number_if<'a>(
     asked: bool,
     before: &[u8],

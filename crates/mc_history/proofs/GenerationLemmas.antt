@@ -38,7 +38,7 @@ read_spelled (c ∷ cs) more good =
     ∙ ap (λ (ts : List Taken). read_as c ∷ ts) (read_spelled cs more parts.1)
 
 -- What a connection reads: where what came and what is on its way spell these commands, of which the first were taken, it reads the
--- others, and behind them what follows.
+-- others, and after them what follows.
 pub reads_others : (opening : CacheState) (number : ℕ) (text going sent : List ℕ) (made : List Made) (connection : ConnectionState) (others : List Tagged)
     → Stands opening number text (map taking_of made) sent connection
     → text ++ going ≡ spelled (commands_on number made ++ others) → list_all is_good (commands_on number made ++ others) ≡ true

@@ -41,7 +41,7 @@ Keeps order longer = (tag : Tag) (routed : Routed) → command_at order tag ≡ 
 pub kept_named : (place : ℕ) (order longer : Order) (cs : List Tagged) → Keeps order longer → Each (IsNamed place order) cs → Each (IsNamed place longer) cs
 kept_named place order longer cs keeps h = each_weaker (IsNamed place order) (IsNamed place longer) cs (λ c k. keeps c.1 (to_place place c.0) k) h
 
--- what is there stays there where more is behind
+-- what is there stays there where more is after
 get_there : (es fs : Order) (k : ℕ) (e : Asked) → slice_get es k ≡ Some e → slice_get (es ++ fs) k ≡ Some e
 get_there [] fs zero e h = absurd (none-some e h)
 get_there [] fs (suc k) e h = absurd (none-some e h)

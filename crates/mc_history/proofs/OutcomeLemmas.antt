@@ -1,4 +1,4 @@
--- What became of commands, as an order goes on and as outcomes are noted in it; and the entries behind the replies that were taken.
+-- What became of commands, as an order goes on and as outcomes are noted in it; and the entries after the replies that were taken.
 use Rattle.std.proofs.Common.{◌≡◌, ◌≢◌, ◌∙◌, ℕ, zero, suc, ◌+◌, ◌==◌, ◌⊎◌, inl, inr, true, false, if◌then◌else◌, List, [], ◌∷◌, ◌++◌, map, Option, Some, slice_get, refl, sym, ap, subst, arith}
 use Rattle.std.proofs.lemmas.Bool.{and_parts, eqb-true}
 use Rattle.std.proofs.lemmas.Option.{none-some, same_Some}
@@ -176,7 +176,7 @@ news_all_lost place (t ∷ ts) order numbered tag atom reply is known =
     (λ n. subst (λ (es : Order). AreInOrder es) (sym (entries-note n t Lost order)) (in_order-note t Lost (entries_of n order) (numbered n))) tag atom reply is known in
     news_lost place t order numbered tag atom reply again.0 again.1
 
--- what stands on a connection was made
+-- what is on a connection was made
 front_case : (x : Made) (ys : List Made) (n : ℕ) (m : Made) → slice_get (x ∷ ys) n ≡ Some m → (x ≡ m) ⊎ ((j : ℕ) × (slice_get ys j ≡ Some m))
 front_case x ys zero m e = inl (same_Some x m e)
 front_case x ys (suc n) m e = inr (n, e)

@@ -22,7 +22,7 @@ is_good command = is_good_atom command.0
 abbrev pub commands_of_lane : ℕ → Order → Lane → List Tagged
 commands_of_lane place order lane = commands_to place (drop lane.since order)
 
--- What was told first of some commands is the first of what is told: the same replies, and the bytes behind them tell the later ones.
+-- What was told first of some commands is the first of what is told: the same replies, and the bytes after them tell the later ones.
 pub record IsFront (commands : List Tagged) (replies all : List (AReply (List ℕ))) (bytes : List ℕ) : Type 0 where
   pub later : List (AReply (List ℕ))
   pub all_is : all ≡ replies ++ later

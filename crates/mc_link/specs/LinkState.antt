@@ -31,7 +31,7 @@ down_link generation = record { up = false; generation = generation; output = []
 abbrev pub up_link : ℕ → LinkState
 up_link generation = record { up = true; generation = generation; output = []; waiting = []; unread = [] }
 
--- a link to which a command was sent: its spelling is behind the output, and its head behind what waits
+-- a link to which a command was sent: its spelling is after the output, and its head after what waits
 abbrev pub sent : Atom (List ℕ) → Tag → LinkState → LinkState
 sent atom tag s = record s { output = s.output ++ spelling_of_atom atom; waiting = s.waiting ++ (head_of atom, tag) ∷ [] }
 

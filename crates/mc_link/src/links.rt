@@ -122,7 +122,7 @@ impl Link {
         Ok(self.generation)
     }
 
-    /// Takes the memory for commands to come: behind it, so many sends of commands whose spellings have so many bytes in all
+    /// Takes the memory for commands to come: after it, so many sends of commands whose spellings have so many bytes in all
     /// take none.
     pub fn make_room(&mut self, bytes: usize, heads: usize) -> Result<(), LinkError>
         ensures made { OnOk result ((bytes ≤ self.new.bytes) × (heads ≤ self.new.heads)) }
@@ -157,8 +157,8 @@ impl Link {
         Ok(())
     }
 
-    /// Puts the head of a command behind those that wait. That of a retrieval, which is asked for most, is made where it is to
-    /// stand.
+    /// Puts the head of a command after those that wait. That of a retrieval, which is asked for most, is made where it is to
+    /// are.
     fn wait_for(&mut self, atom: Atom<Block>, tag: Tag)
         requires up { self.old.state.up ≡ true }
         requires room { 0 < self.old.heads }

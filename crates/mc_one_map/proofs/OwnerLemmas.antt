@@ -28,7 +28,7 @@ use Rattle.mc_world.proofs.LogLemmas.{number-before}
 use Rattle.mc_one_map.specs.Executions.{command_sent, sent_at}
 use Rattle.mc_one_map.specs.OneMaps.{joins}
 
--- of what stands in a list
+-- of what is in a list
 abbrev Each : {X : Type 0} → (X → Type 0) → List X → Type 0
 Each {X} P xs = (k : ℕ) (x : X) → slice_get xs k ≡ Some x → P x
 

@@ -39,7 +39,7 @@ passes_at test [] (suc k) x all at = absurd (none-some x at)
 passes_at test (y ∷ ys) zero x all at = ap test (sym (same_Some y x at)) ∙ both_left (test y) (list_all test ys) all
 passes_at test (y ∷ ys) (suc k) x all at = passes_at test ys k x (both_right (test y) (list_all test ys) all) at
 
--- what stands in a front, and what of a list stands there
+-- what is in a front, and what of a list is there
 got_taken : {X : Type 0} (n : ℕ) (xs : List X) (k : ℕ) (x : X) → k < n → slice_get xs k ≡ Some x → slice_get (take n xs) k ≡ Some x
 got_taken n [] zero x inside at = absurd (none-some x at)
 got_taken n [] (suc k) x inside at = absurd (none-some x at)

@@ -18,7 +18,7 @@ use Rattle.mc_history.specs.Histories.{HasReply, IsBefore, IsLegal, tag_in}
 use Rattle.mc_world.specs.Accounts.{IsToldLost, NotAnswered, WasTaken}
 use Rattle.mc_world.specs.Logs.{IsRingAfter, Log, before, moments_of, number_of, puts, serves, takes}
 
--- the clauses of an account, by their names there; the second part of `placed` stands by itself
+-- the clauses of an account, by their names there; the second part of `placed` is by itself
 pub data Clause : Type 0 where
   Asked : Clause
   Turns : Clause
@@ -36,7 +36,7 @@ pub data Clause : Type 0 where
   Placed : Clause
   Unanswered : Clause
 
--- the clauses of an account, but for one, as they stand there
+-- the clauses of an account, but for one, as they are there
 pub record AccountsBut (one : Clause) (ring : RingState) (opening : CacheState) (order : Order) (texts outs : ℕ → List ℕ) (histories : ℕ → List Entry) (log : Log) : Type 0 where
   pub asked : one ≢ Asked → (client : ℕ) → (untaken : List Taken) × (taken_of client order ++ untaken ≡ requests_of (texts client))
   pub turns : one ≢ Turns → (client : ℕ) → length (entries_of client order) ≡ number_of (takes client) log

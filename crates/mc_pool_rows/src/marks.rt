@@ -54,7 +54,7 @@ fn unanswered(proxy: &mut Proxy) -> Result<bool, ProxyError> {
     Ok(are_taken && waits && still && is_out && then)
 }
 
-/// Eight sets wait to be sent, 168 bytes more than the mark: the request behind them waits until 169 are sent.
+/// Eight sets wait to be sent, 168 bytes more than the mark: the request after them waits until 169 are sent.
 fn unsent_on_a_link(proxy: &mut Proxy, set: &[u8]) -> Result<bool, ProxyError> {
     let are_taken = is_taken(proxy, set, 8)? && proxy.link_output(0).len() == LINK_MARK + 168;
     let waits = ask(proxy, GET)? == Turn::Waiting;

@@ -188,7 +188,7 @@ const DIALOGUES: [&[Step]; 10] = [
         ),
         Tells(1, b""),
     ],
-    // of a reply that was cut off nothing is told, and nothing of it stands before what comes once the link is back
+    // of a reply that was cut off nothing is told, and nothing of it is before what comes once the link is back
     &[
         Asks(0, b"get a abc\r\nmg abc v q\r\n"),
         Step::Turn(0, Turn::Took),

@@ -57,7 +57,7 @@ module _ (cs : Sessions) (rise : NumbersRise cs) (number : ℕ) where
       let numbers_rise : number_at cs i ≤ number_at cs j = grind (arith, rise i j, λ (same : i ≡ j). ap (number_at cs) same) in
       grind (arith, nat_tests))
 
-  -- what stands at a place of the number is its session
+  -- what is at a place of the number is its session
   open_at : (place : ℕ) → place < length cs → number_at cs place ≡ number → HoldsAt cs number place
   open_at place inside is =
       let none : NoneBefore cs number place = λ i lt same. omega (arith, rise i place lt inside, is) in (
@@ -96,7 +96,7 @@ module _ (cs : Sessions) (rise : NumbersRise cs) (number : ℕ) where
 pub absent_next : (cs : Sessions) (admitted : ℕ) → AreNumbered cs admitted → session_in cs admitted ≡ None
 absent_next cs admitted numbered = session_in-absent cs admitted (λ i lt same. omega (arith, numbered.given i lt, same))
 
--- a session behind the others is the one of a number that was not open
+-- a session after the others is the one of a number that was not open
 pub fresh_last : (cs : Sessions) (number : ℕ) (session : SessionState) → session_in cs number ≡ None
     → session_in (cs ++ (number, session) ∷ []) number ≡ Some session
 fresh_last [] number session none = grind (arith, nat_tests)

@@ -10,7 +10,7 @@ abbrev pub of_link : LinkError → ProxyError
 of_link links.State = LinkState
 of_link links.Memory = Memory
 
--- a server joins a ring that stands, by an address: it can be refused for two causes, or for want of memory
+-- a server joins a ring that holds, by an address: it can be refused for two causes, or for want of memory
 abbrev pub of_ring : RingError → ProxyError
 of_ring rings.NoServer = Memory
 of_ring rings.TooMany = RingFull

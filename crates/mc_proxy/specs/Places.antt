@@ -1,4 +1,4 @@
--- Where open sessions stand: this project's own.
+-- Where open sessions are: this project's own.
 use Rattle.std.specs.Prelude.{◌≡◌, ℕ, ◌<◌, length, Some, slice_index_or, slice_set, remove}
 use Rattle.mc_session.specs.SessionState.{SessionState, fresh_session}
 use Rattle.mc_proxy.specs.ProxyState.{Sessions, session_in, updated, without}
@@ -16,7 +16,7 @@ pub record AreNumbered (open_ones : Sessions) (admitted : ℕ) : Type 0 where
   pub rise : NumbersRise open_ones
   pub given : (place : ℕ) → place < length open_ones → number_at open_ones place < admitted
 
--- what stands at a place is the session of the number
+-- what is at a place is the session of the number
 pub record IsOpenAt (open_ones : Sessions) (number place : ℕ) (default : ℕ × SessionState) : Type 0 where
   pub number_is : (slice_index_or open_ones place default).0 ≡ number
   pub session : session_in open_ones number ≡ Some (slice_index_or open_ones place default).1

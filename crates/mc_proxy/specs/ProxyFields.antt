@@ -6,7 +6,7 @@ use Rattle.mc_proxy.specs.declared.proxies.Proxy.TheInside.{Inside}
 pub record IsProxy (p : Inside) : Type 0 where
   -- a link for each server
   pub linked : length p.links.items ≡ length p.ring.servers
-  -- the sessions stand in rising order of their numbers
+  -- the sessions are in rising order of their numbers
   pub numbered : AreNumbered p.sessions.items p.admitted
   -- no command is left of a turn
   pub emptied : p.queue.items ≡ []

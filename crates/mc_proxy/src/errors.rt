@@ -71,7 +71,7 @@ impl From<LinkError> for ProxyError {
     }
 }
 
-/// Why a server cannot join: an address and a ring that stand cannot be refused for another cause.
+/// Why a server cannot join: an address and a ring that hold cannot be refused for another cause.
 impl From<RingError> for ProxyError {
     ghost from_gives = { λ ring e. e ≡ of_ring ring };
 

@@ -26,7 +26,7 @@ pub struct Proxy {
     pub(crate) recent: usize,
     /// The links, by the places of their servers.
     pub(crate) links: Vec<Link>,
-    /// Where a turn's commands stand while they are sent. Between turns it is empty: what is kept is its memory.
+    /// Where a turn's commands are while they are sent. Between turns it is empty: what is kept is its memory.
     pub(crate) queue: VecDeque<Routed>,
 }
 

@@ -5,7 +5,7 @@ ghost use Rattle.mc_proxy.specs.Places.{NumbersRise, HoldsAt};
 
 use mc_session::Session;
 
-/// Where the session of a number stands among the open ones. It is looked for at the place `near` first.
+/// Where the session of a number is among the open ones. It is looked for at the place `near` first.
 pub fn place_of(sessions: &[(u64, Session)], near: usize, number: u64) -> Option<usize>
     requires { NumbersRise sessions.now }
     ensures found { IfSome result (HoldsAt sessions.now number) }
@@ -17,7 +17,7 @@ pub fn place_of(sessions: &[(u64, Session)], near: usize, number: u64) -> Option
     search(sessions, number).ok()
 }
 
-/// Whether the session of a number stands at a place.
+/// Whether the session of a number is at a place.
 fn stands_at(sessions: &[(u64, Session)], place: usize, number: u64) -> bool
     requires { NumbersRise sessions.now }
     ensures { result ≡ true → HoldsAt sessions.now number place }

@@ -1,4 +1,4 @@
--- A proxy stands behind calls for a session, and behind calls for a link.
+-- A proxy holds after calls for a session, and after calls for a link.
 use Rattle.std.proofs.Common.{◌≡◌, ◌∙◌, ⊎_elim, ℕ, ◌≤◌, true, List, [], ◌∷◌, ◌++◌, length, map, take, drop, refl, sym, ap, subst, append_assoc}
 use Rattle.std.proofs.lemmas.Bool.Decides.{eqb_tells}
 use Rattle.std.proofs.lemmas.List.{append-nil}
@@ -19,7 +19,7 @@ use Rattle.mc_proxy_pump.specs.Calls as sessions
 use Rattle.mc_proxy_pump.specs.LinkCalls as links
 use Rattle.mc_proxy_pump.specs.Laws.{AreOf, StandsBehindClient, StandsBehindLink, asked_in}
 
--- a proxy stands by texts, bytes and lanes that are the same at each number or place
+-- a proxy holds by texts, bytes and lanes that are the same at each number or place
 stands_same : (texts texts' sent sent' : ℕ → List ℕ) (order : Order) (lanes lanes' : ℕ → Lane) (proxy : ProxyState)
     → ((n : ℕ) → texts' n ≡ texts n) → ((n : ℕ) → sent' n ≡ sent n) → ((place : ℕ) → lanes' place ≡ lanes place)
     → ProxyStands texts sent order lanes proxy → ProxyStands texts' sent' order lanes' proxy
@@ -80,7 +80,7 @@ behind_none number came went texts texts' sent sent' order lanes new text_is sen
       (stands_same texts' (grown number came texts) sent' (grown number went sent) order lanes lanes new text_is sent_is (λ _. refl) h);
 }
 
--- a proxy stands behind a call for a session
+-- a proxy holds after a call for a session
 behind_call : (number : ℕ) (call : sessions.Call) (texts sent : ℕ → List ℕ) (order : Order) (lanes : ℕ → Lane) (old new : ProxyState)
     → ProxyStands texts sent order lanes old → sessions.IsCall number call old new
     → StandsBehindClient number (sessions.came_by call) (sessions.went_by call) texts sent order lanes new
@@ -114,12 +114,12 @@ behind_call number (sessions.Sent count went) texts sent order lanes old new h s
     let grown_by = subst (λ (bytes : List ℕ). ProxyStands texts (grown number bytes sent) order lanes new) (sym step.1) here in
     behind_none number [] went texts texts sent (grown number went sent) order lanes new (λ n. grown_none number n texts) (λ _. refl) grown_by
 
--- entries of one session behind others of it
+-- entries of one session after others of it
 own-append : (number : ℕ) (es fs : Order) → AreOf number es → AreOf number fs → AreOf number (es ++ fs)
 own-append number [] fs h k = k
 own-append number (e ∷ es) fs h k = (h.0, own-append number es fs h.1 k)
 
--- a proxy stands behind calls for a session
+-- a proxy holds after calls for a session
 pub behind_calls : (texts sent : ℕ → List ℕ) (order : Order) (lanes : ℕ → Lane) (number : ℕ) (calls : List sessions.Call) (old new : ProxyState)
     → ProxyStands texts sent order lanes old → sessions.Calls number calls old new
     → StandsBehindClient number (sessions.came_of calls) (sessions.went_of calls) texts sent order lanes new
@@ -183,7 +183,7 @@ link_still place texts sent order order' lanes new same h = record {
   stands = stands_same texts texts sent sent order' lanes (changed place (lanes place) lanes) new (λ _. refl) (λ _. refl) (λ at. changed_none place at lanes) h;
 }
 
--- a proxy stands behind a call for a link
+-- a proxy holds after a call for a link
 behind_link_call : SentStands → FedStands → (place : ℕ) (call : links.LinkCall) (texts sent : ℕ → List ℕ) (order : Order) (lanes : ℕ → Lane) (old new : ProxyState)
     → ProxyStands texts sent order lanes old → links.IsLinkCall place call old new
     → StandsBehindLink place (links.came_by call) (links.went_by call) texts sent order lanes new
@@ -224,7 +224,7 @@ behind_link_call sends feeds place links.Lost texts sent order lanes old new h s
     link_still place texts sent order (note_all tags Lost order) lanes new (asked-note_all tags Lost order)
     (subst (λ (p : ProxyState). ProxyStands texts sent (note_all tags Lost order) lanes p) (sym step.1.1) (stands-lost texts sent order lanes place old h step.0))
 
--- a proxy stands behind calls for a link
+-- a proxy holds after calls for a link
 pub behind_link_calls : SentStands → FedStands → (texts sent : ℕ → List ℕ) (order : Order) (lanes : ℕ → Lane) (place : ℕ) (calls : List links.LinkCall) (old new : ProxyState)
     → ProxyStands texts sent order lanes old → links.LinkCalls place calls old new
     → StandsBehindLink place (links.came_of calls) (links.went_of calls) texts sent order lanes new

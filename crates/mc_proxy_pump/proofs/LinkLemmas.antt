@@ -1,4 +1,4 @@
--- Calls for a link: none, one, and one behind another; the parts of a round of its pump, and its pumps.
+-- Calls for a link: none, one, and one after another; the parts of a round of its pump, and its pumps.
 use Rattle.std.proofs.Common.{◌≡◌, ◌∙◌, inr, ℕ, ◌<◌, ◌≤◌, Bool, true, false, Result, Ok, Err, List, [], ◌∷◌, ◌++◌, length, take, drop, Option, Some, refl, sym, ap, subst, append_assoc, arith}
 use Rattle.std.proofs.lemmas.List.{append-nil}
 use Rattle.std.specs.Io.KnownBytes.{Appends}
@@ -20,7 +20,7 @@ use Rattle.mc_proxy_pump.specs.LinkCalls.{LinkCall, Fed, Sent, Replied, Rested, 
 use Rattle.mc_proxy_pump.specs.Links.{LeavesLink, PumpsLink, is_done}
 use Rattle.mc_proxy_pump.specs.LinkRounds.{HowItTurned, ReceivesLink, SendsLink, TakesReplies, TakesReply}
 
--- the bytes of calls behind calls, and the sessions that they woke
+-- the bytes of calls after calls, and the sessions that they woke
 came-append : (xs ys : List LinkCall) → came_of (xs ++ ys) ≡ came_of xs ++ came_of ys
 came-append [] ys = refl
 came-append (x ∷ xs) ys = ap (λ (bytes : List ℕ). came_by x ++ bytes) (came-append xs ys) ∙ sym (append_assoc (came_by x) (came_of xs) (came_of ys))
@@ -55,7 +55,7 @@ link_one place call a b woken h = record {
   woken_is = refl;
 }
 
--- one stretch behind another
+-- one stretch after another
 pub link_then : (place : ℕ) (a b c : ProxyState) (came more went yet first second third : List ℕ) → LinkStretch place a b came went first second → LinkStretch place b c more yet second third
     → LinkStretch place a c (came ++ more) (went ++ yet) first third
 link_then place a b c came more went yet first second third h k = record {
@@ -66,7 +66,7 @@ link_then place a b c came more went yet first second third h k = record {
   woken_is = woken-append h.calls k.calls first ∙ ap (λ (woken : List ℕ). woken_by k.calls woken) h.woken_is ∙ k.woken_is;
 }
 
--- where a link stands that was written back
+-- where a link holds that was written back
 link_is : (place : ℕ) (link : LinkState) (old new : ProxyState) → (link_at old.links place).up ≡ true → new ≡ record old { links = with_link place link old.links } → link_at new.links place ≡ link
 link_is place link old new up is = ap (λ (p : ProxyState). link_at p.links place) is ∙ link_own place link old.links (up_is_there place old.links up)
 
@@ -150,7 +150,7 @@ reply_strange place old new woken up turn = record {
   how = refl;
 }
 
--- turns behind turns
+-- turns after turns
 pub turns_then : (place : ℕ) (side : Result Bool Pump) (a b c : ProxyState) (first second third : List ℕ) → LinkStretch place a b [] [] first second → TakesReply place side b c second third
     → LinkStretch place a c [] [] first third
 turns_then place side a b c first second third h k = link_then place a b c [] [] [] [] first second third h k.stretch

@@ -1,4 +1,4 @@
--- Calls for a session: none, one, and one behind another.
+-- Calls for a session: none, one, and one after another.
 use Rattle.std.proofs.Common.{◌≡◌, ◌∙◌, ℕ, true, false, List, [], ◌∷◌, ◌++◌, Option, Some, None, IsSome, refl, sym, ap, subst, append_assoc}
 use Rattle.std.proofs.lemmas.List.{append-nil}
 use Rattle.mc_session.specs.SessionState.{SessionState}
@@ -14,7 +14,7 @@ pub is_open : (o : Option SessionState) (s : SessionState) → o ≡ Some s → 
 is_open None s e = absurd cc
 is_open (Some t) s e = refl
 
--- the bytes of calls behind calls
+-- the bytes of calls after calls
 came-append : (xs ys : List Call) → came_of (xs ++ ys) ≡ came_of xs ++ came_of ys
 came-append [] ys = refl
 came-append (x ∷ xs) ys = ap (λ (bytes : List ℕ). came_by x ++ bytes) (came-append xs ys) ∙ sym (append_assoc (came_by x) (came_of xs) (came_of ys))
@@ -23,7 +23,7 @@ went-append : (xs ys : List Call) → went_of (xs ++ ys) ≡ went_of xs ++ went_
 went-append [] ys = refl
 went-append (x ∷ xs) ys = ap (λ (bytes : List ℕ). went_by x ++ bytes) (went-append xs ys) ∙ sym (append_assoc (went_by x) (went_of xs) (went_of ys))
 
--- calls behind calls
+-- calls after calls
 calls-append : (number : ℕ) (xs ys : List Call) (a b c : ProxyState) → Calls number xs a b → Calls number ys b c → Calls number (xs ++ ys) a c
 calls-append number [] ys a b c h k = subst (λ (p : ProxyState). Calls number ys p c) h k
 calls-append number (x ∷ xs) ys a b c h k = (h.0, (h.1.0, calls-append number xs ys h.0 b c h.1.1 k))
@@ -42,7 +42,7 @@ stretch_one number call a b h there = record {
   still_open = there;
 }
 
--- one stretch behind another
+-- one stretch after another
 pub stretch_then : (number : ℕ) (a b c : ProxyState) (came more went yet : List ℕ) → Stretch number a b came went → Stretch number b c more yet
     → Stretch number a c (came ++ more) (went ++ yet)
 stretch_then number a b c came more went yet h k = record {

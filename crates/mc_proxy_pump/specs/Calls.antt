@@ -1,4 +1,4 @@
--- Calls for one session of a proxy, one behind another: this project's own.
+-- Calls for one session of a proxy, one after another: this project's own.
 use Rattle.std.specs.Prelude.{◌≡◌, ℕ, ◌<◌, ◌≤◌, List, [], ◌∷◌, ◌++◌, length, take, IsSome}
 use Rattle.mc_session.specs.Emits.{IsEmit}
 use Rattle.mc_session.specs.Turns.{IsFed, IsTurn}
@@ -29,7 +29,7 @@ IsCall number (Emitted emit) old new = Steps number old new (Alone (IsEmit emit)
 IsCall number (Sent count went) old new =
     (count ≤ length (output_of (session_at old number))) × (went ≡ take count (output_of (session_at old number))) × (new ≡ sent_by number count (session_at old number) old)
 
--- the calls one behind another, from a proxy to what they leave of it
+-- the calls one after another, from a proxy to what they leave of it
 abbrev pub Calls : ℕ → List Call → ProxyState → ProxyState → Type 0
 Calls number [] old new = new ≡ old
 Calls number (call ∷ calls) old new = (middle : ProxyState) × (IsCall number call old middle × Calls number calls middle new)
@@ -56,7 +56,7 @@ abbrev pub went_of : List Call → List ℕ
 went_of [] = []
 went_of (call ∷ calls) = went_by call ++ went_of calls
 
--- Calls for an open session by which these bytes came and these went. The session is open behind them.
+-- Calls for an open session by which these bytes came and these went. The session is open after them.
 pub record Stretch (number : ℕ) (old new : ProxyState) (came went : List ℕ) : Type 0 where
   pub calls : List Call
   pub chain : Calls number calls old new

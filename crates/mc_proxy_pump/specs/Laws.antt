@@ -10,8 +10,8 @@ abbrev pub AreOf : ℕ → Order → Type 0
 AreOf number [] = Unit {0}
 AreOf number (e ∷ es) = (e.session ≡ number) × AreOf number es
 
--- The proxy stands with what came to a session of a number and what went from it behind what it had, and with more taken of
--- that session, of which each is behind all that was taken before.
+-- The proxy holds with what came to a session of a number and what went from it after what it had, and with more taken of
+-- that session, of which each is after all that was taken before.
 pub record StandsBehindClient (number : ℕ) (came went : List ℕ) (texts sent : ℕ → List ℕ) (order : Order) (lanes : ℕ → Lane) (new : ProxyState) : Type 0 where
   pub more : Order
   pub own : AreOf number more
@@ -21,7 +21,7 @@ pub record StandsBehindClient (number : ℕ) (came went : List ℕ) (texts sent 
 abbrev pub asked_in : Order → Order
 asked_in order = map (λ (e : Entry). record e { outcomes = [] }) order
 
--- The proxy stands with what came over the link of a place and what went over it behind what had passed there, and with the same
+-- The proxy holds with what came over the link of a place and what went over it after what had passed there, and with the same
 -- taken in the same order: more may be known of what became of it.
 pub record StandsBehindLink (place : ℕ) (came went : List ℕ) (texts sent : ℕ → List ℕ) (order : Order) (lanes : ℕ → Lane) (new : ProxyState) : Type 0 where
   pub order' : Order

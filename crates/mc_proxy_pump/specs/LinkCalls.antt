@@ -1,4 +1,4 @@
--- Calls for one link of a proxy, one behind another: this project's own.
+-- Calls for one link of a proxy, one after another: this project's own.
 use Rattle.std.specs.Prelude.{◌≡◌, ℕ, ◌-◌, ◌≤◌, ◌==◌, Bool, true, false, List, [], ◌∷◌, ◌++◌, length, take, drop, slice_get, if◌then◌else◌}
 use Rattle.std.specs.Option.{option_map_or}
 use Rattle.mc_link.specs.declared.turns.Tag.{Tag}
@@ -35,7 +35,7 @@ DoesCall place Lost old new = IsLinkTurn place Strange old new
 abbrev pub IsLinkCall : ℕ → LinkCall → ProxyState → ProxyState → Type 0
 IsLinkCall place call old new = ((link_at old.links place).up ≡ true) × DoesCall place call old new
 
--- the calls one behind another, from a proxy to what they leave of it
+-- the calls one after another, from a proxy to what they leave of it
 abbrev pub LinkCalls : ℕ → List LinkCall → ProxyState → ProxyState → Type 0
 LinkCalls place [] old new = new ≡ old
 LinkCalls place (call ∷ calls) old new = (middle : ProxyState) × (IsLinkCall place call old middle × LinkCalls place calls middle new)
@@ -68,11 +68,11 @@ went_of (call ∷ calls) = went_by call ++ went_of calls
 abbrev pub is_last : ℕ → List ℕ → Bool
 is_last number numbers = option_map_or (λ last. last == number) (slice_get numbers (length numbers - 1)) false
 
--- numbers of sessions behind which one more stands, where it is not the last already
+-- numbers of sessions after which one more is, where it is not the last already
 abbrev pub with_woken : ℕ → List ℕ → List ℕ
 with_woken session woken = if is_last session woken then woken else woken ++ session ∷ []
 
--- the same behind calls: each session whose command got its reply
+-- the same after calls: each session whose command got its reply
 abbrev pub woken_by : List LinkCall → List ℕ → List ℕ
 woken_by [] woken = woken
 woken_by (Fed came ∷ calls) woken = woken_by calls woken

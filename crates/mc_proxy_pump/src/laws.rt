@@ -11,7 +11,7 @@ ghost use Rattle.mc_proxy_pump.specs.Laws.{StandsBehindClient, StandsBehindLink}
 
 use mc_account::{bytes_sent_to_servers_stand, server_bytes_stand};
 
-/// A proxy that stands where an order leaves it, stands behind calls for a session where that order and what they took leave it:
+/// A proxy that is where an order leaves it, is after calls for a session where that order and what they took leave it:
 /// the session's text has grown by what came, and the bytes that were taken out by what went.
 pub fn proxies_stand_behind_a_client()
     ensures { (texts sent : ℕ → List ℕ) (order : Order) (lanes : ℕ → Lane) (number : ℕ) (calls : List sessions.Call) (old new : ProxyState)
@@ -19,7 +19,7 @@ pub fn proxies_stand_behind_a_client()
         → StandsBehindClient number (sessions.came_of calls) (sessions.went_of calls) texts sent order lanes new }
 {}
 
-/// A proxy that stands where an order leaves it, stands behind calls for a link where that order leaves it with more known of
+/// A proxy that is where an order leaves it, is after calls for a link where that order leaves it with more known of
 /// what became of its commands: what passed over the link has grown by what came and what went.
 pub fn proxies_stand_behind_a_link()
     ensures { (texts sent : ℕ → List ℕ) (order : Order) (lanes : ℕ → Lane) (place : ℕ) (calls : List links.LinkCall) (old new : ProxyState)

@@ -6,10 +6,10 @@
 //! all that came in a read: what came together goes out together. [`pump_answers`] sends a session its answers and takes nothing of
 //! it, and [`is_owed`] says whether there are any.
 //!
-//! A pump does nothing to its proxy but calls for its own session, or for its own link, one behind another:
+//! A pump does nothing to its proxy but calls for its own session, or for its own link, one after another:
 //! `specs/Calls.antt` and `specs/LinkCalls.antt` have them, with the bytes that came and went by each. `specs/Clients.antt` and
 //! `specs/Links.antt` say what a pump carries, and how it leaves its session or its link. [`proxies_stand_behind_a_client`] and
-//! [`proxies_stand_behind_a_link`] are laws, and do nothing: behind such calls a proxy's account stands, grown by those bytes.
+//! [`proxies_stand_behind_a_link`] are laws, and do nothing: after such calls a proxy's account holds, grown by those bytes.
 #![tactic(auto)]
 
 mod clients;

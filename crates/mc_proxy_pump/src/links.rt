@@ -154,7 +154,7 @@ fn take_reply(proxy: &mut Proxy, server: usize, woken: &mut Vec<u64>) -> Result<
     }
 }
 
-/// Puts a session behind those that were woken, where it is not the last of them already.
+/// Puts a session after those that were woken, where it is not the last of them already.
 fn wake(woken: &mut Vec<u64>, session: u64)
     requires { vec_len woken.old < vec_capacity woken.old }
     ensures { woken.new.items ≡ with_woken session woken.old.items }

@@ -24,7 +24,7 @@ use std::mem;
 use std::net::Net;
 
 /// A proxy, the sockets of its clients, and its lines to the servers. A client's token is its key; a line's is its server's
-/// place behind all keys.
+/// place after all keys.
 #[derive(Drop)]
 pub struct Host {
     proxy: Proxy,

@@ -219,7 +219,7 @@ impl Line {
         self.notices.note(Notice::Refused(cause));
     }
 
-    /// Carries its bytes, and gives commands their replies. The sessions that were answered are put behind `woken`. What a strange
+    /// Carries its bytes, and gives commands their replies. The sessions that were answered are put after `woken`. What a strange
     /// reply leaves without an answer is lost.
     pub fn pump(
         &mut self,

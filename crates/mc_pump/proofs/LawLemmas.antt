@@ -1,4 +1,4 @@
--- A server that stands where a history leaves it, behind a stretch.
+-- A server that is where a history leaves it, after a stretch.
 use Rattle.std.proofs.Common.{◌≡◌, ◌≢◌, ◌∙◌, ℕ, ◌==◌, false, List, [], ◌∷◌, ◌++◌, refl, sym, ap, subst, append_assoc}
 use Rattle.std.proofs.lemmas.List.{append-nil}
 use Rattle.mc_request.specs.declared.parts.Taken.{Taken}
@@ -33,7 +33,7 @@ same_for_others opening number moment other history es differ own = (
       ∙ append-nil (answers_to other opening history),
 )
 
--- the cache behind a stretch
+-- the cache after a stretch
 replayed_behind : (opening middle now : CacheState) (history more : List Entry) → IsReplayed opening history middle → IsReplayed middle more now → IsReplayed opening (history ++ more) now
 replayed_behind opening middle now history more h k = record {
   legal = legal-append opening history more h.legal (subst (λ (s : CacheState). IsLegalHistory s more) h.cache k.legal);

@@ -30,7 +30,7 @@ pub not_none : (o : Option ConnectionState) → (o ≡ None → ⊥) → IsSome 
 not_none None h = absurd (h refl)
 not_none (Some c) h = refl
 
--- behind a stretch the connection is open
+-- after a stretch the connection is open
 pub stays_open : (number moment : ℕ) (a b : ServerState) (came went : List ℕ) → Stretch number moment a b came went → IsSome (connection_at b number)
 stays_open number moment a b came went h = is_open (connection_at b number) h.after (stretch_open number moment a b came went h)
 

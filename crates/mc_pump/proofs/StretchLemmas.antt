@@ -1,4 +1,4 @@
--- Stretches of a connection: none, by one call of the server, and one behind another.
+-- Stretches of a connection: none, by one call of the server, and one after another.
 use Rattle.std.proofs.Common.{◌≡◌, ◌∙◌, ℕ, ◌==◌, ◌<◌, ◌≤◌, true, false, if◌then◌else◌, List, [], ◌∷◌, ◌++◌, length, take, drop, Option, Some, refl, sym, ap, subst, append_assoc, arith}
 use Rattle.std.proofs.lemmas.List.{append-nil, take-append-drop}
 use Rattle.mc_request.specs.declared.parts.Taken.{Taken}
@@ -146,12 +146,12 @@ stretch_sent number moment count c old new was is =
       marked = λ _ _. (refl, refl);
     }
 
--- what is behind nothing
+-- what is after nothing
 nothing_behind : (xs ys : List ℕ) → xs ++ ys ≡ [] → (xs ≡ []) × (ys ≡ [])
 nothing_behind [] ys e = (refl, e)
 nothing_behind (x ∷ xs) ys e = absurd cc
 
--- a stretch behind another that left the connection that it began with
+-- a stretch after another that left the connection that it began with
 behind : (number moment : ℕ) (a b c : ServerState) (came more went yet : List ℕ) (h : Stretch number moment a b came went) (k : Stretch number moment b c more yet)
     → h.after ≡ k.before → Stretch number moment a c (came ++ more) (went ++ yet)
 behind number moment a b c came more went yet h k same =
@@ -197,7 +197,7 @@ behind number moment a b c came more went yet h k same =
           (ap (λ (es : List Entry). es ++ k.history) first.0 ∙ second.0, ap (λ (bytes : List ℕ). bytes ++ more) first.1 ∙ second.1);
     }
 
--- one stretch behind another
+-- one stretch after another
 pub stretch_then : (number moment : ℕ) (a b c : ServerState) (came more went yet : List ℕ) → Stretch number moment a b came went → Stretch number moment b c more yet → Stretch number moment a c (came ++ more) (went ++ yet)
 stretch_then number moment a b c came more went yet h k =
     let there : connection_at b number ≡ Some h.after = ap (λ (cs : Connections). connection_in cs number) h.is ∙ updated_own number h.before h.after a.connections h.was in

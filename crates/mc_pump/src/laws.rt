@@ -6,7 +6,7 @@ ghost use Rattle.mc_server.specs.ServerState.{ServerState};
 ghost use Rattle.mc_server.specs.Stands.{ServerStands, grown};
 ghost use Rattle.mc_pump.specs.Stretches.{Stretch};
 
-/// A server that stands where a history leaves it, stands behind a stretch where that history and the stretch's leave it:
+/// A server that is where a history leaves it, is after a stretch where that history and the stretch's leave it:
 /// its connection's text has grown by what came, and the bytes it was sent by what went.
 pub fn servers_stand_behind_a_stretch()
     ensures { (opening : CacheState) (texts sent : ℕ → List ℕ) (history : List Entry) (number moment : ℕ) (old new : ServerState) (came went : List ℕ)

@@ -8,7 +8,7 @@
 //!
 //! `specs/Stretches.antt` has what a stretch of a connection does to a server, `mc_stream`'s `specs/Sides.antt` what the two
 //! sides of a stream carry, `specs/Pumps.antt` what a pump does between the two. [`servers_stand_behind_a_stretch`] is a law,
-//! and does nothing: a server that stands where a history leaves it stands behind a stretch where the longer history leaves it.
+//! and does nothing: a server that is where a history leaves it is after a stretch where the longer history leaves it.
 #![tactic(auto)]
 
 mod laws;

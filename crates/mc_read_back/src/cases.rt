@@ -59,7 +59,7 @@ impl Asked {
         }))
     }
 
-    /// Takes the pieces of a line, which stand behind its first word, until one is strange.
+    /// Takes the pieces of a line, which are after its first word, until one is strange.
     fn hear_line(&mut self, alloc: Global, line: &[u8], output: &mut Vec<u8>) -> Result<()> {
         for number in 1..=line.len() {
             let Some(piece) = word_at(alloc, line, number)? else {

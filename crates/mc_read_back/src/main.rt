@@ -2,7 +2,7 @@
 //!
 //! Each line of standard input is a case: words in hexadecimal digits, with a space between. The first is the text of a
 //! request, and the others are what comes in answer to the first of its commands, piece by piece. What is printed for a
-//! case is a line again: the command's canonical spelling, and behind each piece what a reader of replies then gives: each
+//! case is a line again: the command's canonical spelling, and after each piece what a reader of replies then gives: each
 //! reply by its spelling, and last `more` or `strange`. A text whose first is no request with a command is `none`.
 //!
 //! So a model of spellings and replies that was written by itself can be compared with this project's.

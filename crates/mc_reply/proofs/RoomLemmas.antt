@@ -101,7 +101,7 @@ word_fits name read [] = tt
 word_fits name read (letter ∷ token) =
     among_fits (word_room (letter ∷ token)) read (is_one_of (letters_of name) letter) (by_letter name read token (flag_of letter)) (letter_fits name read token (flag_of letter))
 
--- the words behind one that was read
+-- the words after one that was read
 more_fit : (name : Name) (read : MetaFlags) (room : ℕ) (words : List (List ℕ)) (first : Result MetaFlags Fault) (end : MetaFlags) → Fits room read first
     → ((next : MetaFlags) → flags_from name next words ≡ Ok end → flags_room words ≤ left_room next)
     → (first >>= (λ next. flags_from name next words)) ≡ Ok end → room + flags_room words ≤ left_room read

@@ -20,7 +20,7 @@ use Rattle.mc_reply.specs.declared.replies.Shown.{Shown}
 use Rattle.mc_reply.specs.declared.replies.Reply.{Reply}
 use Rattle.mc_reply.specs.declared.replies.Reply.TheVariants.{Stored, NotStored, Exists, NotFound, Deleted, Touched, Flushed, Number, Miss, Hit, Meta, Fault}
 
--- a part stands exactly where it is asked for, and passes a test
+-- a part is exactly where it is asked for, and passes a test
 abbrev pub is_as_asked : {A : Type 0} → (A → Bool) → Bool → Option A → Bool
 is_as_asked test true (Some part) = test part
 is_as_asked test true None = false

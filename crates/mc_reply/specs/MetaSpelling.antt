@@ -24,7 +24,7 @@ abbrev pub key_flag_onto : Bool → List ℕ → List ℕ → List ℕ
 key_flag_onto false word rest = codes " k" ++ (word ++ rest)
 key_flag_onto true word rest = codes " k" ++ (word ++ (codes " b" ++ rest))
 
--- a number behind its letter, where it is shown, and what follows: source protocol.txt, "Meta Get", flags c, f and s
+-- a number after its letter, where it is shown, and what follows: source protocol.txt, "Meta Get", flags c, f and s
 abbrev pub number_flag_onto : List ℕ → Option ℕ → List ℕ → List ℕ
 number_flag_onto letter None rest = rest
 number_flag_onto letter (Some number) rest = letter ++ (decimal number ++ rest)
@@ -56,8 +56,8 @@ abbrev pub flags_onto : Bool → List ℕ → Shown → List (List ℕ) → List
 flags_onto coded word shown [] rest = rest
 flags_onto coded word shown (flag ∷ flags) rest = flag_onto coded word shown flag (flags_onto coded word shown flags rest)
 
--- the marks, and what follows: source protocol.txt, "Meta Get", W, X and Z; which of them stand together, and that they
--- stand last, is this project's own
+-- the marks, and what follows: source protocol.txt, "Meta Get", W, X and Z; which of them are together, and that they
+-- are last, is this project's own
 abbrev pub marks_onto : Marks → List ℕ → List ℕ
 marks_onto Plain rest = rest
 marks_onto Won rest = codes " W" ++ rest

@@ -6,7 +6,7 @@ use Rattle.mc_request.specs.declared.parts.Request.TheVariants.{Get, Update, Met
 use Rattle.mc_reply.specs.declared.replies.Reply.{Reply}
 use Rattle.mc_reply.specs.Spelling.{end_line, key_part, shown_line, shown_meta, meta_key, answer_of}
 
--- the end stands behind the part of the last key
+-- the end is after the part of the last key
 abbrev pub end_behind : List (List ℕ) → ℕ → List ℕ
 end_behind keys at = if at + 1 == length keys then end_line else []
 

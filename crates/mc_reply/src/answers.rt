@@ -76,7 +76,7 @@ pub fn write_key(key: &[u8], reply: &Reply<&[u8]>, out: &mut Vec<u8>) -> Result<
     Ok(())
 }
 
-/// Appends the end of the answer to a retrieval command, which stands behind its last key.
+/// Appends the end of the answer to a retrieval command, which is after its last key.
 pub fn write_end(out: &mut Vec<u8>) -> Result<(), ReplyError>
     ensures ok { OnOk result (out.new.items ≡ out.old.items ++ end_line) }
     ensures len { vec_len out.new ≤ vec_len out.old + LINE_ROOM }

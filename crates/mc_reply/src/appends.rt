@@ -19,7 +19,7 @@ pub const BLOCK_ROOM: usize = 80;
 /// The most bytes of a space and a number.
 const NUMBER_LEN: usize = 21;
 
-/// The most bytes of three numbers, each behind a space, and a line end.
+/// The most bytes of three numbers, each after a space, and a line end.
 const NUMBERS_LEN: usize = 65;
 
 /// Appends the line of a reply.
@@ -105,7 +105,7 @@ fn put_line_end(numbers: &mut [u8; NUMBERS_LEN]) -> usize
     NUMBERS_LEN - 2
 }
 
-/// Puts an item's number, where it was asked for, before what stands from `end` on, and gives where it starts.
+/// Puts an item's number, where it was asked for, before what is from `end` on, and gives where it starts.
 fn put_cas(numbers: &mut [u8; NUMBERS_LEN], cas: Option<u64>, end: usize) -> usize
     requires { (NUMBER_LEN ≤ end) × (end ≤ NUMBERS_LEN) }
     ensures put { drop result numbers.new ≡ cas_onto cas (drop end numbers.old) }
@@ -118,7 +118,7 @@ fn put_cas(numbers: &mut [u8; NUMBERS_LEN], cas: Option<u64>, end: usize) -> usi
     }
 }
 
-/// Puts a space and a number in digits before what stands from `end` on, and gives where they start.
+/// Puts a space and a number in digits before what is from `end` on, and gives where they start.
 fn put_number(numbers: &mut [u8; NUMBERS_LEN], number: u64, end: usize) -> usize
     requires { (NUMBER_LEN ≤ end) × (end ≤ NUMBERS_LEN) }
     ensures put { drop result numbers.new ≡ number_onto number (drop end numbers.old) }

@@ -109,7 +109,7 @@ fn append_left(out: &mut Vec<u8>, left: Option<Option<u64>>)
     }
 }
 
-/// Appends a number behind a space and its letter, where it is shown.
+/// Appends a number after a space and its letter, where it is shown.
 fn append_if(out: &mut Vec<u8>, letter: u8, number: Option<u64>)
     requires { vec_len out.old + NUMBER_FLAG_ROOM ≤ vec_capacity out.old }
     ensures items { (rest : List ℕ) → out.new.items ++ rest ≡ out.old.items ++ number_flag_onto (32 ∷ letter ∷ []) number rest }
@@ -121,7 +121,7 @@ fn append_if(out: &mut Vec<u8>, letter: u8, number: Option<u64>)
     }
 }
 
-/// Appends a number behind a space and its letter.
+/// Appends a number after a space and its letter.
 fn append_number(out: &mut Vec<u8>, letter: u8, number: u64)
     requires { vec_len out.old + NUMBER_FLAG_ROOM ≤ vec_capacity out.old }
     ensures items { out.new.items ≡ out.old.items ++ 32 ∷ letter ∷ decimal number }

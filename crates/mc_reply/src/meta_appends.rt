@@ -115,7 +115,7 @@ fn put_size(text: &mut [u8; SIZE_LEN], size: usize) -> usize
     start
 }
 
-/// The marks, and the end of the line behind them.
+/// The marks, and the end of the line after them.
 fn marks_end(marks: Marks) -> &'static [u8]
     ensures end { result.now ≡ marks_onto marks (codes "\r\n") }
     ensures short { length result.now ≤ 6 }

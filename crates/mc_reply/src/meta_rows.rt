@@ -9,7 +9,7 @@ ghost use Rattle.mc_reply.specs.declared.replies.Reply.TheVariants.{NotStored, E
 ghost use Rattle.mc_reply.specs.Replies.{nothing_shown};
 ghost use Rattle.mc_reply.specs.Examples.{answer_to, done, marked, numbered, shows_x};
 
-/// What is asked to be given back stands in the order asked. An opaque is given back as it came.
+/// What is asked to be given back is in the order asked. An opaque is given back as it came.
 pub fn flags_as_asked()
     ensures all { answer_to (codes "mg a t s f c O7 k v")
         (Meta (record { cas = Some 1; flags = Some 0; size = Some 1; left = Some (Some 10); marks = Plain }) (Some (codes "x")))
@@ -18,7 +18,7 @@ pub fn flags_as_asked()
     ensures empty { answer_to (codes "mg a v q") (Meta nothing_shown (Some [])) ≡ codes "VA 0\r\n\r\n" }
 {}
 
-/// A key is given back as it was asked for: by itself, or in base64 with a `b` behind it.
+/// A key is given back as it was asked for: by itself, or in base64 with a `b` after it.
 pub fn keys_as_asked()
     ensures coded { answer_to (codes "mg YWJj b k") done ≡ codes "HD kYWJj b\r\n" }
     ensures plain { answer_to (codes "md a k O1") done ≡ codes "HD ka O1\r\n" }
@@ -35,7 +35,7 @@ pub fn what_was_not_done()
         ≡ codes "CLIENT_ERROR cannot increment or decrement non-numeric value\r\n" }
 {}
 
-/// Marks stand behind all that was asked for.
+/// Marks are after all that was asked for.
 pub fn marks_stand_last()
     ensures stale { answer_to (codes "mg a c") (numbered 5 WonStale) ≡ codes "HD c5 W X\r\n" }
     ensures created { answer_to (codes "mg b N0 q k") (marked Won) ≡ codes "HD kb W\r\n" }

@@ -17,7 +17,7 @@ use Rattle.mc_reply_reader.specs.MetaForms.{left_if, end_if, shown_by, behind_li
 use Rattle.mc_reply_reader.specs.declared.limits.TheConstants.{FLAGS_LIMIT, NUMBER_LIMIT}
 use Rattle.mc_reply_reader.proofs.LimitLemmas.{u64_fits, fits_u64, u32_fits, fits_u32, size_fits, fits_size, block_fits, fits_block, all_four, four_of}
 
--- what is shown behind the code of a line or its size, in canonical order, and what follows the line
+-- what is shown after the code of a line or its size, in canonical order, and what follows the line
 abbrev pub shown_onto : Shown → List ℕ → List ℕ
 shown_onto shown rest =
     number_flag_onto (codes " c") shown.cas (number_flag_onto (codes " f") shown.flags (number_flag_onto (codes " s") shown.size

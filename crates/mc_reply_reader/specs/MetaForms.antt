@@ -38,7 +38,7 @@ late_mark_end f =
 abbrev pub mark_end : (Marks → Form Answer) → Form Answer
 mark_end f = Or (Text (codes " W\r\n") (f Won)) (late_mark_end f)
 
--- the end of the line, behind a mark where there may be one: source protocol.txt, "Meta Get", W, X and Z
+-- the end of the line, after a mark where there may be one: source protocol.txt, "Meta Get", W, X and Z
 abbrev pub end_if : Bool → (Marks → Form Answer) → Form Answer
 end_if true f = Or (Text (codes "\r\n") (f Plain)) (mark_end f)
 end_if false f = Text (codes "\r\n") (f Plain)
@@ -53,7 +53,7 @@ shown_by marked show f =
     end_if marked (λ marks.
     f (record { cas = cas; flags = flags; size = size; left = left; marks = marks }))))))
 
--- what stands behind the line: where the size of a value stands in it, the value
+-- what is after the line: where the size of a value is in it, the value
 abbrev pub behind_line : Option ℕ → Shown → Form Answer
 behind_line None shown = Done (replies.Meta shown None)
 behind_line (Some size) shown = Block size (λ value. Text (codes "\r\n") (Done (replies.Meta shown (Some value))))
@@ -99,7 +99,7 @@ form_of (atoms.Get key exptime with_cas) = Some (get_form key with_cas)
 form_of (atoms.Update update) = Some (update_form update)
 form_of (atoms.Meta command) = meta_form command
 
--- what stands at the front of the bytes: where there is no reply, everything is strange
+-- what is at the front of the bytes: where there is no reply, everything is strange
 abbrev pub read_if : Option (Form Answer) → List ℕ → Result (Answer × List ℕ) Unready
 read_if None u = Err Strange
 read_if (Some form) u = read form u

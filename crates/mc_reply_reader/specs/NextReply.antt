@@ -26,7 +26,7 @@ pub record IsBegun (head : Atom (Unit {0})) (unread : List ℕ) : Type 0 where
   pub missing : 0 < length more
   pub spelled : unread ++ more ≡ spelling_of head reply
 
--- whatever comes next, these and the bytes behind them, as long as there are fewer than so many, are such a beginning
+-- whatever comes next, these and the bytes after them, as long as there are fewer than so many, are such a beginning
 pub record IsShortOf (head : Atom (Unit {0})) (wanted : ℕ) (unread : List ℕ) : Type 0 where
   pub short : length unread < wanted
   pub begun : (more : List ℕ) → length (unread ++ more) < wanted → IsBegun head (unread ++ more)

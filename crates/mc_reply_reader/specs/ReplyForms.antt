@@ -32,7 +32,7 @@ store_faults = Or (update_line (replies.Fault TooLarge)) (Or (update_line (repli
 abbrev pub count_faults : Form Answer
 count_faults = Or (update_line (replies.Fault NonNumeric)) store_faults
 
--- the replies to a store behind which nothing is stored for the number that it compares, or for a fault
+-- the replies to a store after which nothing is stored for the number that it compares, or for a fault
 abbrev pub compared_form : Bool → Form Answer
 compared_form compares = or_if compares (Or (update_line replies.Exists) (update_line replies.NotFound)) store_faults
 

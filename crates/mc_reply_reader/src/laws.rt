@@ -11,7 +11,7 @@ ghost use Rattle.mc_reply.specs.CanHave.{can_have};
 ghost use Rattle.mc_reply.specs.Spelling.{spelling_of};
 ghost use Rattle.mc_reply_reader.specs.NextReply.{IsBegun};
 
-/// No spelling of a reply to a command begins that of another, and each is of one reply: what stands at the front of some
+/// No spelling of a reply to a command begins that of another, and each is of one reply: what is at the front of some
 /// bytes is one reply or none.
 #[tactic(auto, using(crate::proofs::HeadLemmas::replies_apart))]
 pub fn replies_stand_apart()

@@ -8,7 +8,7 @@
 //! [`ReplyReader::give_back`] gives back the memory that an idle reader has reserved.
 //!
 //! `specs/NextReply.antt` says what is given, by the spellings of replies (`mc_reply`'s `spelling_of`) and the replies that a
-//! command can have (`can_have`): no grammar stands in it. What is strange is so at its first strange byte, since up to there
+//! command can have (`can_have`): no grammar is in it. What is strange is so at its first strange byte, since up to there
 //! it is the beginning of a reply. That a reply is never two at once, that at first any may begin, and that none is spelled
 //! by no bytes, are the laws [`replies_stand_apart`], [`nothing_is_a_beginning`] and [`spellings_are_not_empty`]. `specs/ReplyForms.antt` and `specs/MetaForms.antt` have the forms
 //! of replies by which they are read and the contract is proved.

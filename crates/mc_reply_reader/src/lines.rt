@@ -9,7 +9,7 @@ use mc_forms::{Unready, text};
 use mc_reply::Reply;
 use mc_request::Fault;
 
-/// A reply whose value stands in the bytes, and the bytes behind it.
+/// A reply whose value is in the bytes, and the bytes after it.
 pub type Reading<'a> = Result<(Reply<&'a [u8]>, &'a [u8]), Unready>;
 
 /// This line, which says this reply.

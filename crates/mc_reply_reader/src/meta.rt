@@ -178,7 +178,7 @@ fn flags_of(flags: Option<u64>) -> Option<u32>
     }
 }
 
-/// The size, where it was asked for, and what is behind it.
+/// The size, where it was asked for, and what is after it.
 fn size_if(marked: bool, show: Show, shown: Shown, size: Option<u32>, unread: &[u8]) -> Reading<'_>
     ensures { seen_by (λ x. (bytes_seen x.0, x.1.now)) result
         ≡ read (number_if show.size (codes " s") VALUE_LIMIT (λ own. left_if show.left (λ left. end_if marked (λ marks.
@@ -202,7 +202,7 @@ fn size_of(size: Option<u64>) -> Option<usize>
     }
 }
 
-/// The seconds left, where they were asked for, and what is behind them.
+/// The seconds left, where they were asked for, and what is after them.
 fn left_if(asked: bool, marked: bool, shown: Shown, size: Option<u32>, unread: &[u8]) -> Reading<'_>
     ensures { seen_by (λ x. (bytes_seen x.0, x.1.now)) result
         ≡ read (left_if asked (λ left. end_if marked (λ marks. behind_line size (record shown { left = left; marks = marks })))) unread.now }
@@ -225,7 +225,7 @@ fn left_if(asked: bool, marked: bool, shown: Shown, size: Option<u32>, unread: &
     }
 }
 
-/// Behind the letter of the seconds: an item that never ends.
+/// After the letter of the seconds: an item that never ends.
 fn endless(marked: bool, shown: Shown, size: Option<u32>, unread: &[u8]) -> Reading<'_>
     ensures { seen_by (λ x. (bytes_seen x.0, x.1.now)) result
         ≡ read (Text (codes "-1") (end_if marked (λ marks. behind_line size (record shown { left = Some None; marks = marks })))) unread.now }
@@ -235,7 +235,7 @@ fn endless(marked: bool, shown: Shown, size: Option<u32>, unread: &[u8]) -> Read
     end_if(marked, Shown { left, ..shown }, size, rest)
 }
 
-/// Behind the letter of the seconds: an item that ends.
+/// After the letter of the seconds: an item that ends.
 fn ending(marked: bool, shown: Shown, size: Option<u32>, unread: &[u8]) -> Reading<'_>
     ensures { seen_by (λ x. (bytes_seen x.0, x.1.now)) result
         ≡ read (Number NUMBER_LIMIT (λ n. end_if marked (λ marks. behind_line size (record shown { left = Some (Some n); marks = marks })))) unread.now }
@@ -245,7 +245,7 @@ fn ending(marked: bool, shown: Shown, size: Option<u32>, unread: &[u8]) -> Readi
     end_if(marked, Shown { left, ..shown }, size, rest)
 }
 
-/// The end of the line, behind a mark where there may be one, and what is behind it.
+/// The end of the line, after a mark where there may be one, and what is after it.
 fn end_if(marked: bool, shown: Shown, size: Option<u32>, unread: &[u8]) -> Reading<'_>
     ensures { seen_by (λ x. (bytes_seen x.0, x.1.now)) result
         ≡ read (end_if marked (λ marks. behind_line size (record shown { marks = marks }))) unread.now }
@@ -256,7 +256,7 @@ fn end_if(marked: bool, shown: Shown, size: Option<u32>, unread: &[u8]) -> Readi
     }
 }
 
-/// A mark and the end of the line, and what is behind it.
+/// A mark and the end of the line, and what is after it.
 fn mark_end(shown: Shown, size: Option<u32>, unread: &[u8]) -> Reading<'_>
     ensures { seen_by (λ x. (bytes_seen x.0, x.1.now)) result
         ≡ read (mark_end (λ marks. behind_line size (record shown { marks = marks }))) unread.now }
@@ -267,7 +267,7 @@ fn mark_end(shown: Shown, size: Option<u32>, unread: &[u8]) -> Reading<'_>
     }
 }
 
-/// One of the later marks and the end of the line, and what is behind it.
+/// One of the later marks and the end of the line, and what is after it.
 fn late_mark_end(shown: Shown, size: Option<u32>, unread: &[u8]) -> Reading<'_>
     ensures { seen_by (λ x. (bytes_seen x.0, x.1.now)) result
         ≡ read (late_mark_end (λ marks. behind_line size (record shown { marks = marks }))) unread.now }
@@ -278,7 +278,7 @@ fn late_mark_end(shown: Shown, size: Option<u32>, unread: &[u8]) -> Reading<'_>
     }
 }
 
-/// The marks of an item that another was told to fill, the end of the line, and what is behind it.
+/// The marks of an item that another was told to fill, the end of the line, and what is after it.
 fn sent_end(shown: Shown, size: Option<u32>, unread: &[u8]) -> Reading<'_>
     ensures { seen_by (λ x. (bytes_seen x.0, x.1.now)) result
         ≡ read (Or (Text (codes " X Z\r\n") (behind_line size (record shown { marks = Marks.StaleSent })))
@@ -290,7 +290,7 @@ fn sent_end(shown: Shown, size: Option<u32>, unread: &[u8]) -> Reading<'_>
     }
 }
 
-/// The end of a line with these marks, and what is behind it.
+/// The end of a line with these marks, and what is after it.
 fn end_by<'a>(
     end: &[u8],
     marks: Marks,

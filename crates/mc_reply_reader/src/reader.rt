@@ -50,7 +50,7 @@ impl ReplyReader {
         Ok(())
     }
 
-    /// What stands next, for the command that it answers. A reply is taken out, and its value is copied, once; else nothing
+    /// What is next, for the command that it answers. A reply is taken out, and its value is copied, once; else nothing
     /// changes, nor where there is no memory for the value.
     pub fn next(&mut self, alloc: Global, head: &Head) -> Result<NextReply, ReplyError>
         ensures given { IfOk result (λ next. Gives head.now self.old next self.new) }

@@ -38,12 +38,12 @@ pub fn number_too_large()
     ensures { IsStrangeFrom incr_of_a 20 (codes "18446744073709551616") }
 {}
 
-/// Seconds that nobody asked for: only a mark may stand there.
+/// Seconds that nobody asked for: only a mark may be there.
 pub fn seconds_not_asked_for()
     ensures { IsStrangeFrom mg_of_a 6 (codes "VA 1 t") }
 {}
 
-/// A block that has begun to come: the rest of it is waited for, and one byte behind it, which may be strange.
+/// A block that has begun to come: the rest of it is waited for, and one byte after it, which may be strange.
 pub fn block_is_waited_for()
     ensures { IsShortOf get_of_a 17 (codes "VALUE a 0 3\r\nx") }
 {}

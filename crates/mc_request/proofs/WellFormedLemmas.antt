@@ -202,7 +202,7 @@ counted name words false h = refl
 line_good : (name : Name) (words : List (List ℕ)) → holds (is_good_line (announced name words)) (line_of name words) ≡ true
 line_good name words = counted name words (has_arity name words) refl
 
--- the block that is to come behind a line
+-- the block that is to come after a line
 abbrev pub block_in : Meaning → Option ℕ
 block_in (Alone taken) = None
 block_in (Stores storing len) = Some len
@@ -297,7 +297,7 @@ next_good_by lines.Partial text x e = absurd cc
 next_good_by lines.TooLong text x e = let same : Faulty faults.LineTooLong ≡ x.0 = cc in rw (← same) refl
 next_good_by (lines.Whole content line) text x e = taken_good (meaning (words content)) line (drop line text) x (meaning_good (words content)) e
 
--- whatever stands first is well formed
+-- whatever is first is well formed
 pub next_request_good : (text : List ℕ) (x : Taken × ℕ) → next_request text ≡ Some x → is_well_formed x.0 ≡ true
 unfolding next_request
 next_request_good text x e = next_good_by (first_line text) text x e

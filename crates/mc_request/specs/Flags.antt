@@ -159,7 +159,7 @@ abbrev pub flags_from : Name → MetaFlags → List (List ℕ) → Result MetaFl
 flags_from name read [] = Ok read
 flags_from name read (word ∷ words) = with_flag name read word >>= (λ read. flags_from name read words)
 
--- whether a command takes flag words: each is one of its flags and stands once, with a token that may be read
+-- whether a command takes flag words: each is one of its flags and is once, with a token that may be read
 abbrev pub takes_flags : Name → List (List ℕ) → Bool
 takes_flags name words = is_ok (flags_from name fresh_flags words)
 

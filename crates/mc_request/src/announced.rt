@@ -15,7 +15,7 @@ pub fn announced_in(content: &[u8]) -> Option<u32>
     announced(name_of(words.next()?)?, words)
 }
 
-/// The same by the name of its command and the words behind that.
+/// The same by the name of its command and the words after that.
 fn announced(name: Name, words: WordIter<'_>) -> Option<u32>
     ensures { result ≡ announced name words.entry }
 {

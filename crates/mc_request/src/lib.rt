@@ -4,16 +4,16 @@
 //! fault whose data block is swallowed. [`announced_in`] says of a line only how long its data block is. [`Asked::taken`]
 //! copies what is lent, and so makes a [`Request`] of it.
 //! A meta command that is lent has its key as a word, plain or in base64 ([`key_bytes`], [`Update::said`]),
-//! and its flag words as they stand in the line ([`MetaForm`]). [`flag_of`] names the flag of a letter.
+//! and its flag words as they are in the line ([`MetaForm`]). [`flag_of`] names the flag of a letter.
 //! [`Request::atoms`] gives the commands of a request, each an [`Atom`], which [`Atom::into_head`] makes a [`Head`]: what of it a
 //! reader of its reply must know. [`Request::hides`] is what a request hides of its answer, and [`Fault::line`] the error line
 //! of a fault.
 //!
 //! `specs/Meanings.antt` says what a line asks for by its words, and `specs/Requests.antt` what the requests of a text are. The
-//! reader that gives these, however the text comes, stands in the crate `mc_request_reader`; the spelling of a command, the one
-//! text that a proxy sends for it, stands in `mc_spelling`.
+//! reader that gives these, however the text comes, is in the crate `mc_request_reader`; the spelling of a command, the one
+//! text that a proxy sends for it, is in `mc_spelling`.
 //!
-//! Of the calls, `atoms`, those of `Keys` that make room or put a key behind, and those that make a copy of what is lent take
+//! Of the calls, `atoms`, those of `Keys` that make room or put a key after, and those that make a copy of what is lent take
 //! memory; all others take none, and cannot fail.
 #![tactic(auto)]
 

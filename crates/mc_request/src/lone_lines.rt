@@ -15,7 +15,7 @@ use crate::names::{is_noreply, noreply_of, noreply_word};
 use crate::parts::{Direction, Update};
 use mc_text::{WordIter, is_plain_key, read_i64, read_u64};
 
-/// `get`, and behind its exptime `gat`, by the keys. One that is none refuses the line.
+/// `get`, and after its exptime `gat`, by the keys. One that is none refuses the line.
 #[inline(always)]
 pub fn keys_line(exptime: Option<i64>, with_cas: bool, keys: WordIter<'_>) -> CommandLine<'_>
     ensures { meaning_of result ≡ meaning_from None (if at_least 1 keys.entry then keys_line exptime with_cas keys.entry else Err UnknownCommand) }
@@ -123,7 +123,7 @@ pub fn delete_line(mut words: WordIter<'_>) -> CommandLine<'_>
     })
 }
 
-/// Whether the reply of a deletion is hidden, by what stands behind its key.
+/// Whether the reply of a deletion is hidden, by what is after its key.
 fn noreply_behind_zero(mut words: WordIter<'_>) -> Result<bool, Fault>
     ensures { result ≡ (if at_most 2 words.entry then noreply_of (without_zero words.entry) else Err UnknownCommand) }
 {
@@ -220,7 +220,7 @@ fn flush_parts(mut words: WordIter<'_>) -> Result<(i64, bool), Fault>
     Ok((delay, noreply))
 }
 
-/// `version`: no word stands behind it.
+/// `version`: no word is after it.
 #[inline(never)]
 pub fn version_line(mut words: WordIter<'_>) -> CommandLine<'_>
     ensures { meaning_of result ≡ meaning_from None (if at_most 0 words.entry then Ok (Lone Version) else Err UnknownCommand) }

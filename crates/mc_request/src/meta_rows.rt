@@ -45,7 +45,7 @@ pub fn tokens_of_each_flag()
     ensures ma_longer { invalid_alone Name.MetaArithmetic longer_flags ≡ words longer_flags }
 {}
 
-/// No flag stands twice, whatever it says the second time.
+/// No flag is twice, whatever it says the second time.
 pub fn flags_stand_once()
     ensures mg { once_each Name.MetaGet every_flag ≡ true }
     ensures ms { once_each Name.MetaSet every_flag ≡ true }
@@ -105,7 +105,7 @@ pub fn meta_sets()
     ensures all { meaning (words (codes "ms a 2 MA C5 F7 T-1 s")) ≡ Stores (setting StoreMode.Append (Some 5) 7 (negsuc 0) (record nothing_shown { size = true }) (codes "MA C5 F7 T-1 s")) 2 }
 {}
 
-/// A key in base64 may be of any bytes. One that is no base64, or has a bit set behind its last byte, refuses the line.
+/// A key in base64 may be of any bytes. One that is no base64, or has a bit set after its last byte, refuses the line.
 pub fn coded_keys()
     ensures space { meaning (words (codes "mg YSBi b")) ≡ meta (MetaCommand.Get (codes "a b") (record { show = nothing_shown; exptime = None; create = None; recache = None })) true false (codes "b") }
     ensures bits { meaning (words (codes "mg YWJ= b")) ≡ refused Fault.BadFormat }

@@ -40,7 +40,7 @@ line_ends u content line e =
     let end_is : parts.0 ≡ line - 1 = omega (arith, parts.3) in
     rw (← end_is) parts.1
 
--- what stands there now
+-- what is there now
 pub starts_now : (u : List ℕ) (m : Meaning) (line : ℕ) → StartsBy u m line → next_request u ≡ taken_by m line (drop line u)
 starts_now u m line h = ap next_request (sym (append-nil u)) ∙ h.next [] ∙ rw append-nil refl
 
@@ -53,7 +53,7 @@ same_test a b c d f g = elim (cases_lt a b) [
   ]
 ]
 
--- how much of a block has come, by all bytes and by those behind the line
+-- how much of a block has come, by all bytes and by those after the line
 block_test : (u more : List ℕ) (line len : ℕ) → (0 < line) × (line ≤ length u) → nat_lt (length (drop line u ++ more)) (len + 2) ≡ nat_lt (length (u ++ more)) (line + (len + 2))
 block_test u more line len size =
     same_test (length (drop line u ++ more)) (len + 2) (length (u ++ more)) (line + (len + 2))
@@ -145,7 +145,7 @@ pub one_wanted : (u : List ℕ) → next_request u ≡ None → IsShortOf (lengt
 one_wanted u none [] short = rw append-nil none
 one_wanted u none (b ∷ bs) short = absurd (omega (arith, short, length-append u (b ∷ bs)))
 
--- whether what stands first has come, by the block that its line announces
+-- whether what is first has come, by the block that its line announces
 pub has_come : (u : List ℕ) (line : ℕ) (m : Meaning) → StartsBy u m line → block_in m ≡ None → is_some (next_request u) ≡ true
 has_come u line (Alone taken) h none = rw (starts_now u (Alone taken) line h) refl
 has_come u line (Stores s len) h none = absurd cc
@@ -164,6 +164,6 @@ not_come (Some x) h = absurd cc
 short_of : (o : Option (Taken × ℕ)) (n size : ℕ) → o ≡ None → nat_le size n ≡ is_some o → n < size
 short_of o n size none is = let short : nat_le size n ≡ false = is ∙ rw none refl in grind (arith, short)
 
--- a block that has not come whole is behind what has come
+-- a block that has not come whole is after what has come
 pub block_is_behind : (u : List ℕ) (line : ℕ) (m : Meaning) (len : ℕ) → StartsBy u m line → block_in m ≡ Some len → next_request u ≡ None → length u < line + (len + 2)
 block_is_behind u line m len h block none = short_of (next_request u) (length u) (line + (len + 2)) none (block_has_come u line m len h block)

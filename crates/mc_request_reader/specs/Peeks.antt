@@ -15,7 +15,7 @@ use Rattle.mc_request.specs.WellFormed.{is_well_formed}
 use Rattle.mc_request.specs.LinesSeen.{asked_of}
 use Rattle.mc_request_reader.specs.Reader.{ReaderState, rest_of}
 
--- a reader behind its first request or fault
+-- a reader after its first request or fault
 abbrev pub past : Front → ReaderState → ReaderState
 past front s = record s { unread = drop front.size s.unread; dropping = None; closed = front.closes }
 
@@ -30,7 +30,7 @@ pub record HasNone (old new : ReaderState) : Type 0 where
   pub none : rest_of old [] ≡ []
   pub rest : (text : List ℕ) → rest_of new text ≡ rest_of old text
 
--- what stands first where nothing is closed, and how many bytes it takes: it is whole, or its block was dropped
+-- what is first where nothing is closed, and how many bytes it takes: it is whole, or its block was dropped
 abbrev pub first_by : Option (Fault × ℕ) → List ℕ → Option (Taken × ℕ)
 first_by None unread = next_request unread
 first_by (Some d) unread = if nat_lt 0 d.1 then None else Some (Faulty d.0, 0)

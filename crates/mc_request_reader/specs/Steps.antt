@@ -37,7 +37,7 @@ pub record IsWaiting (unread : List ℕ) (known : Searched) (wanted : ℕ) (sure
   pub limit : wanted ≤ REQUEST_LIMIT
   pub whole : sure ≡ true → IsWholeFrom wanted unread
 
--- what stands at the front of bytes: it is whole, it waits, or its block is dropped while it comes
+-- what is at the front of bytes: it is whole, it waits, or its block is dropped while it comes
 abbrev pub StandIs : List ℕ → Stand → Type 0
 StandIs unread (Whole searched) = IsSearched searched unread × (is_some (next_request unread) ≡ true)
 StandIs unread (Waits searched wanted sure) = IsWaiting unread searched wanted sure

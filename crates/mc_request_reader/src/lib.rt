@@ -2,13 +2,13 @@
 //!
 //! A [`Reader`] is fed the bytes of a connection in whatever pieces they come ([`Reader::feed`]), and gives the
 //! requests and faults of them in order ([`Reader::next`]). [`Reader::peek`] and [`Reader::consume`] are the two
-//! halves of `next`: the one lends what stands first, its keys and its block being bytes of the reader, and the other
+//! halves of `next`: the one lends what is first, its keys and its block being bytes of the reader, and the other
 //! takes it. [`Reader::ready`] says whether there is one, and [`Reader::held`] how many bytes are kept.
 //! What one line asks for is the crate `mc_request`'s: what is lent is its `Asked`, what is given its `Request` or `Fault`.
 //!
 //! A reader stands for a function: from the text still to come to the requests and faults that it will give.
 //! `feed`, `next` and `consume` are proved to keep that function, so how the text is cut never matters: see
-//! `specs/Reader.antt` for the function, and `specs/Requests.antt` of `mc_request` for the requests of a text. Its laws stand
+//! `specs/Reader.antt` for the function, and `specs/Requests.antt` of `mc_request` for the requests of a text. Its laws are
 //! here ([`requests_begin`], [`requests_go_on`], [`requests_are_well_formed`], [`requests_are_no_more_than_bytes`]).
 //!
 //! Of the calls, `feed` and `next` take memory; all others take none, and cannot fail.

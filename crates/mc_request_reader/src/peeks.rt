@@ -1,7 +1,7 @@
-//! What stands first in a reader, and where it ends.
+//! What is first in a reader, and where it ends.
 use mc_request::Asked;
 
-/// The most bytes that a request or fault takes: a line, a data block and the line end behind it.
+/// The most bytes that a request or fault takes: a line, a data block and the line end after it.
 pub const REQUEST_LIMIT: usize = 1_114_114;
 
 /// Where the first request or fault of a reader ends.
@@ -13,7 +13,7 @@ pub struct Front {
     pub closes: bool,
 }
 
-/// What stands first in a reader. It is lent, and not taken yet.
+/// What is first in a reader. It is lent, and not taken yet.
 #[derive(Drop)]
 pub enum Peek<'a> {
     /// A whole request or fault, and where it ends.

@@ -13,7 +13,7 @@ pub fn set_then_get()
         ∷ Taken.Whole (Request.Get (codes "a" ∷ []) None false) ∷ [] }
 {}
 
-/// A block that is longer than its line says takes as many bytes as the line says, and the two behind them.
+/// A block that is longer than its line says takes as many bytes as the line says, and the two after them.
 pub fn block_takes_too_much()
     ensures { requests_of (codes "set a 0 0 1\r\nxyzget a\r\n")
         ≡ Taken.Faulty Fault.BadDataChunk ∷ Taken.Whole (Request.Get (codes "a" ∷ []) None false) ∷ [] }

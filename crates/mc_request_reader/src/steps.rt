@@ -12,10 +12,10 @@ use crate::searched::Searched;
 use mc_request::{Asked, CommandLine, Fault, Storing, announced_in, command_line, plain_get};
 use mc_text::{LINE_LIMIT, Line};
 
-/// What stands behind a data block.
+/// What is after a data block.
 const LINE_END: &[u8] = b"\r\n";
 
-/// What stands at the front of the bytes that have come.
+/// What is at the front of the bytes that have come.
 pub enum Stand {
     /// The first request or fault is whole. So far its line was searched.
     Whole(Searched),
@@ -30,7 +30,7 @@ pub enum Stand {
     Drops(Fault, usize),
 }
 
-/// What stands at the front of the bytes, of which so many were searched.
+/// What is at the front of the bytes, of which so many were searched.
 pub fn stand_of(unread: &[u8], searched: Searched) -> Stand
     requires { IsSearched searched unread.now }
     ensures { StandIs unread.now result }
@@ -96,7 +96,7 @@ fn has_come(unread: &[u8], content: &[u8], taken: usize) -> bool
     }
 }
 
-/// How many bytes a line takes with its data block and the line end behind that.
+/// How many bytes a line takes with its data block and the line end after that.
 fn size_with_block(line: usize, len: u32) -> usize
     requires { line < 2 ^ 63 }
     ensures { result ≡ line + (len + 2) }
@@ -159,7 +159,7 @@ fn asked_behind<'a>(
     }
 }
 
-/// A storage command and its data block that has come, by the two bytes behind it.
+/// A storage command and its data block that has come, by the two bytes after it.
 fn with_block<'a>(storing: Storing<'a>, block: &'a [u8], end: &[u8]) -> Asked<'a>
     ensures { asked_of result ≡ with_block (storing_of storing.entry) block.now end.now }
 {

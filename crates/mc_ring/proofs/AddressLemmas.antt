@@ -19,6 +19,6 @@ address_at text place e =
     let at : is_address text ≡ cut place = ap cut (position_or_len_is (λ b. b == 58) text place e) in
     at ∙ ap (λ port. is_host (take place text) && is_port port) (sym (drop-drop 1 place text))
 
--- behind a host its port decides
+-- after a host its port decides
 pub address_behind_host : (text : List ℕ) (place : ℕ) → position (λ b. b == 58) text ≡ Some place → is_host (take place text) ≡ true → is_address text ≡ is_port (drop 1 (drop place text))
 address_behind_host text place e host = address_at text place e ∙ ap (λ b. b && is_port (drop 1 (drop place text))) host

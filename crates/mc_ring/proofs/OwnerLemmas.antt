@@ -28,7 +28,7 @@ contains_from (p ∷ ps) q (inr m) = let rest = contains_from ps q m in (suc res
 
 -- ---- the order of pairs
 
--- one pair does not stand behind another
+-- one pair is not after another
 abbrev pub IsUpTo : Point → Point → Type 0
 IsUpTo p q = (p.point < q.point) ⊎ ((p.point ≡ q.point) × (p.place ≤ q.place))
 
@@ -65,7 +65,7 @@ up_to-both p q (inr a) (inr b) = same_point p q a.0 (omega arith)
 
 -- ---- the least of some pairs
 
--- one of the pairs, and no other stands before it
+-- one of the pairs, and no other is before it
 record IsLeast (m : Point) (ps : List Point) : Type 0 where
   pub here : Member m ps
   pub first : (q : Point) → Member q ps → IsUpTo m q

@@ -3,12 +3,12 @@ use Rattle.std.specs.Prelude.{ℕ, ◌==◌, ◌&&◌, ◌||◌, Bool, nat_lt, n
 use Rattle.std.specs.Option.{option_or, option_map_or}
 use Rattle.mc_ring.specs.declared.points.Point.{Point}
 
--- a pair stands before another: its point is less, or the points are equal and its place is less
+-- a pair is before another: its point is less, or the points are equal and its place is less
 -- source: libketama sorts by points; the rule for equal points is this project's own
 abbrev pub is_before : Point → Point → Bool
 is_before p q = nat_lt p.point q.point || p.point == q.point && nat_lt p.place q.place
 
--- the one of two pairs that stands before the other, where there are two
+-- the one of two pairs that is before the other, where there are two
 abbrev pub lesser : Point → Option Point → Point
 lesser p None = p
 lesser p (Some q) = if is_before q p then q else p

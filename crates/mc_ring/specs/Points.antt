@@ -36,7 +36,7 @@ pair_at place point = record { point = point; place = place }
 abbrev pub pairs_at : ℕ → List ℕ → List Point
 pairs_at place points = map (pair_at place) points
 
--- the pairs of servers of which the first stands at a place
+-- the pairs of servers of which the first is at a place
 abbrev pub pairs_from : ℕ → List (List ℕ) → List Point
 pairs_from place [] = []
 pairs_from place (server ∷ servers) = pairs_at place (points_of server) ++ pairs_from (suc place) servers

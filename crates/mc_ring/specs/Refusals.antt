@@ -44,7 +44,7 @@ abbrev pub refusal_of_points : List (List ℕ) → List Point → Option RingErr
 refusal_of_points servers pairs =
     if length pairs == 0 then Some NoServer else option_or (refusal_of servers) (refusal_of_pairs (length servers) pairs)
 
--- a server that comes behind those of a ring: 64 are there, or one is alike
+-- a server that comes after those of a ring: 64 are there, or one is alike
 abbrev pub refusal_of_more : List (List ℕ) → List ℕ → Option RingError
 refusal_of_more servers server =
     if nat_le 64 (length servers) then Some TooMany

@@ -12,7 +12,7 @@ pub record RingState : Type 0 where
   -- each pair once, in rising order of point, then place
   pub points : List Point
 
--- each pair stands before all that follow it
+-- each pair is before all that follow it
 abbrev pub IsRising : List Point → Type 0
 IsRising points = AllPairs (λ p q. is_before p q ≡ true) points
 

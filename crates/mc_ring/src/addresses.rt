@@ -84,7 +84,7 @@ fn is_address(text: &[u8]) -> bool
     }
 }
 
-/// Where the first colon stands.
+/// Where the first colon is.
 fn colon_of(text: &[u8]) -> Option<usize>
     ensures { result ≡ position (λ b. b == 58) text.now }
 {

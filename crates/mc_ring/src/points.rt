@@ -1,4 +1,4 @@
-//! Points: where the servers stand on the ring, and where a key does.
+//! Points: where the servers are on the ring, and where a key is.
 ghost use Rattle.std.specs.Prelude.{◌≡◌, ◌≤◌, ◌<◌, ◌+◌, ◌++◌, length, Some, Contains, IfOk, OnOk};
 ghost use Rattle.md5.specs.Md5.{md5, word_at};
 ghost use Rattle.mc_ring.specs.Points.{label, points_of_digest, points_of, hash_of, pair_at, pairs_at, pairs_of};
@@ -25,7 +25,7 @@ pub struct Point {
     pub place: usize,
 }
 
-/// The hash of a key's bytes, which is where the key stands on the ring.
+/// The hash of a key's bytes, which is where the key is on the ring.
 #[tactic(auto, unfolding(crate::specs::Points::hash_of))]
 pub fn hash_of(key: &[u8]) -> u32
     ensures { result ≡ hash_of key.now }
@@ -77,7 +77,7 @@ fn points_of_digest(digest: &[u8; DIGEST_LEN], place: usize) -> [Point; 4]
     ]
 }
 
-/// Puts the points of a server behind others. At an error some of them may stand there.
+/// Puts the points of a server after others. At an error some of them may be there.
 pub fn push_points(
     points: &mut Vec<Point>,
     server: &Address,

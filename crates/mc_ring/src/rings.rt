@@ -69,7 +69,7 @@ impl Ring {
         Ok(Ring { servers, points })
     }
 
-    /// A ring with one server more, behind the others and with its 160 points. The servers and points of this ring
+    /// A ring with one server more, after the others and with its 160 points. The servers and points of this ring
     /// stay as they are, also where they were given by [`Ring::of_points`].
     pub fn with_server(&self, alloc: Global, server: Address) -> Result<Ring, RingError>
         ensures servers { IfOk result (λ ring. ring.servers ≡ self.now.servers ++ server ∷ []) }
@@ -169,7 +169,7 @@ fn has_places_below(points: &[Point], count: usize) -> bool
     points.iter().all(|p| p.place < count)
 }
 
-/// Whether a server can come behind those of a ring.
+/// Whether a server can come after those of a ring.
 fn check_more(servers: &[Address], server: &Address) -> Result<(), RingError>
     ensures { refusal_in result ≡ refusal_of_more servers.now server.now }
 {
@@ -182,7 +182,7 @@ fn check_more(servers: &[Address], server: &Address) -> Result<(), RingError>
     Ok(())
 }
 
-/// A copy of the servers, and one more behind them.
+/// A copy of the servers, and one more after them.
 fn servers_with(
     alloc: Global,
     servers: &[Address],

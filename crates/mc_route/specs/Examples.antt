@@ -41,7 +41,7 @@ joined_in (request ∷ others) outcomes = joined_answer request outcomes
 abbrev pub joined_to : List ℕ → List Outcome → List ℕ
 joined_to line outcomes = joined_in (request_in line) outcomes
 
--- the first server owns what stands where `abc` does, the second what stands where `a` does
+-- the first server owns what is where `abc` is, the second what is where `a` is
 abbrev pub two_servers : RingState
 two_servers = record { servers = codes "h:1" ∷ codes "h:2" ∷ []; points = pair_at 0 0x98500190 ∷ pair_at 1 0xb975c10c ∷ [] }
 

@@ -17,7 +17,7 @@ abbrev pub outcomes_room : List Outcome → ℕ
 outcomes_room [] = 0
 outcomes_room (outcome ∷ others) = outcome_room outcome + outcomes_room others
 
--- what a whole answer has at most: that of each command, and what else stands on a line or at the end
+-- what a whole answer has at most: that of each command, and what else is on a line or at the end
 -- source: this project's own
 abbrev pub join_room : Request → List Outcome → ℕ
 join_room request outcomes = outcomes_room outcomes + part_room request

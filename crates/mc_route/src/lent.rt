@@ -19,7 +19,7 @@ use mc_text::WordIter;
 use std::alloc::Global;
 use std::collections::VecDeque;
 
-/// Puts the commands of what a reader lends behind those of a queue, each with its server, and gives what stays of it for
+/// Puts the commands of what a reader lends after those of a queue, each with its server, and gives what stays of it for
 /// its answer: the request without its data block, or the fault, which has no command.
 ///
 /// A queue that is kept and emptied from the front takes no memory for most requests. What is copied is each key, once for

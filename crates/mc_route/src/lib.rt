@@ -1,7 +1,7 @@
 //! Routes: from a request to its servers, and from what became of its commands to its answer.
 //!
 //! Who has what a reader lends, and a ring, asks which servers it is for: [`route`] puts its commands, each with its server
-//! ([`Routed`]), behind those of a queue that the caller keeps, and gives what stays of it for the answer. Each key's digest
+//! ([`Routed`]), after those of a queue that the caller keeps, and gives what stays of it for the answer. Each key's digest
 //! is computed once, there. Of a request that is taken already, [`atoms`] gives the commands, and copies keys and blocks;
 //! [`into_atoms`] takes the request apart and copies none, and [`without_block`] copies what stays for the answer. When each
 //! command has its [`Outcome`], its reply or that it was lost, [`join`] appends the answer to bytes that are still to be

@@ -79,7 +79,7 @@ pub fn update_count(update: &Update<Key, Block>, ring: &Ring) -> usize
     }
 }
 
-/// Puts the commands of a request behind others. Its keys and blocks are copied; at an error some commands may stand there.
+/// Puts the commands of a request after others. Its keys and blocks are copied; at an error some commands may be there.
 fn push_copied(
     routed: &mut VecDeque<Routed>,
     ring: &Ring,
@@ -101,7 +101,7 @@ fn push_copied(
     Ok(())
 }
 
-/// Puts the commands of a request behind others. Its keys and blocks are moved.
+/// Puts the commands of a request after others. Its keys and blocks are moved.
 fn push_moved(routed: &mut VecDeque<Routed>, ring: &Ring, request: Request)
     requires { deque_len routed.old + length (route_of ring.now request) ≤ deque_capacity routed.old }
     ensures { routed.new.items ≡ routed.old.items ++ route_of ring.now request }
@@ -118,7 +118,7 @@ fn push_moved(routed: &mut VecDeque<Routed>, ring: &Ring, request: Request)
     }
 }
 
-/// Puts a command behind others, for which there is room.
+/// Puts a command after others, for which there is room.
 fn push(routed: &mut VecDeque<Routed>, server: usize, atom: Atom<Block>)
     requires { deque_len routed.old + 1 ≤ deque_capacity routed.old }
     ensures items { routed.new.items ≡ routed.old.items ++ to_place server atom ∷ [] }
@@ -128,7 +128,7 @@ fn push(routed: &mut VecDeque<Routed>, server: usize, atom: Atom<Block>)
     routed.push_back_reserved(Routed { server, atom });
 }
 
-/// Puts the command on one key of a retrieval command behind others.
+/// Puts the command on one key of a retrieval command after others.
 fn push_get(
     routed: &mut VecDeque<Routed>,
     ring: &Ring,
@@ -150,7 +150,7 @@ fn push_get(
     push(routed, server, atom);
 }
 
-/// Puts the commands of a retrieval command behind others. Its keys are copied; at an error some of them may stand there.
+/// Puts the commands of a retrieval command after others. Its keys are copied; at an error some of them may be there.
 fn push_copied_keys(
     routed: &mut VecDeque<Routed>,
     ring: &Ring,
@@ -179,7 +179,7 @@ fn meta_copy_of(command: &MetaCommand<Key, Block>) -> Result<MetaCommand<Key, Bl
     command.clone()
 }
 
-/// Puts the commands of a retrieval command behind others. Its keys are moved.
+/// Puts the commands of a retrieval command after others. Its keys are moved.
 pub fn push_moved_keys(
     routed: &mut VecDeque<Routed>,
     ring: &Ring,
@@ -197,7 +197,7 @@ pub fn push_moved_keys(
     }
 }
 
-/// Puts the command of an update behind others, to the owner of its key; a flush to each server.
+/// Puts the command of an update after others, to the owner of its key; a flush to each server.
 pub fn push_update(routed: &mut VecDeque<Routed>, ring: &Ring, update: Update<Key, Block>)
     requires { deque_len routed.old + length (route_of_update ring.now update) ≤ deque_capacity routed.old }
     ensures { routed.new.items ≡ routed.old.items ++ route_of_update ring.now update }
@@ -212,7 +212,7 @@ pub fn push_update(routed: &mut VecDeque<Routed>, ring: &Ring, update: Update<Ke
     push(routed, server, Atom::Update(update));
 }
 
-/// Puts a flush for each server behind others, in the servers' order.
+/// Puts a flush for each server after others, in the servers' order.
 #[tactic(auto, using(crate::proofs::RouteLemmas::each_steps))]
 fn push_flush(routed: &mut VecDeque<Routed>, ring: &Ring, delay: i64)
     requires { deque_len routed.old + length (to_each 0 ring.now.servers (AnUpdate (FlushAll delay))) ≤ deque_capacity routed.old }
@@ -223,7 +223,7 @@ fn push_flush(routed: &mut VecDeque<Routed>, ring: &Ring, delay: i64)
     }
 }
 
-/// Puts a meta command behind others, to the owner of its key.
+/// Puts a meta command after others, to the owner of its key.
 pub fn push_meta(routed: &mut VecDeque<Routed>, ring: &Ring, command: MetaCommand<Key, Block>)
     requires { deque_len routed.old + 1 ≤ deque_capacity routed.old }
     ensures { routed.new.items ≡ routed.old.items ++ to_owner ring.now (meta_key command) (AMeta command) ∷ [] }

@@ -30,7 +30,7 @@ pub fn requests_without_commands()
     ensures quit_answer { joined_to (codes "quit") [] ≡ [] }
 {}
 
-/// The items of several servers stand in the order of the keys, before one end.
+/// The items of several servers are in the order of the keys, before one end.
 pub fn items_of_two_servers()
     ensures { joined_to (codes "get a b c") (Reply (Hit 1 None (codes "x")) ∷ Reply Miss ∷ Reply (Hit 2 None (codes "yz")) ∷ [])
         ≡ codes "VALUE a 1 1\r\nx\r\nVALUE c 2 2\r\nyz\r\nEND\r\n" }

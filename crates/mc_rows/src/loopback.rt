@@ -9,7 +9,7 @@ use std::net::{Ipv4Addr, Net, Shutdown, SocketAddr, TcpStream};
 use std::test::Fail;
 use std::{io, thread};
 
-/// A clock that stands.
+/// A clock that holds.
 #[derive(Drop)]
 struct StandingClock;
 

@@ -25,7 +25,7 @@ use Rattle.mc_script.proofs.HistoryLemmas.{text_more, text_turn, taken_by, serve
 abbrev entry : ℕ → Taken → ℕ → Bool → Entry
 entry connection what moment refused = record { connection = connection; what = what; moment = moment; refused = refused }
 
--- what was taken of a connection first, and behind it
+-- what was taken of a connection first, and after it
 head_taken : (x y : Entry) (xs ys : List Entry) → x.connection ≡ y.connection → taken_of x.connection (x ∷ xs) ≡ taken_of x.connection (y ∷ ys) → x.what ≡ y.what
 head_taken x y xs ys same h =
     let first : taken_of x.connection (x ∷ xs) ≡ x.what ∷ taken_of x.connection xs = rw (own_number x.connection) refl in
@@ -86,7 +86,7 @@ few xs ys h = omega (arith, ap length h, length-take (length xs) ys)
 still_first : (xs ys all more : List Taken) → xs ≡ take (length xs) ys → all ≡ ys ++ more → xs ≡ take (length xs) all
 still_first xs ys all more h is = h ∙ sym (take-append-le (length xs) ys more (few xs ys h)) ∙ ap (λ (ts : List Taken). take (length xs) ts) (sym is)
 
--- the next one behind the first
+-- the next one after the first
 next_one : (xs : List Taken) (n : ℕ) → n < length xs → (x : Taken) × (take (n + 1) xs ≡ take n xs ++ x ∷ [])
 next_one [] n inside = absurd (omega arith)
 next_one (x ∷ xs) n inside = (get_or (x ∷ xs) n x, take_more (x ∷ xs) n x inside)

@@ -12,7 +12,7 @@ none_stays : (o : Option (List ℕ)) → o ≡ None → option_map (λ text. tex
 none_stays None e = refl
 none_stays (Some x) e = absurd cc
 
--- behind what is no escape nothing is read
+-- after what is no escape nothing is read
 pub text_from_lost : (text : List ℕ) → text_from Lost text ≡ None
 unfolding text_from
 text_from_lost [] = refl
@@ -29,7 +29,7 @@ unfolding text_from
 text_of-read text [] bytes e z = sym (e ∙ ap (λ (bs : List ℕ). Some bs) (append-nil bytes))
 text_of-read text (b ∷ bs) bytes e z = absurd (omega arith)
 
--- what a reader of escapes meets behind a backslash
+-- what a reader of escapes meets after a backslash
 pub ruleset behind_backslash = (text_from_lost, text_from_x)
 
 -- a byte that stands for itself

@@ -28,7 +28,7 @@ use Rattle.mc_script.proofs.OutputLemmas.{opened_more}
 abbrev texts_fed : List Event → ℕ → List ℕ
 texts_fed events number = text_fed number events
 
--- Where the first events leave a server: its connections are open, it stands where a history leaves it, and the turns to
+-- Where the first events leave a server: its connections are open, it is where a history leaves it, and the turns to
 -- come go on from the turns of that history.
 pub record Played (opening : CacheState) (connections : ℕ) (events : List Event) (i : ℕ) (server : ServerState) : Type 0 where
   pub history : List Entry
@@ -44,7 +44,7 @@ fresh_open from (suc count) number low high =
     (λ e. let above : from + 1 ≤ number = omega (arith, e.1) in rw e.0 (fresh_open (from + 1) count number above (omega arith)))
     (eqb_tells from number)
 
--- such a server stands where no history leaves it
+-- such a server is where no history leaves it
 opened_stands : (opening : CacheState) (count : ℕ) → ServerStands opening (λ _. []) (λ _. []) [] (opened opening count)
 opened_stands opening zero = ServerStands-new opening
 opened_stands opening (suc count) =

@@ -1,4 +1,4 @@
--- Escapes: how any bytes stand in a line of printable ones. Source: this project's own.
+-- Escapes: how any bytes are in a line of printable ones. Source: this project's own.
 use Rattle.std.specs.Prelude.{◌≡◌, ℕ, ◌+◌, ◌-◌, ◌*◌, ◌/◌, ◌%◌, ◌==◌, ◌&&◌, nat_lt, nat_le, List, [], ◌∷◌, ◌++◌, Option, Some, None, is_some, codes, decimal, if◌then◌else◌}
 use Rattle.std.specs.List.{flat_map, enumerate_from}
 use Rattle.std.specs.Option.{option_map, option_map_or}
@@ -45,24 +45,24 @@ hex_value c =
     else if nat_le 65 c && nat_le c 70 then Some (c - 55)
     else None
 
--- the byte that a letter behind a backslash stands for
+-- the byte that a letter after a backslash stands for
 unfoldable pub letter_value : ℕ → Option ℕ
 letter_value c = if c == 92 then Some 92 else if c == 114 then Some 13 else if c == 110 then Some 10 else None
 
--- where a reader of escapes stands
+-- where a reader of escapes is
 pub data Place : Type 0 where
-  -- behind a whole byte, or at the beginning
+  -- after a whole byte, or at the beginning
   Between : Place
-  -- behind a backslash
+  -- after a backslash
   Backslash : Place
-  -- behind a backslash and x
+  -- after a backslash and x
   NoDigit : Place
-  -- behind a backslash, x and a digit of this value
+  -- after a backslash, x and a digit of this value
   OneDigit : ℕ → Place
-  -- behind what is no escape
+  -- after what is no escape
   Lost : Place
 
--- where it stands behind one byte more
+-- where it is after one byte more
 abbrev pub place_behind : Place → ℕ → Place
 place_behind Between b = if b == 92 then Backslash else Between
 place_behind Backslash b = if b == 120 then NoDigit else if is_some (letter_value b) then Between else Lost
@@ -78,7 +78,7 @@ completed NoDigit b = []
 completed (OneDigit high) b = option_map_or (λ low. (16 * high + low) ∷ []) (hex_value b) []
 completed Lost b = []
 
--- a text ends behind a whole byte
+-- a text ends after a whole byte
 abbrev pub at_end : Place → Option (List ℕ)
 at_end Between = Some []
 at_end Backslash = None
@@ -95,10 +95,10 @@ text_from place (b ∷ bs) = option_map (λ text. completed place b ++ text) (te
 abbrev pub text_of : List ℕ → Option (List ℕ)
 text_of text = text_from Between text
 
--- a text behind a place stands for a byte first, and then for what the rest stands for
+-- a text after a place stands for a byte first, and then for what the rest stands for
 abbrev pub GivesByte : Place → List ℕ → ℕ → List ℕ → Type 0
 GivesByte place text byte rest = text_from place text ≡ option_map (λ bytes. byte ∷ bytes) (text_of rest)
 
--- a text behind a place has no bytes that it stands for
+-- a text after a place has no bytes that it stands for
 abbrev pub GivesNoByte : Place → List ℕ → Type 0
 GivesNoByte place text = text_from place text ≡ None

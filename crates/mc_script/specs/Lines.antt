@@ -11,6 +11,6 @@ lines_from n text = filter (λ line. nat_lt 0 (length line.1)) (enumerate_from n
 abbrev pub with_line : ℕ → List ℕ → List (ℕ × List ℕ) → List (ℕ × List ℕ)
 with_line n line lines = if nat_lt 0 (length line) then (n, line) ∷ lines else lines
 
--- what stands before and behind the first space
+-- what is before and after the first space
 unfoldable pub cut_at_space : List ℕ → Option (List ℕ × List ℕ)
 cut_at_space text = option_map (λ end. (take end text, drop (end + 1) text)) (position (λ b. b == 32) text)

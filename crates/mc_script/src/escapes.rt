@@ -1,4 +1,4 @@
-//! Escapes: how any bytes stand in a line of printable ones.
+//! Escapes: how any bytes are in a line of printable ones.
 ghost use Rattle.std.specs.Prelude.{◌≡◌, ◌<◌, ◌++◌, ◌∷◌, ℕ, List, Some, length, IfOk, IfSome, OnOk, OnErr, MatchOption, All, [], take, vec_len};
 ghost use Rattle.std.specs.Option.{option_map};
 ghost use Rattle.mc_script.specs.Escapes.{client_line, escape_of, escaped, named_line, hex_digit, hex_value, letter_value, text_of, GivesByte, GivesNoByte, Between, Backslash, NoDigit};
@@ -119,7 +119,7 @@ fn hex_digit(number: u8) -> u8
     }
 }
 
-/// The first byte that a text stands for, and the text behind it.
+/// The first byte that a text stands for, and the text after it.
 #[tactic(auto, unfolding(crate::specs::Escapes::text_from))]
 fn first_byte(text: &[u8]) -> Option<(u8, &[u8])>
     requires { 0 < length text.now }
@@ -134,7 +134,7 @@ fn first_byte(text: &[u8]) -> Option<(u8, &[u8])>
     }
 }
 
-/// The byte of what follows a backslash, and the text behind it.
+/// The byte of what follows a backslash, and the text after it.
 #[tactic(auto, using(crate::proofs::EscapeLemmas::behind_backslash), unfolding(crate::specs::Escapes::text_from))]
 fn byte_of_escape(text: &[u8]) -> Option<(u8, &[u8])>
     ensures byte { MatchOption result (GivesNoByte Backslash text.now) (λ p. GivesByte Backslash text.now p.0 p.1.now) }
@@ -148,7 +148,7 @@ fn byte_of_escape(text: &[u8]) -> Option<(u8, &[u8])>
     }
 }
 
-/// The byte of two hexadecimal digits, and the text behind them.
+/// The byte of two hexadecimal digits, and the text after them.
 #[tactic(auto, using(crate::proofs::EscapeLemmas::behind_backslash), unfolding(crate::specs::Escapes::text_from))]
 fn byte_of_digits(text: &[u8]) -> Option<(u8, &[u8])>
     ensures byte { MatchOption result (GivesNoByte NoDigit text.now) (λ p. GivesByte NoDigit text.now p.0 p.1.now) }
@@ -185,7 +185,7 @@ pub fn hex_value(digit: u8) -> Option<u8>
     }
 }
 
-/// The byte that a letter behind a backslash stands for.
+/// The byte that a letter after a backslash stands for.
 #[tactic(auto, unfolding(crate::specs::Escapes::letter_value))]
 fn letter_value(letter: u8) -> Option<u8>
     ensures { result ≡ letter_value letter }

@@ -9,7 +9,7 @@
 //!
 //! A script is lines of text: `server <connections> <budget> <items>`, then `bytes <connection> <text>` and
 //! `turn <connection> <moment>`; connections have the numbers from 0 on. What each means is said by the definitions in
-//! `specs/`; worked examples stand in `src/rows.rt`.
+//! `specs/`; worked examples are in `src/rows.rt`.
 #![tactic(auto)]
 
 mod errors;

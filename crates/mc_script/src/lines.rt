@@ -68,7 +68,7 @@ fn cut_line(text: &[u8]) -> (&[u8], &[u8])
     }
 }
 
-/// What stands before and behind the first space.
+/// What is before and after the first space.
 #[tactic(auto, unfolding(crate::specs::Lines::cut_at_space))]
 pub fn cut_at_space(text: &[u8]) -> Option<(&[u8], &[u8])>
     ensures { MatchOption result (cut_at_space text.now ≡ None)
@@ -80,7 +80,7 @@ pub fn cut_at_space(text: &[u8]) -> Option<(&[u8], &[u8])>
     Some((front, behind))
 }
 
-/// Where the first space stands.
+/// Where the first space is.
 fn find_space(text: &[u8]) -> Option<usize>
     ensures place { result ≡ position (λ b. b == 32) text.now }
     ensures inside { IfSome result (λ end. end < length text.now) }

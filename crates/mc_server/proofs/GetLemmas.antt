@@ -66,7 +66,7 @@ both_of : (a b : Bool) → (a && b) ≡ true → (a ≡ true) × (b ≡ true)
 both_of true b e = (refl, e)
 both_of false b e = absurd cc
 
--- a good key and the good keys behind it
+-- a good key and the good keys after it
 pub good_keys : (all left : List (List ℕ)) (key : List ℕ) → all ≡ key ∷ left → list_all is_plain_key all ≡ true → (is_plain_key key ≡ true) × (list_all is_plain_key left ≡ true)
 good_keys all left key all_is good = both_of (is_plain_key key) (list_all is_plain_key left) (rw all_is at good)
 

@@ -61,7 +61,7 @@ IsShort n held reply = Unit {0}
 abbrev Short : ℕ → List ℕ → Outcome → Type 0
 Short n key o = IsShort n (body_at key o.0.items) o.1
 
--- what stands before a store, if it does
+-- what is before a store, if it does
 abbrev Tells : Option (Reply (List ℕ)) → Type 0
 Tells answer = IfSome answer (λ reply. (n : ℕ) → (held : Option Body) → IsShort n held reply)
 

@@ -192,7 +192,7 @@ granted_are_legal : (s : CacheState) (moment : ℕ) (atoms : List (Atom (List �
 granted_are_legal s moment [] = tt
 granted_are_legal s moment (atom ∷ atoms) = (λ refused. absurd cc, granted_are_legal (step_of s atom moment false).0 moment atoms)
 
--- so an entry that was not refused memory may stand anywhere
+-- so an entry that was not refused memory may be anywhere
 pub granted_is_legal : (s : CacheState) (e : Entry) → e.refused ≡ false → IsLegalAt s e
 granted_is_legal s e granted =
     let atoms = atoms_taken e.what in

@@ -1,4 +1,4 @@
--- A server that goes on stands where its longer history leaves it: one lemma for each of its calls.
+-- A server that goes on is where its longer history leaves it: one lemma for each of its calls.
 use Rattle.std.proofs.Common.{◌≡◌, ◌≢◌, ◌∙◌, ⊎_elim, ℕ, ◌==◌, ◌<◌, true, false, if◌then◌else◌, List, [], ◌∷◌, ◌++◌, length, take, drop, Option, Some, None, refl, sym, ap, subst, arith}
 use Rattle.std.proofs.lemmas.Bool.Decides.{eqb_tells, leb_tells}
 use Rattle.std.proofs.lemmas.List.{append-nil}
@@ -43,7 +43,7 @@ same_for_other opening number history e differ =
       answers-push number opening history e ∙ rw other (append-nil (answers_to number opening history)),
     )
 
--- where a connection stands depends on nothing else
+-- where a connection is depends on nothing else
 stands_same : (opening : CacheState) (number : ℕ) (text text' : List ℕ) (history longer : List Entry) (sent sent' : List ℕ) (connection : Option ConnectionState)
     → text' ≡ text → sent' ≡ sent → SameFor opening number history longer
     → StandsAt opening number text history sent connection → StandsAt opening number text' longer sent' connection
@@ -58,7 +58,7 @@ stands_same opening number text text' history longer sent sent' (Some connection
   answered = rw (same.1, sent_is) h.answered;
 }
 
--- a connection that is open stands, and so it does once it is left
+-- a connection that is open holds, and so it does once it is left
 pub left_from_stands : (opening : CacheState) (number : ℕ) (text : List ℕ) (history : List Entry) (sent : List ℕ) (connection : ConnectionState)
     → Stands opening number text history sent connection → Left opening number text history sent
 left_from_stands opening number text history sent connection h = record {
@@ -84,7 +84,7 @@ at_each number before after old new was is P own others m =
     subst (λ (c : Option ConnectionState). P m c) (sym same) (others m e.1))
     (eqb_tells number m)
 
--- where an open connection of a server stands
+-- where an open connection of a server holds
 pub stood : (opening : CacheState) (texts sent : ℕ → List ℕ) (history : List Entry) (server : ServerState) (number : ℕ) (connection : ConnectionState)
     → ServerStands opening texts sent history server → connection_at server number ≡ Some connection → Stands opening number (texts number) history (sent number) connection
 stood opening texts sent history server number connection h was =

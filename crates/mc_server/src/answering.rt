@@ -1,4 +1,4 @@
-//! Serving what stands first in a reader: the cache makes its commands, and the answer goes after the output.
+//! Serving what is first in a reader: the cache makes its commands, and the answer goes after the output.
 ghost use Rattle.std.specs.Prelude.{◌≡◌, ◌+◌, ◌≤◌, ◌<◌, ◌^◌, ◌-◌, ◌++◌, min, Bool, true, false, ℕ, List, length, vec_len, vec_capacity, IfOk, OnOk, OnErr};
 ghost use Rattle.std.specs.List.{list_all};
 ghost use Rattle.mc_text.specs.Keys.{is_key, is_plain_key};

@@ -24,11 +24,11 @@ link_at_is (link ∷ links) (suc place) = link_at_is links place
 pub read_at : (links : List RoomyLink) (place : ℕ) (own : RoomyLink) → place < length links → get_or links place own ≡ roomy_at links place
 read_at links place own inside = get_or_default links place own no_link inside
 
--- and so is how it stands
+-- and so is its state
 pub stands_at : (links : List RoomyLink) (place : ℕ) (own : RoomyLink) → place < length links → link_at (states links) place ≡ (get_or links place own).state
 stands_at links place own inside = link_at_is links place ∙ ap (λ (l : RoomyLink). l.state) (sym (read_at links place own inside))
 
--- a link that stands as it did changes no link
+-- a link that is as it was changes no link
 pub states_same : (links : List RoomyLink) (place : ℕ) (own link : RoomyLink) → link.state ≡ (get_or links place own).state → states (set links place link) ≡ states links
 states_same links place own link same = map-set_same (λ (l : RoomyLink). l.state) links place link own same
 
@@ -54,7 +54,7 @@ roomy_first links command commands roomy =
     less_roomy (spelled (command ∷ commands)) (length (command ∷ commands)) (length (spelling_of_atom command.atom)) 1 (roomy_at links command.server) (omega arith) (omega arith)
     (roomy 0 command (omega arith))
 
--- and behind the first for the others
+-- and after the first for the others
 pub roomy_rest : (links now : List RoomyLink) (command : Routed) (commands : List Routed)
     → ((at b h : ℕ) → IsRoomy (length (spelling_of_atom command.atom) + b) (1 + h) (roomy_at links at) → IsRoomy b h (roomy_at now at))
     → AreRoomy links (command ∷ commands) → AreRoomy now commands

@@ -26,14 +26,14 @@ noted_from tag outcome place s all late at noted =
     let unanswered : nat_lt tag.request (answered s) ≡ false = grind (arith, nat_tests, late) in
     rw (unanswered, noted, at) refl
 
--- the request stands at the place
+-- the request is at the place
 pub noted_there : (tag : Tag) (outcome : Outcome) (place : ℕ) (s : SessionState) (own now : Unanswered) → answered s ≤ tag.request → place ≡ tag.request - answered s
     → place < length s.unanswered → own ≡ get_or s.unanswered place own → now ≡ record own { outcomes = with_outcome tag.atom outcome own.outcomes }
     → record s { unanswered = set s.unanswered place now } ≡ noted_in tag outcome s
 noted_there tag outcome place s own now late at inside is noted =
     noted_from tag outcome place s (set s.unanswered place now) late at (noted_inside place tag.atom outcome s.unanswered own now inside is noted)
 
--- no request stands there
+-- no request is there
 pub noted_nowhere : (tag : Tag) (outcome : Outcome) (place : ℕ) (s : SessionState) → answered s ≤ tag.request → place ≡ tag.request - answered s
     → length s.unanswered ≤ place → s ≡ noted_in tag outcome s
 noted_nowhere tag outcome place s late at outside =

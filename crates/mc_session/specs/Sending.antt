@@ -15,7 +15,7 @@ use Rattle.mc_session.specs.declared.limits.TheConstants.{MAX_UNANSWERED, UNSENT
 abbrev pub tag_of : ℕ → ℕ → ℕ → Tag
 tag_of session request atom = record { session = session; request = request; atom = atom }
 
--- a command handed to a link: where that is up, the spelling goes behind its output, and the head waits behind the others
+-- a command handed to a link: where that is up, the spelling goes after its output, and the head waits after the others
 abbrev pub handed_to : Tag → Atom (List ℕ) → LinkState → LinkState
 handed_to tag atom link =
     if link.up then sent atom tag link else link

@@ -21,7 +21,7 @@ pub record IsFed (piece : List ℕ) (before after : SessionState) : Type 0 where
   pub all_else : after ≡ record before { reader = after.reader }
 
 -- the first request or fault of the session's rest is taken, and no mark is reached; its commands go to the links of their
--- owners, in their order, and it stands last among those that are not answered
+-- owners, in their order, and it is last among those that are not answered
 pub record Takes (number : ℕ) (ring : RingState) (links now : List LinkState) (before after : SessionState) (what : Taken) : Type 0 where
   pub first : IsFirst before.reader what after.reader
   pub closed : after.reader.closed ≡ ends what

@@ -5,8 +5,8 @@
 //! it is, or is lost at once where that link is down. They pass through a queue that the caller keeps, empty between turns. What
 //! became of a command is noted under its tag ([`Session::note`]). Once it is known of each command of the oldest unanswered
 //! request, its answer is put out ([`Session::emit`]), and the caller takes it out ([`Session::output`],
-//! [`Session::taken_out`]). So answers stand in the order of the requests, in whatever order replies come.
-//! [`Session::unanswered`], [`Session::is_finished`], [`Session::ready`] and [`Session::waits_for`] say how it stands, and
+//! [`Session::taken_out`]). So answers are in the order of the requests, in whatever order replies come.
+//! [`Session::unanswered`], [`Session::is_finished`], [`Session::ready`] and [`Session::waits_for`] say what state it is in, and
 //! [`Session::give_back`] gives large empty buffers back.
 //!
 //! A turn waits where a mark is reached: [`MAX_UNANSWERED`], [`UNSENT_MARK`] or [`LINK_MARK`]. `specs/SessionState.antt` says

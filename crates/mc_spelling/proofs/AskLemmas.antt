@@ -21,7 +21,7 @@ abbrev pub Whenever : {A : Type 0} → (A → Type 0) → Result A Fault → Typ
 Whenever P (Ok part) = P part
 Whenever P (Err fault) = Unit {0}
 
--- of what is read behind a part
+-- of what is read after a part
 pub behind : {A B : Type 0} (Q : B → Type 0) (r : Result A Fault) (f : A → Result B Fault) → ((a : A) → r ≡ Ok a → Whenever Q (f a)) → Whenever Q (r >>= f)
 behind Q (Ok a) f next = next a refl
 behind Q (Err fault) f next = tt

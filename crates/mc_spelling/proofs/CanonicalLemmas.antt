@@ -33,7 +33,7 @@ record Gives (ws back : List (List ℕ)) : Type 0 where
 nothing_given : Gives [] []
 nothing_given = record { is = refl }
 
--- a word that gives something back, where it stands
+-- a word that gives something back, at its place
 given : {ws back : List (List ℕ)} (b : Bool) (word : List ℕ) → gives_back word ≡ true → Gives ws back → Gives (put_if b word ws) (word_if b word ++ back)
 given true word gives rest = record { is = rw (gives, rest.is) refl }
 given false word gives rest = rest

@@ -19,7 +19,7 @@ use Rattle.mc_spelling.specs.Spellings.{word_if, number_if, signed_if, mode_word
 use Rattle.mc_request.specs.WellFormed.{is_i64, is_u64, is_where_some, is_good_creation}
 use Rattle.mc_spelling.proofs.ClassicLemmas.{read_i64-signed, read_u64-spelled}
 
--- behind what was read of a command's flag words, the others are read to this end
+-- after what was read of a command's flag words, the others are read to this end
 pub record Reads (name : Name) (read : MetaFlags) (ws : List (List ℕ)) (end : MetaFlags) : Type 0 where
   pub is : flags_from name read ws ≡ Ok end
 

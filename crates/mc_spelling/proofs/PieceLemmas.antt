@@ -46,7 +46,7 @@ digits_by_four n large fits =
 pub digits_bound : (n : ℕ) → n < 2 ^ 64 → length (decimal n) ≤ 20
 digits_bound n fits = length-decimal-le 20 n (omega arith) (omega arith) fits
 
--- a line's words are its first and the others behind a space each
+-- a line's words are its first and the others after a space each
 pub spaced_is : (word : List ℕ) (words : List (List ℕ)) → spaced (word ∷ words) ≡ word ++ behind words
 spaced_is word [] = sym (append-nil word)
 spaced_is word (other ∷ words) = ap (λ (rest : List ℕ). word ++ (codes " " ++ rest)) (spaced_is other words)
@@ -128,7 +128,7 @@ ma_flags_length counting show =
       length-append delta word,
     )
 
--- the line of each meta command: its name and its key, and the flag words behind them
+-- the line of each meta command: its name and its key, and the flag words after them
 pub mg_line_is : (key : List ℕ) (get : MetaGet) → spaced (meta_words (metas.Get key get)) ≡ (codes "mg " ++ coded_of key) ++ behind (mg_flags get)
 mg_line_is key get = spaced_is (codes "mg") (coded_of key ∷ mg_flags get)
 

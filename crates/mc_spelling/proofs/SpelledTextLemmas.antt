@@ -39,7 +39,7 @@ goes_on (atoms.Get key exptime with_cas) = refl
 goes_on (atoms.Update update) = refl
 goes_on (atoms.Meta command) = refl
 
--- behind it the others are read
+-- after it the others are read
 pub requests-spelled : (atom : Atom (List ℕ)) (more : List ℕ) → is_good_atom atom ≡ true
     → requests_of (spelling_of_atom atom ++ more) ≡ Whole (request_of atom) ∷ requests_of more
 requests-spelled atom more h =
@@ -75,7 +75,7 @@ apart a b xs ys g h e =
 abbrev pub taken_of : Atom (List ℕ) → Taken
 taken_of atom = Whole (request_of atom)
 
--- what is read of one spelling behind the other
+-- what is read of one spelling after the other
 pub all_spelled : (commands : List (Atom (List ℕ))) (more : List ℕ) → list_all is_good_atom commands ≡ true
     → requests_of (spellings_of commands ++ more) ≡ map taken_of commands ++ requests_of more
 all_spelled [] more h = refl

@@ -35,14 +35,14 @@ pub word_where : {n : ℕ} {ws : List (List ℕ)} (b : Bool) (word : List ℕ) �
 word_where true word is are = one_word word is are
 word_where {n} false word is are = as_many (suc n) (omega arith) are
 
--- a number where there is one, behind a letter
+-- a number where there is one, after a letter
 pub number_where : {n : ℕ} {ws : List (List ℕ)} (letter : ℕ) (o : Option ℕ) → 32 < letter → is_where_some is_u64 o ≡ true → AreWords n ws
     → AreWords (suc n) (number_if (letter ∷ []) o ws)
 number_where {n} letter None high h are = as_many (suc n) (omega arith) are
 number_where letter (Some number) high h are =
     one_word (letter ∷ decimal number) (is_word-lettered letter number high (grind (arith, nat_tests, h))) are
 
--- a number with a sign is a word, alone and behind a letter
+-- a number with a sign is a word, alone and after a letter
 pub is_word-signed : (z : ℤ) → is_i64 z ≡ true → is_word (signed_decimal z) ≡ true
 is_word-signed (pos n) h = is_word-decimal n (grind (arith, nat_tests, h))
 is_word-signed (negsuc n) h = is_word-lettered 45 (suc n) (omega arith) (grind (arith, nat_tests, h))
@@ -71,7 +71,7 @@ next_by_words word more rest are =
     by_first_line (content ++ (13 ∷ 10 ∷ rest)) (lines.Whole content (length content + 2)) whole
     ∙ rw (words-spaced word more are.each, drop-append-add content (13 ∷ 10 ∷ rest) 2) refl
 
--- the text of a line and what stands behind it
+-- the text of a line and what is after it
 behind_line : (content block more : List ℕ) → (content ++ (codes "\r\n" ++ block)) ++ more ≡ content ++ (13 ∷ 10 ∷ (block ++ more))
 behind_line content block more = append_assoc content (13 ∷ 10 ∷ block) more
 

@@ -1,10 +1,10 @@
--- The pieces of a command's line, as they are written one behind the other.
+-- The pieces of a command's line, as they are written one after the other.
 use Rattle.std.specs.Prelude.{ℕ, ℤ, Bool, true, false, List, [], ◌∷◌, ◌++◌, Option, Some, None, codes}
 use Rattle.std.specs.Fmt.{decimal, signed_decimal}
 use Rattle.mc_request.specs.declared.meta.Creation.{Creation}
 use Rattle.mc_request.specs.declared.meta.Show.{Show}
 
--- words, each behind a space
+-- words, each after a space
 abbrev pub behind : List (List ℕ) → List ℕ
 behind [] = []
 behind (word ∷ words) = codes " " ++ (word ++ behind words)
@@ -14,7 +14,7 @@ abbrev pub piece_if : Bool → List ℕ → List ℕ
 piece_if true piece = piece
 piece_if false piece = []
 
--- a number behind its label, where there is one
+-- a number after its label, where there is one
 abbrev pub number_piece : List ℕ → Option ℕ → List ℕ
 number_piece label None = []
 number_piece label (Some number) = label ++ decimal number
@@ -29,7 +29,7 @@ abbrev pub creation_piece : Option Creation → List ℕ
 creation_piece None = codes " J0"
 creation_piece (Some creation) = codes " N" ++ (signed_decimal creation.exptime ++ (codes " J" ++ decimal creation.initial))
 
--- what `mg` asks to be shown, behind its `b`
+-- what `mg` asks to be shown, after its `b`
 abbrev pub mg_show_pieces : Show → List ℕ
 mg_show_pieces show =
     codes " b" ++ (piece_if show.cas (codes " c") ++ (piece_if show.flags (codes " f") ++ (piece_if show.size (codes " s")

@@ -25,12 +25,12 @@ use Rattle.mc_request.specs.declared.parts.StoreMode.TheVariants.{Set, Add, Repl
 use Rattle.mc_request.specs.declared.parts.Update.{Update}
 use Rattle.mc_request.specs.declared.parts.Update.TheVariants.{Store, Touch, Delete, Count, FlushAll}
 
--- a word that stands where it is asked for, before the words that follow
+-- a word that is where it is asked for, before the words that follow
 abbrev pub word_if : Bool → List ℕ → List (List ℕ) → List (List ℕ)
 word_if true word words = word ∷ words
 word_if false word words = words
 
--- a number behind a flag's letter, where there is one
+-- a number after a flag's letter, where there is one
 abbrev pub number_if : List ℕ → Option ℕ → List (List ℕ) → List (List ℕ)
 number_if letter None words = words
 number_if letter (Some number) words = (letter ++ decimal number) ∷ words
@@ -89,14 +89,14 @@ abbrev pub creation_words : Option Creation → List (List ℕ) → List (List �
 creation_words None words = codes "J0" ∷ words
 creation_words (Some creation) words = (codes "N" ++ signed_decimal creation.exptime) ∷ (codes "J" ++ decimal creation.initial) ∷ words
 
--- the flag words of `mg`, behind its key in base64: source protocol.txt, "Meta Get"; their order is this project's own
+-- the flag words of `mg`, after its key in base64: source protocol.txt, "Meta Get"; their order is this project's own
 abbrev pub mg_flags : MetaGet → List (List ℕ)
 mg_flags get =
     codes "b" ∷ word_if get.show.cas (codes "c") (word_if get.show.flags (codes "f") (word_if get.show.size (codes "s")
     (word_if get.show.left (codes "t") (word_if get.show.value (codes "v") (signed_if (codes "T") get.exptime
     (signed_if (codes "N") get.create (number_if (codes "R") get.recache [])))))))
 
--- those of `ms`, behind the length of its block: source protocol.txt, "Meta Set"
+-- those of `ms`, after the length of its block: source protocol.txt, "Meta Set"
 abbrev pub ms_flags : StoreMode → Option ℕ → ℕ → ℤ → Show → List (List ℕ)
 ms_flags mode compare flags exptime show =
     codes "b" ∷ word_if show.cas (codes "c") (word_if show.size (codes "s") ((codes "T" ++ signed_decimal exptime)
@@ -165,12 +165,12 @@ abbrev pub block_lines : Option (List ℕ) → List ℕ
 block_lines None = []
 block_lines (Some block) = block ++ codes "\r\n"
 
--- the spelling of a command: its line, and the data block behind it; which of the spellings that a server reads is the
+-- the spelling of a command: its line, and the data block after it; which of the spellings that a server reads is the
 -- canonical one is this project's own
 abbrev pub spelling_of_atom : Atom (List ℕ) → List ℕ
 spelling_of_atom atom = spaced (line_words atom) ++ (codes "\r\n" ++ block_lines (block_of_atom atom))
 
--- the spellings of commands, one behind the other
+-- the spellings of commands, one after the other
 abbrev pub spellings_of : List (Atom (List ℕ)) → List ℕ
 spellings_of [] = []
 spellings_of (atom ∷ atoms) = spelling_of_atom atom ++ spellings_of atoms

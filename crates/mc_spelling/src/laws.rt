@@ -12,7 +12,7 @@ ghost use Rattle.mc_spelling.specs.Spellings.{can_be_spelled, is_good_atom, requ
 use mc_request::{Request, Taken};
 
 /// The canonical spelling of a command is read as that command, whatever follows: it is the first request of its text,
-/// which takes the bytes of the spelling and no other, and behind it the others are read.
+/// which takes the bytes of the spelling and no other, and after it the others are read.
 pub fn spelled_commands_are_read()
     ensures first { (atom : Atom (List ℕ)) (more : List ℕ) → is_good_atom atom ≡ true
         → next_request (spelling_of_atom atom ++ more) ≡ Some (Taken.Whole (request_of atom), length (spelling_of_atom atom)) }
@@ -31,8 +31,8 @@ pub fn spellings_stand_apart()
         → spelling_of_atom a ++ xs ≡ spelling_of_atom b ++ ys → (a ≡ b) × (xs ≡ ys) }
 {}
 
-/// Spellings one behind the other are read as their commands in order, and what follows them as by itself. So a `quit`
-/// behind them is the last request.
+/// Spellings one after the other are read as their commands in order, and what follows them as by itself. So a `quit`
+/// after them is the last request.
 pub fn quit_behind_commands_is_read()
     ensures more { (commands : List (Atom (List ℕ))) (more : List ℕ) → list_all is_good_atom commands ≡ true
         → requests_of (spellings_of commands ++ more) ≡ map (λ atom. Taken.Whole (request_of atom)) commands ++ requests_of more }

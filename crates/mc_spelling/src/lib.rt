@@ -1,7 +1,7 @@
 //! The canonical spelling of a command: the one text that a proxy sends to a server for it.
 //!
 //! [`write_atom`] appends it, and [`spelled_len`] says how many bytes it has. It is a command's line, in words with a space
-//! between any two, and the data block behind it; a meta command's key is sent in base64, and neither its key nor an opaque
+//! between any two, and the data block after it; a meta command's key is sent in base64, and neither its key nor an opaque
 //! is asked back.
 //!
 //! `specs/Spellings.antt` says which text it is (`spelling_of_atom`), which request a server reads it as (`request_of`), and

@@ -112,7 +112,7 @@ pub fn update_len(update: &Update<Key, Block>) -> usize
     }
 }
 
-/// How many bytes the words behind the name of a storage command have.
+/// How many bytes the words after the name of a storage command have.
 fn stored_len(key: &Key, flags: u32, exptime: i64, block: &Block, compare: Option<u64>) -> usize
     ensures len { result ≡ length (behind (key.now ∷ decimal flags ∷ signed_decimal exptime ∷ decimal (length block.now) ∷ number_if [] compare [])) }
     ensures bound { result ≤ 400 }
@@ -153,7 +153,7 @@ pub fn append_update(out: &mut Vec<u8>, update: &Update<Key, Block>)
     }
 }
 
-/// Appends the words behind the name of a storage command.
+/// Appends the words after the name of a storage command.
 fn append_stored(
     out: &mut Vec<u8>,
     key: &Key,

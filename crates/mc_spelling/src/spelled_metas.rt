@@ -209,7 +209,7 @@ fn append_mg_flags(out: &mut Vec<u8>, get: &MetaGet)
     append_number_if(out, b" R", get.recache);
 }
 
-/// Appends what an `mg` asks to be shown, behind its `b`.
+/// Appends what an `mg` asks to be shown, after its `b`.
 fn append_mg_show(out: &mut Vec<u8>, show: &Show)
     requires { vec_len out.old + length (mg_show_pieces show.now) ≤ vec_capacity out.old }
     ensures items { out.new.items ≡ out.old.items ++ mg_show_pieces show.now }
@@ -246,7 +246,7 @@ fn append_ms_flags(
     append(out, mode_word(mode));
 }
 
-/// Appends what an `ms` asks to be shown, behind its `b`.
+/// Appends what an `ms` asks to be shown, after its `b`.
 fn append_ms_show(out: &mut Vec<u8>, show: &Show)
     requires { vec_len out.old + length (ms_show_pieces show.now) ≤ vec_capacity out.old }
     ensures items { out.new.items ≡ out.old.items ++ ms_show_pieces show.now }
@@ -287,7 +287,7 @@ fn append_ma_flags(out: &mut Vec<u8>, counting: &Counting, show: &Show)
     append(out, direction_word(counting.direction));
 }
 
-/// Appends what an `ma` asks to be shown, behind its `b`.
+/// Appends what an `ma` asks to be shown, after its `b`.
 fn append_ma_show(out: &mut Vec<u8>, show: &Show)
     requires { vec_len out.old + length (ma_show_pieces show.now) ≤ vec_capacity out.old }
     ensures items { out.new.items ≡ out.old.items ++ ma_show_pieces show.now }

@@ -57,7 +57,7 @@ pub fn len_if(asked: bool, word: &[u8]) -> usize
     if asked { word.len() } else { 0 }
 }
 
-/// How many bytes a number behind its label has, where there is one.
+/// How many bytes a number after its label has, where there is one.
 pub fn number_len_if(label: &[u8], number: Option<u64>) -> usize
     requires { length label.now ≤ 2 }
     ensures len { result ≡ length (number_piece label.now number) }
@@ -100,7 +100,7 @@ pub fn coded_len(key: &Key) -> usize
     (key.as_bytes().len() + 2) / 3 * 4
 }
 
-/// Appends a word behind a space.
+/// Appends a word after a space.
 pub fn append_word(out: &mut Vec<u8>, word: &[u8])
     requires { vec_len out.old + length word.now + 1 ≤ vec_capacity out.old }
     ensures items { out.new.items ≡ out.old.items ++ (codes " " ++ word.now) }
@@ -123,7 +123,7 @@ pub fn append_if(out: &mut Vec<u8>, asked: bool, word: &[u8])
     }
 }
 
-/// Appends a number behind its label.
+/// Appends a number after its label.
 pub fn append_number(out: &mut Vec<u8>, label: &[u8], number: u64)
     requires { vec_len out.old + length label.now + length (decimal number) ≤ vec_capacity out.old }
     ensures items { out.new.items ≡ out.old.items ++ (label.now ++ decimal number) }
@@ -135,7 +135,7 @@ pub fn append_number(out: &mut Vec<u8>, label: &[u8], number: u64)
     append(out, digits.format(number).as_bytes());
 }
 
-/// Appends a number with a sign behind its label.
+/// Appends a number with a sign after its label.
 pub fn append_signed(out: &mut Vec<u8>, label: &[u8], number: i64)
     requires { vec_len out.old + length label.now + length (signed_decimal number) ≤ vec_capacity out.old }
     ensures items { out.new.items ≡ out.old.items ++ (label.now ++ signed_decimal number) }
@@ -147,7 +147,7 @@ pub fn append_signed(out: &mut Vec<u8>, label: &[u8], number: i64)
     append(out, digits.format(number).as_bytes());
 }
 
-/// Appends a number behind its label, where there is one.
+/// Appends a number after its label, where there is one.
 pub fn append_number_if(out: &mut Vec<u8>, label: &[u8], number: Option<u64>)
     requires { vec_len out.old + length (number_piece label.now number) ≤ vec_capacity out.old }
     ensures items { out.new.items ≡ out.old.items ++ number_piece label.now number }

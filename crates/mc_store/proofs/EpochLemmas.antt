@@ -1,6 +1,5 @@
 -- The live ones of entries of several epochs.
 use Rattle.std.proofs.Common.{◌≡◌, ◌≢◌, ℕ, zero, suc, ◌+◌, ◌-◌, ◌<◌, ◌≤◌, true, false, cond, List, [], ◌∷◌, ◌++◌, length, take, drop, Option, Some, None, refl, sym, ap, ◌∙◌, subst, arith, append_assoc}
-use Rattle.std.specs.Prelude.{slice_get}
 use Rattle.std.specs.Str.{bytes_eq}
 use Rattle.std.specs.Map.{lookup, lookup_entry, remove_entry, set_value}
 use Rattle.std.specs.Option.{option_map}
@@ -8,7 +7,7 @@ use Rattle.std.proofs.lemmas.List.{length_push}
 use Rattle.lru.specs.LruCache.{promoted, last_entry, put_entries}
 use Rattle.mc_item.specs.declared.bodies.Body.{Body}
 use Rattle.mc_store.specs.declared.held.Held.{Held}
-use Rattle.mc_store.specs.Items.{Items, body_at, front_body, without}
+use Rattle.mc_store.specs.Items.{Items, body_at, without}
 use Rattle.mc_store.specs.Epochs.{Entries, live, AreDead, IsParted, IsLetGo}
 use Rattle.mc_store.proofs.DeadLemmas.{IsFewer, dead_take_fewer, dead_cut_fewer}
 use Rattle.mc_store.proofs.LruLemmas.{held_at, cut, lookup_is, remove_is, entry_is, set_is, last_is, last_none}
@@ -268,21 +267,6 @@ puts epoch count more cap old new key held parted absent room now one_more is =
     let put = puts_tail count cap old new key held is absent epoch parted few in
     let next : more ≡ suc count = omega arith in
     (rw (next, put.1) (now, put.2), rw (next, put.1) (ap (λ (is : Items). (key, held.body) ∷ is) put.3), rw (next, put.1) put.4)
-
--- the first entry is the first item
-pub fronts : (epoch count : ℕ) (entries : Entries) (entry : List ℕ × Held) → IsParted epoch count entries → count ≢ 0
-    → slice_get entries 0 ≡ Some entry → front_body (live count entries) ≡ Some entry.1.body
-fronts epoch zero entries entry parted some found = absurd (some refl)
-fronts epoch (suc count) [] entry parted some found = absurd parted
-fronts epoch (suc count) (first ∷ entries) entry parted some found =
-    let its : first ≡ entry = cc in
-    ap (λ (e : List ℕ × Held). Some e.1.body) its
-
-pub fronts_none : (epoch count : ℕ) (entries : Entries) → IsParted epoch count entries → slice_get entries 0 ≡ None
-    → front_body (live count entries) ≡ None
-fronts_none epoch zero entries parted none = refl
-fronts_none epoch (suc count) [] parted none = absurd parted
-fronts_none epoch (suc count) (first ∷ entries) parted none = absurd cc
 
 -- what letting entries go leaves
 pub leaves : (epoch count price : ℕ) (old new : Entries) → IsParted epoch count old → IsLetGo price count old new

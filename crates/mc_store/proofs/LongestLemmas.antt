@@ -1,10 +1,10 @@
 -- The longest value.
-use Rattle.std.proofs.Common.{◌≡◌, ℕ, ◌+◌, ◌<◌, ◌≤◌, max, true, false, cond, List, [], ◌∷◌, ◌++◌, length, drop, get_or, Some, None, refl, ap, subst, arith}
+use Rattle.std.proofs.Common.{◌≡◌, ℕ, ◌+◌, ◌<◌, ◌≤◌, max, true, false, cond, List, [], ◌∷◌, ◌++◌, length, drop, get_or, Some, refl, ap, subst, arith}
 use Rattle.std.proofs.Math.Nat.{le-max_left, le-max_right, max-le}
 use Rattle.std.specs.Str.{bytes_eq}
 use Rattle.std.proofs.lemmas.List.{at_drop_more, at_drop_all}
 use Rattle.mc_item.specs.declared.bodies.Body.{Body}
-use Rattle.mc_store.specs.Items.{Items, body_at, without, brought, longest_of}
+use Rattle.mc_store.specs.Items.{Items, body_at, without, longest_of}
 
 -- without the item of a key the longest value is no longer
 pub longest_of-without : (key : List ℕ) (items : Items) → longest_of (without key items) ≤ longest_of items
@@ -30,30 +30,6 @@ longest_of-held key (item ∷ items) body held =
       | false ↦ λ further. omega (arith, again further, others)
     ]) held
 
--- the longest value stays where an item is brought to the front
-pub longest_of-brought : (key : List ℕ) (items new : Items) → new ≡ brought key (body_at key items) items → longest_of new ≤ longest_of items
-longest_of-brought key items new is = rw is ((elim (body_at key items) as (λ held. body_at key items ≡ held → longest_of (brought key held items) ≤ longest_of items) [
-  | None ↦ λ e. omega arith
-  | Some body ↦ λ e. max-le (longest_of-held key items body e) (longest_of-without key items)
-]) refl)
-
--- a new body in front
-pub longest_of-put : (key : List ℕ) (body : Body) (rest new : Items) (longest most : ℕ) → new ≡ (key, body) ∷ rest → longest_of rest ≤ longest
-    → longest ≤ most → length body.value ≤ most → longest_of new ≤ most
-longest_of-put key body rest new longest most is within rises fits = rw is (max-le fits (omega (arith, within, rises)))
-
--- a held body that is written to and keeps its value's length
-pub longest_of-written : (key : List ℕ) (before after : Body) (old new : Items) (longest : ℕ) → body_at key old ≡ Some before
-    → length after.value ≡ length before.value → new ≡ (key, after) ∷ without key old → longest_of old ≤ longest → longest_of new ≤ longest
-longest_of-written key before after old new longest held same is within =
-    let own : length before.value ≤ longest_of old = longest_of-held key old before held in
-    let rest : longest_of (without key old) ≤ longest_of old = longest_of-without key old in
-    rw is (max-le (omega (arith, own, same, within)) (omega (arith, rest, within)))
-
--- what is left where the key's item is taken out
-pub longest_of-taken : (key : List ℕ) (old new : Items) (longest : ℕ) → new ≡ without key old → longest_of old ≤ longest → longest_of new ≤ longest
-longest_of-taken key old new longest is within = rw is (omega (arith, longest_of-without key old, within))
-
 -- without the last item the longest value is no longer
 longest_of-front : (front : Items) (last : List ℕ × Body) → longest_of front ≤ longest_of (front ++ last ∷ [])
 longest_of-front [] last = omega arith
@@ -66,7 +42,7 @@ longest_of-front (item ∷ items) last =
 pub longest_of-last : (old new : Items) (last : List ℕ × Body) → old ≡ new ++ last ∷ [] → longest_of new ≤ longest_of old
 longest_of-last old new last ends = rw ends (longest_of-front new last)
 
--- the items from a place on: the longest is its own, or one behind it
+-- the items from a place on: the longest is its own, or one after it
 pub longest_of-drop : (items : Items) (place : ℕ) (item : List ℕ × Body) → place < length items → item ≡ get_or items place item
     → longest_of (drop place items) ≡ max (length item.1.value) (longest_of (drop (place + 1) items))
 longest_of-drop items place item inside is =

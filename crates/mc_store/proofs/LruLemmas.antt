@@ -50,7 +50,7 @@ pub set_is : (key : List ℕ) (entries : Entries) (held after : Held) → held_a
     → set_value (bytes_eq key) (promoted (bytes_eq key) entries) after ≡ (key, after) ∷ cut key entries
 set_is key entries held after at = rw (promoted_is key entries held at, nat_list_eq_equiv.refl key) refl
 
--- the last entry stands after all others
+-- the last entry is after all others
 pub last_is : (entries : Entries) (last : List ℕ × Held) → last_entry entries ≡ Some last → entries ≡ take (length entries - 1) entries ++ last ∷ []
 last_is [] last found = absurd cc
 last_is (entry ∷ entries) last found =

@@ -120,10 +120,6 @@ sum_taken key old new body sums after price size is held left priced sized less 
     })
 
 -- where an item is put in front
-pub put_fits : (old : Items) (sums : Sums) (price : ℕ) → IsSumOf sums old → cost_sum old + price < 2 ^ 63
-    → (sums.used + price < 2 ^ 64) × (sums.long + 1 < 2 ^ 64)
-put_fits old sums price is fits = (omega (arith, is.used), omega (arith, is.used, is.fits, is.long, long_least old))
-
 pub sum_put : (key : List ℕ) (body : Body) (old new : Items) (sums after : Sums) (price size : ℕ) → IsSumOf sums old
     → cost_sum old + cost_of key body.value < 2 ^ 63 → new ≡ (key, body) ∷ old
     → price ≡ cost_of key body.value → size ≡ length body.value → after ≡ with_value price size sums → IsSumOf after new

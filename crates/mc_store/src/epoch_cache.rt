@@ -19,8 +19,8 @@ use std::num::NonZeroUsize;
 /// The items in lru's cache, each with the epoch in which it was put.
 ///
 /// The entries of the cache's own epoch are live, and come before all others. [`EpochCache::clear`] begins the next epoch, in which
-/// all entries are dead. What is dead is not counted and not found. Dead entries go from the back with later puts, or where their key
-/// is asked for.
+/// all entries are dead. What is dead is not counted and not found. Dead entries go from the back with later puts, or where a call
+/// other than [`EpochCache::peek`] asks for their key.
 ///
 /// Contracts see the live items, the dead entries, and the greatest number of entries, live and dead together.
 #[derive(Drop)]

@@ -160,7 +160,7 @@ fn longest_in(entries: &[(Key, Body)]) -> usize
     longest
 }
 
-/// Moves the key's item to the front, and says whether there is one. One that stands first already stays where it is.
+/// Moves the key's item to the front, and says whether there is one. One that is first already stays where it is.
 fn brought(entries: &mut Vec<(Key, Body)>, key: &[u8]) -> bool
     ensures held { result ≡ is_some (body_at key.now entries.old.items) }
     ensures items { entries.new.items ≡ brought key.now (body_at key.now entries.old.items) entries.old.items }
@@ -189,7 +189,7 @@ fn taken_out(entries: &mut Vec<(Key, Body)>, key: &[u8]) -> Option<(Key, Body)>
     }
 }
 
-/// Where the key's item stands.
+/// Where the key's item is.
 fn place_of(entries: &[(Key, Body)], key: &[u8]) -> Option<usize>
     ensures found { IfSome result (HoldsAt key.now entries.now) }
     ensures absent { IfNone result (body_at key.now entries.now ≡ None) }

@@ -50,7 +50,7 @@ pub type FixedHasher = BuildHasherDefault<FoldHasher>;
 ///
 /// `clear` begins a new epoch, which makes all entries dead. They are not counted and not found, and they are let go later: by
 /// each `put_front` two of them or more, until they cost as much as the item or none is left; by each `replace` that finds its key as
-/// many for the new value; and one by a call with its key. Each that is let go costs what a `drop_last` does. `drop_last` lets all
+/// many for the new value; and one by each call but `peek` that asks for its key. Each that is let go costs what a `drop_last` does. `drop_last` lets all
 /// of them go first. While dead entries are left no store makes the entries cost more, or be more, live and dead together. So a store
 /// that is kept within a budget and a limit has no dead ones left when it drops an item. The end of the store takes
 /// out one entry after the other.

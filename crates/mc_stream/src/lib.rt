@@ -1,8 +1,8 @@
 //! One call of a side of a stream that does not wait: [`write_once`], [`read_once`].
 //!
-//! A body that carries bytes between a stream and what stands behind it, a pump, is made of these two, at most [`MAX_ROUNDS`]
+//! A body that carries bytes between a stream and what is after it, a pump, is made of these two, at most [`MAX_ROUNDS`]
 //! of each a call, and says by [`Pump`] how it left the stream. The stream is any reader and any writer: no socket is known
-//! here, and nothing of what stands behind it. `specs/Sides.antt` has what the two sides carry.
+//! here, and nothing of what is after it. `specs/Sides.antt` has what the two sides carry.
 //! [`ServeError`] is why a program that serves streams cannot start.
 #![tactic(auto)]
 

@@ -1,6 +1,6 @@
 //! How a pump ends.
 
-/// How a pump left a stream, and what stands behind it.
+/// How a pump left a stream, and what is after it.
 #[derive(Clone, Copy, Debug, PartialEq, Eq)]
 pub enum Pump {
     /// Its rounds are used up, or a call of the system was interrupted: it may go on at once.
@@ -9,6 +9,6 @@ pub enum Pump {
     Blocked,
     /// The input has ended, or is read no further, and all that came whole is answered and sent.
     Done,
-    /// The stream failed or took nothing, a call was refused memory, or nothing stands behind the stream. The caller closes it.
+    /// The stream failed or took nothing, a call was refused memory, or nothing is after the stream. The caller closes it.
     Failed,
 }

@@ -1,4 +1,4 @@
-//! The two sides of a stream that does not wait: one write, one read. Nothing here knows what is behind the stream.
+//! The two sides of a stream that does not wait: one write, one read. Nothing here knows what is after the stream.
 ghost use Rattle.std.specs.Prelude.{◌≡◌, ◌≢◌, ◌<◌, ◌==◌, false, length, Ok, Err, IfOk, IfErr};
 ghost use Rattle.std.specs.IoError.{error_kind};
 ghost use Rattle.mc_stream.specs.Sides.{MovesNothing, Reads, Writes};

@@ -24,7 +24,7 @@ list_all-at p [] k h inside = absurd (omega arith)
 list_all-at p (b ∷ bs) zero h inside = (and_parts (p b) (list_all p bs) h).0
 list_all-at p (b ∷ bs) (suc k) h inside = list_all-at p bs k (and_parts (p b) (list_all p bs) h).1 (omega arith)
 
--- what passes in a front, and behind one
+-- what passes in a front, and after one
 pub list_all-take : (p : ℕ → Bool) (n : ℕ) (xs : List ℕ) → list_all p xs ≡ true → list_all p (take n xs) ≡ true
 list_all-take p zero xs h = refl
 list_all-take p (suc n) [] h = refl

@@ -40,7 +40,7 @@ digit_byte b digit = grind (arith, nat_tests, digit)
 key_byte : (b : ℕ) → is_key_byte b ≡ true → is_word_byte b ≡ true
 key_byte b h = (and_parts (nat_lt 32 b) _ h).0
 
--- a byte that a word may have may stand in a line
+-- a byte that a word may have may be in a line
 pub line_byte : (b : ℕ) → is_word_byte b ≡ true → is_line_byte b ≡ true
 line_byte b h = grind (arith, nat_tests, h)
 
@@ -52,14 +52,14 @@ is_word-decimal n small =
     let few = length-decimal_64 n small in
     is_word-by (decimal n) (decimal_nonempty n small) (omega arith) (bytes_of_number n small)
 
--- a number behind a letter
+-- a number after a letter
 pub is_word-lettered : (letter n : ℕ) → 32 < letter → n < 2 ^ 64 → is_word (letter ∷ decimal n) ≡ true
 is_word-lettered letter n high small =
     let few = length-decimal_64 n small in
     let first : is_word_byte letter ≡ true = grind (arith, nat_tests, high) in
     is_word-by (letter ∷ decimal n) (omega arith) (omega arith) (and_from (is_word_byte letter) _ first (bytes_of_number n small))
 
--- a negative number behind a letter
+-- a negative number after a letter
 pub is_word-negative : (letter n : ℕ) → 32 < letter → n < 2 ^ 64 → is_word (letter ∷ 45 ∷ decimal n) ≡ true
 is_word-negative letter n high small =
     let few = length-decimal_64 n small in

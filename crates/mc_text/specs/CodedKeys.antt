@@ -13,7 +13,7 @@ unfoldable pub coded_of : List ℕ → List ℕ
 coded_of key = encode_of standard key
 
 -- the bytes that a word says in base64, if it is base64: whole groups of four symbols, the last one padded, with no bit
--- set behind the last byte
+-- set after the last byte
 -- source: RFC 4648, sections 3.2, 3.5 and 4
 unfoldable pub bytes_of_base64 : List ℕ → Option (List ℕ)
 bytes_of_base64 word = decoded_of standard word

@@ -148,7 +148,7 @@ pub fn is_plain_key(word: &[u8]) -> bool
     !word.is_empty() && word.len() <= KEY_LIMIT && are_key_bytes(word)
 }
 
-/// Whether each byte may stand in a plain key. All of them are looked at, so that the processor tests many at once.
+/// Whether each byte may be in a plain key. All of them are looked at, so that the processor tests many at once.
 fn are_key_bytes(word: &[u8]) -> bool
     ensures { result ≡ list_all is_key_byte word.now }
 {
@@ -159,7 +159,7 @@ fn are_key_bytes(word: &[u8]) -> bool
     good
 }
 
-/// Whether a byte may stand in a plain key.
+/// Whether a byte may be in a plain key.
 fn is_key_byte(byte: u8) -> bool
     ensures { result ≡ is_key_byte byte }
 {

@@ -16,7 +16,7 @@ pub fn lines_by_their_ends()
     ensures none { first_line (codes "get a\r") ≡ Partial }
 {}
 
-/// Spaces stand between words and are none, in front and behind too. A tab is a byte of its word.
+/// Spaces are between words and are none, in front and after too. A tab is a byte of its word.
 pub fn words_between_spaces()
     ensures three { words (codes "  set a\tb   5 ") ≡ codes "set" ∷ codes "a\tb" ∷ codes "5" ∷ [] }
     ensures none { words (codes "  ") ≡ [] }
@@ -45,7 +45,7 @@ pub fn keys_by_their_bytes()
     ensures tab { is_plain_key (codes "a\tb") ≡ false }
 {}
 
-/// A key in base64 has its padding, and no bit set behind its last byte. It may be of any bytes.
+/// A key in base64 has its padding, and no bit set after its last byte. It may be of any bytes.
 pub fn coded_keys_by_their_words()
     ensures three { coded_key (codes "YWJj") ≡ Some (codes "abc") }
     ensures two { coded_key (codes "YWI=") ≡ Some (codes "ab") }

@@ -30,7 +30,7 @@ pub record IsMadeOf (opening : CacheState) (order : Order) (place : ℕ) (made :
   pub outcomes : outcomes_to place order ≡ map (λ (m : Made). Reply m.reply) made
   pub made_is : AreMade opening made
 
--- what stands at a number of a list that is mapped
+-- what is at a number of a list that is mapped
 map_at : {X Y : Type 0} (f : X → Y) (xs : List X) (i : ℕ) (x : X) → slice_get xs i ≡ Some x → slice_get (map f xs) i ≡ Some (f x)
 map_at f [] zero x at = absurd (none-some x at)
 map_at f [] (suc i) x at = absurd (none-some x at)

@@ -60,7 +60,7 @@ times-two tag (t ∷ ts) (suc j) zero at also differ =
     rw own (omega (arith, behind))
 times-two tag (t ∷ ts) (suc j) (suc k) at also differ = omega (arith, times-two tag ts j k at also (λ same. differ (ap suc same)))
 
--- what stands behind an entry of a history
+-- what is after an entry of a history
 record Stems (made : List Made) (j : ℕ) (d : Entry) : Type 0 where
   pub m : Made
   pub is : d ≡ entry_of m
@@ -81,7 +81,7 @@ named_at place order (m ∷ ms) zero d h at = let same : entry_of m ≡ d = same
     (m.command.0, ap (λ (e : Entry). command_at order (tag_in e)) (sym same) ∙ h.0)
 named_at place order (m ∷ ms) (suc j) d h at = named_at place order ms j d h.1 at
 
--- in one history no command stands twice
+-- in one history no command is twice
 pub site_once : (place : ℕ) (order : Order) (lane : Lane) (link : LinkState) (opening : CacheState) (site : SiteState) (j k : ℕ) (d e : Entry) → ((number : ℕ) → AreInOrder (entries_of number order))
     → SiteStands place order lane link opening site → slice_get site.history j ≡ Some d → slice_get site.history k ≡ Some e → tag_in d ≡ tag_in e → j ≡ k
 site_once place order lane link opening site j k d e numbered h at also same =

@@ -1,4 +1,4 @@
--- A course stands after each event that is done.
+-- A course holds after each event that is done.
 use Rattle.std.proofs.Common.{◌≡◌, ◌≢◌, ◌∙◌, ⊎_elim, ℕ, ◌<◌, inl, inr, List, [], ◌∷◌, ◌++◌, length, map, take, drop, Option, Some, None, refl, sym, ap, subst, append_assoc, append-nil, arith}
 use Rattle.std.specs.Prelude.{All}
 use Rattle.std.proofs.lemmas.Bool.{cases_lt}
@@ -39,7 +39,7 @@ use Rattle.mc_world.proofs.LogTurnLemmas.{log_late_turn, log_puts, log_server_ta
 use Rattle.mc_world.proofs.OutputLemmas.{sent_admitted, unsent, unsent_gone, unsent_kept, unsent_lost, unsent_noted, unsent_other, unsent_own, unsent_sent, unsent_sent_other, without_updated}
 use Rattle.mc_world.proofs.PoolLemmas.{pool_client_goes, pool_client_takes, pool_end_seen, pool_hears, pool_late_bytes, pool_late_turn, pool_loses, pool_puts, pool_reaches_proxy, pool_reaches_server, pool_returns, pool_server_takes, pool_takes, pool_takes_reply}
 
--- a course stands by functions that are the same at each number
+-- a course holds by functions that are the same at each number
 pub stood_as : (ring : RingState) (opening : CacheState) (order : Order) (lanes : ℕ → Lane) (new : CourseState) (texts sent outs : ℕ → List ℕ)
     → ((n : ℕ) → texts n ≡ text_of new n) → ((n : ℕ) → sent n ≡ taken_by new n) → ((n : ℕ) → outs n ≡ put_out_of new n)
     → PoolStands opening texts sent order lanes new.pool → LogStands ring order outs new.log new.pool → new.pool.proxy.admitted ≡ length new.clients

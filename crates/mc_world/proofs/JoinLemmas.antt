@@ -1,4 +1,4 @@
--- A course stands after a server has joined.
+-- A course holds after a server has joined.
 use Rattle.std.proofs.Common.{◌≡◌, ◌∙◌, ⊎_elim, ℕ, zero, suc, ◌<◌, ◌≤◌, inl, inr, Bool, true, if◌then◌else◌, List, [], ◌∷◌, ◌++◌, length, Option, None, slice_get, refl, sym, ap, subst, arith}
 use Rattle.std.specs.Prelude.{All}
 use Rattle.std.proofs.lemmas.Bool.{cases_lt}
@@ -76,7 +76,7 @@ none_replied place order h tag atom reply is known = absurd (omega (arith, comma
 link_there : (links : List LinkState) (link : LinkState) (other : ℕ) → other < length links → link_at (links ++ link ∷ []) other ≡ link_at links other
 link_there links link other inside = get_or_append_left links (link ∷ []) (down_link 0) other inside
 
--- the pool stands
+-- the pool holds
 pub pool_joins : (opening : CacheState) (texts sent : ℕ → List ℕ) (order : Order) (lanes : ℕ → Lane) (address : List ℕ) (old new : PoolState)
     → IsGoodCache opening → ServerJoins address opening old new → length old.proxy.links ≡ length old.proxy.ring.servers → length old.sites ≡ length old.proxy.ring.servers
     → All (IsRoutedWithin (length old.sites)) order → PoolStands opening texts sent order lanes old
@@ -202,7 +202,7 @@ join_generations address opening old new e same h other site at =
           ∙ ap (λ (n : ℕ). link_at (old.proxy.links ++ up_link 1 ∷ []) n) (sym is) ∙ link_new old.proxy.links (up_link 1))))
     ]
 
--- the course stands
+-- the course holds
 pub course_joins : (ring : RingState) (opening : CacheState) (address : List ℕ) (old new : CourseState) → IsGoodCache opening → CourseStands ring opening old
     → HasServerJoined address opening old new → CourseStands ring opening new
 course_joins ring opening address old new good h e =

@@ -1,4 +1,4 @@
--- A server and its ways stand after what happens on a lost generation: bytes arrive, the server takes a request, the server sees its end.
+-- A server and its ways hold after what happens on a lost generation: bytes arrive, the server takes a request, the server sees its end.
 use Rattle.std.proofs.Common.{◌≡◌, ◌≢◌, ◌∙◌, ℕ, zero, suc, ◌+◌, ◌<◌, ◌≤◌, ◌^◌, ◌⊎◌, inl, inr, true, List, [], ◌∷◌, ◌++◌, length, map, Some, None, slice_get, slice_set, refl, sym, ap, ap₂, subst, append_assoc, arith}
 use Rattle.std.specs.Prelude.{remove}
 use Rattle.std.specs.List.{list_all}
@@ -38,7 +38,7 @@ use Rattle.mc_history.proofs.MadeLemmas.{cache_of, made_push, replayed_made}
 use Rattle.mc_world.proofs.SiteLemmas.{appended, commands_push_other, commands_push_own, entry_by, get_none, is_made, lost_elsewhere, lost_untouched, made_of, next_is, other_is, same_end, still_good, taking_by}
 use Rattle.mc_history.specs.Named.{IsNamed, tags_made, times}
 
--- what stands in a list in which one is another
+-- what is in a list in which one is another
 get_set : (ways : List WayState) (i : ℕ) (way : WayState) (j : ℕ) (w : WayState) → slice_get (slice_set ways i way) j ≡ Some w
     → ((j ≡ i) × (w ≡ way)) ⊎ ((j ≢ i) × (slice_get ways j ≡ Some w))
 get_set [] i way j w e = absurd (none-some w (sym (get_none j) ∙ e))
@@ -212,7 +212,7 @@ site_late_turned place order lane link opening site server moment i way tag tags
       ];
     }
 
--- what stands in a list of which one is taken out
+-- what is in a list of which one is taken out
 shift : ℕ → ℕ → ℕ
 shift zero j = suc j
 shift (suc i) zero = zero

@@ -1,4 +1,4 @@
--- What stands in lists that grow, and in the sites of a pool where the one of a place is another.
+-- What is in lists that grow, and in the sites of a pool where the one of a place is another.
 use Rattle.std.proofs.Common.{◌≡◌, ◌≢◌, ◌∙◌, ⊎_elim, ℕ, zero, suc, ◌<◌, ◌⊎◌, inl, inr, List, [], ◌∷◌, ◌++◌, length, map, Some, slice_get, slice_set, refl, sym, ap, subst, arith}
 use Rattle.std.specs.Prelude.{remove}
 use Rattle.std.proofs.lemmas.Bool.Decides.{eqb_tells}
@@ -9,14 +9,14 @@ use Rattle.mc_account.specs.Orders.{Entry as Asked, Order, entries_of}
 use Rattle.mc_account.proofs.OrderLemmas.{entries_push_other, entries_push_own}
 use Rattle.mc_world.specs.WorldState.{SiteState, WayState, histories_of}
 
--- what stands in a list is inside it
+-- what is in a list is inside it
 pub got_inside : {X : Type 0} (xs : List X) (k : ℕ) (x : X) → slice_get xs k ≡ Some x → k < length xs
 got_inside [] zero x at = absurd (none-some x at)
 got_inside [] (suc k) x at = absurd (none-some x at)
 got_inside (y ∷ ys) zero x at = omega arith
 got_inside (y ∷ ys) (suc k) x at = omega (arith, got_inside ys k x at)
 
--- what stands in a list with one more at its end
+-- what is in a list with one more at its end
 pub got_pushed : {X : Type 0} (xs : List X) (x : X) (k : ℕ) (y : X) → slice_get (xs ++ x ∷ []) k ≡ Some y → (slice_get xs k ≡ Some y) ⊎ ((k ≡ length xs) × (y ≡ x))
 got_pushed [] x zero y at = inr (refl, sym (same_Some x y at))
 got_pushed [] x (suc zero) y at = absurd (none-some y at)
@@ -27,7 +27,7 @@ got_pushed (z ∷ zs) x (suc k) y at = elim (got_pushed zs x k y at) [
   | inr h ↦ inr (ap suc h.0, h.1)
 ]
 
--- what stands in a list where the one of a place is another
+-- what is in a list where the one of a place is another
 pub got_set : {X : Type 0} (xs : List X) (i : ℕ) (x : X) (j : ℕ) (y : X) → slice_get (slice_set xs i x) j ≡ Some y → ((i ≡ j) × (y ≡ x)) ⊎ ((i ≢ j) × (slice_get xs j ≡ Some y))
 got_set [] i x zero y at = absurd (none-some y at)
 got_set [] i x (suc j) y at = absurd (none-some y at)
@@ -39,20 +39,20 @@ got_set (z ∷ zs) (suc i) x (suc j) y at = elim (got_set zs i x j y at) [
   | inr h ↦ inr (λ same. h.0 (omega (arith, same)), h.1)
 ]
 
--- what stands in a list stands there where more is behind
+-- what is in a list is there where more is after
 pub got_there : {X : Type 0} (xs ys : List X) (k : ℕ) (x : X) → slice_get xs k ≡ Some x → slice_get (xs ++ ys) k ≡ Some x
 got_there [] ys zero x at = absurd (none-some x at)
 got_there [] ys (suc k) x at = absurd (none-some x at)
 got_there (y ∷ ys) zs zero x at = at
 got_there (y ∷ ys) zs (suc k) x at = got_there ys zs k x at
 
--- something stands at each place of a list
+-- something is at each place of a list
 pub got_some : {X : Type 0} (xs : List X) (k : ℕ) → k < length xs → (x : X) × (slice_get xs k ≡ Some x)
 got_some [] k h = absurd (omega (arith, h))
 got_some (x ∷ xs) zero h = (x, refl)
 got_some (x ∷ xs) (suc k) h = got_some xs k (omega (arith, h))
 
--- what stands in a list of what is said of each
+-- what is in a list of what is said of each
 pub got_map : {X Y : Type 0} (f : X → Y) (xs : List X) (k : ℕ) (x : X) → slice_get xs k ≡ Some x → slice_get (map f xs) k ≡ Some (f x)
 got_map f [] zero x at = absurd (none-some x at)
 got_map f [] (suc k) x at = absurd (none-some x at)

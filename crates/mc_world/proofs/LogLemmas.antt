@@ -39,7 +39,7 @@ before-stays is (suc number) (x ∷ xs) e h =
       | false ↦ λ k. ap (λ (es : Log). x ∷ es) (before-stays is (suc number) xs e k)
     ]) h
 
--- one that is of another kind stands before it
+-- one that is of another kind is before it
 before-other : (is : Logged → Bool) (number : ℕ) (x : Logged) (xs : Log) → is x ≡ false → before is number (x ∷ xs) ≡ x ∷ before is number xs
 before-other is zero x xs other = rw other refl
 before-other is (suc number) x xs other = rw other refl

@@ -1,4 +1,4 @@
--- A server and its ways stand after the loss and the return of its link, and after what happens on a lost generation.
+-- A server and its ways hold after the loss and the return of its link, and after what happens on a lost generation.
 use Rattle.std.proofs.Common.{◌≡◌, ◌≢◌, ◌∙◌, ℕ, zero, suc, ◌+◌, ◌⊎◌, inl, inr, true, List, [], ◌∷◌, ◌++◌, length, map, drop, Some, None, slice_get, refl, sym, ap, ap₂, subst, append-nil, arith}
 use Rattle.std.specs.List.{list_all}
 use Rattle.std.proofs.lemmas.List.{drop-drop, drop-map, drop_all, length-map, map-append}
@@ -25,7 +25,7 @@ use Rattle.mc_history.proofs.NamedLemmas.{Keeps, each_back, kept_named, named_si
 use Rattle.mc_world.proofs.SiteLemmas.{get_none, good_since, tags_wait}
 use Rattle.mc_history.specs.Named.{IsNamed, tags_of, times}
 
--- what stands in a list with one more behind
+-- what is in a list with one more after
 get_pushed : (ways : List WayState) (way : WayState) (i : ℕ) (w : WayState) → slice_get (ways ++ way ∷ []) i ≡ Some w
     → (slice_get ways i ≡ Some w) ⊎ ((i ≡ length ways) × (w ≡ way))
 get_pushed [] way zero w e = inr (refl, sym (same_Some way w e))
@@ -36,7 +36,7 @@ get_pushed (x ∷ xs) way (suc i) w e = elim (get_pushed xs way i w e) [
   | inr h ↦ inr (ap suc h.0, h.1)
 ]
 
--- so many commands behind the first
+-- so many commands after the first
 drop_front : (front back : List Tagged) (count ahead : ℕ) → ahead + count ≡ length front
     → drop ahead (drop count (map (λ (c : Tagged). c.1) (front ++ back))) ≡ map (λ (c : Tagged). c.1) back
 drop_front front back count ahead h =

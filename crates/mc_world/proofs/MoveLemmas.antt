@@ -1,4 +1,4 @@
--- A server and its ways stand after what happens at the proxy, and after the loss and the return of a link.
+-- A server and its ways hold after what happens at the proxy, and after the loss and the return of a link.
 use Rattle.std.proofs.Common.{◌≡◌, ◌≢◌, ◌∙◌, ℕ, zero, suc, ◌+◌, ◌-◌, ◌<◌, ◌≤◌, ◌⊎◌, inl, inr, true, List, [], ◌∷◌, ◌++◌, length, map, drop, take, Option, None, Some, slice_get, refl, sym, ap, ap₂, subst, append_assoc, arith}
 use Rattle.std.specs.List.{list_all}
 use Rattle.std.proofs.lemmas.List.{drop-append-le, drop-map, length-append, length-map, map-append}
@@ -53,7 +53,7 @@ pub made_kept : (place : ℕ) (order longer : Order) (made : List Made) → Keep
 made_kept place order longer made keeps h =
     each_weaker (λ (m : Made). IsNamed place order m.command) (λ (m : Made). IsNamed place longer m.command) made (λ m k. keeps m.command.1 (to_place place m.command.0) k) h
 
--- What a site stands on of an order and a lane: where these are the same, it stands on.
+-- What a site is on of an order and a lane: where these are the same, it is on.
 pub site_kept : (place : ℕ) (order order' : Order) (lane lane' : Lane) (link link' : LinkState) (opening : CacheState) (site : SiteState)
     → Keeps order order' → NoNews place order order' → commands_to place order' ≡ commands_to place order
     → (link'.up ≡ true → link.up ≡ true)
@@ -89,7 +89,7 @@ site_kept place order order' lane lane' link link' opening site keeps news comma
       apart_living = λ up'. h.apart_living (still up');
     }
 
--- a request was taken: its commands go behind those that were sent
+-- a request was taken: its commands go after those that were sent
 pub site_asked : (place : ℕ) (order : Order) (e : Asked) (lane : Lane) (link link' : LinkState) (opening : CacheState) (site : SiteState)
     → (link'.up ≡ true → link.up ≡ true) → (link.up ≡ true → lane.since ≤ length order) → list_all is_good (commands_in place e) ≡ true → e.request ≡ length (entries_of e.session order)
     → ((atom : ℕ) (reply : AReply (List ℕ)) → slice_get e.outcomes atom ≢ Some (Reply reply))
@@ -191,7 +191,7 @@ site_returned place order lane link link' opening site count up h =
       apart_living = λ _. h.apart_living up;
     }
 
--- what stands at a place of a list, and of one that it is the front of
+-- what is at a place of a list, and of one that it is the front of
 pub get_some : {X : Type 0} (xs : List X) (n : ℕ) → n < length xs → (x : X) × (slice_get xs n ≡ Some x)
 get_some [] n h = absurd (omega (arith, h))
 get_some (x ∷ xs) zero h = (x, refl)
@@ -208,7 +208,7 @@ get_mapped f [] (suc n) x e = absurd (none-some x e)
 get_mapped f (y ∷ ys) zero x e = ap (λ (z : _). Some (f z)) (same_Some y x e)
 get_mapped f (y ∷ ys) (suc n) x e = get_mapped f ys n x e
 
--- the command behind a reply that was taken
+-- the command after a reply that was taken
 record IsBehind (made : List Made) (tag : Tag) (reply : AReply (List ℕ)) : Type 0 where
   pub m : Made
   pub k : ℕ

@@ -1,4 +1,4 @@
--- A pool stands after each thing that happens: one lemma for each.
+-- A pool holds after each thing that happens: one lemma for each.
 use Rattle.std.proofs.Common.{◌≡◌, ◌≢◌, ◌∙◌, ⊎_elim, ℕ, zero, suc, ◌+◌, ◌-◌, ◌^◌, ◌<◌, ◌&&◌, ◌⊎◌, inl, inr, Bool, true, false, not, List, [], ◌∷◌, ◌++◌, length, map, drop, take, Option, Some, None, slice_get, slice_set, refl, sym, ap, subst, append_assoc, arith}
 use Rattle.std.specs.Prelude.{nat_lt, remove}
 use Rattle.std.specs.Prelude.{All}
@@ -40,7 +40,7 @@ use Rattle.mc_history.proofs.NamedLemmas.{Keeps, keeps_note, keeps_note_all}
 use Rattle.mc_world.proofs.SiteLemmas.{site_fed, site_turned}
 use Rattle.mc_account.specs.Lookups.{command_at}
 
--- what stands at a place where the site of one place is another
+-- what is at a place where the site of one place is another
 pub set_site : (sites : List SiteState) (i : ℕ) (now : SiteState) (j : ℕ) (s : SiteState) → slice_get (slice_set sites i now) j ≡ Some s
     → ((i ≡ j) × (s ≡ now)) ⊎ ((i ≢ j) × (slice_get sites j ≡ Some s))
 set_site [] i now zero s e = absurd (none-some s e)
@@ -53,7 +53,7 @@ set_site (x ∷ xs) (suc i) now (suc j) s e = elim (set_site xs i now j s e) [
   | inr h ↦ inr (λ same. h.0 (omega (arith, same)), h.1)
 ]
 
--- the sites stand, where the one of a place does and the others do
+-- the sites hold, where the one of a place does and the others do
 sites_with : (opening : CacheState) (order : Order) (lanes : ℕ → Lane) (old new : PoolState) (place : ℕ) (now : SiteState) → new.sites ≡ slice_set old.sites place now
     → SiteStands place order (lanes place) (link_at new.proxy.links place) opening now
     → ((other : ℕ) (site : SiteState) → place ≢ other → slice_get old.sites other ≡ Some site → SiteStands other order (lanes other) (link_at new.proxy.links other) opening site)
@@ -65,7 +65,7 @@ sites_with opening order lanes old new place now is own others other site at =
       | inr h ↦ others other site h.0 h.1
     ]
 
--- a proxy stands where the link of one place, and what passed over it, are others
+-- a proxy is where the link of one place, and what passed over it, are others
 relinked : (texts sent : ℕ → List ℕ) (order : Order) (lanes : ℕ → Lane) (place : ℕ) (lane : Lane) (link : LinkState) (old : ProxyState) → place < length old.links
     → LinkStands place order lane link → ProxyStands texts sent order lanes old → ProxyStands texts sent order (changed place lane lanes) (record old { links = with_link place link old.links })
 relinked texts sent order lanes place lane link old inside own h = record {

@@ -1,4 +1,4 @@
--- A course stands after every list of events and joins of servers, and so gives account.
+-- A course holds after every list of events and joins of servers, and so gives account.
 use Rattle.std.proofs.Common.{ℕ, List, [], ◌∷◌, inl, inr, sym, subst, arith}
 use Rattle.mc_ring.specs.Rings.{IsRing, RingState}
 use Rattle.mc_cache.specs.CacheState.{CacheState, IsWithinBounds, opening_cache}
@@ -13,7 +13,7 @@ use Rattle.mc_world.proofs.JoinLemmas.{course_joins}
 use Rattle.mc_world.proofs.LogAccountLemmas.{log_accounts}
 use Rattle.mc_world.proofs.WorldOpeningLemmas.{course_opens}
 
--- a course that stands gives account
+-- a course that holds gives account
 pub course_accounts : (ring : RingState) (opening : CacheState) (c : CourseState) → CourseStands ring opening c
     → Account ring opening (text_of c) (put_out_of c) (history_of c) c.log
 course_accounts ring opening c h =

@@ -1,4 +1,4 @@
--- The servers of a pool that stands serve a proxy.
+-- The servers of a pool that holds serve a proxy.
 use Rattle.std.proofs.Common.{◌≡◌, ◌∙◌, ℕ, zero, suc, ◌+◌, ◌<◌, ◌≤◌, Bool, true, false, if◌then◌else◌, List, [], ◌∷◌, ◌++◌, length, map, drop, Option, Some, None, nat_lt, slice_get, refl, sym, ap, subst, append_assoc, append-nil, arith}
 use Rattle.std.specs.List.{list_all}
 use Rattle.std.proofs.lemmas.Bool.{and_parts, lt-ltb, ltb-true}
@@ -184,7 +184,7 @@ lost_serves place order lane link opening site i way at h =
           omega (arith, more, sizes, length-map own.others (λ (c : Tagged). c.1));
     }
 
--- a site serves, where it stands
+-- a site serves, where it holds
 pub site_serves : (place : ℕ) (order : Order) (lane : Lane) (link : LinkState) (opening : CacheState) (site : SiteState) → site.generation ≡ link.generation
     → SiteStands place order lane link opening site → LinkStands place order lane link → SiteServes link site
 site_serves place order lane link opening site generation h stands = record {
@@ -197,7 +197,7 @@ site_serves place order lane link opening site generation h stands = record {
   untaken = λ i way at. (lost_serves place order lane link opening site i way at h).untaken;
 }
 
--- and the pool of a course that stands does
+-- and the pool of a course that holds does
 pub pool_serves : (ring : RingState) (opening : CacheState) (c : CourseState) → CourseStands ring opening c → PoolServes c.pool
 pool_serves ring opening c h = record {
   sited = h.log.servers.sited ∙ sym h.log.servers.linked;

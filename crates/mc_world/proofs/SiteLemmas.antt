@@ -1,4 +1,4 @@
--- A server and its ways stand after each thing that happens to them: one lemma for each.
+-- A server and its ways hold after each thing that happens to them: one lemma for each.
 use Rattle.std.proofs.Common.{◌≡◌, ◌≢◌, ◌∙◌, ℕ, zero, suc, ◌+◌, ◌<◌, ◌^◌, ◌==◌, Bool, true, false, if◌then◌else◌, List, [], ◌∷◌, ◌++◌, length, map, drop, take, Option, Some, None, slice_get, refl, sym, ap, ap₂, subst, append_assoc, append-nil, arith}
 use Rattle.std.specs.List.{list_all}
 use Rattle.std.proofs.lemmas.Bool.{and_parts}
@@ -157,7 +157,7 @@ good_since place since order good =
     ap (λ (es : Order). commands_to place es) (sym (take-append-drop since order)) ∙ commands-append place (take since order) (drop since order) in
     (passes_parts is_good (commands_to place (take since order)) (commands_to place (drop since order)) (ap (λ (cs : List Tagged). list_all is_good cs) (sym whole) ∙ good)).1
 
--- where the living connection stands
+-- where the living connection holds
 pub stood_at : (opening : CacheState) (made : List Made) (texts sent : ℕ → List ℕ) (lane : Lane) (site : SiteState) (end : ConnectionState) → ServerStands opening texts sent (map taking_of made) site.server
     → connection_at site.server site.connection ≡ Some end → texts site.connection ≡ lane.out → sent site.connection ≡ lane.came
     → Stands opening site.connection lane.out (map taking_of made) lane.came end
@@ -281,7 +281,7 @@ get_behind xs zero k = let same : k + 0 ≡ k = omega arith in ap (λ (i : ℕ).
 get_behind {X = X} [] (suc n) k = get_none {X = X} k ∙ sym (get_none {X = X} (k + suc n))
 get_behind (x ∷ xs) (suc n) k = let same : k + suc n ≡ suc (k + n) = omega arith in get_behind xs n k ∙ ap (λ (i : ℕ). slice_get (x ∷ xs) i) (sym same)
 
--- the command that the server takes next is the one that waits behind those whose replies were not taken
+-- the command that the server takes next is the one that waits after those whose replies were not taken
 pub waits_next : (place : ℕ) (order : Order) (lane : Lane) (link : LinkState) (opening : CacheState) (site : SiteState) (up : link.up ≡ true) (h : SiteStands place order lane link opening site) (command : Tagged) (behind : List Tagged)
     → LaneStands place order lane link → (h.living up).others ≡ command ∷ behind → slice_get (map (λ (w : Waiting). w.1) link.waiting) site.ahead ≡ Some command.1
 waits_next place order lane link opening site up h command behind stands is =
@@ -303,7 +303,7 @@ same_tag at a b x y = let both : Some a ≡ Some b = sym x ∙ y in cc
 abbrev pub entry_by : Tag → ℕ → Bool → List ℕ → Entry
 entry_by tag moment refused reply = record { client = tag.session; request = tag.request; atom = tag.atom; moment = moment; refused = refused; reply = reply }
 
--- how often a tag stands among the commands that were not taken
+-- how often a tag is among the commands that were not taken
 pub others_of : (others : List Tagged) (command : Tagged) (behind : List Tagged) → others ≡ command ∷ behind
     → (tag : Tag) → times tag (tags_of others) ≡ times tag (command.1 ∷ []) + times tag (tags_of behind)
 others_of others command behind is tag =

@@ -30,20 +30,20 @@ runs-more (e ∷ es) event old mid new n m runs tried =
     let sum = runs.5 in
     (runs.0, runs.1, runs.2 + m, runs.3, runs-more es event runs.0 mid new runs.2 m runs.4 tried, omega (arith, sum))
 
--- what a course rests on where it stands
+-- what a course rests on where it holds
 pub course_serves : (ring : RingState) (opening : CacheState) (c : CourseState) → CourseStands ring opening c → CourseServes c
 course_serves ring opening c h = record {
   pool = pool_serves ring opening c h;
   clients = λ client session at. is_there ring opening c client session h at;
 }
 
--- a step that was done, or changed nothing, leaves a course where one stands
+-- a step that was done, or changed nothing, leaves a course where one is
 pub course_steps : (ring : RingState) (opening : CacheState) (event : Event (List ℕ)) (step : Step) (old new : CourseState) → CourseStands ring opening old
     → Does step (IsDone event old new) (new ≡ old) → CourseStands ring opening new
 course_steps ring opening event Done old new h does = course_done ring opening event old new h does
 course_steps ring opening event Nothing old new h does = subst (λ (c : CourseState). CourseStands ring opening c) (sym does) h
 
--- a world that was just opened stands, and each that stands gives account
+-- a world that was just opened holds, and each that holds gives account
 pub world_opens : (ring : RingState) (clients budget items : ℕ) → IsRing ring → IsWithinBounds budget items → WorldStands (opening_world ring clients budget items)
 world_opens ring clients budget items is_ring bounds = record { bounds = bounds; course = course_opens ring clients budget items is_ring bounds.some_items }
 

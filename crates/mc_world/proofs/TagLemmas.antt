@@ -47,7 +47,7 @@ all_tags waiting first n tags past h =
     let size : length (tags_in waiting) ≤ n = omega (arith, past, length-map waiting (λ (w : Waiting). w.1)) in
     sym (append-nil tags) ∙ ap (λ (ts : List Tag). tags ++ ts) (sym (drop_all n (tags_in waiting) size)) ∙ h
 
--- what stands at a number, among the tags
+-- what is at a number, among the tags
 pub tag_of_waiting : (waiting : List Waiting) (n : ℕ) (tag : Tag) → tag_at waiting n ≡ Some tag → slice_get (tags_in waiting) n ≡ Some tag
 tag_of_waiting [] zero tag is = absurd (none-some tag is)
 tag_of_waiting [] (suc n) tag is = absurd (none-some tag is)

@@ -40,7 +40,7 @@ impl<S: Store + Drop> Cache<S> {
         }
     }
 
-    /// The same on a settled cache, where this was found under the key and stands first.
+    /// The same on a settled cache, where this was found under the key and is first.
     fn show_found(&mut self, key: &[u8], get: &MetaGet, found: Found, moment: u64) -> Reply<()>
         requires moment { moment < 2 ^ 63 }
         requires found { body_at key.now self.old.items ≡ found_body (Some found) (front_value self.old.items) }
@@ -94,7 +94,7 @@ impl<S: Store + Drop> Cache<S> {
         }
     }
 
-    /// The reply to an update, told to a meta command. What was stored stands first.
+    /// The reply to an update, told to a meta command. What was stored is first.
     pub(super) fn tell(&self, reply: Reply<()>, show: &Show, moment: u64) -> Reply<()>
         ensures told { IsTold show.now moment self.now reply result }
         ensures refusal { is_refusal result ≡ is_refusal reply }

@@ -1,4 +1,4 @@
-//! Putting: an item that is admitted stands first, and the bounds are kept.
+//! Putting: an item that is admitted is first, and the bounds are kept.
 ghost use Rattle.std.specs.Prelude.{◌≡◌, ◌<◌, ◌≤◌, ◌^◌, ℕ, List, [], length, Some, None, Ok, is_some, is_ok, true, false, IfOk, IfErr, OnOk, OnErr, IfSome, OnSome, IfNone};
 ghost use Rattle.mc_text.specs.Keys.{is_key};
 ghost use Rattle.mc_request.specs.declared.faults.Fault.TheVariants.{OutOfMemory};
@@ -71,7 +71,7 @@ impl<S: Store + Drop> Cache<S> {
         }
     }
 
-    /// Stores what is lent under a key that is not held, with a number of its own: then its item stands first.
+    /// Stores what is lent under a key that is not held, with a number of its own: then its item is first.
     pub(super) fn make(&mut self, key: &[u8], lent: Lent<'_>) -> Result<(), Fault>
         requires key { is_key key.now ≡ true }
         requires absent { body_at key.now self.old.items ≡ None }

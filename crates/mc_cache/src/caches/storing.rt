@@ -64,7 +64,7 @@ pub enum Side {
 }
 
 impl Side {
-    /// A value with a block before or behind it. It takes memory for both, once.
+    /// A value with a block before or after it. It takes memory for both, once.
     fn join(self, alloc: Global, value: &[u8], block: &[u8]) -> Result<Block, AllocError>
         ensures { IfOk result (λ whole. whole ≡ joined self value.now block.now) }
     {
@@ -190,7 +190,7 @@ impl<S: Store + Drop> Cache<S> {
         Some(stored_or_fault(self.join(side, key, block, found)))
     }
 
-    /// Stores a held value with a block before or behind it. It takes memory where the block has bytes.
+    /// Stores a held value with a block before or after it. It takes memory where the block has bytes.
     fn join(&mut self, side: Side, key: &[u8], block: &[u8], found: Found) -> Result<(), Fault>
         requires found { body_at key.now self.old.items ≡ found_body (Some found) (value_at key.now self.old.items) }
         ensures step { (reply : AReply (List ℕ))

@@ -24,6 +24,6 @@ loop-command-preserved c =
       ];
     }
 
--- all have room behind the last
+-- all have room after the last
 pub returns-clause-roomy : goal.returns-clause-roomy
 returns-clause-roomy c = λ k d lt. rw c.in-Some.ensures at (c.loop-command.invariant.roomy k d (omega (arith, lt, c.loop-command-test.false)))

@@ -5,7 +5,7 @@ use Rattle.mc_session.specs.SessionState.{states}
 use Rattle.mc_session.specs.Sending.{IsRoomy, roomy_at}
 use Rattle.mc_session.proofs.sending.make_room.Given as goal
 
--- the links stand as they did, and those of the commands so far have room
+-- the links are as they were, and those of the commands so far have room
 abbrev pub invariant-loop-command : goal.invariant-loop-command
 invariant-loop-command l = record {
   unchanged : states l.links ≡ states l.initial.links;

@@ -11,7 +11,7 @@ returns-clause-is_fresh c =
     let own = c.self.inside in
     rw (c.in_ok-push.ensures.items, c.new.ensures) (fresh_last own.sessions.items own.admitted _ (absent_next own.sessions.items own.admitted c.self.invariant.numbered))
 
--- it stands behind the others, and the next number is one more
+-- it is after the others, and the next number is one more
 pub returns-clause-admitted : goal.returns-clause-admitted
 returns-clause-admitted c = rw (← c.self.view_is, c.in_ok-push.ensures.items, c.new.ensures) refl
 

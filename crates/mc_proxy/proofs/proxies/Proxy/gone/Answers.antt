@@ -2,7 +2,7 @@ use Rattle.std.proofs.Common.{refl}
 use Rattle.mc_proxy.proofs.PlaceLemmas.{without_is_absent, numbered_remove}
 use Rattle.mc_proxy.proofs.proxies.Proxy.gone.Goals as goal
 
--- what stands at the place is the session of the number
+-- what is at the place is the session of the number
 pub returns-in-Some-clause-gone : goal.returns-in-Some-clause-gone
 returns-in-Some-clause-gone c =
     let held = rw c.as_slice.ensures.value at c.in-Some.ensures.found in

@@ -13,7 +13,7 @@ invariant_of-self c =
       emptied = c.self.invariant.emptied;
     }
 
--- what stands at the place is the session of the command
+-- what is at the place is the session of the command
 pub returns-in-Some : goal.returns-in-Some
 returns-in-Some c =
     let held = rw c.as_slice.ensures.value at c.in-Some.ensures.found in

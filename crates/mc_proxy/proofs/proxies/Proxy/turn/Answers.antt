@@ -14,7 +14,7 @@ invariant_of-self-in-Some c =
       emptied = c.turn.ensures.emptied;
     }
 
--- what stands at the place is the session of the number
+-- what is at the place is the session of the number
 pub returns-in_ok-turn-in-Some-clause-turn : goal.returns-in_ok-turn-in-Some-clause-turn
 returns-in_ok-turn-in-Some-clause-turn c =
     let held = rw c.as_slice.ensures.value at c.in-Some.ensures.found in

@@ -8,7 +8,7 @@ use Rattle.mc_server.specs.ServerState.{ConnectionState}
 use Rattle.mc_server.proofs.RoomLemmas.{room_within}
 use Rattle.mc_server.proofs.connections.Connection.turn_within.Goals as goal
 
--- the answer goes behind what was sent
+-- the answer goes after what was sent
 pub invariant_of-self-in-First : goal.invariant_of-self-in-First
 invariant_of-self-in-First g c =
     let served = (c.in_ok-serve-in-First.ensures.served 0).1 in

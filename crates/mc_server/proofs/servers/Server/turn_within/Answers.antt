@@ -11,7 +11,7 @@ invariant_of-self g c =
     let held = rw c.as_slice.ensures.value at c.in-Some.ensures.found in
     numbered_update _ _ _ c.index_mut.result.now _ c.self.invariant held.0 c.index_mut.ensures.value
 
--- what stands at the place is the connection of the number
+-- what is at the place is the connection of the number
 pub returns-in-Some-clause-within : goal.returns-in-Some-clause-within
 returns-in-Some-clause-within g c =
     let held = rw c.as_slice.ensures.value at c.in-Some.ensures.found in
