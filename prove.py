@@ -43,6 +43,7 @@ UNKNOWN = 60
 # Seconds of one job, on a processor that nothing else uses.
 SECONDS = {
     "mc_account": 16,
+    "mc_address": 16,
     "mc_bench": 230,
     "mc_cache": 120,
     "mc_cache_laws": 21,

@@ -59,9 +59,9 @@ pub to_if : {R : Type 0} (there : Bool) (f g : Form R) (r : R) (s : List ℕ) �
 to_if true f g r s e h = to_left f g r s h
 to_if false f g r s e h = absurd (cc)
 
-pub to_behind : {R : Type 0} (there : Bool) (f g : Form R) (r : R) (s : List ℕ) → Spells g r s → Spells (or_if there f g) r s
-to_behind true f g r s h = to_right f g r s h
-to_behind false f g r s h = h
+pub to_after : {R : Type 0} (there : Bool) (f g : Form R) (r : R) (s : List ℕ) → Spells g r s → Spells (or_if there f g) r s
+to_after true f g r s h = to_right f g r s h
+to_after false f g r s h = h
 
 -- bytes that begin with a spelling, and what is left
 pub record Begins {R : Type 0} (may : R → Bool) (spell : R → List ℕ) (u : List ℕ) (x : R × List ℕ) : Type 0 where

@@ -261,16 +261,16 @@ pub number_short : (most n : ℕ) (u w : List ℕ) (b : ℕ) (more : List ℕ) �
     → (number_at most u ≡ Err (More 1)) ⊎ ((rest : List ℕ) × (number_at most u ≡ Ok (n, rest)) × (rest ++ b ∷ more ≡ w))
 number_short most n u w b more bound fits plain e = elim (append_split u (b ∷ more) (decimal n) w e) [
   | inl s ↦ inl (number_less most u s.0 (ap (number_at most) (sym s.1) ∙ alone))
-  | inr s ↦ behind s.0 s.1 s.2
+  | inr s ↦ after s.0 s.1 s.2
 ]
   where
     alone : number_at most (decimal n) ≡ Err (More 1)
     alone = number_alone most n bound fits
 
-    behind : (rest : List ℕ) → u ≡ decimal n ++ rest → rest ++ b ∷ more ≡ w
+    after : (rest : List ℕ) → u ≡ decimal n ++ rest → rest ++ b ∷ more ≡ w
         → (number_at most u ≡ Err (More 1)) ⊎ ((rest : List ℕ) × (number_at most u ≡ Ok (n, rest)) × (rest ++ b ∷ more ≡ w))
-    behind [] s f = inl (ap (number_at most) (s ∙ append-nil (decimal n)) ∙ alone)
-    behind (c ∷ rest) s f =
+    after [] s f = inl (ap (number_at most) (s ∙ append-nil (decimal n)) ∙ alone)
+    after (c ∷ rest) s f =
         let first : StartsPlain (c ∷ rest) = subst StartsPlain (sym f) plain in
         inr (c ∷ rest, ap (number_at most) s ∙ number_whole most n (c ∷ rest) bound fits first, f)
 
@@ -313,12 +313,12 @@ block_short size block u w b more h e = elim (append_split u (b ∷ more) block 
   | inl s ↦
       let sum : length block ≡ length u + length s.0 = ap (length {A = ℕ}) s.1 ∙ length-append u s.0 in
       inl (size - length u + 1, block_waits size u (omega arith))
-  | inr s ↦ behind s.0 s.1 s.2
+  | inr s ↦ after s.0 s.1 s.2
 ]
   where
-    behind : (rest : List ℕ) → u ≡ block ++ rest → rest ++ b ∷ more ≡ w
+    after : (rest : List ℕ) → u ≡ block ++ rest → rest ++ b ∷ more ≡ w
         → ((n : ℕ) × (block_at size u ≡ Err (More n))) ⊎ ((rest : List ℕ) × (block_at size u ≡ Ok (block, rest)) × (rest ++ b ∷ more ≡ w))
-    behind [] s f =
+    after [] s f =
         let sum : length u ≡ length block + length {A = ℕ} [] = ap (length {A = ℕ}) s ∙ length-append block [] in
         inl (size - length u + 1, block_waits size u (omega arith))
-    behind (c ∷ rest) s f = inr (c ∷ rest, ap (block_at size) s ∙ block_whole size block (c ∷ rest) h (omega arith), f)
+    after (c ∷ rest) s f = inr (c ∷ rest, ap (block_at size) s ∙ block_whole size block (c ∷ rest) h (omega arith), f)

@@ -67,8 +67,8 @@ begun_now : {R : Type 0} (f : Form R) (u : List ℕ) (n : ℕ) → BegunFor f u 
 begun_now f u n h = subst (Begun f) (append-nil u) (h.begun [] h.some)
 
 -- what is begun after a field
-begun_behind : (front u s more w : List ℕ) (b : ℕ) (rest : List ℕ) → u ≡ front ++ s → (s ++ more) ++ b ∷ rest ≡ w → (u ++ more) ++ b ∷ rest ≡ front ++ w
-begun_behind front u s more w b rest e f =
+begun_after : (front u s more w : List ℕ) (b : ℕ) (rest : List ℕ) → u ≡ front ++ s → (s ++ more) ++ b ∷ rest ≡ w → (u ++ more) ++ b ∷ rest ≡ front ++ w
+begun_after front u s more w b rest e f =
     ap (λ (r : List ℕ). (r ++ more) ++ b ∷ rest) e ∙ ap (λ (r : List ℕ). r ++ b ∷ rest) (append_assoc front s more)
     ∙ append_assoc front (s ++ more) (b ∷ rest) ∙ ap (λ (r : List ℕ). front ++ r) f
 
@@ -132,13 +132,13 @@ text_read t f h = record {
         begun_one (Text t f) u n left.0
         (record { path = p; next = left.1; more = left.2 ++ word f p; spelled = sym (append_assoc u (left.1 ∷ left.2) (word f p)) ∙ ap (λ r. r ++ word f p) left.3 })
     | inr s ↦
-        let behind = h.begun s.0 n s.2 in
+        let after = h.begun s.0 n s.2 in
         let front = text_found t u s.0 s.1 in
         record {
-          some = behind.some;
+          some = after.some;
           begun = λ more few.
-              let rest = behind.begun more few in
-              record { path = rest.path; next = rest.next; more = rest.more; spelled = begun_behind t u s.0 more (word f rest.path) rest.next rest.more front rest.spelled };
+              let rest = after.begun more few in
+              record { path = rest.path; next = rest.next; more = rest.more; spelled = begun_after t u s.0 more (word f rest.path) rest.next rest.more front rest.spelled };
         }
   ];
 }
@@ -180,16 +180,16 @@ number_read most f bound plain h = record {
     | inr s ↦
         let n = s.0.0 in
         let number = number_found most u s.0 bound s.1 in
-        let behind = (h n).begun s.0.1 k s.2 in
+        let after = (h n).begun s.0.1 k s.2 in
         record {
-          some = behind.some;
+          some = after.some;
           begun = λ more few.
-              let rest = behind.begun more few in
+              let rest = after.begun more few in
               record {
                 path = (n, number.1, rest.path);
                 next = rest.next;
                 more = rest.more;
-                spelled = begun_behind (decimal n) u s.0.1 more (word (f n) rest.path) rest.next rest.more number.0 rest.spelled;
+                spelled = begun_after (decimal n) u s.0.1 more (word (f n) rest.path) rest.next rest.more number.0 rest.spelled;
               };
         }
   ];
@@ -210,9 +210,9 @@ number_read most f bound plain h = record {
         }
 
 block_read : {R : Type 0} (size : ℕ) (f : List ℕ → Form R) → ((block : List ℕ) → HasBytes (f block)) → ((block : List ℕ) → IsRead (f block)) → IsRead (Block size f)
-block_read size f behind h = record {
+block_read size f after h = record {
   whole = λ p u.
-      rw (append_assoc p.0 (word (f p.0) p.2) u, block_whole size p.0 (word (f p.0) p.2 ++ u) p.1 (longer (word (f p.0) p.2) u (behind p.0 p.2))) ((h p.0).whole p.2 u);
+      rw (append_assoc p.0 (word (f p.0) p.2) u, block_whole size p.0 (word (f p.0) p.2 ++ u) p.1 (longer (word (f p.0) p.2) u (after p.0 p.2))) ((h p.0).whole p.2 u);
   short = λ p u b more e. elim (block_short size p.0 u (word (f p.0) p.2) b more p.1 e) [
     | inl s ↦ bind_waits (block_at size u) (λ y. read (f y.0) y.1) s.0 s.1
     | inr s ↦ bind_on (block_at size u) (λ y. read (f y.0) y.1) (p.0, s.0) s.1 ((h p.0).short p.2 s.0 b more s.2)
@@ -241,7 +241,7 @@ block_read size f behind h = record {
                 path = (s.0.0, block.1, rest.path);
                 next = rest.next;
                 more = rest.more;
-                spelled = begun_behind s.0.0 u s.0.1 more (word (f s.0.0) rest.path) rest.next rest.more block.0 rest.spelled;
+                spelled = begun_after s.0.0 u s.0.1 more (word (f s.0.0) rest.path) rest.next rest.more block.0 rest.spelled;
               };
         }
   ];
@@ -257,7 +257,7 @@ block_read size f behind h = record {
         let block = u ++ zeros in
         let sized : length block ≡ size = omega (arith, length-append u zeros, length-replicate {A = ℕ} (size - length u) 0) in
         let p = some_path (f block) in
-        let left = split_one zeros (word (f block) p) (behind block p) in
+        let left = split_one zeros (word (f block) p) (after block p) in
         record {
           path = (block, sized, p);
           next = left.0;

@@ -146,11 +146,11 @@ pub clear_or : {R : Type 0} (f g : Form R) → IsClear f → IsClear g → all_d
 clear_or f g cf cg h = (cf, cg, apart f g cf cg h)
 
 -- what may follow a number
-pub record IsBehind {R : Type 0} (f : Form R) : Type 0 where
+pub record IsAfter {R : Type 0} (f : Form R) : Type 0 where
   pub clear : IsClear f
   pub leads : all is_plain (leads f) ≡ true
 
-pub clear_number : {R : Type 0} (most : ℕ) (f : ℕ → Form R) → most < 2 ^ 64 → ((n : ℕ) → IsBehind (f n)) → IsClear (Number most f)
+pub clear_number : {R : Type 0} (most : ℕ) (f : ℕ → Form R) → most < 2 ^ 64 → ((n : ℕ) → IsAfter (f n)) → IsClear (Number most f)
 clear_number most f bound h = (bound, λ n. plain (f n) (h n).clear (h n).leads, λ n. (h n).clear)
 
 -- a block with a text after it
@@ -176,10 +176,10 @@ clear_lines (Or f g) h =
     clear_or f g (clear_lines f each.0) (clear_lines g each.1) sides.1
 
 -- a number that may be asked for, after a text that begins with no digit
-pub behind_number_if : {R : Type 0} (asked : Bool) (text : List ℕ) (most : ℕ) (f : Option ℕ → Form R) → is_plain (Bytes text) ≡ true → most < 2 ^ 64
-    → ((n : Option ℕ) → IsBehind (f n)) → IsBehind (number_if asked text most f)
-behind_number_if true text most f starts bound h = record { clear = clear_number most (λ n. f (Some n)) bound (λ n. h (Some n)); leads = starts_and starts }
+pub after_number_if : {R : Type 0} (asked : Bool) (text : List ℕ) (most : ℕ) (f : Option ℕ → Form R) → is_plain (Bytes text) ≡ true → most < 2 ^ 64
+    → ((n : Option ℕ) → IsAfter (f n)) → IsAfter (number_if asked text most f)
+after_number_if true text most f starts bound h = record { clear = clear_number most (λ n. f (Some n)) bound (λ n. h (Some n)); leads = starts_and starts }
   where
     starts_and : is_plain (Bytes text) ≡ true → (is_plain (Bytes text) && true) ≡ true
     starts_and e = rw e refl
-behind_number_if false text most f starts bound h = h None
+after_number_if false text most f starts bound h = h None

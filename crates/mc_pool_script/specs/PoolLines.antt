@@ -3,7 +3,7 @@ use Rattle.std.specs.Prelude.{ℕ, ◌^◌, ◌-◌, ◌<◌, List, length, Opti
 use Rattle.std.specs.Option.{option_map, option_or}
 use Rattle.std.specs.Str.{bytes_eq}
 use Rattle.mc_text.specs.Numbers.{read_u64}
-use Rattle.mc_ring.specs.Addresses.{is_address}
+use Rattle.mc_address.specs.Addresses.{is_address}
 use Rattle.mc_ring.specs.Refusals.{refusal_of_more}
 use Rattle.mc_script.specs.Escapes.{text_of}
 use Rattle.mc_script.specs.Lines.{cut_at_space}
@@ -52,20 +52,20 @@ takes_line clients text = do
 unfoldable pub to_server_line : ℕ → List ℕ → Option PoolLine
 to_server_line servers text = do
   words ← cut_at_space text
-  behind ← cut_at_space words.1
+  rest ← cut_at_space words.1
   server ← place_of servers words.0
-  generation ← read_u64 behind.0
-  count ← count_of behind.1
+  generation ← read_u64 rest.0
+  count ← count_of rest.1
   Some (Event (ReachServer server generation count))
 
 -- `serve <server> <generation> <moment>`
 unfoldable pub serve_line : ℕ → List ℕ → Option PoolLine
 serve_line servers text = do
   words ← cut_at_space text
-  behind ← cut_at_space words.1
+  rest ← cut_at_space words.1
   server ← place_of servers words.0
-  generation ← read_u64 behind.0
-  moment ← moment_read behind.1
+  generation ← read_u64 rest.0
+  moment ← moment_read rest.1
   Some (Event (ServerTurn server generation moment))
 
 -- `toproxy <server> <count>`

@@ -274,10 +274,10 @@ fn read_limits(line: &[u8]) -> Option<(u64, u64, u64, usize)>
     ensures clients { IfSome result (λ limits. (1 ≤ limits.1) × (limits.1 ≤ 1024)) }
     ensures bounds { IfSome result (λ limits. IsWithinBounds limits.2 limits.3) }
 {
-    let (command, behind) = cut_at_space(line)?;
-    let (servers, behind) = cut_at_space(behind)?;
-    let (clients, behind) = cut_at_space(behind)?;
-    let (budget, items) = cut_at_space(behind)?;
+    let (command, rest) = cut_at_space(line)?;
+    let (servers, rest) = cut_at_space(rest)?;
+    let (clients, rest) = cut_at_space(rest)?;
+    let (budget, items) = cut_at_space(rest)?;
     let servers = read_limit(servers, SERVER_LIMIT as u64)?;
     let clients = read_limit(clients, MAX_CLIENTS)?;
     let budget = read_limit(budget, MAX_BUDGET)?;

@@ -43,7 +43,7 @@ where
     if check {
         return print_size(rt, &ring);
     }
-    let listener = bind(rt, alloc, listen)?;
+    let listener = bind(rt, listen)?;
     tell_open_files(rt, ring.servers().len());
     // Whom the line does not reach is served all the same.
     let _ = println!(rt; "listening {listen}");

@@ -105,7 +105,7 @@ word_fits name read (letter ∷ token) =
 more_fit : (name : Name) (read : MetaFlags) (room : ℕ) (words : List (List ℕ)) (first : Result MetaFlags Fault) (end : MetaFlags) → Fits room read first
     → ((next : MetaFlags) → flags_from name next words ≡ Ok end → flags_room words ≤ left_room next)
     → (first >>= (λ next. flags_from name next words)) ≡ Ok end → room + flags_room words ≤ left_room read
-more_fit name read room words (Ok next) end fits more h = let behind = more next h in omega (arith, fits, behind)
+more_fit name read room words (Ok next) end fits more h = let rest_fits = more next h in omega (arith, fits, rest_fits)
 more_fit name read room words (Err fault) end fits more h = absurd cc
 
 words_fit : (name : Name) (read : MetaFlags) (words : List (List ℕ)) (end : MetaFlags) → flags_from name read words ≡ Ok end → flags_room words ≤ left_room read

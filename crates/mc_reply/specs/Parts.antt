@@ -7,13 +7,13 @@ use Rattle.mc_reply.specs.declared.replies.Reply.{Reply}
 use Rattle.mc_reply.specs.Spelling.{end_line, key_part, shown_line, shown_meta, meta_key, answer_of}
 
 -- the end is after the part of the last key
-abbrev pub end_behind : List (List ℕ) → ℕ → List ℕ
-end_behind keys at = if at + 1 == length keys then end_line else []
+abbrev pub end_after : List (List ℕ) → ℕ → List ℕ
+end_after keys at = if at + 1 == length keys then end_line else []
 
 -- what the reply to the command of this number adds to a request's answer; where no reply comes, the answer itself
 abbrev pub part_of : Request → ℕ → Option (Reply (List ℕ)) → List ℕ
 part_of request at None = answer_of request []
-part_of (Get keys exptime with_cas) at (Some reply) = key_part (slice_index_or keys at []) reply ++ end_behind keys at
+part_of (Get keys exptime with_cas) at (Some reply) = key_part (slice_index_or keys at []) reply ++ end_after keys at
 part_of (Update update noreply) at (Some reply) = shown_line (hides_of (Update update noreply)) reply
 part_of (Meta command form) at (Some reply) = shown_meta (hides_of (Meta command form)) form (meta_key command) reply
 part_of MetaNoop at (Some reply) = []

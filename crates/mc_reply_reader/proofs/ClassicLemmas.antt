@@ -4,7 +4,7 @@ use Rattle.std.specs.Fmt.{decimal}
 use Rattle.std.specs.Option.{is_some}
 use Rattle.mc_forms.specs.Forms.{Or, Path, or_if}
 use Rattle.mc_forms.proofs.LeadLemmas.{clear_lines}
-use Rattle.mc_forms.proofs.CoverLaws.{Stands, Spells, Covers, of_line, of_or, of_or_if, to_line, to_left, to_right, to_if, to_behind}
+use Rattle.mc_forms.proofs.CoverLaws.{Stands, Spells, Covers, of_line, of_or, of_or_if, to_line, to_left, to_right, to_if, to_after}
 use Rattle.mc_request.specs.WellFormed.{is_good_block, is_u64}
 use Rattle.mc_request.specs.declared.faults.Fault.{Fault}
 use Rattle.mc_request.specs.declared.faults.Fault.TheVariants.{NonNumeric, TooLarge, CasUsedUp, OutOfMemory}
@@ -81,14 +81,14 @@ of_hit key exptime with_cas p =
     let flags = p.0 in
     let size = p.2.0 in
     let cas = of_number with_cas is_u64 (codes " ") NUMBER_LIMIT (hit_value flags size) u64_fits p.2.2 in
-    let value = cas.behind.path in
+    let value = cas.after.path in
     record {
       value = replies.Hit flags cas.number value.0;
-      means = sym cas.behind.means;
+      means = sym cas.after.means;
       allowed = all_three (is_u32 flags) (is_as_asked is_u64 with_cas cas.number) (is_good_block value.0) (u32_fits flags p.1) cas.shown (block_fits value.0 size p.2.1 value.1);
       spelled = ap (λ (w : List ℕ). codes "VALUE " ++ (key ++ (codes " " ++ (decimal flags ++ (codes " " ++ w)))))
           (ap (λ (w : List ℕ). decimal size ++ w)
-          (cas.spelled ∙ ap (number_flag_onto (codes " ") cas.number) (sym cas.behind.spelled) ∙ cas_is cas.number _)
+          (cas.spelled ∙ ap (number_flag_onto (codes " ") cas.number) (sym cas.after.spelled) ∙ cas_is cas.number _)
           ∙ ap (λ (n : ℕ). decimal n ++ cas_onto cas.number (codes "\r\n" ++ (value.0 ++ codes "\r\nEND\r\n"))) (sym value.1));
     }
 
@@ -132,11 +132,11 @@ to_store : (mode : StoreMode) (compare : Option ℕ) (key : List ℕ) (flags : �
 to_store mode compare key flags exptime block replies.Stored can = to_left _ _ _ _ (to_line _ _)
 to_store mode compare key flags exptime block replies.NotStored can = to_right _ _ _ _ (to_if (is_conditional mode) _ _ _ _ can (to_line _ _))
 to_store mode compare key flags exptime block replies.Exists can =
-    to_right _ _ _ _ (to_behind (is_conditional mode) _ _ _ _ (to_if (is_some compare) _ _ _ _ can (to_left _ _ _ _ (to_line _ _))))
+    to_right _ _ _ _ (to_after (is_conditional mode) _ _ _ _ (to_if (is_some compare) _ _ _ _ can (to_left _ _ _ _ (to_line _ _))))
 to_store mode compare key flags exptime block replies.NotFound can =
-    to_right _ _ _ _ (to_behind (is_conditional mode) _ _ _ _ (to_if (is_some compare) _ _ _ _ can (to_right _ _ _ _ (to_line _ _))))
+    to_right _ _ _ _ (to_after (is_conditional mode) _ _ _ _ (to_if (is_some compare) _ _ _ _ can (to_right _ _ _ _ (to_line _ _))))
 to_store mode compare key flags exptime block (replies.Fault fault) can =
-    to_right _ _ _ _ (to_behind (is_conditional mode) _ _ _ _ (to_behind (is_some compare) _ _ _ _ (to_store_fault fault can)))
+    to_right _ _ _ _ (to_after (is_conditional mode) _ _ _ _ (to_after (is_some compare) _ _ _ _ (to_store_fault fault can)))
 to_store mode compare key flags exptime block other can = absurd (cc)
 
 covers_store : (mode : StoreMode) (compare : Option ℕ) (key : List ℕ) (flags : ℕ) (exptime : ℤ) (block : Unit {0})

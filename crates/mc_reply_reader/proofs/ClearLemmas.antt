@@ -4,7 +4,7 @@ use Rattle.std.proofs.Common.{◌≡◌, ℕ, Bool, true, false, List, Option, S
 use Rattle.mc_text.specs.declared.blocks.TheConstants.{VALUE_LIMIT}
 use Rattle.mc_forms.specs.Forms.{Form, Text, Number, Or, number_if}
 use Rattle.mc_forms.proofs.FormLaws.{IsClear}
-use Rattle.mc_forms.proofs.LeadLemmas.{leads, all_differ, clear_or, clear_number, clear_lines, behind_number_if, IsBehind}
+use Rattle.mc_forms.proofs.LeadLemmas.{leads, all_differ, clear_or, clear_number, clear_lines, after_number_if, IsAfter}
 use Rattle.mc_request.specs.declared.faults.Fault.TheVariants.{CasUsedUp}
 use Rattle.mc_request.specs.declared.meta.Show.{Show}
 use Rattle.mc_reply.specs.declared.replies.Marks.{Marks}
@@ -13,7 +13,7 @@ use Rattle.mc_reply.specs.declared.replies.Shown.{Shown}
 use Rattle.mc_reply.specs.declared.replies.Reply.TheVariants as replies
 use Rattle.mc_reply.specs.Spelling.{end_line}
 use Rattle.mc_reply_reader.specs.ReplyForms.{Answer, line, update_line, store_faults, count_faults, store_form, number_end, number_line, count_form, hit_value, hit_size, hit, get_form}
-use Rattle.mc_reply_reader.specs.MetaForms.{code_line, left_if, mark_end, end_if, shown_by, behind_line, shown_form, unmet_form, meta_get_form, meta_store_form, meta_delete_form, meta_count_form}
+use Rattle.mc_reply_reader.specs.MetaForms.{code_line, left_if, mark_end, end_if, shown_by, after_line, shown_form, unmet_form, meta_get_form, meta_store_form, meta_delete_form, meta_count_form}
 use Rattle.mc_reply_reader.specs.declared.limits.TheConstants.{FLAGS_LIMIT, NUMBER_LIMIT}
 
 -- classic commands
@@ -35,32 +35,32 @@ clear_count =
 clear_hit_value : (flags size : ℕ) (cas : Option ℕ) → IsClear (hit_value flags size cas)
 clear_hit_value flags size cas = (λ value p. omega arith, λ value. tt)
 
-behind_hit_size : (with_cas : Bool) (flags : ℕ) → IsBehind (hit_size with_cas flags)
-behind_hit_size with_cas flags = record {
+after_hit_size : (with_cas : Bool) (flags : ℕ) → IsAfter (hit_size with_cas flags)
+after_hit_size with_cas flags = record {
   clear = clear_number VALUE_LIMIT (λ size. number_if with_cas (codes " ") NUMBER_LIMIT (hit_value flags size)) (omega arith)
-      (λ size. behind_number_if with_cas (codes " ") NUMBER_LIMIT (hit_value flags size) refl (omega arith)
+      (λ size. after_number_if with_cas (codes " ") NUMBER_LIMIT (hit_value flags size) refl (omega arith)
       (λ cas. record { clear = clear_hit_value flags size cas; leads = refl }));
   leads = refl;
 }
 
 clear_hit : (key : List ℕ) (with_cas : Bool) → IsClear (hit key with_cas)
-clear_hit key with_cas = clear_number FLAGS_LIMIT (hit_size with_cas) (omega arith) (behind_hit_size with_cas)
+clear_hit key with_cas = clear_number FLAGS_LIMIT (hit_size with_cas) (omega arith) (after_hit_size with_cas)
 
 pub clear_get : (key : List ℕ) (with_cas : Bool) → IsClear (get_form key with_cas)
 clear_get key with_cas = clear_or (hit key with_cas) (line end_line replies.Miss) (clear_hit key with_cas) tt refl
 
 -- meta commands
 
-behind_left_if : (asked : Bool) (f : Option (Option ℕ) → Form Answer) → ((left : Option (Option ℕ)) → IsBehind (f left)) → IsBehind (left_if asked f)
-behind_left_if true f h = record {
+after_left_if : (asked : Bool) (f : Option (Option ℕ) → Form Answer) → ((left : Option (Option ℕ)) → IsAfter (f left)) → IsAfter (left_if asked f)
+after_left_if true f h = record {
   clear = clear_or (Text (codes "-1") (f (Some None))) (Number NUMBER_LIMIT (λ n. f (Some (Some n)))) (h (Some None)).clear
       (clear_number NUMBER_LIMIT (λ n. f (Some (Some n))) (omega arith) (λ n. h (Some (Some n)))) refl;
   leads = refl;
 }
-behind_left_if false f h = h None
+after_left_if false f h = h None
 
-behind_end_if : (marked : Bool) (f : Marks → Form Answer) → ((marks : Marks) → IsClear (f marks)) → IsBehind (end_if marked f)
-behind_end_if true f h =
+after_end_if : (marked : Bool) (f : Marks → Form Answer) → ((marks : Marks) → IsClear (f marks)) → IsAfter (end_if marked f)
+after_end_if true f h =
     let plain = Text (codes "\r\n") (f Plain) in
     let won = Text (codes " W\r\n") (f Won) in
     let won_stale = Text (codes " W X\r\n") (f WonStale) in
@@ -73,24 +73,24 @@ behind_end_if true f h =
           (clear_or stale sent (h StaleSent) (h Sent) refl) refl) refl) refl;
       leads = refl;
     }
-behind_end_if false f h = record { clear = h Plain; leads = refl }
+after_end_if false f h = record { clear = h Plain; leads = refl }
 
-behind_shown : (marked : Bool) (show : Show) (f : Shown → Form Answer) → ((shown : Shown) → IsClear (f shown)) → IsBehind (shown_by marked show f)
-behind_shown marked show f h =
-    behind_number_if show.cas (codes " c") NUMBER_LIMIT _ refl (omega arith) (λ cas.
-    behind_number_if show.flags (codes " f") FLAGS_LIMIT _ refl (omega arith) (λ flags.
-    behind_number_if show.size (codes " s") VALUE_LIMIT _ refl (omega arith) (λ size.
-    behind_left_if show.left _ (λ left.
-    behind_end_if marked _ (λ marks. h _)))))
+after_shown : (marked : Bool) (show : Show) (f : Shown → Form Answer) → ((shown : Shown) → IsClear (f shown)) → IsAfter (shown_by marked show f)
+after_shown marked show f h =
+    after_number_if show.cas (codes " c") NUMBER_LIMIT _ refl (omega arith) (λ cas.
+    after_number_if show.flags (codes " f") FLAGS_LIMIT _ refl (omega arith) (λ flags.
+    after_number_if show.size (codes " s") VALUE_LIMIT _ refl (omega arith) (λ size.
+    after_left_if show.left _ (λ left.
+    after_end_if marked _ (λ marks. h _)))))
 
-clear_behind : (size : Option ℕ) (shown : Shown) → IsClear (behind_line size shown)
-clear_behind None shown = tt
-clear_behind (Some size) shown = (λ value p. omega arith, λ value. tt)
+clear_after : (size : Option ℕ) (shown : Shown) → IsClear (after_line size shown)
+clear_after None shown = tt
+clear_after (Some size) shown = (λ value p. omega arith, λ value. tt)
 
 clear_shown : (marked : Bool) (show : Show) (value : Bool) → IsClear (shown_form marked show value)
-clear_shown marked show false = (behind_shown marked show (behind_line None) (clear_behind None)).clear
+clear_shown marked show false = (after_shown marked show (after_line None) (clear_after None)).clear
 clear_shown marked show true =
-    clear_number VALUE_LIMIT (λ size. shown_by marked show (behind_line (Some size))) (omega arith) (λ size. behind_shown marked show (behind_line (Some size)) (clear_behind (Some size)))
+    clear_number VALUE_LIMIT (λ size. shown_by marked show (after_line (Some size))) (omega arith) (λ size. after_shown marked show (after_line (Some size)) (clear_after (Some size)))
 
 -- what is shown, and what else is answered
 clear_meta : (marked : Bool) (show : Show) (value : Bool) (other : Form Answer) → IsClear other

@@ -2,7 +2,7 @@
 use Rattle.std.proofs.Common.{◌≡◌, ℕ, Bool, true, false, List, Option, ℤ, refl, sym, ◌∙◌}
 use Rattle.std.specs.Option.{is_some}
 use Rattle.mc_forms.specs.Forms.{Or, Path, or_if}
-use Rattle.mc_forms.proofs.CoverLaws.{Stands, Spells, Covers, of_line, of_or, of_or_if, to_line, to_left, to_right, to_if, to_behind}
+use Rattle.mc_forms.proofs.CoverLaws.{Stands, Spells, Covers, of_line, of_or, of_or_if, to_line, to_left, to_right, to_if, to_after}
 use Rattle.mc_request.specs.WellFormed.{is_good_block}
 use Rattle.mc_request.specs.declared.faults.Fault.{Fault}
 use Rattle.mc_request.specs.declared.faults.Fault.TheVariants.{CasUsedUp}
@@ -72,7 +72,7 @@ of_unmet head can can_not same same_not =
 
 to_meta_get : (key : List ℕ) (get : MetaGet) (r : Answer) → can_have (meta_head (metas.Get key get)) r ≡ true
     → Spells (meta_get_form (is_some get.create) get.show) r (meta_spelling r)
-to_meta_get key get replies.Miss can = to_right _ _ _ _ (to_behind (is_some get.create) _ _ _ _ (to_line _ _))
+to_meta_get key get replies.Miss can = to_right _ _ _ _ (to_after (is_some get.create) _ _ _ _ (to_line _ _))
 to_meta_get key get (replies.Meta shown value) can = to_left _ _ _ _ (to_shown true get.show shown value can refl)
 to_meta_get key get (replies.Fault fault) can =
     let parts = two_of (is_some get.create) (is_store_fault fault) can in
@@ -133,8 +133,8 @@ to_cas_fault fault is = rw is (to_line _ _)
 to_meta_delete : (key : List ℕ) (compare : Option ℕ) (invalidate : Bool) (show : Show) (r : Answer)
     → can_have (meta_head (metas.Update (updates.Delete key compare invalidate) show)) r ≡ true → Spells (meta_delete_form invalidate show) r (meta_spelling r)
 to_meta_delete key compare invalidate show (replies.Meta shown value) can = to_left _ _ _ _ (to_unmarked show shown value can)
-to_meta_delete key compare invalidate show replies.Exists can = to_right _ _ _ _ (to_behind invalidate _ _ _ _ (to_left _ _ _ _ (to_line _ _)))
-to_meta_delete key compare invalidate show replies.NotFound can = to_right _ _ _ _ (to_behind invalidate _ _ _ _ (to_right _ _ _ _ (to_line _ _)))
+to_meta_delete key compare invalidate show replies.Exists can = to_right _ _ _ _ (to_after invalidate _ _ _ _ (to_left _ _ _ _ (to_line _ _)))
+to_meta_delete key compare invalidate show replies.NotFound can = to_right _ _ _ _ (to_after invalidate _ _ _ _ (to_right _ _ _ _ (to_line _ _)))
 to_meta_delete key compare invalidate show (replies.Fault fault) can =
     let parts = two_of invalidate (is_cas_fault fault) can in
     to_right _ _ _ _ (to_if invalidate _ _ _ _ parts.0 (to_cas_fault fault (cas_fault fault parts.1)))

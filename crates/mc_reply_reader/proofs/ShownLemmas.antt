@@ -13,7 +13,7 @@ use Rattle.mc_reply.specs.declared.replies.Marks.TheVariants.{Plain, Won, WonSta
 use Rattle.mc_reply.specs.declared.replies.Shown.{Shown}
 use Rattle.mc_reply.specs.declared.replies.Reply.TheVariants as replies
 use Rattle.mc_reply_reader.specs.ReplyForms.{Answer}
-use Rattle.mc_reply_reader.specs.MetaForms.{left_if, end_if, shown_by, behind_line, shown_form}
+use Rattle.mc_reply_reader.specs.MetaForms.{left_if, end_if, shown_by, after_line, shown_form}
 use Rattle.mc_reply_reader.specs.declared.limits.TheConstants.{FLAGS_LIMIT, NUMBER_LIMIT}
 use Rattle.mc_reply_reader.proofs.LimitLemmas.{u64_fits, fits_u64, u32_fits, fits_u32, size_fits, fits_size, block_fits, fits_block, all_four, four_of}
 
@@ -34,7 +34,7 @@ pub record NumberOf (asked : Bool) (test : ℕ → Bool) (text : List ℕ) (f : 
   pub number : Option ℕ
   pub shown : is_as_asked test asked number ≡ true
   pub rest : List ℕ
-  pub behind : Spells (f number) r rest
+  pub after : Spells (f number) r rest
   pub spelled : s ≡ number_flag_onto text number rest
 
 pub of_number : (asked : Bool) (test : ℕ → Bool) (text : List ℕ) (most : ℕ) (f : Option ℕ → Form Answer) → ((n : ℕ) → n ≤ most → test n ≡ true)
@@ -43,14 +43,14 @@ of_number true test text most f fits p = record {
   number = Some p.0;
   shown = fits p.0 p.1;
   rest = word (f (Some p.0)) p.2;
-  behind = record { path = p.2; means = refl; spelled = refl };
+  after = record { path = p.2; means = refl; spelled = refl };
   spelled = refl;
 }
 of_number false test text most f fits p = record {
   number = None;
   shown = refl;
   rest = word (f None) p;
-  behind = record { path = p; means = refl; spelled = refl };
+  after = record { path = p; means = refl; spelled = refl };
   spelled = refl;
 }
 
@@ -58,7 +58,7 @@ record LeftOf (asked : Bool) (f : Option (Option ℕ) → Form Answer) (r : Answ
   pub left : Option (Option ℕ)
   pub shown : is_as_asked (is_where_some is_u64) asked left ≡ true
   pub rest : List ℕ
-  pub behind : Spells (f left) r rest
+  pub after : Spells (f left) r rest
   pub spelled : s ≡ left_onto left rest
 
 of_left : (asked : Bool) (f : Option (Option ℕ) → Form Answer) (p : Path (left_if asked f)) → LeftOf asked f (meant (left_if asked f) p) (word (left_if asked f) p)
@@ -66,21 +66,21 @@ of_left true f (inl p) = record {
   left = Some None;
   shown = refl;
   rest = word (f (Some None)) p;
-  behind = record { path = p; means = refl; spelled = refl };
+  after = record { path = p; means = refl; spelled = refl };
   spelled = refl;
 }
 of_left true f (inr p) = record {
   left = Some (Some p.0);
   shown = u64_fits p.0 p.1;
   rest = word (f (Some (Some p.0))) p.2;
-  behind = record { path = p.2; means = refl; spelled = refl };
+  after = record { path = p.2; means = refl; spelled = refl };
   spelled = refl;
 }
 of_left false f p = record {
   left = None;
   shown = refl;
   rest = word (f None) p;
-  behind = record { path = p; means = refl; spelled = refl };
+  after = record { path = p; means = refl; spelled = refl };
   spelled = refl;
 }
 
@@ -88,7 +88,7 @@ record MarksOf (marked : Bool) (f : Marks → Form Answer) (r : Answer) (s : Lis
   pub marks : Marks
   pub shown : may_mark marked marks ≡ true
   pub rest : List ℕ
-  pub behind : Spells (f marks) r rest
+  pub after : Spells (f marks) r rest
   pub spelled : s ≡ marks_onto marks (codes "\r\n" ++ rest)
 
 marks_of : (marked : Bool) (f : Marks → Form Answer) (marks : Marks) → may_mark marked marks ≡ true → (p : Path (f marks))
@@ -97,7 +97,7 @@ marks_of marked f marks shown p = record {
   marks = marks;
   shown = shown;
   rest = word (f marks) p;
-  behind = record { path = p; means = refl; spelled = refl };
+  after = record { path = p; means = refl; spelled = refl };
   spelled = refl;
 }
 
@@ -114,33 +114,33 @@ record ShownOf (marked : Bool) (show : Show) (f : Shown → Form Answer) (r : An
   pub fits : is_shown_by show shown ≡ true
   pub marks : may_mark marked shown.marks ≡ true
   pub rest : List ℕ
-  pub behind : Spells (f shown) r rest
+  pub after : Spells (f shown) r rest
   pub spelled : s ≡ shown_onto shown rest
 
 of_shown : (marked : Bool) (show : Show) (f : Shown → Form Answer) (p : Path (shown_by marked show f))
     → ShownOf marked show f (meant (shown_by marked show f) p) (word (shown_by marked show f) p)
 of_shown marked show f p =
     let cas = of_number show.cas is_u64 (codes " c") NUMBER_LIMIT _ u64_fits p in
-    let flags = of_number show.flags is_u32 (codes " f") FLAGS_LIMIT _ u32_fits cas.behind.path in
-    let size = of_number show.size is_size (codes " s") VALUE_LIMIT _ size_fits flags.behind.path in
-    let left = of_left show.left _ size.behind.path in
-    let marks = of_end marked _ left.behind.path in
+    let flags = of_number show.flags is_u32 (codes " f") FLAGS_LIMIT _ u32_fits cas.after.path in
+    let size = of_number show.size is_size (codes " s") VALUE_LIMIT _ size_fits flags.after.path in
+    let left = of_left show.left _ size.after.path in
+    let marks = of_end marked _ left.after.path in
     record {
       shown = record { cas = cas.number; flags = flags.number; size = size.number; left = left.left; marks = marks.marks };
       fits = all_four (is_as_asked is_u64 show.cas cas.number) (is_as_asked is_u32 show.flags flags.number) (is_as_asked is_size show.size size.number)
           (is_as_asked (is_where_some is_u64) show.left left.left) cas.shown flags.shown size.shown left.shown;
       marks = marks.shown;
       rest = marks.rest;
-      behind = record {
-        path = marks.behind.path;
-        means = marks.behind.means ∙ left.behind.means ∙ size.behind.means ∙ flags.behind.means ∙ cas.behind.means;
-        spelled = marks.behind.spelled;
+      after = record {
+        path = marks.after.path;
+        means = marks.after.means ∙ left.after.means ∙ size.after.means ∙ flags.after.means ∙ cas.after.means;
+        spelled = marks.after.spelled;
       };
       spelled = cas.spelled ∙ ap (number_flag_onto (codes " c") cas.number)
-          (sym cas.behind.spelled ∙ flags.spelled ∙ ap (number_flag_onto (codes " f") flags.number)
-          (sym flags.behind.spelled ∙ size.spelled ∙ ap (number_flag_onto (codes " s") size.number)
-          (sym size.behind.spelled ∙ left.spelled ∙ ap (left_onto left.left)
-          (sym left.behind.spelled ∙ marks.spelled))));
+          (sym cas.after.spelled ∙ flags.spelled ∙ ap (number_flag_onto (codes " f") flags.number)
+          (sym flags.after.spelled ∙ size.spelled ∙ ap (number_flag_onto (codes " s") size.number)
+          (sym size.after.spelled ∙ left.spelled ∙ ap (left_onto left.left)
+          (sym left.after.spelled ∙ marks.spelled))));
     }
 
 -- what a path of a meta form stands for
@@ -155,29 +155,29 @@ pub record MetaOf (marked : Bool) (show : Show) (with_value : Bool) (p : Path (s
 
 pub of_meta : (marked : Bool) (show : Show) (with_value : Bool) (p : Path (shown_form marked show with_value)) → MetaOf marked show with_value p
 of_meta marked show false p =
-    let shown = of_shown marked show (behind_line None) p in
+    let shown = of_shown marked show (after_line None) p in
     record {
       shown = shown.shown;
       value = None;
-      means = sym shown.behind.means;
+      means = sym shown.after.means;
       fits = shown.fits;
       marks = shown.marks;
       has_value = refl;
-      spelled = ap (λ (w : List ℕ). codes "HD" ++ w) (shown.spelled ∙ ap (shown_onto shown.shown) (sym shown.behind.spelled));
+      spelled = ap (λ (w : List ℕ). codes "HD" ++ w) (shown.spelled ∙ ap (shown_onto shown.shown) (sym shown.after.spelled));
     }
 of_meta marked show true p =
     let size = p.0 in
-    let shown = of_shown marked show (behind_line (Some size)) p.2 in
-    let value = shown.behind.path in
+    let shown = of_shown marked show (after_line (Some size)) p.2 in
+    let value = shown.after.path in
     record {
       shown = shown.shown;
       value = Some value.0;
-      means = sym shown.behind.means;
+      means = sym shown.after.means;
       fits = shown.fits;
       marks = shown.marks;
       has_value = block_fits value.0 size p.1 value.1;
       spelled = ap (λ (w : List ℕ). codes "VA " ++ w)
-          (ap (λ (w : List ℕ). decimal size ++ w) (shown.spelled ∙ ap (shown_onto shown.shown) (sym shown.behind.spelled))
+          (ap (λ (w : List ℕ). decimal size ++ w) (shown.spelled ∙ ap (shown_onto shown.shown) (sym shown.after.spelled))
           ∙ ap (λ (n : ℕ). decimal n ++ shown_onto shown.shown (value.0 ++ codes "\r\n")) (sym value.1));
     }
 
@@ -233,10 +233,10 @@ pub to_meta : (marked : Bool) (show : Show) (with_value : Bool) (shown : Shown) 
     → is_shown_by show shown ≡ true → may_mark marked shown.marks ≡ true → is_as_asked is_good_block with_value value ≡ true
     → Spells (shown_form marked show with_value) (replies.Meta shown value) (meta_spelling (replies.Meta shown value))
 to_meta marked show false shown None fits marks has_value =
-    let p = to_shown marked show (behind_line None) shown fits marks tt in
+    let p = to_shown marked show (after_line None) shown fits marks tt in
     record { path = p.path; means = p.means; spelled = ap (λ (w : List ℕ). codes "HD" ++ w) p.spelled }
 to_meta marked show true shown (Some value) fits marks has_value =
-    let p = to_shown marked show (behind_line (Some (length value))) shown fits marks (value, refl, tt) in
+    let p = to_shown marked show (after_line (Some (length value))) shown fits marks (value, refl, tt) in
     record { path = (length value, fits_block value has_value, p.path); means = p.means; spelled = ap (λ (w : List ℕ). codes "VA " ++ (decimal (length value) ++ w)) p.spelled }
 to_meta marked show false shown (Some value) fits marks has_value = absurd (cc)
 to_meta marked show true shown None fits marks has_value = absurd (cc)

@@ -54,14 +54,14 @@ shown_by marked show f =
     f (record { cas = cas; flags = flags; size = size; left = left; marks = marks }))))))
 
 -- what is after the line: where the size of a value is in it, the value
-abbrev pub behind_line : Option ℕ → Shown → Form Answer
-behind_line None shown = Done (replies.Meta shown None)
-behind_line (Some size) shown = Block size (λ value. Text (codes "\r\n") (Done (replies.Meta shown (Some value))))
+abbrev pub after_line : Option ℕ → Shown → Form Answer
+after_line None shown = Done (replies.Meta shown None)
+after_line (Some size) shown = Block size (λ value. Text (codes "\r\n") (Done (replies.Meta shown (Some value))))
 
 -- what a meta command that was done shows, and where it is asked for the value
 abbrev pub shown_form : Bool → Show → Bool → Form Answer
-shown_form marked show false = Text (codes "HD") (shown_by marked show (behind_line None))
-shown_form marked show true = Text (codes "VA ") (Number VALUE_LIMIT (λ size. shown_by marked show (behind_line (Some size))))
+shown_form marked show false = Text (codes "HD") (shown_by marked show (after_line None))
+shown_form marked show true = Text (codes "VA ") (Number VALUE_LIMIT (λ size. shown_by marked show (after_line (Some size))))
 
 -- an item that is held has another number, or none is held
 abbrev pub unmet_form : Form Answer

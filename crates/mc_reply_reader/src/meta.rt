@@ -4,7 +4,7 @@ ghost use Rattle.mc_forms.specs.Forms.{Or, Text, Number, number_if, or_if, read}
 ghost use Rattle.mc_forms.specs.Seen.{seen_by};
 ghost use Rattle.mc_reply.specs.Seen.{bytes_seen};
 ghost use Rattle.mc_reply_reader.specs.ReplyForms.{store_faults, count_faults, update_line};
-ghost use Rattle.mc_reply_reader.specs.MetaForms.{behind_line, code_line, end_if, late_mark_end, left_if, mark_end, meta_count_form, meta_delete_form, meta_form, meta_get_form, meta_store_form, read_if, shown_by, shown_form, unmet_form};
+ghost use Rattle.mc_reply_reader.specs.MetaForms.{after_line, code_line, end_if, late_mark_end, left_if, mark_end, meta_count_form, meta_delete_form, meta_form, meta_get_form, meta_store_form, read_if, shown_by, shown_form, unmet_form};
 ghost use Rattle.mc_text.specs.declared.blocks.TheConstants.{VALUE_LIMIT};
 ghost use Rattle.mc_reply_reader.specs.declared.limits.TheConstants.{NUMBER_LIMIT};
 
@@ -155,7 +155,7 @@ fn shown(marked: bool, show: Show, unread: &[u8]) -> Reading<'_>
 
 /// What was asked to be shown, the end of the line, and where a size is given the value.
 fn shown_by(marked: bool, show: Show, size: Option<u32>, unread: &[u8]) -> Reading<'_>
-    ensures { seen_by (λ x. (bytes_seen x.0, x.1.now)) result ≡ read (shown_by marked show (behind_line size)) unread.now }
+    ensures { seen_by (λ x. (bytes_seen x.0, x.1.now)) result ≡ read (shown_by marked show (after_line size)) unread.now }
 {
     let (cas, rest) = number_if(show.cas, b" c", NUMBER_LIMIT, unread)?;
     let (flags, rest) = number_if(show.flags, b" f", FLAGS_LIMIT, rest)?;
@@ -182,7 +182,7 @@ fn flags_of(flags: Option<u64>) -> Option<u32>
 fn size_if(marked: bool, show: Show, shown: Shown, size: Option<u32>, unread: &[u8]) -> Reading<'_>
     ensures { seen_by (λ x. (bytes_seen x.0, x.1.now)) result
         ≡ read (number_if show.size (codes " s") VALUE_LIMIT (λ own. left_if show.left (λ left. end_if marked (λ marks.
-        behind_line size (record shown { size = own; left = left; marks = marks }))))) unread.now }
+        after_line size (record shown { size = own; left = left; marks = marks }))))) unread.now }
 {
     let (own, rest) = number_if(show.size, b" s", VALUE_LIMIT as u64, unread)?;
     let shown = Shown {
@@ -205,7 +205,7 @@ fn size_of(size: Option<u64>) -> Option<usize>
 /// The seconds left, where they were asked for, and what is after them.
 fn left_if(asked: bool, marked: bool, shown: Shown, size: Option<u32>, unread: &[u8]) -> Reading<'_>
     ensures { seen_by (λ x. (bytes_seen x.0, x.1.now)) result
-        ≡ read (left_if asked (λ left. end_if marked (λ marks. behind_line size (record shown { left = left; marks = marks })))) unread.now }
+        ≡ read (left_if asked (λ left. end_if marked (λ marks. after_line size (record shown { left = left; marks = marks })))) unread.now }
 {
     if !asked {
         return end_if(
@@ -228,7 +228,7 @@ fn left_if(asked: bool, marked: bool, shown: Shown, size: Option<u32>, unread: &
 /// After the letter of the seconds: an item that never ends.
 fn endless(marked: bool, shown: Shown, size: Option<u32>, unread: &[u8]) -> Reading<'_>
     ensures { seen_by (λ x. (bytes_seen x.0, x.1.now)) result
-        ≡ read (Text (codes "-1") (end_if marked (λ marks. behind_line size (record shown { left = Some None; marks = marks })))) unread.now }
+        ≡ read (Text (codes "-1") (end_if marked (λ marks. after_line size (record shown { left = Some None; marks = marks })))) unread.now }
 {
     let rest = text(b"-1", unread)?;
     let left = Some(None);
@@ -238,7 +238,7 @@ fn endless(marked: bool, shown: Shown, size: Option<u32>, unread: &[u8]) -> Read
 /// After the letter of the seconds: an item that ends.
 fn ending(marked: bool, shown: Shown, size: Option<u32>, unread: &[u8]) -> Reading<'_>
     ensures { seen_by (λ x. (bytes_seen x.0, x.1.now)) result
-        ≡ read (Number NUMBER_LIMIT (λ n. end_if marked (λ marks. behind_line size (record shown { left = Some (Some n); marks = marks })))) unread.now }
+        ≡ read (Number NUMBER_LIMIT (λ n. end_if marked (λ marks. after_line size (record shown { left = Some (Some n); marks = marks })))) unread.now }
 {
     let (seconds, rest) = number(NUMBER_LIMIT, unread)?;
     let left = Some(Some(seconds));
@@ -248,7 +248,7 @@ fn ending(marked: bool, shown: Shown, size: Option<u32>, unread: &[u8]) -> Readi
 /// The end of the line, after a mark where there may be one, and what is after it.
 fn end_if(marked: bool, shown: Shown, size: Option<u32>, unread: &[u8]) -> Reading<'_>
     ensures { seen_by (λ x. (bytes_seen x.0, x.1.now)) result
-        ≡ read (end_if marked (λ marks. behind_line size (record shown { marks = marks }))) unread.now }
+        ≡ read (end_if marked (λ marks. after_line size (record shown { marks = marks }))) unread.now }
 {
     match end_by(b"\r\n", Marks::Plain, shown, size, unread) {
         Err(Unready::Strange) if marked => mark_end(shown, size, unread),
@@ -259,7 +259,7 @@ fn end_if(marked: bool, shown: Shown, size: Option<u32>, unread: &[u8]) -> Readi
 /// A mark and the end of the line, and what is after it.
 fn mark_end(shown: Shown, size: Option<u32>, unread: &[u8]) -> Reading<'_>
     ensures { seen_by (λ x. (bytes_seen x.0, x.1.now)) result
-        ≡ read (mark_end (λ marks. behind_line size (record shown { marks = marks }))) unread.now }
+        ≡ read (mark_end (λ marks. after_line size (record shown { marks = marks }))) unread.now }
 {
     match end_by(b" W\r\n", Marks::Won, shown, size, unread) {
         Err(Unready::Strange) => late_mark_end(shown, size, unread),
@@ -270,7 +270,7 @@ fn mark_end(shown: Shown, size: Option<u32>, unread: &[u8]) -> Reading<'_>
 /// One of the later marks and the end of the line, and what is after it.
 fn late_mark_end(shown: Shown, size: Option<u32>, unread: &[u8]) -> Reading<'_>
     ensures { seen_by (λ x. (bytes_seen x.0, x.1.now)) result
-        ≡ read (late_mark_end (λ marks. behind_line size (record shown { marks = marks }))) unread.now }
+        ≡ read (late_mark_end (λ marks. after_line size (record shown { marks = marks }))) unread.now }
 {
     match end_by(b" W X\r\n", Marks::WonStale, shown, size, unread) {
         Err(Unready::Strange) => sent_end(shown, size, unread),
@@ -281,8 +281,8 @@ fn late_mark_end(shown: Shown, size: Option<u32>, unread: &[u8]) -> Reading<'_>
 /// The marks of an item that another was told to fill, the end of the line, and what is after it.
 fn sent_end(shown: Shown, size: Option<u32>, unread: &[u8]) -> Reading<'_>
     ensures { seen_by (λ x. (bytes_seen x.0, x.1.now)) result
-        ≡ read (Or (Text (codes " X Z\r\n") (behind_line size (record shown { marks = Marks.StaleSent })))
-        (Text (codes " Z\r\n") (behind_line size (record shown { marks = Marks.Sent })))) unread.now }
+        ≡ read (Or (Text (codes " X Z\r\n") (after_line size (record shown { marks = Marks.StaleSent })))
+        (Text (codes " Z\r\n") (after_line size (record shown { marks = Marks.Sent })))) unread.now }
 {
     match end_by(b" X Z\r\n", Marks::StaleSent, shown, size, unread) {
         Err(Unready::Strange) => end_by(b" Z\r\n", Marks::Sent, shown, size, unread),
@@ -299,7 +299,7 @@ fn end_by<'a>(
     unread: &'a [u8],
 ) -> Reading<'a>
     ensures { seen_by (λ x. (bytes_seen x.0, x.1.now)) result
-        ≡ read (Text end.now (behind_line size (record shown { marks = marks }))) unread.now }
+        ≡ read (Text end.now (after_line size (record shown { marks = marks }))) unread.now }
 {
     let rest = text(end, unread)?;
     let shown = Shown { marks, ..shown };

@@ -183,8 +183,8 @@ set_good said read words h k has =
     let exptime = or_good is_i64 read.exptime (pos 0) h.0 refl in
     rw (k, h.2, flags, exptime, has) refl
 
-ms_behind : (key : List ℕ) (len : Option ℕ) (words : List (List ℕ)) → Holds (GoodLine len) (ms_by key len words)
-ms_behind key len words =
+ms_after : (key : List ℕ) (len : Option ℕ) (words : List (List ℕ)) → Holds (GoodLine len) (ms_by key len words)
+ms_after key len words =
     bound (λ n. block_is len (Some n) ≡ true) (GoodLine len) (well_formed len) _ (of_test (λ n. block_is len (Some n)) (well_formed len) (length_good len)) (λ n _ same.
     bound AreGood (GoodLine len) (flags_from names.MetaSet fresh_flags words) _ (words_good names.MetaSet fresh_flags words fresh_good) (λ read e h.
     bound (λ k. is_meta_key read.coded k ≡ true) (GoodLine len) (meta_key read.coded key) _ (part_good (is_meta_key read.coded) (key_said read.coded key) (key_good read.coded key)) (λ said _ k.
@@ -194,4 +194,4 @@ ms_behind key len words =
 pub ms_good : (words : List (List ℕ)) → holds (is_good_line (second_len words)) (ms_line words) ≡ true
 ms_good [] = refl
 ms_good (key ∷ []) = refl
-ms_good (key ∷ len ∷ words) = by_test (is_good_line (read_len len)) (ms_by key (read_len len) words) (ms_behind key (read_len len) words)
+ms_good (key ∷ len ∷ words) = by_test (is_good_line (read_len len)) (ms_by key (read_len len) words) (ms_after key (read_len len) words)

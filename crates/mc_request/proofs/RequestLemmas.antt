@@ -126,17 +126,17 @@ waits u e = requests-step u ∙ rw e refl
 abbrev GoesOn : List ℕ → List ℕ → Type 0
 GoesOn text more = (others : List Taken) × (requests_of (text ++ more) ≡ requests_of text ++ others)
 
-goes_on_behind : (text more : List ℕ) (x : Taken × ℕ) (ending : Bool) → next_request text ≡ Some x → ends x.0 ≡ ending → GoesOn (drop x.1 text) more → GoesOn text more
-goes_on_behind text more x true e h again =
+goes_on_after : (text more : List ℕ) (x : Taken × ℕ) (ending : Bool) → next_request text ≡ Some x → ends x.0 ≡ ending → GoesOn (drop x.1 text) more → GoesOn text more
+goes_on_after text more x true e h again =
     let first : requests_of text ≡ x.0 ∷ (if ends x.0 then [] else requests_of (drop x.1 text)) = requests-step text ∙ rw e refl in
     ([], (rw h at (takes text x e more)) ∙ sym (ap (λ (ts : List Taken). ts ++ []) (rw h at first)))
-goes_on_behind text more x false e h again =
+goes_on_after text more x false e h again =
     let first : requests_of text ≡ x.0 ∷ (if ends x.0 then [] else requests_of (drop x.1 text)) = requests-step text ∙ rw e refl in
     (again.0, (rw h at (takes text x e more)) ∙ ap (λ (ts : List Taken). x.0 ∷ ts) again.1 ∙ sym (ap (λ (ts : List Taken). ts ++ again.0) (rw h at first)))
 
 goes_on_by : (o : Option (Taken × ℕ)) (text more : List ℕ) → next_request text ≡ o → ((x : Taken × ℕ) → next_request text ≡ Some x → GoesOn (drop x.1 text) more) → GoesOn text more
 goes_on_by None text more e again = (requests_of (text ++ more), rw (waits text e) refl)
-goes_on_by (Some x) text more e again = goes_on_behind text more x (ends x.0) e refl (again x e)
+goes_on_by (Some x) text more e again = goes_on_after text more x (ends x.0) e refl (again x e)
 
 goes_on_within : (n : ℕ) (text more : List ℕ) → length text ≤ n → GoesOn text more
 goes_on_within zero text more h = (requests_of (text ++ more), rw (waits text (next_request-nil text h)) refl)

@@ -28,7 +28,7 @@ use Rattle.mc_request.specs.declared.parts.Taken.TheVariants.{Whole, Faulty}
 use Rattle.mc_request.specs.Faults.{closes}
 use Rattle.mc_request.specs.Parts as parts
 use Rattle.mc_request.specs.Names.{name_of, has_arity, at_least, is_noreply, noreply_of}
-use Rattle.mc_request.specs.Meanings.{Line, Lone, Storage, Storing, Classic, MetaSet, Meaning, plain_counting, Alone, Stores, Refuses, key_of, well_formed, update_line, touch_line, without_zero, delete_line, count_parts, count_line, flush_parts, flush_line, keys_line, gat_line, storage_parts, storing_by, store_line, number_behind, cas_by, cas_line, line_named, line_of, announced, meaning_from, meaning_by, meaning, announced_by, announced_in}
+use Rattle.mc_request.specs.Meanings.{Line, Lone, Storage, Storing, Classic, MetaSet, Meaning, plain_counting, Alone, Stores, Refuses, key_of, well_formed, update_line, touch_line, without_zero, delete_line, count_parts, count_line, flush_parts, flush_line, keys_line, gat_line, storage_parts, storing_by, after_length, store_line, line_named, line_of, announced, meaning_from, meaning_by, meaning, announced_by, announced_in}
 use Rattle.mc_request.specs.Requests.{stored, with_block, taken_by, next_by, next_request, requests_from, requests_within, requests_of, ends}
 use Rattle.mc_request.specs.WellFormed.{is_u64, is_i64, is_where_some, is_good_update, is_meta_key, command_name, has_flags, is_good_block, is_good_request, is_well_formed, is_good_storing, is_good_meaning}
 use Rattle.mc_request.proofs.PartLemmas.{not_true, Holds, bound, by_test, of_test, holds, any_bool, and_then, either, tested, some_good, number_good, i64_good, block_is, is_good_line, both, length_good, left, right}
@@ -143,41 +143,31 @@ storing_good mode compare key flags exptime len noreply c =
     (bound (AreParts key len) (λ line. is_good_line len line ≡ true) (storage_parts key flags exptime len) _ (parts_good key flags exptime len)
     (λ parts _ h. rw (h.0, c, h.1, h.2, h.3, h.4) refl))
 
-store_good : (mode : StoreMode) (words : List (List ℕ)) → holds (is_good_line (announced names.Set words)) (store_line mode words) ≡ true
-store_good mode [] = refl
-store_good mode (key ∷ []) = refl
-store_good mode (key ∷ flags ∷ []) = refl
-store_good mode (key ∷ flags ∷ exptime ∷ []) = refl
-store_good mode (key ∷ flags ∷ exptime ∷ len ∷ more) =
-    and_then any_bool (is_good_line (read_len len)) (noreply_of more) _ (noreply_good more) (λ noreply _.
-    storing_good mode None key flags exptime (read_len len) noreply refl)
+after_length_good : (compares : Bool) (more : List (List ℕ)) → holds (λ (rest : Option ℕ × Bool). is_where_some is_u64 rest.0) (after_length compares more) ≡ true
+after_length_good false more = and_then any_bool (λ (rest : Option ℕ × Bool). is_where_some is_u64 rest.0) (noreply_of more) _ (noreply_good more) (λ noreply _. refl)
+after_length_good true [] = refl
+after_length_good true (number ∷ more) =
+    and_then any_bool (λ (rest : Option ℕ × Bool). is_where_some is_u64 rest.0) (noreply_of more) _ (noreply_good more) (λ noreply _.
+    and_then is_u64 (λ (rest : Option ℕ × Bool). is_where_some is_u64 rest.0) (well_formed (read_u64 number)) _
+    (some_good is_u64 (read_u64 number) BadFormat refl (number_good 20 (2 ^ 64) number)) (λ number n. n))
 
-number_behind_good : (more : List (List ℕ)) → holds (λ (behind : ℕ × Bool). is_u64 behind.0) (number_behind more) ≡ true
-number_behind_good [] = refl
-number_behind_good (number ∷ more) =
-    and_then any_bool (λ (behind : ℕ × Bool). is_u64 behind.0) (noreply_of more) _ (noreply_good more) (λ noreply _.
-    and_then is_u64 (λ (behind : ℕ × Bool). is_u64 behind.0) (well_formed (read_u64 number)) _ (some_good is_u64 (read_u64 number) BadFormat refl (number_good 20 (2 ^ 64) number)) (λ number n. n))
-
-cas_behind : (key flags exptime : List ℕ) (len : Option ℕ) (more : List (List ℕ)) → holds (is_good_line len) (cas_by key flags exptime len more) ≡ true
-cas_behind key flags exptime len more =
-    and_then (λ (behind : ℕ × Bool). is_u64 behind.0) (is_good_line len) (number_behind more) _ (number_behind_good more) (λ behind n.
-    storing_good _ (Some behind.0) key flags exptime len behind.1 n)
-
-cas_good : (words : List (List ℕ)) → holds (is_good_line (announced names.Set words)) (cas_line words) ≡ true
-cas_good [] = refl
-cas_good (key ∷ []) = refl
-cas_good (key ∷ flags ∷ []) = refl
-cas_good (key ∷ flags ∷ exptime ∷ []) = refl
-cas_good (key ∷ flags ∷ exptime ∷ len ∷ more) = cas_behind key flags exptime (read_len len) more
+store_good : (mode : StoreMode) (compares : Bool) (words : List (List ℕ)) → holds (is_good_line (announced names.Set words)) (store_line mode compares words) ≡ true
+store_good mode compares [] = refl
+store_good mode compares (key ∷ []) = refl
+store_good mode compares (key ∷ flags ∷ []) = refl
+store_good mode compares (key ∷ flags ∷ exptime ∷ []) = refl
+store_good mode compares (key ∷ flags ∷ exptime ∷ len ∷ more) =
+    and_then (λ (rest : Option ℕ × Bool). is_where_some is_u64 rest.0) (is_good_line (read_len len)) (after_length compares more) _ (after_length_good compares more) (λ rest c.
+    storing_good mode rest.0 key flags exptime (read_len len) rest.1 c)
 
 -- a line that has so many words as its command has
 named_good : (name : Name) (words : List (List ℕ)) → has_arity name words ≡ true → holds (is_good_line (announced name words)) (line_named name words) ≡ true
-named_good names.Set words h = store_good _ words
-named_good names.Add words h = store_good _ words
-named_good names.Replace words h = store_good _ words
-named_good names.Append words h = store_good _ words
-named_good names.Prepend words h = store_good _ words
-named_good names.Cas words h = cas_good words
+named_good names.Set words h = store_good _ _ words
+named_good names.Add words h = store_good _ _ words
+named_good names.Replace words h = store_good _ _ words
+named_good names.Append words h = store_good _ _ words
+named_good names.Prepend words h = store_good _ _ words
+named_good names.Cas words h = store_good _ _ words
 named_good names.Get words h = keys_good None false words refl h
 named_good names.Gets words h = keys_good None true words refl h
 named_good names.Gat words h = gat_good false words h

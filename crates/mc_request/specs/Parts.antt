@@ -65,6 +65,6 @@ meta_seen command = meta_map (λ key. key.now) (λ block. block.now) command
 abbrev pub word_in_meta : MetaCommand (Bor (List ℕ)) (Bor (List ℕ)) → List ℕ
 word_in_meta command = unwrap_or (key_in_meta (meta_seen command)) []
 
--- a storage command with its data block
-abbrev pub with_block : {K C : Type 0} → Update K (Unit {0}) → C → Update K C
-with_block head block = update_map (λ key. key) (λ _. block) head
+-- a storage command with this data block in the place of its own
+abbrev pub with_block : {K B C : Type 0} → Update K B → C → Update K C
+with_block update block = update_map (λ key. key) (λ _. block) update

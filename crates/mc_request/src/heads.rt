@@ -24,11 +24,11 @@ impl Atom<Block> {
                 exptime,
                 with_cas,
             },
-            Atom::Update(update) => Atom::Update(update.without_block()),
+            Atom::Update(update) => Atom::Update(update.with_block(())),
             Atom::Meta(command) => Atom::Meta(match command {
                 MetaCommand::Get { key, get } => MetaCommand::Get { key, get },
                 MetaCommand::Update { update, show } => MetaCommand::Update {
-                    update: update.without_block(),
+                    update: update.with_block(()),
                     show,
                 },
             }),

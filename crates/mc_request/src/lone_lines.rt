@@ -1,12 +1,11 @@
 //! Command lines that no data block follows.
-ghost use Rattle.std.specs.Prelude.{◌≡◌, ◌&&◌, true, None, Ok, Err, if◌then◌else◌};
+ghost use Rattle.std.specs.Prelude.{◌≡◌, ◌&&◌, true, None, Err, if◌then◌else◌};
 ghost use Rattle.std.specs.List.{list_all};
 ghost use Rattle.mc_text.specs.Keys.{is_plain_key};
 ghost use Rattle.mc_request.specs.Names.{at_most, at_least, between, noreply_of};
-ghost use Rattle.mc_request.specs.Meanings.{Lone, meaning_from, keys_line, gat_line, touch_line, delete_line, without_zero, count_parts, count_line, flush_parts, flush_line};
-ghost use Rattle.mc_request.specs.LinesSeen.{meaning_of};
+ghost use Rattle.mc_request.specs.Meanings.{meaning_from, keys_line, gat_line, touch_line, delete_line, without_zero, count_parts, count_line, flush_parts, flush_line};
+ghost use Rattle.mc_request.specs.LinesSeen.{asked_of, line_of_taken, meaning_of};
 ghost use Rattle.mc_request.specs.declared.faults.Fault.TheVariants.{UnknownCommand};
-ghost use Rattle.mc_request.specs.declared.parts.Request.TheVariants.{Version, Quit, MetaNoop};
 
 use crate::faults::Fault;
 use crate::lines::{Asked, CommandLine};
@@ -106,7 +105,7 @@ pub fn delete_line(mut words: WordIter<'_>) -> CommandLine<'_>
     let Some(key) = words.next() else {
         return CommandLine::Alone(Asked::Faulty(Fault::UnknownCommand));
     };
-    let noreply = match noreply_behind_zero(words) {
+    let noreply = match noreply_after_zero(words) {
         Ok(noreply) => noreply,
         Err(fault) => return CommandLine::Alone(Asked::Faulty(fault)),
     };
@@ -124,7 +123,7 @@ pub fn delete_line(mut words: WordIter<'_>) -> CommandLine<'_>
 }
 
 /// Whether the reply of a deletion is hidden, by what is after its key.
-fn noreply_behind_zero(mut words: WordIter<'_>) -> Result<bool, Fault>
+fn noreply_after_zero(mut words: WordIter<'_>) -> Result<bool, Fault>
     ensures { result ≡ (if at_most 2 words.entry then noreply_of (without_zero words.entry) else Err UnknownCommand) }
 {
     let Some(word) = words.next() else {
@@ -171,10 +170,10 @@ pub fn count_line(direction: Direction, mut words: WordIter<'_>) -> CommandLine<
 }
 
 /// The amount of a count, and whether its reply is hidden.
-fn count_parts(key: &[u8], delta: &[u8], behind: WordIter<'_>) -> Result<(u64, bool), Fault>
-    ensures { result ≡ (if at_most 1 behind.entry then count_parts key.now delta.now behind.entry else Err UnknownCommand) }
+fn count_parts(key: &[u8], delta: &[u8], rest: WordIter<'_>) -> Result<(u64, bool), Fault>
+    ensures { result ≡ (if at_most 1 rest.entry then count_parts key.now delta.now rest.entry else Err UnknownCommand) }
 {
-    let noreply = noreply_of(behind);
+    let noreply = noreply_of(rest);
     if let Err(Fault::UnknownCommand) = noreply {
         return Err(Fault::UnknownCommand);
     }
@@ -220,38 +219,15 @@ fn flush_parts(mut words: WordIter<'_>) -> Result<(i64, bool), Fault>
     Ok((delay, noreply))
 }
 
-/// `version`: no word is after it.
+/// `version`, `quit` and `mn`, each by what it asks for: no word is after them.
 #[inline(never)]
-pub fn version_line(mut words: WordIter<'_>) -> CommandLine<'_>
-    ensures { meaning_of result ≡ meaning_from None (if at_most 0 words.entry then Ok (Lone Version) else Err UnknownCommand) }
+#[tactic(auto, using(crate::proofs::LineLemmas::taken_alone))]
+pub fn bare_line<'a>(asked: Asked<'a>, mut words: WordIter<'_>) -> CommandLine<'a>
+    ensures { meaning_of result ≡ meaning_from None (if at_most 0 words.entry then line_of_taken (asked_of asked.entry) else Err UnknownCommand) }
 {
     if words.next().is_some() {
         CommandLine::Alone(Asked::Faulty(Fault::UnknownCommand))
     } else {
-        CommandLine::Alone(Asked::Version)
-    }
-}
-
-/// `quit`, likewise.
-#[inline(never)]
-pub fn quit_line(mut words: WordIter<'_>) -> CommandLine<'_>
-    ensures { meaning_of result ≡ meaning_from None (if at_most 0 words.entry then Ok (Lone Quit) else Err UnknownCommand) }
-{
-    if words.next().is_some() {
-        CommandLine::Alone(Asked::Faulty(Fault::UnknownCommand))
-    } else {
-        CommandLine::Alone(Asked::Quit)
-    }
-}
-
-/// `mn`, likewise.
-#[inline(never)]
-pub fn noop_line(mut words: WordIter<'_>) -> CommandLine<'_>
-    ensures { meaning_of result ≡ meaning_from None (if at_most 0 words.entry then Ok (Lone MetaNoop) else Err UnknownCommand) }
-{
-    if words.next().is_some() {
-        CommandLine::Alone(Asked::Faulty(Fault::UnknownCommand))
-    } else {
-        CommandLine::Alone(Asked::MetaNoop)
+        CommandLine::Alone(asked)
     }
 }

@@ -165,5 +165,5 @@ short_of : (o : Option (Taken × ℕ)) (n size : ℕ) → o ≡ None → nat_le 
 short_of o n size none is = let short : nat_le size n ≡ false = is ∙ rw none refl in grind (arith, short)
 
 -- a block that has not come whole is after what has come
-pub block_is_behind : (u : List ℕ) (line : ℕ) (m : Meaning) (len : ℕ) → StartsBy u m line → block_in m ≡ Some len → next_request u ≡ None → length u < line + (len + 2)
-block_is_behind u line m len h block none = short_of (next_request u) (length u) (line + (len + 2)) none (block_has_come u line m len h block)
+pub block_is_after : (u : List ℕ) (line : ℕ) (m : Meaning) (len : ℕ) → StartsBy u m line → block_in m ≡ Some len → next_request u ≡ None → length u < line + (len + 2)
+block_is_after u line m len h block none = short_of (next_request u) (length u) (line + (len + 2)) none (block_has_come u line m len h block)

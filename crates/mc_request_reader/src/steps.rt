@@ -46,14 +46,14 @@ pub fn stand_of(unread: &[u8], searched: Searched) -> Stand
             if has_come(unread, content, taken) {
                 Stand::Whole(Searched::Ends(taken - 1))
             } else {
-                stand_behind(unread, command_line(content), taken)
+                stand_after(unread, command_line(content), taken)
             }
         }
     }
 }
 
 /// The same where the first line is whole, and takes so many bytes, and its data block is not.
-fn stand_behind(unread: &[u8], line: CommandLine<'_>, taken: usize) -> Stand
+fn stand_after(unread: &[u8], line: CommandLine<'_>, taken: usize) -> Stand
     requires starts { StartsBy unread.now (meaning_of line) taken }
     requires line { line_end unread.now ≡ Some (taken - 1) }
     requires waits { next_request unread.now ≡ None }
@@ -122,13 +122,13 @@ pub fn first_asked(unread: &[u8], searched: Searched) -> Option<(Asked<'_>, usiz
                 },
                 taken,
             )),
-            None => asked_behind(unread, command_line(content), taken),
+            None => asked_after(unread, command_line(content), taken),
         },
     }
 }
 
 /// The same where the first line is whole, and takes so many bytes.
-fn asked_behind<'a>(
+fn asked_after<'a>(
     unread: &'a [u8],
     line: CommandLine<'a>,
     taken: usize,
@@ -152,8 +152,8 @@ fn asked_behind<'a>(
                 return None;
             }
             let (_, rest) = unread.split_at(taken);
-            let (block, behind) = rest.split_at(len as usize);
-            let (end, _) = behind.split_at(LINE_END.len());
+            let (block, after) = rest.split_at(len as usize);
+            let (end, _) = after.split_at(LINE_END.len());
             Some((with_block(storing, block, end), size))
         }
     }

@@ -1,4 +1,3 @@
-pub mod AddressLemmas
 pub mod OwnerLemmas
 pub mod PairLemmas
 pub mod ShownLemmas

@@ -1,4 +1,3 @@
-pub mod Addresses
 pub mod Points
 pub mod Owners
 pub mod Rings

@@ -1,23 +1,16 @@
 //! Addresses of servers.
-ghost use Rattle.std.specs.Prelude.{◌≡◌, ◌==◌, ◌≤◌, ℕ, List, true, length, position, IfOk};
-ghost use Rattle.std.specs.List.{list_all};
+ghost use Rattle.std.specs.Prelude.{◌≡◌, ℕ, List, true, IfOk};
 ghost use Rattle.std.specs.Str.{bytes_eq};
 ghost use Rattle.std.specs.Cmp.Rules.{comparing};
 ghost use Rattle.std.proofs.Common.{rules};
 ghost use Rattle.std.proofs.lemmas.Cmp.{nat_list_eq_equiv};
-ghost use Rattle.mc_ring.specs.Addresses.{is_host_byte, is_host, is_port, is_address};
+ghost use Rattle.mc_address.specs.Addresses.{is_address};
 ghost use Rattle.mc_ring.specs.Refusals.{refusal_in, refusal_of_text};
 
 use crate::errors::RingError;
-use mc_text::read_u64;
+use mc_address::is_address;
 use std::alloc::Global;
 use std::marker::Model;
-
-/// The most bytes that a host has.
-pub const HOST_LIMIT: usize = 255;
-
-/// The greatest port.
-const PORT_LIMIT: u64 = 65_535;
 
 /// The address of a server: `host:port`. Addresses with equal bytes are one. Contracts see the bytes.
 #[derive(Clone, Debug, Drop)]
@@ -67,53 +60,5 @@ impl Address {
         ensures address { is_address self.now ≡ true }
     {
         self.bytes.as_slice()
-    }
-}
-
-/// Whether a text is an address.
-fn is_address(text: &[u8]) -> bool
-    ensures { result ≡ is_address text.now }
-{
-    match colon_of(text) {
-        Some(place) => {
-            let (host, rest) = text.split_at(place);
-            let (_, port) = rest.split_at(1);
-            is_host(host) && is_port(port)
-        }
-        None => false,
-    }
-}
-
-/// Where the first colon is.
-fn colon_of(text: &[u8]) -> Option<usize>
-    ensures { result ≡ position (λ b. b == 58) text.now }
-{
-    text.iter().position(|b| *b == b':')
-}
-
-/// Whether a word is a host: 1 to 255 letters, digits, dots and hyphens.
-fn is_host(word: &[u8]) -> bool
-    ensures { result ≡ is_host word.now }
-{
-    !word.is_empty() && word.len() <= HOST_LIMIT && has_host_bytes_alone(word)
-}
-
-fn has_host_bytes_alone(word: &[u8]) -> bool
-    ensures { result ≡ list_all is_host_byte word.now }
-{
-    word.iter()
-        .all(|b| b.is_ascii_alphanumeric() || *b == b'.' || *b == b'-')
-}
-
-/// Whether a word is a port: a number from 1 to 65535 without a leading zero.
-fn is_port(word: &[u8]) -> bool
-    ensures { result ≡ is_port word.now }
-{
-    if let [b'0', ..] = word {
-        return false;
-    }
-    match read_u64(word) {
-        Some(port) => port >= 1 && port <= PORT_LIMIT,
-        None => false,
     }
 }

@@ -20,7 +20,7 @@ mod points;
 mod rings;
 mod rows;
 
-pub use addresses::{Address, HOST_LIMIT};
+pub use addresses::Address;
 pub use errors::RingError;
 pub use laws::{
     every_server_has_its_points, only_members_count, points_are_one, shown_points_own_alike,

@@ -228,7 +228,7 @@ all_granted line told connections s (e ∷ es) legal below never =
     let shown : answers_to e.connection s (e ∷ es) ≡ answer_after s e ++ rest = rw (own_number e.connection) refl in
     let first : e.refused ≡ false =
     (elim (e.refused) as (λ v. e.refused ≡ v → v ≡ false) [
-      | true ↦ λ is. absurd (never e.connection inside (record { before = []; behind = rest; is = shown ∙ ap (λ (bytes : List ℕ). bytes ++ rest) (told s e legal.0 is) }))
+      | true ↦ λ is. absurd (never e.connection inside (record { before = []; after = rest; is = shown ∙ ap (λ (bytes : List ℕ). bytes ++ rest) (told s e legal.0 is) }))
       | false ↦ λ is. refl
     ]) refl in
     let others = all_granted line told connections (cache_after s e) es legal.1 (All-tail (λ turn. turn.0 < connections) (e.connection, e.moment) (turns_of es) below)
@@ -236,9 +236,9 @@ all_granted line told connections s (e ∷ es) legal below never =
     let own = if e.connection == number then answer_after s e else [] in
     never number lt (record {
       before = own ++ part.before;
-      behind = part.behind;
-      is = ap (λ (bytes : List ℕ). own ++ bytes) part.is ∙ sym (append_assoc own (part.before ++ line) part.behind)
-          ∙ ap (λ (bytes : List ℕ). bytes ++ part.behind) (sym (append_assoc own part.before line));
+      after = part.after;
+      is = ap (λ (bytes : List ℕ). own ++ bytes) part.is ∙ sym (append_assoc own (part.before ++ line) part.after)
+          ∙ ap (λ (bytes : List ℕ). bytes ++ part.after) (sym (append_assoc own part.before line));
     })) in
     All-cons (λ refused. refused ≡ false) e.refused (refusals_of es) first others
 

@@ -30,7 +30,7 @@ text_of-read text [] bytes e z = sym (e ∙ ap (λ (bs : List ℕ). Some bs) (ap
 text_of-read text (b ∷ bs) bytes e z = absurd (omega arith)
 
 -- what a reader of escapes meets after a backslash
-pub ruleset behind_backslash = (text_from_lost, text_from_x)
+pub ruleset after_backslash = (text_from_lost, text_from_x)
 
 -- a byte that stands for itself
 read_plain : (b : ℕ) (rest : List ℕ) → eqb b 92 ≡ false → text_from Between (b ∷ rest) ≡ option_map (λ text. b ∷ text) (text_from Between rest)

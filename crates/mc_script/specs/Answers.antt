@@ -66,8 +66,8 @@ pub record AnswersUnrefused (script : ScriptSeen) (outputs : List (List ℕ)) : 
 -- some bytes have others as a part
 pub record HasPart (bytes part : List ℕ) : Type 0 where
   pub before : List ℕ
-  pub behind : List ℕ
-  pub is : bytes ≡ before ++ part ++ behind
+  pub after : List ℕ
+  pub is : bytes ≡ before ++ part ++ after
 
 -- no output has the line for want of memory as a part
 abbrev pub TellNoRefusal : List (List ℕ) → Type 0

@@ -63,12 +63,12 @@ pub data Place : Type 0 where
   Lost : Place
 
 -- where it is after one byte more
-abbrev pub place_behind : Place → ℕ → Place
-place_behind Between b = if b == 92 then Backslash else Between
-place_behind Backslash b = if b == 120 then NoDigit else if is_some (letter_value b) then Between else Lost
-place_behind NoDigit b = option_map_or OneDigit (hex_value b) Lost
-place_behind (OneDigit high) b = if is_some (hex_value b) then Between else Lost
-place_behind Lost b = Lost
+abbrev pub place_after : Place → ℕ → Place
+place_after Between b = if b == 92 then Backslash else Between
+place_after Backslash b = if b == 120 then NoDigit else if is_some (letter_value b) then Between else Lost
+place_after NoDigit b = option_map_or OneDigit (hex_value b) Lost
+place_after (OneDigit high) b = if is_some (hex_value b) then Between else Lost
+place_after Lost b = Lost
 
 -- what that byte completes
 abbrev pub completed : Place → ℕ → List ℕ
@@ -89,7 +89,7 @@ at_end Lost = None
 -- what a text stands for, from a place on
 unfoldable pub text_from : Place → List ℕ → Option (List ℕ)
 text_from place [] = at_end place
-text_from place (b ∷ bs) = option_map (λ text. completed place b ++ text) (text_from (place_behind place b) bs)
+text_from place (b ∷ bs) = option_map (λ text. completed place b ++ text) (text_from (place_after place b) bs)
 
 -- the bytes that an escaped text stands for, if each escape is one
 abbrev pub text_of : List ℕ → Option (List ℕ)

@@ -32,18 +32,18 @@ server_of line = do
 
 -- what a command says, by its name, the connection's number, and what follows that
 unfoldable pub event_named : List ℕ → ℕ → List ℕ → Option Event
-event_named name connection behind =
-    if bytes_eq name (codes "bytes") then option_map (λ bytes. Bytes connection bytes) (text_of behind)
-    else if bytes_eq name (codes "turn") then option_map (λ moment. Turn connection moment) (moment_read behind)
+event_named name connection rest =
+    if bytes_eq name (codes "bytes") then option_map (λ bytes. Bytes connection bytes) (text_of rest)
+    else if bytes_eq name (codes "turn") then option_map (λ moment. Turn connection moment) (moment_read rest)
     else None
 
 -- the event of a line `bytes <connection> <text>` or `turn <connection> <moment>`, where so many connections are there
 unfoldable pub event_of : ℕ → List ℕ → Option Event
 event_of connections line = do
   command ← cut_at_space line
-  behind ← cut_at_space command.1
-  connection ← place_of connections behind.0
-  event_named command.0 connection behind.1
+  rest ← cut_at_space command.1
+  connection ← place_of connections rest.0
+  event_named command.0 connection rest.1
 
 -- an event in front of others: the first line that is none counts
 abbrev pub with_event : ℕ → Option Event → Result (List Event) ℕ → Result (List Event) ℕ

@@ -56,11 +56,11 @@ pub fn read_escaped(alloc: Global, text: &[u8]) -> Result<Option<Vec<u8>>, Alloc
     let mut bytes = Vec::with_capacity(alloc, text.len())?;
     let mut rest = text;
     while !rest.is_empty() {
-        let Some((byte, behind)) = first_byte(rest) else {
+        let Some((byte, more)) = first_byte(rest) else {
             return Ok(None);
         };
         bytes.push(byte)?;
-        rest = behind;
+        rest = more;
     }
     Ok(Some(bytes))
 }
@@ -126,39 +126,39 @@ fn first_byte(text: &[u8]) -> Option<(u8, &[u8])>
     ensures byte { MatchOption result (GivesNoByte Between text.now) (λ p. GivesByte Between text.now p.0 p.1.now) }
     ensures shorter { IfSome result (λ p. length p.1.now < length text.now) }
 {
-    let (byte, behind) = cut_byte(text)?;
+    let (byte, rest) = cut_byte(text)?;
     if byte == b'\\' {
-        byte_of_escape(behind)
+        byte_of_escape(rest)
     } else {
-        Some((byte, behind))
+        Some((byte, rest))
     }
 }
 
 /// The byte of what follows a backslash, and the text after it.
-#[tactic(auto, using(crate::proofs::EscapeLemmas::behind_backslash), unfolding(crate::specs::Escapes::text_from))]
+#[tactic(auto, using(crate::proofs::EscapeLemmas::after_backslash), unfolding(crate::specs::Escapes::text_from))]
 fn byte_of_escape(text: &[u8]) -> Option<(u8, &[u8])>
     ensures byte { MatchOption result (GivesNoByte Backslash text.now) (λ p. GivesByte Backslash text.now p.0 p.1.now) }
     ensures shorter { IfSome result (λ p. length p.1.now < length text.now) }
 {
-    let (letter, behind) = cut_byte(text)?;
+    let (letter, rest) = cut_byte(text)?;
     if letter == b'x' {
-        byte_of_digits(behind)
+        byte_of_digits(rest)
     } else {
-        Some((letter_value(letter)?, behind))
+        Some((letter_value(letter)?, rest))
     }
 }
 
 /// The byte of two hexadecimal digits, and the text after them.
-#[tactic(auto, using(crate::proofs::EscapeLemmas::behind_backslash), unfolding(crate::specs::Escapes::text_from))]
+#[tactic(auto, using(crate::proofs::EscapeLemmas::after_backslash), unfolding(crate::specs::Escapes::text_from))]
 fn byte_of_digits(text: &[u8]) -> Option<(u8, &[u8])>
     ensures byte { MatchOption result (GivesNoByte NoDigit text.now) (λ p. GivesByte NoDigit text.now p.0 p.1.now) }
     ensures shorter { IfSome result (λ p. length p.1.now < length text.now) }
 {
-    let (high, behind) = cut_byte(text)?;
+    let (high, rest) = cut_byte(text)?;
     let high = hex_value(high)?;
-    let (low, behind) = cut_byte(behind)?;
+    let (low, rest) = cut_byte(rest)?;
     let low = hex_value(low)?;
-    Some((16 * high + low, behind))
+    Some((16 * high + low, rest))
 }
 
 /// The first byte of a text, and the rest.
@@ -166,7 +166,7 @@ fn cut_byte(text: &[u8]) -> Option<(u8, &[u8])>
     ensures { MatchOption result (text.now ≡ []) (λ p. text.now ≡ p.0 ∷ p.1.now) }
 {
     match text {
-        [byte, behind @ ..] => Some((*byte, behind)),
+        [byte, rest @ ..] => Some((*byte, rest)),
         [] => None,
     }
 }

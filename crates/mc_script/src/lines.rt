@@ -76,8 +76,8 @@ pub fn cut_at_space(text: &[u8]) -> Option<(&[u8], &[u8])>
 {
     let end = find_space(text)?;
     let (front, _) = text.split_at(end);
-    let (_, behind) = text.split_at(end + 1);
-    Some((front, behind))
+    let (_, rest) = text.split_at(end + 1);
+    Some((front, rest))
 }
 
 /// Where the first space is.

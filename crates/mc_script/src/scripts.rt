@@ -59,9 +59,9 @@ fn read_server(line: &[u8]) -> Option<(u64, u64, usize)>
     ensures few { IfSome result (λ server. server.0 ≤ 1024) }
     ensures bounds { IfSome result (λ server. IsWithinBounds server.1 server.2) }
 {
-    let (command, behind) = cut_at_space(line)?;
-    let (connections, behind) = cut_at_space(behind)?;
-    let (budget, items) = cut_at_space(behind)?;
+    let (command, rest) = cut_at_space(line)?;
+    let (connections, rest) = cut_at_space(rest)?;
+    let (budget, items) = cut_at_space(rest)?;
     let connections = read_limit(connections, MAX_CONNECTIONS as u64)?;
     let budget = read_limit(budget, MAX_BUDGET)?;
     let items = read_limit(items, MAX_ITEMS as u64)?;
@@ -78,16 +78,16 @@ fn read_event(alloc: Global, connections: u64, line: &[u8]) -> Result<Option<Eve
     ensures event { IfOk result (λ event. event ≡ event_of connections line.now) }
     ensures of { IfOk result (λ event. IfSome event (λ event. IsEventOf connections event)) }
 {
-    let Some((command, behind)) = cut_at_space(line) else {
+    let Some((command, rest)) = cut_at_space(line) else {
         return Ok(None);
     };
-    let Some((connection, behind)) = cut_at_space(behind) else {
+    let Some((connection, rest)) = cut_at_space(rest) else {
         return Ok(None);
     };
     let Some(connection) = read_place(connection, connections) else {
         return Ok(None);
     };
-    read_event_named(alloc, command, connection, behind)
+    read_event_named(alloc, command, connection, rest)
 }
 
 /// The event of a command, by the number of its connection and what follows that.
@@ -96,19 +96,19 @@ fn read_event_named(
     alloc: Global,
     name: &[u8],
     connection: u64,
-    behind: &[u8],
+    rest: &[u8],
 ) -> Result<Option<Event>, AllocError>
-    ensures event { IfOk result (λ event. event ≡ event_named name.now connection behind.now) }
+    ensures event { IfOk result (λ event. event ≡ event_named name.now connection rest.now) }
     ensures of { IfOk result (λ event. IfSome event (λ event. (connections : ℕ) → connection < connections → IsEventOf connections event)) }
 {
     if name == b"bytes".as_slice() {
-        return Ok(read_escaped(alloc, behind)?.map(|bytes| Event::Bytes {
+        return Ok(read_escaped(alloc, rest)?.map(|bytes| Event::Bytes {
             connection,
             bytes: Block::from(bytes),
         }));
     }
     if name == b"turn".as_slice() {
-        return Ok(read_moment(behind).map(|moment| Event::Turn { connection, moment }));
+        return Ok(read_moment(rest).map(|moment| Event::Turn { connection, moment }));
     }
     Ok(None)
 }

@@ -36,7 +36,7 @@ where
     if options.check {
         return check(rt, &options);
     }
-    let listener = bind(rt, alloc, options.listen)?;
+    let listener = bind(rt, options.listen)?;
     tell_open_files(rt);
     // Whom the line does not reach is served all the same.
     let _ = println!(rt; "listening {}", options.listen);

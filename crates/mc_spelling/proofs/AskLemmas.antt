@@ -22,9 +22,9 @@ Whenever P (Ok part) = P part
 Whenever P (Err fault) = Unit {0}
 
 -- of what is read after a part
-pub behind : {A B : Type 0} (Q : B → Type 0) (r : Result A Fault) (f : A → Result B Fault) → ((a : A) → r ≡ Ok a → Whenever Q (f a)) → Whenever Q (r >>= f)
-behind Q (Ok a) f next = next a refl
-behind Q (Err fault) f next = tt
+pub after : {A B : Type 0} (Q : B → Type 0) (r : Result A Fault) (f : A → Result B Fault) → ((a : A) → r ≡ Ok a → Whenever Q (f a)) → Whenever Q (r >>= f)
+after Q (Ok a) f next = next a refl
+after Q (Err fault) f next = tt
 
 -- of a choice between two
 pub choice : {A : Type 0} (Q : A → Type 0) (b : Bool) (x y : Result A Fault) → Whenever Q x → Whenever Q y → Whenever Q (if b then x else y)
@@ -80,33 +80,33 @@ clash true c h off = absurd cc
 clash false c h off = absurd cc
 
 mode_asks : (name : Name) (read : MetaFlags) (token : List ℕ) → Asks name read → Whenever (Asks name) (with_mode name read token)
-mode_asks names.MetaSet read token h = behind (Asks names.MetaSet) (valued read.mode (mode_of token)) _ (λ _ _. h)
-mode_asks name read token h = behind (Asks name) (valued read.direction (direction_of token)) _ (λ _ _. h)
+mode_asks names.MetaSet read token h = after (Asks names.MetaSet) (valued read.mode (mode_of token)) _ (λ _ _. h)
+mode_asks name read token h = after (Asks name) (valued read.direction (direction_of token)) _ (λ _ _. h)
 
 flag_asks : (name : Name) (read : MetaFlags) (token : List ℕ) (flag : Flag) → may_ask name flag ≡ true → Asks name read → Whenever (Asks name) (by_flag name read token flag)
-flag_asks name read token Coded may h = behind (Asks name) (bare read.coded token) _ (λ _ _. h)
-flag_asks name read token Cas may h = behind (Asks name) (bare read.show.cas token) _ (λ cas _.
+flag_asks name read token Coded may h = after (Asks name) (bare read.coded token) _ (λ _ _. h)
+flag_asks name read token Cas may h = after (Asks name) (bare read.show.cas token) _ (λ cas _.
     record { cas = λ off. clash _ cas may off; flags = h.flags; size = h.size; left = h.left; value = h.value })
-flag_asks name read token ClientFlags may h = behind (Asks name) (bare read.show.flags token) _ (λ flags _.
+flag_asks name read token ClientFlags may h = after (Asks name) (bare read.show.flags token) _ (λ flags _.
     record { cas = h.cas; flags = λ off. clash _ flags may off; size = h.size; left = h.left; value = h.value })
-flag_asks name read token Key may h = behind (Asks name) (bare read.key token) _ (λ _ _. h)
-flag_asks name read token Opaque may h = behind (Asks name) (opaque_of read.opaque token) _ (λ _ _. h)
-flag_asks name read token Quiet may h = behind (Asks name) (bare read.quiet token) _ (λ _ _. h)
-flag_asks name read token Size may h = behind (Asks name) (bare read.show.size token) _ (λ size _.
+flag_asks name read token Key may h = after (Asks name) (bare read.key token) _ (λ _ _. h)
+flag_asks name read token Opaque may h = after (Asks name) (opaque_of read.opaque token) _ (λ _ _. h)
+flag_asks name read token Quiet may h = after (Asks name) (bare read.quiet token) _ (λ _ _. h)
+flag_asks name read token Size may h = after (Asks name) (bare read.show.size token) _ (λ size _.
     record { cas = h.cas; flags = h.flags; size = λ off. clash _ size may off; left = h.left; value = h.value })
-flag_asks name read token Left may h = behind (Asks name) (bare read.show.left token) _ (λ left _.
+flag_asks name read token Left may h = after (Asks name) (bare read.show.left token) _ (λ left _.
     record { cas = h.cas; flags = h.flags; size = h.size; left = λ off. clash _ left may off; value = h.value })
-flag_asks name read token Value may h = behind (Asks name) (bare read.show.value token) _ (λ value _.
+flag_asks name read token Value may h = after (Asks name) (bare read.show.value token) _ (λ value _.
     record { cas = h.cas; flags = h.flags; size = h.size; left = h.left; value = λ off. clash _ value may off })
-flag_asks name read token Exptime may h = behind (Asks name) (valued read.exptime (read_i64 token)) _ (λ _ _. h)
-flag_asks name read token Compare may h = behind (Asks name) (valued read.compare (read_u64 token)) _ (λ _ _. h)
-flag_asks name read token StoredFlags may h = behind (Asks name) (valued read.flags (read_flags token)) _ (λ _ _. h)
+flag_asks name read token Exptime may h = after (Asks name) (valued read.exptime (read_i64 token)) _ (λ _ _. h)
+flag_asks name read token Compare may h = after (Asks name) (valued read.compare (read_u64 token)) _ (λ _ _. h)
+flag_asks name read token StoredFlags may h = after (Asks name) (valued read.flags (read_flags token)) _ (λ _ _. h)
 flag_asks name read token Mode may h = mode_asks name read token h
-flag_asks name read token Create may h = behind (Asks name) (valued read.create (read_i64 token)) _ (λ _ _. h)
-flag_asks name read token Initial may h = behind (Asks name) (valued read.initial (read_u64 token)) _ (λ _ _. h)
-flag_asks name read token Delta may h = behind (Asks name) (valued read.delta (read_u64 token)) _ (λ _ _. h)
-flag_asks name read token Invalidate may h = behind (Asks name) (bare read.invalidate token) _ (λ _ _. h)
-flag_asks name read token Recache may h = behind (Asks name) (valued read.recache (read_u64 token)) _ (λ _ _. h)
+flag_asks name read token Create may h = after (Asks name) (valued read.create (read_i64 token)) _ (λ _ _. h)
+flag_asks name read token Initial may h = after (Asks name) (valued read.initial (read_u64 token)) _ (λ _ _. h)
+flag_asks name read token Delta may h = after (Asks name) (valued read.delta (read_u64 token)) _ (λ _ _. h)
+flag_asks name read token Invalidate may h = after (Asks name) (bare read.invalidate token) _ (λ _ _. h)
+flag_asks name read token Recache may h = after (Asks name) (valued read.recache (read_u64 token)) _ (λ _ _. h)
 
 letter_asks : (name : Name) (read : MetaFlags) (token : List ℕ) (flag : Option Flag) → is_where_some (may_ask name) flag ≡ true → Asks name read
     → Whenever (Asks name) (by_letter name read token flag)
@@ -126,7 +126,7 @@ word_asks name read (letter ∷ token) h = known_asks name read letter token (is
 words_ask : (name : Name) (read : MetaFlags) (ws : List (List ℕ)) → Asks name read → Whenever (Asks name) (flags_from name read ws)
 words_ask name read [] h = h
 words_ask name read (word ∷ ws) h =
-    behind (Asks name) (with_flag name read word) _ (λ next is. words_ask name next ws (where_read (Asks name) (with_flag name read word) next (word_asks name read word h) is))
+    after (Asks name) (with_flag name read word) _ (λ next is. words_ask name next ws (where_read (Asks name) (with_flag name read word) next (word_asks name read word h) is))
 
 fresh_asks : (name : Name) → Asks name fresh_flags
 fresh_asks name = record { cas = λ _. refl; flags = λ _. refl; size = λ _. refl; left = λ _. refl; value = λ _. refl }

@@ -12,7 +12,7 @@ use Rattle.mc_request.specs.declared.meta.Show.{Show}
 use Rattle.mc_request.specs.declared.parts.StoreMode.{StoreMode}
 use Rattle.mc_request.specs.declared.parts.Update.TheVariants as updates
 use Rattle.mc_spelling.specs.Spellings.{word_if, number_if, signed_if, creation_words, mode_word, direction_word, mg_flags, ms_flags, md_flags, ma_flags, meta_words, spaced}
-use Rattle.mc_spelling.specs.SpelledPieces.{behind, piece_if, number_piece, signed_piece, creation_piece, mg_show_pieces, ms_show_pieces, ma_show_pieces}
+use Rattle.mc_spelling.specs.SpelledPieces.{after_spaces, piece_if, number_piece, signed_piece, creation_piece, mg_show_pieces, ms_show_pieces, ma_show_pieces}
 
 -- how many digits a number has
 pub one_digit : (n : ℕ) → n < 10 → length (decimal n) ≡ 1
@@ -47,33 +47,33 @@ pub digits_bound : (n : ℕ) → n < 2 ^ 64 → length (decimal n) ≤ 20
 digits_bound n fits = length-decimal-le 20 n (omega arith) (omega arith) fits
 
 -- a line's words are its first and the others after a space each
-pub spaced_is : (word : List ℕ) (words : List (List ℕ)) → spaced (word ∷ words) ≡ word ++ behind words
+pub spaced_is : (word : List ℕ) (words : List (List ℕ)) → spaced (word ∷ words) ≡ word ++ after_spaces words
 spaced_is word [] = sym (append-nil word)
 spaced_is word (other ∷ words) = ap (λ (rest : List ℕ). word ++ (codes " " ++ rest)) (spaced_is other words)
 
 -- what is asked for is a piece
-pub behind_word_if : (asked : Bool) (word : List ℕ) (words : List (List ℕ)) → behind (word_if asked word words) ≡ piece_if asked (32 ∷ word) ++ behind words
-behind_word_if true word words = refl
-behind_word_if false word words = refl
+pub after_word_if : (asked : Bool) (word : List ℕ) (words : List (List ℕ)) → after_spaces (word_if asked word words) ≡ piece_if asked (32 ∷ word) ++ after_spaces words
+after_word_if true word words = refl
+after_word_if false word words = refl
 
-pub behind_number_if : (letter : List ℕ) (number : Option ℕ) (words : List (List ℕ)) → behind (number_if letter number words) ≡ number_piece (32 ∷ letter) number ++ behind words
-behind_number_if letter None words = refl
-behind_number_if letter (Some number) words = refl
+pub after_number_if : (letter : List ℕ) (number : Option ℕ) (words : List (List ℕ)) → after_spaces (number_if letter number words) ≡ number_piece (32 ∷ letter) number ++ after_spaces words
+after_number_if letter None words = refl
+after_number_if letter (Some number) words = refl
 
-pub behind_signed_if : (letter : List ℕ) (number : Option ℤ) (words : List (List ℕ)) → behind (signed_if letter number words) ≡ signed_piece (32 ∷ letter) number ++ behind words
-behind_signed_if letter None words = refl
-behind_signed_if letter (Some number) words = refl
+pub after_signed_if : (letter : List ℕ) (number : Option ℤ) (words : List (List ℕ)) → after_spaces (signed_if letter number words) ≡ signed_piece (32 ∷ letter) number ++ after_spaces words
+after_signed_if letter None words = refl
+after_signed_if letter (Some number) words = refl
 
-pub behind_creation : (create : Option Creation) (words : List (List ℕ)) → behind (creation_words create words) ≡ creation_piece create ++ behind words
-behind_creation None words = refl
-behind_creation (Some creation) words = simp append_assoc
+pub after_creation : (create : Option Creation) (words : List (List ℕ)) → after_spaces (creation_words create words) ≡ creation_piece create ++ after_spaces words
+after_creation None words = refl
+after_creation (Some creation) words = simp append_assoc
 
 -- the flag words of each meta command, piece by piece, and how many bytes they have
-pub mg_flags_are : (get : MetaGet) → behind (mg_flags get)
+pub mg_flags_are : (get : MetaGet) → after_spaces (mg_flags get)
     ≡ mg_show_pieces get.show ++ (signed_piece (codes " T") get.exptime ++ (signed_piece (codes " N") get.create ++ number_piece (codes " R") get.recache))
-mg_flags_are get = simp (behind_word_if, behind_signed_if, behind_number_if, append_assoc, append-nil)
+mg_flags_are get = simp (after_word_if, after_signed_if, after_number_if, append_assoc, append-nil)
 
-pub mg_flags_length : (get : MetaGet) → length (behind (mg_flags get))
+pub mg_flags_length : (get : MetaGet) → length (after_spaces (mg_flags get))
     ≡ length (mg_show_pieces get.show) + length (signed_piece (codes " T") get.exptime) + length (signed_piece (codes " N") get.create) + length (number_piece (codes " R") get.recache)
 mg_flags_length get =
     let shown = mg_show_pieces get.show in
@@ -82,11 +82,11 @@ mg_flags_length get =
     let recache = number_piece (codes " R") get.recache in
     omega (arith, ap length (mg_flags_are get), length-append shown (exptime ++ (create ++ recache)), length-append exptime (create ++ recache), length-append create recache)
 
-pub ms_flags_are : (mode : StoreMode) (compare : Option ℕ) (flags : ℕ) (exptime : ℤ) (show : Show) → behind (ms_flags mode compare flags exptime show)
+pub ms_flags_are : (mode : StoreMode) (compare : Option ℕ) (flags : ℕ) (exptime : ℤ) (show : Show) → after_spaces (ms_flags mode compare flags exptime show)
     ≡ ms_show_pieces show ++ ((codes " T" ++ signed_decimal exptime) ++ ((codes " F" ++ decimal flags) ++ (number_piece (codes " C") compare ++ (codes " " ++ mode_word mode))))
-ms_flags_are mode compare flags exptime show = simp (behind_word_if, behind_number_if, append_assoc, append-nil)
+ms_flags_are mode compare flags exptime show = simp (after_word_if, after_number_if, append_assoc, append-nil)
 
-pub ms_flags_length : (mode : StoreMode) (compare : Option ℕ) (flags : ℕ) (exptime : ℤ) (show : Show) → length (behind (ms_flags mode compare flags exptime show))
+pub ms_flags_length : (mode : StoreMode) (compare : Option ℕ) (flags : ℕ) (exptime : ℤ) (show : Show) → length (after_spaces (ms_flags mode compare flags exptime show))
     ≡ length (ms_show_pieces show) + 4 + length (signed_decimal exptime) + length (decimal flags) + length (number_piece (codes " C") compare) + length (codes " " ++ mode_word mode)
 ms_flags_length mode compare flags exptime show =
     let shown = ms_show_pieces show in
@@ -103,12 +103,12 @@ ms_flags_length mode compare flags exptime show =
       length-append compared word,
     )
 
-pub ma_flags_are : (counting : Counting) (show : Show) → behind (ma_flags counting show)
+pub ma_flags_are : (counting : Counting) (show : Show) → after_spaces (ma_flags counting show)
     ≡ ma_show_pieces show ++ (signed_piece (codes " T") counting.exptime ++ (number_piece (codes " C") counting.compare
     ++ (creation_piece counting.create ++ ((codes " D" ++ decimal counting.delta) ++ (codes " " ++ direction_word counting.direction)))))
-ma_flags_are counting show = simp (behind_word_if, behind_number_if, behind_signed_if, behind_creation, append_assoc, append-nil)
+ma_flags_are counting show = simp (after_word_if, after_number_if, after_signed_if, after_creation, append_assoc, append-nil)
 
-pub ma_flags_length : (counting : Counting) (show : Show) → length (behind (ma_flags counting show))
+pub ma_flags_length : (counting : Counting) (show : Show) → length (after_spaces (ma_flags counting show))
     ≡ length (ma_show_pieces show) + length (signed_piece (codes " T") counting.exptime) + length (number_piece (codes " C") counting.compare)
     + length (creation_piece counting.create) + 2 + length (decimal counting.delta) + length (codes " " ++ direction_word counting.direction)
 ma_flags_length counting show =
@@ -129,34 +129,34 @@ ma_flags_length counting show =
     )
 
 -- the line of each meta command: its name and its key, and the flag words after them
-pub mg_line_is : (key : List ℕ) (get : MetaGet) → spaced (meta_words (metas.Get key get)) ≡ (codes "mg " ++ coded_of key) ++ behind (mg_flags get)
+pub mg_line_is : (key : List ℕ) (get : MetaGet) → spaced (meta_words (metas.Get key get)) ≡ (codes "mg " ++ coded_of key) ++ after_spaces (mg_flags get)
 mg_line_is key get = spaced_is (codes "mg") (coded_of key ∷ mg_flags get)
 
 pub ms_line_is : (mode : StoreMode) (compare : Option ℕ) (key : List ℕ) (flags : ℕ) (exptime : ℤ) (block : List ℕ) (show : Show)
     → spaced (meta_words (metas.Update (updates.Store mode compare key flags exptime block) show))
-    ≡ (codes "ms " ++ coded_of key) ++ ((codes " " ++ decimal (length block)) ++ behind (ms_flags mode compare flags exptime show))
+    ≡ (codes "ms " ++ coded_of key) ++ ((codes " " ++ decimal (length block)) ++ after_spaces (ms_flags mode compare flags exptime show))
 ms_line_is mode compare key flags exptime block show = spaced_is (codes "ms") (coded_of key ∷ decimal (length block) ∷ ms_flags mode compare flags exptime show)
 
 pub md_line_is : (key : List ℕ) (compare : Option ℕ) (invalidate : Bool) (show : Show)
-    → spaced (meta_words (metas.Update (updates.Delete key compare invalidate) show)) ≡ (codes "md " ++ coded_of key) ++ behind (md_flags compare invalidate)
+    → spaced (meta_words (metas.Update (updates.Delete key compare invalidate) show)) ≡ (codes "md " ++ coded_of key) ++ after_spaces (md_flags compare invalidate)
 md_line_is key compare invalidate show = spaced_is (codes "md") (coded_of key ∷ md_flags compare invalidate)
 
 pub ma_line_is : (key : List ℕ) (counting : Counting) (show : Show)
-    → spaced (meta_words (metas.Update (updates.Count key counting) show)) ≡ (codes "ma " ++ coded_of key) ++ behind (ma_flags counting show)
+    → spaced (meta_words (metas.Update (updates.Count key counting) show)) ≡ (codes "ma " ++ coded_of key) ++ after_spaces (ma_flags counting show)
 ma_line_is key counting show = spaced_is (codes "ma") (coded_of key ∷ ma_flags counting show)
 
-pub mg_line_length : (key : List ℕ) (get : MetaGet) → length (spaced (meta_words (metas.Get key get))) ≡ 3 + length (coded_of key) + length (behind (mg_flags get))
-mg_line_length key get = omega (arith, ap length (mg_line_is key get), length-append (codes "mg " ++ coded_of key) (behind (mg_flags get)))
+pub mg_line_length : (key : List ℕ) (get : MetaGet) → length (spaced (meta_words (metas.Get key get))) ≡ 3 + length (coded_of key) + length (after_spaces (mg_flags get))
+mg_line_length key get = omega (arith, ap length (mg_line_is key get), length-append (codes "mg " ++ coded_of key) (after_spaces (mg_flags get)))
 
 pub ms_line_length : (mode : StoreMode) (compare : Option ℕ) (key : List ℕ) (flags : ℕ) (exptime : ℤ) (block : List ℕ) (show : Show)
     → length (spaced (meta_words (metas.Update (updates.Store mode compare key flags exptime block) show)))
-    ≡ 4 + length (coded_of key) + length (decimal (length block)) + length (behind (ms_flags mode compare flags exptime show))
+    ≡ 4 + length (coded_of key) + length (decimal (length block)) + length (after_spaces (ms_flags mode compare flags exptime show))
 ms_line_length mode compare key flags exptime block show =
     let name = codes "ms " ++ coded_of key in
     let size = codes " " ++ decimal (length block) in
-    let words = behind (ms_flags mode compare flags exptime show) in
+    let words = after_spaces (ms_flags mode compare flags exptime show) in
     omega (arith, ap length (ms_line_is mode compare key flags exptime block show), length-append name (size ++ words), length-append size words)
 
 pub ma_line_length : (key : List ℕ) (counting : Counting) (show : Show)
-    → length (spaced (meta_words (metas.Update (updates.Count key counting) show))) ≡ 3 + length (coded_of key) + length (behind (ma_flags counting show))
-ma_line_length key counting show = omega (arith, ap length (ma_line_is key counting show), length-append (codes "ma " ++ coded_of key) (behind (ma_flags counting show)))
+    → length (spaced (meta_words (metas.Update (updates.Count key counting) show))) ≡ 3 + length (coded_of key) + length (after_spaces (ma_flags counting show))
+ma_line_length key counting show = omega (arith, ap length (ma_line_is key counting show), length-append (codes "ma " ++ coded_of key) (after_spaces (ma_flags counting show)))

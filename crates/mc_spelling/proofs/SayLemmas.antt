@@ -33,14 +33,14 @@ use Rattle.mc_request.specs.declared.parts.Update.{Update}
 use Rattle.mc_request.specs.declared.parts.Update.TheVariants.{Store, Touch, Delete, Count, FlushAll}
 use Rattle.mc_request.specs.Atoms.{gets_of}
 use Rattle.mc_request.specs.Flags.{flags_from, fresh_flags}
-use Rattle.mc_request.specs.Meanings.{Line, Lone, Storage, Storing, Classic, MetaSet, Meaning, Alone, Stores, Refuses, key_of, well_formed, touch_line, without_zero, delete_line, count_parts, count_line, flush_parts, flush_line, keys_line, gat_line, storage_parts, store_line, number_behind, cas_line, meta_key, mg_line, md_line, ma_line, ms_storing, ms_by, ms_line, line_named, line_of, announced, meaning_from, meaning_by, meaning}
+use Rattle.mc_request.specs.Meanings.{Line, Lone, Storage, Storing, Classic, MetaSet, Meaning, Alone, Stores, Refuses, key_of, well_formed, touch_line, without_zero, delete_line, count_parts, count_line, flush_parts, flush_line, keys_line, gat_line, storage_parts, after_length, store_line, meta_key, mg_line, md_line, ma_line, ms_storing, ms_by, ms_line, line_named, line_of, announced, meaning_from, meaning_by, meaning}
 use Rattle.mc_request.specs.Names.{name_of, has_arity, noreply_of}
 use Rattle.mc_request.specs.Parts as parts
 use Rattle.mc_request.specs.Parts.{key_in, key_in_meta, key_said}
 use Rattle.mc_request.specs.Requests.{stored, with_block, taken_by, next_by, next_request, ends, requests_from, requests_within, requests_of}
 use Rattle.mc_spelling.specs.Spellings.{can_be_spelled, is_askable, is_byte_key, is_classic, is_good_atom}
 use Rattle.mc_request.specs.WellFormed.{is_good_block, is_good_get, is_good_meta, is_good_update, is_i64, is_meta_key, is_well_formed, is_where_some}
-use Rattle.mc_spelling.proofs.AskLemmas.{Whenever, behind, choice, asked}
+use Rattle.mc_spelling.proofs.AskLemmas.{Whenever, after, choice, asked, where_read}
 use Rattle.mc_spelling.proofs.GoodPartLemmas.{another_test}
 use Rattle.mc_request.proofs.WellFormedLemmas.{requests_good}
 
@@ -79,26 +79,26 @@ touch_says : (ws : List (List ℕ)) → Whenever SaysLine (touch_line ws)
 touch_says [] = tt
 touch_says (key ∷ []) = tt
 touch_says (key ∷ exptime ∷ more) =
-    behind SaysLine (noreply_of more) _ (λ _ _. behind SaysLine (key_of key) _ (λ _ _. behind SaysLine (well_formed (read_i64 exptime)) _ (λ _ _. refl)))
+    after SaysLine (noreply_of more) _ (λ _ _. after SaysLine (key_of key) _ (λ _ _. after SaysLine (well_formed (read_i64 exptime)) _ (λ _ _. refl)))
 
 delete_says : (ws : List (List ℕ)) → Whenever SaysLine (delete_line ws)
 delete_says [] = tt
-delete_says (key ∷ more) = behind SaysLine (noreply_of (without_zero more)) _ (λ _ _. behind SaysLine (key_of key) _ (λ _ _. refl))
+delete_says (key ∷ more) = after SaysLine (noreply_of (without_zero more)) _ (λ _ _. after SaysLine (key_of key) _ (λ _ _. refl))
 
 count_says : (direction : Direction) (ws : List (List ℕ)) → Whenever SaysLine (count_line direction ws)
 count_says direction [] = tt
 count_says direction (key ∷ []) = tt
-count_says direction (key ∷ delta ∷ more) = behind SaysLine (count_parts key delta more) _ (λ _ _. refl)
+count_says direction (key ∷ delta ∷ more) = after SaysLine (count_parts key delta more) _ (λ _ _. refl)
 
 flush_says : (ws : List (List ℕ)) → Whenever SaysLine (flush_line ws)
-flush_says ws = behind SaysLine (flush_parts ws) _ (λ _ _. refl)
+flush_says ws = after SaysLine (flush_parts ws) _ (λ _ _. refl)
 
 keys_say : (exptime : Option ℤ) (with_cas : Bool) (keys : List (List ℕ)) → Whenever SaysLine (keys_line exptime with_cas keys)
 keys_say exptime with_cas keys = choice SaysLine (list_all is_plain_key keys) (Ok (Lone (requests.Get keys exptime with_cas))) (Err BadFormat) tt tt
 
 gat_says : (with_cas : Bool) (ws : List (List ℕ)) → Whenever SaysLine (gat_line with_cas ws)
 gat_says with_cas [] = tt
-gat_says with_cas (exptime ∷ keys) = behind SaysLine (well_formed (read_i64 exptime)) _ (λ e _. keys_say (Some e) with_cas keys)
+gat_says with_cas (exptime ∷ keys) = after SaysLine (well_formed (read_i64 exptime)) _ (λ e _. keys_say (Some e) with_cas keys)
 
 uncompared : (mode : StoreMode) (key : List ℕ) (flags : ℕ) (exptime : ℤ) (none : Unit {0}) → is_classic (Store mode None key flags exptime none) ≡ true
 uncompared Set key flags exptime none = refl
@@ -107,21 +107,25 @@ uncompared Replace key flags exptime none = refl
 uncompared Append key flags exptime none = refl
 uncompared Prepend key flags exptime none = refl
 
-store_says : (mode : StoreMode) (ws : List (List ℕ)) → Whenever SaysLine (store_line mode ws)
+none_compared : (more : List (List ℕ)) → Whenever (λ (rest : Option ℕ × Bool). rest.0 ≡ None) (after_length false more)
+none_compared more = after (λ (rest : Option ℕ × Bool). rest.0 ≡ None) (noreply_of more) _ (λ _ _. refl)
+
+store_says : (mode : StoreMode) (ws : List (List ℕ)) → Whenever SaysLine (store_line mode false ws)
 store_says mode [] = tt
 store_says mode (key ∷ []) = tt
 store_says mode (key ∷ flags ∷ []) = tt
 store_says mode (key ∷ flags ∷ exptime ∷ []) = tt
 store_says mode (key ∷ flags ∷ exptime ∷ len ∷ more) =
-    behind SaysLine (noreply_of more) _ (λ noreply _. behind SaysLine (storage_parts key flags exptime (read_len len)) _ (λ read _. uncompared mode key read.0 read.1 tt))
+    after SaysLine (after_length false more) _ (λ rest is. after SaysLine (storage_parts key flags exptime (read_len len)) _ (λ read _.
+    rw (where_read (λ (rest : Option ℕ × Bool). rest.0 ≡ None) (after_length false more) rest (none_compared more) is) (uncompared mode key read.0 read.1 tt)))
 
-cas_says : (ws : List (List ℕ)) → Whenever SaysLine (cas_line ws)
+cas_says : (ws : List (List ℕ)) → Whenever SaysLine (store_line Set true ws)
 cas_says [] = tt
 cas_says (key ∷ []) = tt
 cas_says (key ∷ flags ∷ []) = tt
 cas_says (key ∷ flags ∷ exptime ∷ []) = tt
 cas_says (key ∷ flags ∷ exptime ∷ len ∷ more) =
-    behind SaysLine (number_behind more) _ (λ number _. behind SaysLine (storage_parts key flags exptime (read_len len)) _ (λ _ _. refl))
+    after SaysLine (after_length true more) _ (λ _ _. after SaysLine (storage_parts key flags exptime (read_len len)) _ (λ _ _. refl))
 
 abbrev some_key : List ℕ → Option (List ℕ)
 some_key key = Some key
@@ -146,26 +150,26 @@ key_bytes coded word key are is = said_bytes coded word key are (part_is (key_sa
 mg_says : (ws : List (List ℕ)) → list_all all_bytes ws ≡ true → Whenever SaysLine (mg_line ws)
 mg_says [] are = tt
 mg_says (key ∷ ws) are =
-    behind SaysLine (flags_from names.MetaGet fresh_flags ws) _ (λ read _. behind SaysLine (meta_key read.coded key) _ (λ said is.
+    after SaysLine (flags_from names.MetaGet fresh_flags ws) _ (λ read _. after SaysLine (meta_key read.coded key) _ (λ said is.
     (refl, key_bytes read.coded key said (and_parts (all_bytes key) (list_all all_bytes ws) are).0 is)))
 
 md_says : (ws : List (List ℕ)) → list_all all_bytes ws ≡ true → Whenever SaysLine (md_line ws)
 md_says [] are = tt
 md_says (key ∷ ws) are =
-    behind SaysLine (flags_from names.MetaDelete fresh_flags ws) _ (λ read e. behind SaysLine (meta_key read.coded key) _ (λ said is.
+    after SaysLine (flags_from names.MetaDelete fresh_flags ws) _ (λ read e. after SaysLine (meta_key read.coded key) _ (λ said is.
     let asks = asked names.MetaDelete ws read e in
     (rw (asks.cas refl, asks.flags refl, asks.size refl, asks.left refl, asks.value refl) refl, key_bytes read.coded key said (and_parts (all_bytes key) (list_all all_bytes ws) are).0 is)))
 
 ma_says : (ws : List (List ℕ)) → list_all all_bytes ws ≡ true → Whenever SaysLine (ma_line ws)
 ma_says [] are = tt
 ma_says (key ∷ ws) are =
-    behind SaysLine (flags_from names.MetaArithmetic fresh_flags ws) _ (λ read e. behind SaysLine (meta_key read.coded key) _ (λ said is.
+    after SaysLine (flags_from names.MetaArithmetic fresh_flags ws) _ (λ read e. after SaysLine (meta_key read.coded key) _ (λ said is.
     let asks = asked names.MetaArithmetic ws read e in
     (rw (asks.flags refl, asks.size refl) refl, key_bytes read.coded key said (and_parts (all_bytes key) (list_all all_bytes ws) are).0 is)))
 
 ms_says_by : (key : List ℕ) (len : Option ℕ) (ws : List (List ℕ)) → all_bytes key ≡ true → Whenever SaysLine (ms_by key len ws)
 ms_says_by key len ws are =
-    behind SaysLine (well_formed len) _ (λ n _. behind SaysLine (flags_from names.MetaSet fresh_flags ws) _ (λ read e. behind SaysLine (meta_key read.coded key) _ (λ said is.
+    after SaysLine (well_formed len) _ (λ n _. after SaysLine (flags_from names.MetaSet fresh_flags ws) _ (λ read e. after SaysLine (meta_key read.coded key) _ (λ said is.
     let asks = asked names.MetaSet ws read e in
     choice SaysLine (nat_lt 1048576 n) (Err TooLarge) (Ok (Storage (ms_storing said read ws) n)) tt
     (rw (asks.flags refl, asks.left refl, asks.value refl) refl, key_bytes read.coded key said are is))))

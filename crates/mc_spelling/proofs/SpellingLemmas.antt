@@ -72,8 +72,8 @@ next_by_words word more rest are =
     ∙ rw (words-spaced word more are.each, drop-append-add content (13 ∷ 10 ∷ rest) 2) refl
 
 -- the text of a line and what is after it
-behind_line : (content block more : List ℕ) → (content ++ (codes "\r\n" ++ block)) ++ more ≡ content ++ (13 ∷ 10 ∷ (block ++ more))
-behind_line content block more = append_assoc content (13 ∷ 10 ∷ block) more
+after_line : (content block more : List ℕ) → (content ++ (codes "\r\n" ++ block)) ++ more ≡ content ++ (13 ∷ 10 ∷ (block ++ more))
+after_line content block more = append_assoc content (13 ∷ 10 ∷ block) more
 
 -- a line that no data block follows
 pub next_alone : (word : List ℕ) (others : List (List ℕ)) (request : Request) (more : List ℕ) → AreWords 20 (word ∷ others) → meaning (word ∷ others) ≡ Alone (Whole request)
@@ -82,7 +82,7 @@ pub next_alone : (word : List ℕ) (others : List (List ℕ)) (request : Request
 next_alone word others request more are means =
     let content : List ℕ = spaced (word ∷ others) in
     let size : length content + 2 ≡ length (content ++ (13 ∷ 10 ∷ [])) = omega (arith, length-append content (13 ∷ 10 ∷ [])) in
-    rw (behind_line content [] more, next_by_words word others more are, means, size) refl
+    rw (after_line content [] more, next_by_words word others more are, means, size) refl
 
 -- a data block and its end, before what follows
 block_ends : (block more : List ℕ) → (block ++ codes "\r\n") ++ more ≡ block ++ (13 ∷ 10 ∷ more)
@@ -105,7 +105,7 @@ next_stored word others s block more are means =
     let size : (length content + 2) + (length block + 2) ≡ length (content ++ (13 ∷ 10 ∷ (block ++ (13 ∷ 10 ∷ [])))) =
     omega (arith, length-append content (13 ∷ 10 ∷ (block ++ (13 ∷ 10 ∷ []))), length-append block (13 ∷ 10 ∷ [])) in
     rw (
-      behind_line content (block ++ codes "\r\n") more,
+      after_line content (block ++ codes "\r\n") more,
       block_ends block more,
       next_by_words word others (block ++ (13 ∷ 10 ∷ more)) are,
       means,

@@ -5,9 +5,9 @@ use Rattle.mc_request.specs.declared.meta.Creation.{Creation}
 use Rattle.mc_request.specs.declared.meta.Show.{Show}
 
 -- words, each after a space
-abbrev pub behind : List (List ℕ) → List ℕ
-behind [] = []
-behind (word ∷ words) = codes " " ++ (word ++ behind words)
+abbrev pub after_spaces : List (List ℕ) → List ℕ
+after_spaces [] = []
+after_spaces (word ∷ words) = codes " " ++ (word ++ after_spaces words)
 
 -- a word with its space, where it is asked for
 abbrev pub piece_if : Bool → List ℕ → List ℕ

@@ -33,7 +33,7 @@ pub fn spellings_stand_apart()
 
 /// Spellings one after the other are read as their commands in order, and what follows them as by itself. So a `quit`
 /// after them is the last request.
-pub fn quit_behind_commands_is_read()
+pub fn quit_after_commands_is_read()
     ensures more { (commands : List (Atom (List ℕ))) (more : List ℕ) → list_all is_good_atom commands ≡ true
         → requests_of (spellings_of commands ++ more) ≡ map (λ atom. Taken.Whole (request_of atom)) commands ++ requests_of more }
     ensures quit { (commands : List (Atom (List ℕ))) → list_all is_good_atom commands ≡ true

@@ -7,7 +7,7 @@
 //! `specs/Spellings.antt` says which text it is (`spelling_of_atom`), which request a server reads it as (`request_of`), and
 //! which commands can be said so (`is_good_atom`): each that a client's request stands for
 //! ([`commands_of_texts_can_be_spelled`]). The laws say that it is read as that command and no other, whatever follows it
-//! ([`spelled_commands_are_read`], [`spelled_command_is_one`], [`quit_behind_commands_is_read`]), that no spelling begins
+//! ([`spelled_commands_are_read`], [`spelled_command_is_one`], [`quit_after_commands_is_read`]), that no spelling begins
 //! another ([`spellings_stand_apart`]), and that a server answers it by the canonical spelling of its reply
 //! ([`canonical_answers`]). Which replies a command can have, and how they are spelled, its head alone tells
 //! ([`heads_tell_of_replies`]).
@@ -23,7 +23,7 @@ mod spellings;
 
 pub use laws::{
     canonical_answers, commands_of_texts_can_be_spelled, heads_tell_of_replies,
-    quit_behind_commands_is_read, spelled_command_is_one, spelled_commands_are_read,
+    quit_after_commands_is_read, spelled_command_is_one, spelled_commands_are_read,
     spellings_stand_apart,
 };
 pub use spellings::{spelled_len, write_atom};

@@ -2,7 +2,7 @@
 ghost use Rattle.std.specs.Prelude.{◌≡◌, ◌+◌, ◌≤◌, ◌<◌, ◌++◌, ◌∷◌, [], length, vec_len, vec_capacity, codes};
 ghost use Rattle.std.specs.Fmt.{decimal, signed_decimal};
 ghost use Rattle.mc_spelling.specs.Spellings.{store_name, count_name, number_if, get_words, update_words, spaced};
-ghost use Rattle.mc_spelling.specs.SpelledPieces.{behind};
+ghost use Rattle.mc_spelling.specs.SpelledPieces.{after_spaces};
 
 use crate::spelled_words::{
     append_number, append_number_if, append_signed, append_word, digits_len, number_len_if,
@@ -114,7 +114,7 @@ pub fn update_len(update: &Update<Key, Block>) -> usize
 
 /// How many bytes the words after the name of a storage command have.
 fn stored_len(key: &Key, flags: u32, exptime: i64, block: &Block, compare: Option<u64>) -> usize
-    ensures len { result ≡ length (behind (key.now ∷ decimal flags ∷ signed_decimal exptime ∷ decimal (length block.now) ∷ number_if [] compare [])) }
+    ensures len { result ≡ length (after_spaces (key.now ∷ decimal flags ∷ signed_decimal exptime ∷ decimal (length block.now) ∷ number_if [] compare [])) }
     ensures bound { result ≤ 400 }
 {
     4 + key.as_bytes().len()
@@ -162,11 +162,11 @@ fn append_stored(
     block: &Block,
     compare: Option<u64>,
 )
-    requires { vec_len out.old + length (behind (key.now ∷ decimal flags ∷ signed_decimal exptime ∷ decimal (length block.now) ∷ number_if [] compare [])) ≤ vec_capacity out.old }
+    requires { vec_len out.old + length (after_spaces (key.now ∷ decimal flags ∷ signed_decimal exptime ∷ decimal (length block.now) ∷ number_if [] compare [])) ≤ vec_capacity out.old }
     ensures items { out.new.items ≡ out.old.items
-        ++ behind (key.now ∷ decimal flags ∷ signed_decimal exptime ∷ decimal (length block.now) ∷ number_if [] compare []) }
+        ++ after_spaces (key.now ∷ decimal flags ∷ signed_decimal exptime ∷ decimal (length block.now) ∷ number_if [] compare []) }
     ensures len { vec_len out.new ≡ vec_len out.old
-        + length (behind (key.now ∷ decimal flags ∷ signed_decimal exptime ∷ decimal (length block.now) ∷ number_if [] compare [])) }
+        + length (after_spaces (key.now ∷ decimal flags ∷ signed_decimal exptime ∷ decimal (length block.now) ∷ number_if [] compare [])) }
     ensures room { vec_capacity out.old ≤ vec_capacity out.new }
 {
     append_word(out, key.as_bytes());

@@ -3,7 +3,7 @@ ghost use Rattle.std.specs.Prelude.{◌≡◌, ◌+◌, ◌≤◌, ◌<◌, ◌+
 ghost use Rattle.std.specs.Fmt.{decimal};
 ghost use Rattle.mc_text.specs.CodedKeys.{coded_of};
 ghost use Rattle.mc_spelling.specs.Spellings.{mode_word, direction_word, mg_flags, ms_flags, md_flags, ma_flags, meta_words, spaced};
-ghost use Rattle.mc_spelling.specs.SpelledPieces.{behind, mg_show_pieces, ms_show_pieces, ma_show_pieces};
+ghost use Rattle.mc_spelling.specs.SpelledPieces.{after_spaces, mg_show_pieces, ms_show_pieces, ma_show_pieces};
 ghost use Rattle.mc_request.specs.declared.meta.MetaCommand.TheVariants.{Update as MUpdate};
 
 use crate::spelled_words::{
@@ -82,7 +82,7 @@ fn meta_update_len(update: &Update<Key, Block>, show: &Show) -> usize
 /// How many bytes the flag words of an `mg` have.
 #[tactic(auto, using(crate::proofs::PieceLemmas::mg_flags_length))]
 fn mg_flags_len(get: &MetaGet) -> usize
-    ensures len { result ≡ length (behind (mg_flags get.now)) }
+    ensures len { result ≡ length (after_spaces (mg_flags get.now)) }
     ensures bound { result ≤ 100 }
 {
     2 + len_if(get.show.cas, b" c")
@@ -104,7 +104,7 @@ fn ms_flags_len(
     exptime: i64,
     show: &Show,
 ) -> usize
-    ensures len { result ≡ length (behind (ms_flags mode compare flags exptime show.now)) }
+    ensures len { result ≡ length (after_spaces (ms_flags mode compare flags exptime show.now)) }
     ensures bound { result ≤ 100 }
 {
     2 + len_if(show.cas, b" c")
@@ -118,9 +118,9 @@ fn ms_flags_len(
 }
 
 /// How many bytes the flag words of an `md` have.
-#[tactic(auto, using(crate::proofs::PieceLemmas::behind_word_if, crate::proofs::PieceLemmas::behind_number_if))]
+#[tactic(auto, using(crate::proofs::PieceLemmas::after_word_if, crate::proofs::PieceLemmas::after_number_if))]
 fn md_flags_len(compare: Option<u64>, invalidate: bool) -> usize
-    ensures len { result ≡ length (behind (md_flags compare invalidate)) }
+    ensures len { result ≡ length (after_spaces (md_flags compare invalidate)) }
     ensures bound { result ≤ 100 }
 {
     2 + number_len_if(b" C", compare) + len_if(invalidate, b" I")
@@ -129,7 +129,7 @@ fn md_flags_len(compare: Option<u64>, invalidate: bool) -> usize
 /// How many bytes the flag words of an `ma` have.
 #[tactic(auto, using(crate::proofs::PieceLemmas::ma_flags_length))]
 fn ma_flags_len(counting: &Counting, show: &Show) -> usize
-    ensures len { result ≡ length (behind (ma_flags counting.now show.now)) }
+    ensures len { result ≡ length (after_spaces (ma_flags counting.now show.now)) }
     ensures bound { result ≤ 200 }
 {
     2 + len_if(show.cas, b" c")
@@ -198,9 +198,9 @@ fn append_meta_update(out: &mut Vec<u8>, update: &Update<Key, Block>, show: &Sho
 /// Appends the flag words of an `mg`.
 #[tactic(auto, using(crate::proofs::PieceLemmas::mg_flags_are, crate::proofs::PieceLemmas::mg_flags_length))]
 fn append_mg_flags(out: &mut Vec<u8>, get: &MetaGet)
-    requires { vec_len out.old + length (behind (mg_flags get.now)) ≤ vec_capacity out.old }
-    ensures items { out.new.items ≡ out.old.items ++ behind (mg_flags get.now) }
-    ensures len { vec_len out.new ≡ vec_len out.old + length (behind (mg_flags get.now)) }
+    requires { vec_len out.old + length (after_spaces (mg_flags get.now)) ≤ vec_capacity out.old }
+    ensures items { out.new.items ≡ out.old.items ++ after_spaces (mg_flags get.now) }
+    ensures len { vec_len out.new ≡ vec_len out.old + length (after_spaces (mg_flags get.now)) }
     ensures room { vec_capacity out.old ≤ vec_capacity out.new }
 {
     append_mg_show(out, &get.show);
@@ -234,9 +234,9 @@ fn append_ms_flags(
     exptime: i64,
     show: &Show,
 )
-    requires { vec_len out.old + length (behind (ms_flags mode compare flags exptime show.now)) ≤ vec_capacity out.old }
-    ensures items { out.new.items ≡ out.old.items ++ behind (ms_flags mode compare flags exptime show.now) }
-    ensures len { vec_len out.new ≡ vec_len out.old + length (behind (ms_flags mode compare flags exptime show.now)) }
+    requires { vec_len out.old + length (after_spaces (ms_flags mode compare flags exptime show.now)) ≤ vec_capacity out.old }
+    ensures items { out.new.items ≡ out.old.items ++ after_spaces (ms_flags mode compare flags exptime show.now) }
+    ensures len { vec_len out.new ≡ vec_len out.old + length (after_spaces (ms_flags mode compare flags exptime show.now)) }
     ensures room { vec_capacity out.old ≤ vec_capacity out.new }
 {
     append_ms_show(out, show);
@@ -259,11 +259,11 @@ fn append_ms_show(out: &mut Vec<u8>, show: &Show)
 }
 
 /// Appends the flag words of an `md`.
-#[tactic(auto, using(crate::proofs::PieceLemmas::behind_word_if, crate::proofs::PieceLemmas::behind_number_if))]
+#[tactic(auto, using(crate::proofs::PieceLemmas::after_word_if, crate::proofs::PieceLemmas::after_number_if))]
 fn append_md_flags(out: &mut Vec<u8>, compare: Option<u64>, invalidate: bool)
-    requires { vec_len out.old + length (behind (md_flags compare invalidate)) ≤ vec_capacity out.old }
-    ensures items { out.new.items ≡ out.old.items ++ behind (md_flags compare invalidate) }
-    ensures len { vec_len out.new ≡ vec_len out.old + length (behind (md_flags compare invalidate)) }
+    requires { vec_len out.old + length (after_spaces (md_flags compare invalidate)) ≤ vec_capacity out.old }
+    ensures items { out.new.items ≡ out.old.items ++ after_spaces (md_flags compare invalidate) }
+    ensures len { vec_len out.new ≡ vec_len out.old + length (after_spaces (md_flags compare invalidate)) }
     ensures room { vec_capacity out.old ≤ vec_capacity out.new }
 {
     append(out, b" b");
@@ -274,9 +274,9 @@ fn append_md_flags(out: &mut Vec<u8>, compare: Option<u64>, invalidate: bool)
 /// Appends the flag words of an `ma`.
 #[tactic(auto, using(crate::proofs::PieceLemmas::ma_flags_are, crate::proofs::PieceLemmas::ma_flags_length))]
 fn append_ma_flags(out: &mut Vec<u8>, counting: &Counting, show: &Show)
-    requires { vec_len out.old + length (behind (ma_flags counting.now show.now)) ≤ vec_capacity out.old }
-    ensures items { out.new.items ≡ out.old.items ++ behind (ma_flags counting.now show.now) }
-    ensures len { vec_len out.new ≡ vec_len out.old + length (behind (ma_flags counting.now show.now)) }
+    requires { vec_len out.old + length (after_spaces (ma_flags counting.now show.now)) ≤ vec_capacity out.old }
+    ensures items { out.new.items ≡ out.old.items ++ after_spaces (ma_flags counting.now show.now) }
+    ensures len { vec_len out.new ≡ vec_len out.old + length (after_spaces (ma_flags counting.now show.now)) }
     ensures room { vec_capacity out.old ≤ vec_capacity out.new }
 {
     append_ma_show(out, show);

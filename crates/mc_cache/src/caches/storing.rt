@@ -60,7 +60,7 @@ pub enum Side {
     /// `prepend`.
     Before,
     /// `append`.
-    Behind,
+    After,
 }
 
 impl Side {
@@ -70,7 +70,7 @@ impl Side {
     {
         match self {
             Side::Before => Block::joined(alloc, block, value),
-            Side::Behind => Block::joined(alloc, value, block),
+            Side::After => Block::joined(alloc, value, block),
         }
     }
 }
@@ -183,7 +183,7 @@ impl<S: Store + Drop> Cache<S> {
         }
         let found = found?;
         let side = match mode {
-            StoreMode::Append => Side::Behind,
+            StoreMode::Append => Side::After,
             StoreMode::Prepend => Side::Before,
             StoreMode::Set | StoreMode::Add | StoreMode::Replace => return None,
         };

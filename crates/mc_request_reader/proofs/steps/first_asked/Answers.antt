@@ -7,8 +7,8 @@ use Rattle.mc_request.specs.declared.parts.Taken.TheVariants.{Whole}
 use Rattle.mc_request_reader.proofs.StepLemmas.{starts_by, starts_now, partial_none, too_long_fault}
 use Rattle.mc_request_reader.proofs.steps.first_asked.Goals as goal
 
-pub asked_behind-requires : goal.asked_behind-requires
-asked_behind-requires c =
+pub asked_after-requires : goal.asked_after-requires
+asked_after-requires c =
     starts_by c.args.unread.now c.in-Whole.content.now c.in-Whole.taken (meaning_of c.command_line.result) (sym c.in-Whole.ensures.line) (sym c.command_line.ensures)
 
 pub returns-in-Partial : goal.returns-in-Partial

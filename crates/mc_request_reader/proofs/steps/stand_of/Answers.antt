@@ -11,19 +11,19 @@ pub has_come-requires : goal.has_come-requires
 has_come-requires c =
     starts_by c.args.unread.now c.in-Whole.content.now c.in-Whole.taken (meaning (words c.in-Whole.content.now)) (sym c.in-Whole.ensures.line) refl
 
-pub stand_behind-requires-clause-starts : goal.stand_behind-requires-clause-starts
-stand_behind-requires-clause-starts c =
+pub stand_after-requires-clause-starts : goal.stand_after-requires-clause-starts
+stand_after-requires-clause-starts c =
     starts_by c.args.unread.now c.in-Whole.content.now c.in-Whole.taken (meaning_of c.command_line.result) (sym c.in-Whole.ensures.line) (sym c.command_line.ensures)
 
-pub stand_behind-requires-clause-line : goal.stand_behind-requires-clause-line
-stand_behind-requires-clause-line c =
+pub stand_after-requires-clause-line : goal.stand_after-requires-clause-line
+stand_after-requires-clause-line c =
     line_ends c.args.unread.now c.in-Whole.content.now c.in-Whole.taken (sym c.in-Whole.ensures.line)
 
-pub stand_behind-requires-clause-waits : goal.stand_behind-requires-clause-waits
-stand_behind-requires-clause-waits c = not_come _ (sym c.has_come.ensures ∙ c.if-has_come.false)
+pub stand_after-requires-clause-waits : goal.stand_after-requires-clause-waits
+stand_after-requires-clause-waits c = not_come _ (sym c.has_come.ensures ∙ c.if-has_come.false)
 
-pub stand_behind-requires-clause-good : goal.stand_behind-requires-clause-good
-stand_behind-requires-clause-good c = rw c.command_line.ensures (meaning_good (words c.in-Whole.content.now))
+pub stand_after-requires-clause-good : goal.stand_after-requires-clause-good
+stand_after-requires-clause-good c = rw c.command_line.ensures (meaning_good (words c.in-Whole.content.now))
 
 pub returns-in-Partial : goal.returns-in-Partial
 returns-in-Partial c =

@@ -1,6 +1,6 @@
 use Rattle.std.proofs.Common.{ℕ, ◌≡◌, length, ap, append_assoc, refl, rules, arith}
 use Rattle.mc_spelling.specs.Spellings.{ms_flags}
-use Rattle.mc_spelling.specs.SpelledPieces.{behind}
+use Rattle.mc_spelling.specs.SpelledPieces.{after_spaces}
 use Rattle.std.specs.Fmt.{decimal}
 use Rattle.std.proofs.lemmas.Int.{to_z-of_z}
 use mir.Syntax.{w64}
@@ -25,7 +25,7 @@ returns-in-Store-clause-items c =
 pub returns-in-Store-clause-len : goal.returns-in-Store-clause-len
 returns-in-Store-clause-len c =
     let same : to_z w64 (of_z w64 c.in-Store.exptime) ≡ c.in-Store.exptime = search (rules, to_z-of_z) in
-    let words : length (behind (ms_flags c.in-Store.mode c.in-Store.compare c.in-Store.flags (to_z w64 (of_z w64 c.in-Store.exptime)) c.args.show.now)) ≡ length (behind (ms_flags c.in-Store.mode c.in-Store.compare c.in-Store.flags c.in-Store.exptime c.args.show.now)) = rw same refl in
+    let words : length (after_spaces (ms_flags c.in-Store.mode c.in-Store.compare c.in-Store.flags (to_z w64 (of_z w64 c.in-Store.exptime)) c.args.show.now)) ≡ length (after_spaces (ms_flags c.in-Store.mode c.in-Store.compare c.in-Store.flags c.in-Store.exptime c.args.show.now)) = rw same refl in
     rw c.in-Store.is (omega (arith, words, ap (λ (size : ℕ). length (decimal size)) c.len.ensures, ms_line_length c.in-Store.mode c.in-Store.compare c.in-Store.key c.in-Store.flags c.in-Store.exptime c.in-Store.block c.args.show.now))
 
 pub returns-in-Count-clause-items : goal.returns-in-Count-clause-items

@@ -1,5 +1,5 @@
 use Rattle.mc_spelling.proofs.SpelledTextLemmas.{all_spelled, quit_behind}
-use Rattle.mc_spelling.proofs.laws.quit_behind_commands_is_read.Goals as goal
+use Rattle.mc_spelling.proofs.laws.quit_after_commands_is_read.Goals as goal
 
 pub returns-clause-more : goal.returns-clause-more
 returns-clause-more c = all_spelled

@@ -2,7 +2,7 @@ use Rattle.std.proofs.Common.{◌+◌, ◌<◌, ◌≤◌, length, refl, sym, �
 use Rattle.mc_request.specs.Meanings.{Alone}
 use Rattle.mc_request.specs.LinesSeen.{asked_of, storing_of}
 use Rattle.mc_request_reader.proofs.StepLemmas.{starts_now, refuses_whole, refuses_waits, stores_waits, stores_whole}
-use Rattle.mc_request_reader.proofs.steps.asked_behind.Goals as goal
+use Rattle.mc_request_reader.proofs.steps.asked_after.Goals as goal
 
 pub returns-in-Alone : goal.returns-in-Alone
 returns-in-Alone c = sym (starts_now c.args.unread.now (Alone (asked_of c.in-Alone.asked)) c.args.taken (rw c.in-Alone.is at c.requires))

@@ -2,7 +2,7 @@
 use Rattle.std.proofs.Common.{◌≡◌, ◌==◌, ◌&&◌, ◌+◌, ℕ, Bool, true, false, cond, List, Some, None, length, take, drop, nat_lt, position, sym, ap, ◌∙◌}
 use Rattle.std.proofs.lemmas.List.{drop-drop}
 use Rattle.std.specs.List.{position_or_len}
-use Rattle.mc_ring.specs.Addresses.{is_host, is_port, is_address}
+use Rattle.mc_address.specs.Addresses.{is_host, is_port, is_address}
 
 some_by : (b : Bool) (n i : ℕ) → cond b (Some n) None ≡ Some i → n ≡ i
 some_by true n i e = cc
@@ -20,5 +20,5 @@ address_at text place e =
     at ∙ ap (λ port. is_host (take place text) && is_port port) (sym (drop-drop 1 place text))
 
 -- after a host its port decides
-pub address_behind_host : (text : List ℕ) (place : ℕ) → position (λ b. b == 58) text ≡ Some place → is_host (take place text) ≡ true → is_address text ≡ is_port (drop 1 (drop place text))
-address_behind_host text place e host = address_at text place e ∙ ap (λ b. b && is_port (drop 1 (drop place text))) host
+pub address_after_host : (text : List ℕ) (place : ℕ) → position (λ b. b == 58) text ≡ Some place → is_host (take place text) ≡ true → is_address text ≡ is_port (drop 1 (drop place text))
+address_after_host text place e host = address_at text place e ∙ ap (λ b. b && is_port (drop 1 (drop place text))) host
