@@ -1,72 +1,14 @@
 -- Open sessions by their numbers, in what the calls of a proxy leave.
-use Rattle.std.proofs.Common.{◌≡◌, ◌≢◌, ◌∙◌, ℕ, ◌==◌, true, false, if◌then◌else◌, [], ◌∷◌, ◌++◌, Option, Some, None, ⊎_elim, refl, sym, ap, subst, arith}
+use Rattle.std.proofs.Common.{◌≡◌, ◌≢◌, ◌∙◌, ℕ, ◌==◌, true, false, if◌then◌else◌, [], ◌∷◌, Option, Some, ⊎_elim, refl, sym, ap, subst, arith}
 use Rattle.std.specs.Option.{option_map}
 use Rattle.std.proofs.lemmas.Bool.Decides.{eqb_tells, nat_tests}
+pub use Rattle.mc_numbered.proofs.EntryLemmas.{fresh_other, fresh_own, other_number, own_number, updated_other, updated_own, without_other}
 use Rattle.mc_route.specs.declared.outcomes.Outcome.{Outcome}
 use Rattle.mc_link.specs.declared.turns.Tag.{Tag}
 use Rattle.mc_session.specs.SessionState.{SessionState}
 use Rattle.mc_session.specs.Noting.{noted_in}
-use Rattle.mc_proxy.specs.ProxyState.{Sessions, session_in, updated, without}
+use Rattle.mc_proxy.specs.ProxyState.{Sessions, session_in, updated}
 use Rattle.mc_proxy.specs.Noting.{noted}
-
--- a number is its own, and not another's
-pub own_number : (n : ℕ) → (n == n) ≡ true
-own_number n = grind (arith, nat_tests)
-
-pub other_number : (n m : ℕ) → n ≢ m → (n == m) ≡ false
-other_number n m differ = grind (arith, nat_tests, differ)
-
--- a session that took a step
-pub updated_own : (number : ℕ) (before after : SessionState) (open_ones : Sessions) → session_in open_ones number ≡ Some before
-    → session_in (updated number after open_ones) number ≡ Some after
-updated_own number before after [] was = absurd cc
-updated_own number before after (s ∷ others) was =
-    let again = updated_own number before after others in
-    (elim (s.0 == number) as (λ v. s.0 == number ≡ v → (if v then Some s.1 else session_in others number) ≡ Some before
-    → session_in (if v then (s.0, after) ∷ others else s ∷ updated number after others) number ≡ Some after) [
-      | true ↦ λ is e. rw is refl
-      | false ↦ λ is e. rw is (again e)
-    ]) refl was
-
--- another session
-pub updated_other : (number other : ℕ) (after : SessionState) (open_ones : Sessions) → number ≢ other
-    → session_in (updated number after open_ones) other ≡ session_in open_ones other
-updated_other number other after [] differ = refl
-updated_other number other after (s ∷ others) differ =
-    let again = updated_other number other after others differ in
-    (elim (s.0 == number) as (λ v. s.0 == number ≡ v → session_in (if v then (s.0, after) ∷ others else s ∷ updated number after others) other ≡ session_in (s ∷ others) other) [
-      | true ↦ λ is. let another : (s.0 == other) ≡ false = grind (arith, nat_tests, differ, is) in rw another refl
-      | false ↦ λ is. ap (λ (o : Option SessionState). if s.0 == other then Some s.1 else o) again
-    ]) refl
-
--- a session that is gone is not another one
-pub without_other : (number other : ℕ) (open_ones : Sessions) → number ≢ other → session_in (without number open_ones) other ≡ session_in open_ones other
-without_other number other [] differ = refl
-without_other number other (s ∷ others) differ =
-    let again = without_other number other others differ in
-    (elim (s.0 == number) as (λ v. s.0 == number ≡ v → session_in (if v then others else s ∷ without number others) other ≡ session_in (s ∷ others) other) [
-      | true ↦ λ is. let another : (s.0 == other) ≡ false = grind (arith, nat_tests, differ, is) in rw another refl
-      | false ↦ λ is. ap (λ (o : Option SessionState). if s.0 == other then Some s.1 else o) again
-    ]) refl
-
--- a session after the others is the one of a number that was not open
-pub fresh_own : (number : ℕ) (session : SessionState) (open_ones : Sessions) → session_in open_ones number ≡ None
-    → session_in (open_ones ++ (number, session) ∷ []) number ≡ Some session
-fresh_own number session [] none = rw (own_number number) refl
-fresh_own number session (s ∷ others) none =
-    let again = fresh_own number session others in
-    (elim (s.0 == number) as (λ v. (if v then Some s.1 else session_in others number) ≡ None
-    → (if v then Some s.1 else session_in (others ++ (number, session) ∷ []) number) ≡ Some session) [
-      | true ↦ λ e. absurd cc
-      | false ↦ λ e. again e
-    ]) none
-
--- and the others are as they were
-pub fresh_other : (number other : ℕ) (session : SessionState) (open_ones : Sessions) → number ≢ other
-    → session_in (open_ones ++ (number, session) ∷ []) other ≡ session_in open_ones other
-fresh_other number other session [] differ = rw (other_number number other differ) refl
-fresh_other number other session (s ∷ others) differ =
-    ap (λ (o : Option SessionState). if s.0 == other then Some s.1 else o) (fresh_other number other session others differ)
 
 -- the session in which an outcome is noted
 pub noted_own : (tag : Tag) (outcome : Outcome) (open_ones : Sessions)

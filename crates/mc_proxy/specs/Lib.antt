@@ -1,5 +1,4 @@
 pub mod ProxyState
-pub mod Places
 pub mod ProxyFields
 pub mod Noting
 pub mod Turns

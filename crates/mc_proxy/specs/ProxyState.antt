@@ -1,5 +1,6 @@
 -- A proxy, as contracts see it.
-use Rattle.std.specs.Prelude.{ℕ, ◌+◌, ◌==◌, ◌&&◌, Bool, false, List, [], ◌∷◌, ◌++◌, length, drop, Option, Some, None, if◌then◌else◌}
+use Rattle.std.specs.Prelude.{ℕ, ◌+◌, ◌==◌, ◌&&◌, Bool, false, List, [], ◌∷◌, ◌++◌, length, drop, Option, Some, None}
+use Rattle.mc_numbered.specs.Entries.{entry_of, updated as with_entry, without as without_entry}
 use Rattle.mc_ring.specs.Rings.{RingState}
 use Rattle.mc_link.specs.LinkState.{LinkState}
 use Rattle.mc_session.specs.SessionState.{SessionState, fresh_session}
@@ -18,22 +19,18 @@ pub record ProxyState : Type 0 where
 
 -- the session of a number, if it is open
 abbrev pub session_in : Sessions → ℕ → Option SessionState
-session_in [] number = None
-session_in (open_one ∷ others) number = if open_one.0 == number then Some open_one.1 else session_in others number
+session_in = entry_of
 
 abbrev pub session_at : ProxyState → ℕ → Option SessionState
 session_at p number = session_in p.sessions number
 
 -- the same sessions, where the one of a number is this
 abbrev pub updated : ℕ → SessionState → Sessions → Sessions
-updated number session [] = []
-updated number session (open_one ∷ others) =
-    if open_one.0 == number then (open_one.0, session) ∷ others else open_one ∷ updated number session others
+updated = with_entry
 
 -- the sessions without the one of a number
 abbrev pub without : ℕ → Sessions → Sessions
-without number [] = []
-without number (open_one ∷ others) = if open_one.0 == number then others else open_one ∷ without number others
+without = without_entry
 
 -- a proxy that has admitted one session more
 abbrev pub with_fresh : ProxyState → ProxyState

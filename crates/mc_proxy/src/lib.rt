@@ -26,7 +26,6 @@ mod laws;
 mod limits;
 mod linked;
 mod proxies;
-mod table;
 mod turns;
 
 pub use errors::ProxyError;

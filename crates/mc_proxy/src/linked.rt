@@ -4,7 +4,6 @@ ghost use Rattle.std.specs.Prelude.{◌≡◌, ◌+◌, ◌-◌, ◌^◌, ◌<�
 
 use crate::errors::ProxyError;
 use crate::proxies::Proxy;
-use crate::table::place_of;
 use crate::turns::LinkTurn;
 use mc_link::{Link, Tag};
 use mc_ring::Address;
@@ -122,9 +121,8 @@ impl Proxy {
     fn note(&mut self, tag: Tag, outcome: Outcome)
         ensures { self.new ≡ record self.old { sessions = noted tag outcome self.old.sessions } }
     {
-        if let Some(place) = place_of(self.sessions.as_slice(), self.recent, tag.session) {
-            self.recent = place;
-            self.sessions[place].1.note(tag, outcome);
+        if let Some(session) = self.sessions.get_mut(tag.session) {
+            session.note(tag, outcome);
         }
     }
 

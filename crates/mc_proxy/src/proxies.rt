@@ -3,8 +3,8 @@ ghost use Rattle.std.specs.Prelude.{◌≡◌, ◌≢◌, ◌+◌, ◌-◌, ◌^
 
 use crate::errors::ProxyError;
 use crate::limits::MAX_SESSIONS;
-use crate::table::place_of;
 use mc_link::Link;
+use mc_numbered::Numbered;
 use mc_ring::Ring;
 use mc_route::Routed;
 use mc_session::{Emit, Session, Turn};
@@ -18,12 +18,8 @@ use std::marker::Model;
 pub struct Proxy {
     pub(crate) alloc: Global,
     pub(crate) ring: Ring,
-    /// The open sessions with their numbers, which rise.
-    pub(crate) sessions: Vec<(u64, Session)>,
-    /// The number of the next session.
-    admitted: u64,
-    /// Where the session stood that a call was for last: the next call is most often for the same one.
-    pub(crate) recent: usize,
+    /// The open sessions.
+    pub(crate) sessions: Numbered<Session>,
     /// The links, by the places of their servers.
     pub(crate) links: Vec<Link>,
     /// Where a turn's commands are while they are sent. Between turns it is empty: what is kept is its memory.
@@ -37,7 +33,7 @@ impl Model for Proxy {
 
     ghost Value = { ProxyState };
 
-    ghost view = { λ p. record { ring = p.ring; sessions = p.sessions.items; admitted = p.admitted; links = states p.links.items } };
+    ghost view = { λ p. record { ring = p.ring; sessions = p.sessions.entries; admitted = p.sessions.next; links = states p.links.items } };
 
     ghost invariant = { IsProxy };
 }
@@ -63,9 +59,7 @@ impl Proxy {
         Ok(Proxy {
             alloc,
             ring,
-            sessions: Vec::new(alloc),
-            admitted: 0,
-            recent: 0,
+            sessions: Numbered::new(alloc),
             links,
             queue: VecDeque::new(alloc),
         })
@@ -91,13 +85,10 @@ impl Proxy {
         ensures err { OnErr result (self.new ≡ self.old) }
     {
         let is_full = self.sessions.len() >= MAX_SESSIONS;
-        if is_full || self.admitted == u64::MAX {
+        if is_full || self.sessions.next_number() == u64::MAX {
             return Err(ProxyError::TooManySessions);
         }
-        let number = self.admitted;
-        self.sessions.push((number, Session::new(self.alloc)))?;
-        self.admitted += 1;
-        Ok(number)
+        Ok(self.sessions.push(Session::new(self.alloc))?)
     }
 
     /// Takes the next piece of a session's text.
@@ -107,12 +98,8 @@ impl Proxy {
         ensures only { IfErr result (λ e. (e ≡ ProxyError.NoSession) ⊎ (e ≡ ProxyError.Memory)) }
         ensures err { OnErr result (self.new ≡ self.old) }
     {
-        match place_of(self.sessions.as_slice(), self.recent, number) {
-            Some(place) => {
-                self.recent = place;
-                self.sessions[place].1.feed(piece)?;
-                Ok(())
-            }
+        match self.sessions.get_mut(number) {
+            Some(session) => Ok(session.feed(piece)?),
             None => Err(ProxyError::NoSession),
         }
     }
@@ -129,10 +116,8 @@ impl Proxy {
         ensures only { IfErr result (λ e. (e ≡ ProxyError.NoSession) ⊎ (e ≡ ProxyError.Memory)) }
         ensures err { OnErr result (self.new ≡ self.old) }
     {
-        match place_of(self.sessions.as_slice(), self.recent, number) {
-            Some(place) => {
-                self.recent = place;
-                let session = &mut self.sessions[place].1;
+        match self.sessions.get_mut(number) {
+            Some(session) => {
                 let links = self.links.as_mut_slice();
                 Ok(session.turn(self.alloc, number, &self.ring, links, &mut self.queue)?)
             }
@@ -145,8 +130,8 @@ impl Proxy {
     pub fn ready(&self, number: u64) -> bool
         ensures { IsTrue result ↔ (0 < length (waiting_of (session_at self.now number))) }
     {
-        match place_of(self.sessions.as_slice(), self.recent, number) {
-            Some(place) => self.sessions[place].1.ready(),
+        match self.sessions.get(number) {
+            Some(session) => session.ready(),
             None => false,
         }
     }
@@ -156,8 +141,8 @@ impl Proxy {
     pub fn waits_for(&self, number: u64, server: usize) -> bool
         ensures { result ≡ waits_for self.now.ring server (waiting_of (session_at self.now number)) }
     {
-        match place_of(self.sessions.as_slice(), self.recent, number) {
-            Some(place) => self.sessions[place].1.waits_for(&self.ring, server),
+        match self.sessions.get(number) {
+            Some(session) => session.waits_for(&self.ring, server),
             None => false,
         }
     }
@@ -173,11 +158,8 @@ impl Proxy {
         ensures only { IfErr result (λ e. (e ≡ ProxyError.NoSession) ⊎ (e ≡ ProxyError.Memory)) }
         ensures err { OnErr result (self.new ≡ self.old) }
     {
-        match place_of(self.sessions.as_slice(), self.recent, number) {
-            Some(place) => {
-                self.recent = place;
-                Ok(self.sessions[place].1.emit()?)
-            }
+        match self.sessions.get_mut(number) {
+            Some(session) => Ok(session.emit()?),
             None => Err(ProxyError::NoSession),
         }
     }
@@ -186,8 +168,8 @@ impl Proxy {
     pub fn output(&self, number: u64) -> &[u8]
         ensures { result.now ≡ output_of (session_at self.now number) }
     {
-        match place_of(self.sessions.as_slice(), self.recent, number) {
-            Some(place) => self.sessions[place].1.output(),
+        match self.sessions.get(number) {
+            Some(session) => session.output(),
             None => &[],
         }
     }
@@ -197,9 +179,8 @@ impl Proxy {
         requires { count ≤ length (output_of (session_at self.old number)) }
         ensures { self.new ≡ sent_by number count (session_at self.old number) self.old }
     {
-        match place_of(self.sessions.as_slice(), self.recent, number) {
-            Some(place) => self.sessions[place].1.taken_out(count),
-            None => {}
+        if let Some(session) = self.sessions.get_mut(number) {
+            session.taken_out(count);
         }
     }
 
@@ -207,8 +188,8 @@ impl Proxy {
     pub fn unanswered(&self, number: u64) -> usize
         ensures { result ≡ unanswered_of (session_at self.now number) }
     {
-        match place_of(self.sessions.as_slice(), self.recent, number) {
-            Some(place) => self.sessions[place].1.unanswered(),
+        match self.sessions.get(number) {
+            Some(session) => session.unanswered(),
             None => 0,
         }
     }
@@ -218,8 +199,8 @@ impl Proxy {
     pub fn finished(&self, number: u64) -> bool
         ensures { result ≡ is_finished (session_at self.now number) }
     {
-        match place_of(self.sessions.as_slice(), self.recent, number) {
-            Some(place) => self.sessions[place].1.is_finished(),
+        match self.sessions.get(number) {
+            Some(session) => session.is_finished(),
             None => false,
         }
     }
@@ -229,8 +210,8 @@ impl Proxy {
     pub fn give_back(&mut self, number: u64, kept: usize)
         ensures { self.new ≡ self.old }
     {
-        if let Some(place) = place_of(self.sessions.as_slice(), self.recent, number) {
-            self.sessions[place].1.give_back(kept);
+        if let Some(session) = self.sessions.get_mut(number) {
+            session.give_back(kept);
         }
     }
 
@@ -243,11 +224,8 @@ impl Proxy {
         ensures only_no_session { IsOkUnless result ProxyError.NoSession }
         ensures err { OnErr result (self.new ≡ self.old) }
     {
-        match place_of(self.sessions.as_slice(), self.recent, number) {
-            Some(place) => {
-                self.sessions.remove(place);
-                Ok(())
-            }
+        match self.sessions.remove(number) {
+            Some(_) => Ok(()),
             None => Err(ProxyError::NoSession),
         }
     }

@@ -13,8 +13,7 @@ use Rattle.mc_server.specs.ServerState.{ConnectionState, Connections, ServerStat
 use Rattle.mc_server.specs.Turns.{Feeds, IsTurn, Steps}
 use Rattle.mc_server.specs.Stands.{IsReplayed, Stands, Left, StandsAt, ServerStands, grown}
 use Rattle.mc_server.specs.declared.turns.Turn.TheVariants.{Took, Idle, Closing}
-use Rattle.mc_server.proofs.ConnectionLemmas.{updated_own, updated_other, closed_other}
-use Rattle.mc_server.proofs.PlaceLemmas.{fresh_last, fresh_other}
+use Rattle.mc_server.proofs.ConnectionLemmas.{fresh_own, fresh_other, updated_own, updated_other, closed_other}
 use Rattle.mc_server.proofs.HistoryLemmas.{own_number, other_number, taken-push, answers-push, replayed_none, replayed_takes, stands_fresh, stands_fed, stands_takes, stands_waits, stands_sent}
 
 -- bytes of the number that has more, and of another
@@ -159,7 +158,7 @@ pub ServerStands-admitted : (opening : CacheState) (texts sent : ℕ → List �
 ServerStands-admitted opening texts sent history server h =
     let number = server.admitted in
     let u = h.unused number (omega arith) in
-    let here : connection_at (with_fresh server) number ≡ Some fresh_connection = fresh_last server.connections number fresh_connection u.not_open in
+    let here : connection_at (with_fresh server) number ≡ Some fresh_connection = fresh_own number fresh_connection server.connections u.not_open in
     let fresh : Stands opening number [] history [] fresh_connection = stands_fresh opening number history u.nothing_taken (none_answered opening number history u.nothing_taken) in
     let stands : Stands opening number (texts number) history (sent number) fresh_connection = rw (u.nothing_came, u.nothing_sent) fresh in
     record {
@@ -167,13 +166,13 @@ ServerStands-admitted opening texts sent history server h =
       each = λ m. ⊎_elim
           (λ e. subst (λ (n : ℕ). StandsAt opening n (texts n) history (sent n) (connection_at (with_fresh server) n)) e.1
           (subst (λ (c : Option ConnectionState). StandsAt opening number (texts number) history (sent number) c) (sym here) stands))
-          (λ e. subst (λ (c : Option ConnectionState). StandsAt opening m (texts m) history (sent m) c) (sym (fresh_other server.connections number m fresh_connection e.1)) (h.each m))
+          (λ e. subst (λ (c : Option ConnectionState). StandsAt opening m (texts m) history (sent m) c) (sym (fresh_other number m fresh_connection server.connections e.1)) (h.each m))
           (eqb_tells number m);
       unused = λ m above.
           let differ : number ≢ m = λ e. omega (arith, above, e) in
           let v = h.unused m (omega (arith, above)) in
           record {
-            not_open = fresh_other server.connections number m fresh_connection differ ∙ v.not_open;
+            not_open = fresh_other number m fresh_connection server.connections differ ∙ v.not_open;
             nothing_came = v.nothing_came;
             nothing_taken = v.nothing_taken;
             nothing_sent = v.nothing_sent;

@@ -9,7 +9,7 @@ use Rattle.mc_link.specs.declared.turns.Tag.{Tag}
 use Rattle.mc_cache.specs.CacheState.{CacheState}
 use Rattle.mc_server.specs.ServerState.{ServerState, connection_at, fresh_connection, with_fresh}
 use Rattle.mc_server.specs.Stands.{ServerStands}
-use Rattle.mc_server.proofs.PlaceLemmas.{fresh_last, fresh_other}
+use Rattle.mc_server.proofs.ConnectionLemmas.{fresh_other, fresh_own}
 use Rattle.mc_server.proofs.StandsLemmas.{ServerStands-admitted, given}
 use Rattle.mc_account.specs.Lanes.{Lane, LaneStands, fresh_lane, spelled}
 use Rattle.mc_account.specs.Orders.{Order, Tagged, commands_to}
@@ -144,7 +144,7 @@ site_back place order lane link link' opening site generation closed h =
       replied = h.replied;
       living = λ _. record {
         end = fresh_connection;
-        is_open = fresh_last site.server.connections site.server.admitted fresh_connection closed;
+        is_open = fresh_own site.server.admitted fresh_connection site.server.connections closed;
         out = unused.nothing_came;
         came = unused.nothing_sent;
         others = [];
@@ -154,7 +154,7 @@ site_back place order lane link link' opening site generation closed h =
       };
       lost = λ i way at. let w = h.lost i way at in record {
         end = w.end;
-        is_open = fresh_other site.server.connections site.server.admitted way.connection fresh_connection (differs i way at) ∙ w.is_open;
+        is_open = fresh_other site.server.admitted way.connection fresh_connection site.server.connections (differs i way at) ∙ w.is_open;
         others = w.others;
         put = w.put;
         good = w.good;

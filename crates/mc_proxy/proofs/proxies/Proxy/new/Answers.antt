@@ -1,19 +1,17 @@
 use Rattle.std.proofs.Common.{◌≡◌, ℕ, List, length, ap, arith}
 use Rattle.mc_proxy.proofs.LinkLemmas.{states-push, length_never_up}
-use Rattle.mc_proxy.proofs.PlaceLemmas.{numbered_none}
 use Rattle.mc_proxy.proofs.proxies.Proxy.new.Goals as goal
 
 -- one more link is there
 pub loop-preserved : goal.loop-preserved
 loop-preserved c = rw c.in_ok-push.ensures.items (states-push c.loop.links.items c.new.result c.loop.counter c.loop.invariant c.new.ensures)
 
--- no session has a number, and there are as many links as servers
+-- there are as many links as servers
 pub invariant_of-result : goal.invariant_of-result
 invariant_of-result c =
     let many : length c.loop.links.items ≡ c.loop.counter = length_never_up c.loop.links.items c.loop.counter c.loop.invariant in
     let servers = ap (λ (servers : List (List ℕ)). length servers) c.servers-end.ensures.servers in
     record {
       linked = omega (arith, many, servers, c.loop-test.false, c.loop.auto.counter-end);
-      numbered = numbered_none c.new-2.result.items 0 c.new-2.ensures.items;
       emptied = c.new-3.ensures.items;
     }

@@ -1,0 +1,142 @@
+//! Things by their numbers, which rise.
+ghost use Rattle.std.specs.Prelude.{◌≡◌, ◌<◌, ◌-◌, ◌^◌, [], Some, None, length, slice_index_or, option_copied, IfSome, IfNone, IfOk, OnOk, OnErr};
+ghost use Rattle.std.specs.Option.{option_copied_mut};
+ghost use Rattle.std.specs.Borrow.{sem};
+
+use std::alloc::{AllocError, Global};
+use std::marker::Model;
+
+/// Things of one kind, each under a number that it was given. Contracts see the entries in the order of their numbers, and
+/// the number of the next.
+#[derive(Drop)]
+pub struct Numbered<T> {
+    entries: Vec<(u64, T)>,
+    next: u64,
+    /// Where the entry was that was changed last: the next call is most often for the same one.
+    recent: usize,
+}
+
+impl<T> Model for Numbered<T> {
+    ghost use Rattle.mc_numbered.specs.Entries.{Numbering};
+
+    ghost Value = { Numbering T };
+
+    ghost use Rattle.mc_numbered.specs.Rises.{Rises};
+
+    ghost view = { λ n. record { entries = n.entries.items; next = n.next } };
+
+    ghost invariant = { λ n. Rises 0 n.entries.items n.next };
+}
+
+impl<T> Numbered<T> {
+    ghost use Rattle.mc_numbered.specs.Entries.{entry_of, without, with_next};
+    ghost use Rattle.mc_numbered.specs.Rises.{IsAt};
+    ghost use Rattle.mc_numbered.specs.Lends.{LendsPlace, LendsEntry};
+
+    /// Nothing, and 0 as the number of the first. It takes no memory.
+    pub fn new(alloc: Global) -> Self
+        ensures { result ≡ record { entries = []; next = 0 } }
+    {
+        Numbered {
+            entries: Vec::new(alloc),
+            next: 0,
+            recent: 0,
+        }
+    }
+
+    /// How many entries there are.
+    pub fn len(&self) -> usize
+        ensures { result ≡ length self.now.entries }
+    {
+        self.entries.len()
+    }
+
+    /// The number of the next entry.
+    pub fn next_number(&self) -> u64
+        ensures { result ≡ self.now.next }
+    {
+        self.next
+    }
+
+    /// What is under a number.
+    pub fn get(&self, number: u64) -> Option<&T>
+        ensures { option_copied result ≡ entry_of self.now.entries number }
+    {
+        match self.place_of(number) {
+            Some(place) => Some(&self.entries[place].1),
+            None => None,
+        }
+    }
+
+    /// What is under a number, to be changed.
+    pub fn get_mut(&mut self, number: u64) -> Option<&mut T>
+        ensures* writes_back { sem 𝓛 (LendsEntry T.row self.entry number result) }
+        ensures value { option_copied_mut result ≡ entry_of self.old.entries number }
+    {
+        match self.place_of(number) {
+            Some(place) => Some(self.at_mut(place)),
+            None => None,
+        }
+    }
+
+    /// The entry at a place, to be changed. It is tried first by the next look-up.
+    fn at_mut(&mut self, place: usize) -> &mut T
+        requires { place < length self.old.entries }
+        ensures* writes_back { sem 𝓛 (LendsPlace T.row self.entry place result) }
+        ensures value { result.now ≡ (slice_index_or self.old.entries place (0, result.now)).1 }
+    {
+        self.recent = place;
+        let entry = &mut self.entries[place];
+        &mut entry.1
+    }
+
+    /// Where the entry of a number is.
+    fn place_of(&self, number: u64) -> Option<usize>
+        ensures found { IfSome result (IsAt self.now.entries number) }
+        ensures absent { IfNone result (entry_of self.now.entries number ≡ None) }
+    {
+        match self.entries.get(self.recent) {
+            Some(entry) if entry.0 == number => Some(self.recent),
+            _ => self.search(number),
+        }
+    }
+
+    /// The same as a search by halves answers it.
+    fn search(&self, number: u64) -> Option<usize>
+        ensures found { IfSome result (IsAt self.now.entries number) }
+        ensures absent { IfNone result (entry_of self.now.entries number ≡ None) }
+    {
+        self.entries
+            .binary_search_by_key(&number, |entry| entry.0)
+            .ok()
+    }
+}
+
+impl<T: Drop> Numbered<T> {
+    ghost use Rattle.mc_numbered.specs.Entries.{entry_of, without, with_next};
+
+    /// Puts something in, and gives the number that it has from now on. At an error it is let go.
+    pub fn push(&mut self, value: T) -> Result<u64, AllocError>
+        requires { self.old.next < 2 ^ 64 - 1 }
+        ensures number { IfOk result (λ number. number ≡ self.old.next) }
+        ensures pushed { OnOk result (self.new ≡ with_next value self.old) }
+        ensures was_free { IfOk result (λ number. entry_of self.old.entries number ≡ None) }
+        ensures is_there { IfOk result (λ number. entry_of self.new.entries number ≡ Some value) }
+        ensures err { OnErr result (self.new ≡ self.old) }
+    {
+        let number = self.next;
+        self.entries.push((number, value))?;
+        self.next += 1;
+        Ok(number)
+    }
+
+    /// Takes what is under a number out, if something is. No other gets the number.
+    pub fn remove(&mut self, number: u64) -> Option<T>
+        ensures removed { result ≡ entry_of self.old.entries number }
+        ensures others { self.new ≡ record self.old { entries = without number self.old.entries } }
+        ensures is_free { entry_of self.new.entries number ≡ None }
+    {
+        let place = self.place_of(number)?;
+        Some(self.entries.remove(place).1)
+    }
+}
