@@ -7,18 +7,18 @@ use Rattle.mc_proxy.specs.ProxyState.{ProxyState, session_at}
 use Rattle.mc_session.specs.SessionState.{SessionState, Unanswered, answered}
 use Rattle.mc_account.specs.Answered.{AreAnswers, WasAnswered}
 use Rattle.mc_account.specs.Lanes.{Lane}
-use Rattle.mc_account.specs.Orders.{Order, answers_of, entries_of, is_settled, unanswered_of}
+use Rattle.mc_account.specs.Orders.{Order, answers_of, entries_of, is_complete, unanswered_of}
 use Rattle.mc_account.specs.Stands.{ProxyStands, SessionStandsAt}
 
 -- what was put out are the answers to so many as are done
 answers_first : (number : ℕ) (order done others : Order) (count : ℕ) (sent unsent : List ℕ) → entries_of number order ≡ done ++ others → count ≡ length done
-    → list_all is_settled done ≡ true → sent ++ unsent ≡ answers_of done → AreAnswers number order count sent unsent
-answers_first number order done others count sent unsent split is settled answers =
+    → list_all is_complete done ≡ true → sent ++ unsent ≡ answers_of done → AreAnswers number order count sent unsent
+answers_first number order done others count sent unsent split is complete answers =
     let first : take count (entries_of number order) ≡ done = rw (split, is) (take-append_seam done others) in
     let size : length (entries_of number order) ≡ length done + length others = ap (λ (es : Order). length es) split ∙ length-append done others in
     record {
       within = omega (arith, is, size);
-      settled = rw first settled;
+      complete = rw first complete;
       answers = rw first answers;
     }
 
@@ -26,12 +26,12 @@ answers_first number order done others count sent unsent split is settled answer
 was_answered : (number : ℕ) (order : Order) (text sent : List ℕ) (session : Option SessionState) → SessionStandsAt number order text sent session
     → WasAnswered number order sent session
 was_answered number order text sent None h =
-    (length h.done, h.unsent, answers_first number order h.done h.unsettled (length h.done) sent h.unsent h.split refl h.settled h.answered)
+    (length h.done, h.unsent, answers_first number order h.done h.incomplete (length h.done) sent h.unsent h.split refl h.complete h.answered)
 was_answered number order text sent (Some session) h =
-    let size : session.taken ≡ length h.done + length h.unsettled = h.taken ∙ ap (λ (es : Order). length es) h.split ∙ length-append h.done h.unsettled in
-    let open_ones : length session.unanswered ≡ length h.unsettled = ap (λ (us : List Unanswered). length us) h.unanswered ∙ length-map h.unsettled unanswered_of in
+    let size : session.taken ≡ length h.done + length h.incomplete = h.taken ∙ ap (λ (es : Order). length es) h.split ∙ length-append h.done h.incomplete in
+    let open_ones : length session.unanswered ≡ length h.incomplete = ap (λ (us : List Unanswered). length us) h.unanswered ∙ length-map h.incomplete unanswered_of in
     let many : answered session ≡ length h.done = omega (arith, size, open_ones) in
-    answers_first number order h.done h.unsettled (answered session) sent session.output h.split many h.settled h.answered
+    answers_first number order h.done h.incomplete (answered session) sent session.output h.split many h.complete h.answered
 
 -- of each number
 pub stands-answered : (texts sent : ℕ → List ℕ) (order : Order) (lanes : ℕ → Lane) (now : ProxyState) → ProxyStands texts sent order lanes now

@@ -104,9 +104,9 @@ emitted_parts before after (u ∷ us) is =
 pub unanswered_within : (number : ℕ) (order : Order) (text sent : List ℕ) (session : SessionState) → SessionStands number order text sent session
     → length session.unanswered ≤ session.taken
 unanswered_within number order text sent session h =
-    let size : length (entries_of number order) ≡ length (h.done ++ h.unsettled) = ap (λ (es : Order). length es) h.split in
-    let open_ones : length session.unanswered ≡ length h.unsettled = ap (λ (us : List Unanswered). length us) h.unanswered ∙ length-map h.unsettled unanswered_of in
-    omega (arith, h.taken, size, length-append h.done h.unsettled, open_ones)
+    let size : length (entries_of number order) ≡ length (h.done ++ h.incomplete) = ap (λ (es : Order). length es) h.split in
+    let open_ones : length session.unanswered ≡ length h.incomplete = ap (λ (us : List Unanswered). length us) h.unanswered ∙ length-map h.incomplete unanswered_of in
+    omega (arith, h.taken, size, length-append h.done h.incomplete, open_ones)
 
 pub answered-emitted : (texts sent : ℕ → List ℕ) (order : Order) (lanes : ℕ → Lane) (number : ℕ) (old new : ProxyState) → ProxyStands texts sent order lanes old
     → (steps : Steps number old new (Alone (IsEmit emits.Done))) → answered steps.after ≡ answered steps.before + 1

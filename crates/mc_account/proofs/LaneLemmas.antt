@@ -20,11 +20,11 @@ use Rattle.mc_link.specs.Turns.{Takes as LinkTakes}
 use Rattle.mc_link.specs.declared.turns.Tag.{Tag}
 use Rattle.mc_session.specs.Emits.{is_told}
 use Rattle.mc_session.specs.SessionState.{link_at, with_link}
-use Rattle.mc_account.specs.Orders.{Order, Tagged, IsSized, commands_to, is_settled, note, note_in, outcomes_from, outcomes_in, outcomes_to}
+use Rattle.mc_account.specs.Orders.{Order, Tagged, IsSized, commands_to, is_complete, note, note_in, outcomes_from, outcomes_in, outcomes_to}
 use Rattle.mc_account.specs.Lanes.{CanHave, IsDown, Lane, LaneStands, LinkStands, as_waiting, fresh_lane, spelled, told}
 use Rattle.mc_account.proofs.OpenSessions.{own_number}
 use Rattle.mc_account.proofs.OrderLemmas.{commands-append, commands-note, lengths_to, passes_joined, passes_parts, told_whole}
-use Rattle.mc_account.proofs.TagLemmas.{awaited, awaited-append, awaited_to, count, count-append, count_to, count_to_both, owners, owners-append, same_tag, same_tag_self, unsettled-append, unsettled_owners, weight}
+use Rattle.mc_account.proofs.TagLemmas.{awaited, awaited-append, awaited_to, count, count-append, count_to, count_to_both, owners, owners-append, same_tag, same_tag_self, incomplete-append, incomplete_owners, weight}
 use Rattle.mc_account.proofs.NotingLemmas.{noted_to, renoted, renoted_absent, renoted_at, renoted_told}
 
 -- links by their places
@@ -145,15 +145,15 @@ owners_since tag since order =
     let whole : owners tag (take since order ++ drop since order) ≡ owners tag order = ap (λ (es : Order). owners tag es) (take-append-drop since order) in
     omega (arith, owners-append tag (take since order) (drop since order), whole)
 
-unsettled_since : (tag : Tag) (since : ℕ) (order : Order) → unsettled_owners tag (drop since order) ≤ unsettled_owners tag order
-unsettled_since tag since order =
-    let whole : unsettled_owners tag (take since order ++ drop since order) ≡ unsettled_owners tag order = ap (λ (es : Order). unsettled_owners tag es) (take-append-drop since order) in
-    omega (arith, unsettled-append tag (take since order) (drop since order), whole)
+incomplete_since : (tag : Tag) (since : ℕ) (order : Order) → incomplete_owners tag (drop since order) ≤ incomplete_owners tag order
+incomplete_since tag since order =
+    let whole : incomplete_owners tag (take since order ++ drop since order) ≡ incomplete_owners tag order = ap (λ (es : Order). incomplete_owners tag es) (take-append-drop since order) in
+    omega (arith, incomplete-append tag (take since order) (drop since order), whole)
 
 -- what is said of the tag of the command that waits longest
 pub record IsOldest (place : ℕ) (order : Order) (tag : Tag) : Type 0 where
   pub to_place : 1 ≤ count tag (commands_to place order)
-  pub unsettled : 1 ≤ unsettled_owners tag order
+  pub incomplete : 1 ≤ incomplete_owners tag order
 
 pub is_oldest : (place since : ℕ) (order : Order) (known : List Outcome) (w : Waiting) (ws : List Waiting) → All IsSized order
     → Pending place since order known (w ∷ ws) → IsOldest place order w.1
@@ -173,7 +173,7 @@ is_oldest place since order known w ws sized h =
     ∙ ap (λ (cs : List Tagged). count w.1 cs) (sym (commands-append place (take since order) (drop since order)) ∙ ap (λ (es : Order). commands_to place es) (take-append-drop since order)) in
     record {
       to_place = omega (arith, counted, one, whole);
-      unsettled = omega (arith, waited, one, awaited_to w.1 place (drop since order) (All-drop IsSized since order sized), unsettled_since w.1 since order);
+      incomplete = omega (arith, waited, one, awaited_to w.1 place (drop since order) (All-drop IsSized since order sized), incomplete_since w.1 since order);
     }
 
 -- its outcome is noted: it is known, and the others wait
@@ -322,12 +322,12 @@ nothing_waits place order lane link none h =
     (cases_Bool link.up)
 
 -- what is known of the commands to each place is known of all
-settled_from : (commands : List Routed) (xs : List Outcome) → length xs ≡ length commands → ((place : ℕ) → list_all is_told (outcomes_from place commands xs) ≡ true)
+complete_from : (commands : List Routed) (xs : List Outcome) → length xs ≡ length commands → ((place : ℕ) → list_all is_told (outcomes_from place commands xs) ≡ true)
     → list_all is_told xs ≡ true
-settled_from [] [] h known = refl
-settled_from [] (x ∷ xs) h known = absurd cc
-settled_from (command ∷ commands) [] h known = absurd cc
-settled_from (command ∷ commands) (x ∷ xs) h known =
+complete_from [] [] h known = refl
+complete_from [] (x ∷ xs) h known = absurd cc
+complete_from (command ∷ commands) [] h known = absurd cc
+complete_from (command ∷ commands) (x ∷ xs) h known =
     let own : list_all is_told (x ∷ outcomes_from command.server commands xs) ≡ true =
     ap (λ (v : Bool). list_all is_told (if v then x ∷ outcomes_from command.server commands xs else outcomes_from command.server commands xs)) (sym (own_number command.server)) ∙ known command.server in
     let first = (and_parts (is_told x) (list_all is_told (outcomes_from command.server commands xs)) own).0 in
@@ -336,15 +336,15 @@ settled_from (command ∷ commands) (x ∷ xs) h known =
       | true ↦ λ e. (and_parts (is_told x) (list_all is_told (outcomes_from place commands xs)) e).1
       | false ↦ λ e. e
     ]) (known place) in
-    and_from (is_told x) (list_all is_told xs) first (settled_from commands xs (cc) others)
+    and_from (is_told x) (list_all is_told xs) first (complete_from commands xs (cc) others)
 
-pub settled_order : (es : Order) → All IsSized es → ((place : ℕ) → list_all is_told (outcomes_to place es) ≡ true) → list_all is_settled es ≡ true
-settled_order [] sized known = refl
-settled_order (e ∷ es) sized known =
+pub complete_order : (es : Order) → All IsSized es → ((place : ℕ) → list_all is_told (outcomes_to place es) ≡ true) → list_all is_complete es ≡ true
+complete_order [] sized known = refl
+complete_order (e ∷ es) sized known =
     let parts = λ (place : ℕ). passes_parts is_told (outcomes_in place e) (outcomes_to place es) (known place) in
-    and_from (is_settled e) (list_all is_settled es)
-    (settled_from (route_of_taken e.ring e.what) e.outcomes (All-head IsSized e es sized) (λ place. (parts place).0))
-    (settled_order es (All-tail IsSized e es sized) (λ place. (parts place).1))
+    and_from (is_complete e) (list_all is_complete es)
+    (complete_from (route_of_taken e.ring e.what) e.outcomes (All-head IsSized e es sized) (λ place. (parts place).0))
+    (complete_order es (All-tail IsSized e es sized) (λ place. (parts place).1))
 
 -- a link that came up just now
 pub lane_fresh : (place generation : ℕ) (order : Order) → list_all is_told (outcomes_to place order) ≡ true → LaneStands place order (fresh_lane (length order)) (up_link generation)

@@ -23,7 +23,7 @@ use Rattle.mc_account.specs.Orders.{AreInOrder, IsSized, Order, entries_of, note
 use Rattle.mc_account.specs.Stands.{IsUnused, ProxyStands, SessionStandsAt, changed}
 use Rattle.mc_account.proofs.OpenSessions.{noted_other, noted_own}
 use Rattle.mc_account.proofs.OrderLemmas.{entries-note, in_order-note, sized-note}
-use Rattle.mc_account.proofs.TagLemmas.{owners, tag_once, unsettled_owners}
+use Rattle.mc_account.proofs.TagLemmas.{owners, tag_once, incomplete_owners}
 use Rattle.mc_account.proofs.LaneLemmas.{IsOldest, Pending, is_oldest, lane_fresh, lane_replied, link_other, link_other_noted, link_own, pending_none, pending_noted, pending_of, up_is_there}
 use Rattle.mc_account.proofs.SessionLemmas.{left_noted, note_absent, owners_elsewhere, session_noted, session_same}
 use Rattle.mc_account.proofs.StandsLemmas.{changed-other, changed-own}
@@ -65,7 +65,7 @@ stands_with texts sent order lanes lanes' place links new h own lane_is link_is 
 
 -- the session of a tag, open or not, where an outcome is noted that was awaited
 at_noted : (tag : Tag) (outcome : Outcome) (order : Order) (text sent : List ℕ) (session : Option SessionState) → AreInOrder (entries_of tag.session order)
-    → owners tag order ≤ 1 → 1 ≤ unsettled_owners tag order → SessionStandsAt tag.session order text sent session
+    → owners tag order ≤ 1 → 1 ≤ incomplete_owners tag order → SessionStandsAt tag.session order text sent session
     → SessionStandsAt tag.session (note tag outcome order) text sent (option_map (noted_in tag outcome) session)
 at_noted tag outcome order text sent None numbered once open_one h = left_noted tag outcome order text sent once open_one h
 at_noted tag outcome order text sent (Some session) numbered once open_one h = session_noted tag outcome order text sent session numbered once open_one h
@@ -96,7 +96,7 @@ but_noted texts sent order lanes place sessions admitted links tag outcome known
       each = λ number. ⊎_elim
           (λ e. subst (λ (n : ℕ). SessionStandsAt n (note tag outcome order) (texts n) (sent n) (session_in (noted tag outcome sessions) n)) e.1
           (subst (λ (s : Option SessionState). SessionStandsAt tag.session (note tag outcome order) (texts tag.session) (sent tag.session) s) (sym (noted_own tag outcome sessions))
-          (at_noted tag outcome order (texts tag.session) (sent tag.session) (session_in sessions tag.session) (h.numbered tag.session) once oldest.unsettled (h.each tag.session))))
+          (at_noted tag outcome order (texts tag.session) (sent tag.session) (session_in sessions tag.session) (h.numbered tag.session) once oldest.incomplete (h.each tag.session))))
           (λ e. subst (λ (s : Option SessionState). SessionStandsAt number (note tag outcome order) (texts number) (sent number) s) (sym (noted_other tag outcome number sessions e.1))
           (session_same number order (note tag outcome order) (texts number) (texts number) (sent number) (sent number) (session_in sessions number)
           (noted_elsewhere tag outcome number order e.1) refl refl (h.each number)))

@@ -20,11 +20,11 @@ use Rattle.mc_session.specs.Noting.{noted_at, noted_in, with_outcome}
 use Rattle.mc_session.specs.Sending.{at_once}
 use Rattle.mc_session.specs.SessionState.{SessionState, Unanswered, answered, fresh_session}
 use Rattle.mc_session.specs.Turns.{IsFed, Takes}
-use Rattle.mc_account.specs.Orders.{Entry, Order, AreInOrder, entries_of, is_settled, note, note_in, numbers_from, owns, taken_of, unanswered_of}
+use Rattle.mc_account.specs.Orders.{Entry, Order, AreInOrder, entries_of, is_complete, note, note_in, numbers_from, owns, taken_of, unanswered_of}
 use Rattle.mc_account.specs.Stands.{SessionLeft, SessionStands, SessionStandsAt}
 use Rattle.mc_account.proofs.OpenSessions.{other_number}
 use Rattle.mc_account.proofs.OrderLemmas.{answers-push, entries-note, entries_push_own, note-append, numbered_behind, passes_joined, taken-note}
-use Rattle.mc_account.proofs.TagLemmas.{owners, owners-append, owners_later, owners_of, unsettled-append, unsettled_none, unsettled_of, unsettled_owners, unsettled_owners-le, weight}
+use Rattle.mc_account.proofs.TagLemmas.{owners, owners-append, owners_later, owners_of, incomplete-append, incomplete_none, incomplete_of, incomplete_owners, incomplete_owners-le, weight}
 
 -- where a session is depends on nothing of an order but what was taken of it
 pub session_same : (number : ℕ) (order longer : Order) (text text' sent sent' : List ℕ) (session : Option SessionState)
@@ -34,9 +34,9 @@ session_same number order longer text text' sent sent' None same text_is sent_is
   untaken = h.untaken;
   rest = ap (λ (es : Order). map (λ (e : Entry). e.what) es ++ h.untaken) same ∙ h.rest ∙ ap requests_of (sym text_is);
   done = h.done;
-  unsettled = h.unsettled;
+  incomplete = h.incomplete;
   split = same ∙ h.split;
-  settled = h.settled;
+  complete = h.complete;
   unsent = h.unsent;
   answered = ap (λ (bytes : List ℕ). bytes ++ h.unsent) sent_is ∙ h.answered;
 }
@@ -45,9 +45,9 @@ session_same number order longer text text' sent sent' (Some session) same text_
       ap (λ (es : Order). map (λ (e : Entry). e.what) es ++ rest_of session.reader more) same
       ∙ h.rest more ∙ ap (λ (bytes : List ℕ). requests_of (bytes ++ more)) (sym text_is);
   done = h.done;
-  unsettled = h.unsettled;
+  incomplete = h.incomplete;
   split = same ∙ h.split;
-  settled = h.settled;
+  complete = h.complete;
   answered = ap (λ (bytes : List ℕ). bytes ++ session.output) sent_is ∙ h.answered;
   unanswered = h.unanswered;
   taken = h.taken ∙ ap (λ (es : Order). length es) (sym same);
@@ -58,9 +58,9 @@ pub session_fresh : (number : ℕ) (order : Order) → entries_of number order �
 session_fresh number order none = record {
   rest = λ more. ap (λ (es : Order). map (λ (e : Entry). e.what) es ++ requests_of more) none;
   done = [];
-  unsettled = [];
+  incomplete = [];
   split = none;
-  settled = refl;
+  complete = refl;
   answered = refl;
   unanswered = refl;
   taken = ap (λ (es : Order). length es) (sym none);
@@ -74,9 +74,9 @@ session_left number order text sent (Some session) h = record {
   untaken = rest_of session.reader [];
   rest = h.rest [] ∙ ap requests_of (append-nil text);
   done = h.done;
-  unsettled = h.unsettled;
+  incomplete = h.incomplete;
   split = h.split;
-  settled = h.settled;
+  complete = h.complete;
   unsent = session.output;
   answered = h.answered;
 }
@@ -89,9 +89,9 @@ session_fed number order text sent piece before after h fed = record {
       ap (λ (ts : List Taken). taken_of number order ++ ts) (fed.rest more)
       ∙ h.rest (piece ++ more) ∙ ap requests_of (sym (append_assoc text piece more));
   done = h.done;
-  unsettled = h.unsettled;
+  incomplete = h.incomplete;
   split = h.split;
-  settled = h.settled;
+  complete = h.complete;
   answered = ap (λ (s : SessionState). sent ++ s.output) fed.all_else ∙ h.answered;
   unanswered = ap (λ (s : SessionState). s.unanswered) fed.all_else ∙ h.unanswered;
   taken = ap (λ (s : SessionState). s.taken) fed.all_else ∙ h.taken;
@@ -115,14 +115,14 @@ session_took number order text sent ring links now before after what h takes =
           ∙ ap (λ (ts : List Taken). taken_of number order ++ ts) (sym (takes.first.rest more))
           ∙ h.rest more;
       done = h.done;
-      unsettled = h.unsettled ++ e ∷ [];
-      split = mine ∙ ap (λ (es : Order). es ++ e ∷ []) h.split ∙ append_assoc h.done h.unsettled (e ∷ []);
-      settled = h.settled;
+      incomplete = h.incomplete ++ e ∷ [];
+      split = mine ∙ ap (λ (es : Order). es ++ e ∷ []) h.split ∙ append_assoc h.done h.incomplete (e ∷ []);
+      complete = h.complete;
       answered = ap (λ (bytes : List ℕ). sent ++ bytes) takes.output ∙ h.answered;
       unanswered =
           takes.unanswered
           ∙ ap (λ (us : List Unanswered). us ++ unanswered_of e ∷ []) h.unanswered
-          ∙ sym (map-append unanswered_of h.unsettled (e ∷ []));
+          ∙ sym (map-append unanswered_of h.incomplete (e ∷ []));
       taken =
           let longer : length (entries_of number (order ++ e ∷ [])) ≡ length (entries_of number order ++ e ∷ []) = ap (λ (es : Order). length es) mine in
           omega (arith, takes.taken, h.taken, longer, length-append (entries_of number order) (e ∷ []));
@@ -134,9 +134,9 @@ pub session_sent : (number : ℕ) (order : Order) (text sent : List ℕ) (sessio
 session_sent number order text sent session count h = record {
   rest = h.rest;
   done = h.done;
-  unsettled = h.unsettled;
+  incomplete = h.incomplete;
   split = h.split;
-  settled = h.settled;
+  complete = h.complete;
   answered =
       append_assoc sent (take count session.output) (drop count session.output)
       ∙ ap (λ (bytes : List ℕ). sent ++ bytes) (take-append-drop count session.output) ∙ h.answered;
@@ -149,34 +149,34 @@ answer_kept : (what : Taken) (outcomes : List Outcome) → answer_by (kept_of wh
 answer_kept (Whole request) outcomes = joined-kept request outcomes
 answer_kept (Faulty fault) outcomes = refl
 
--- the oldest request that is not answered, where it can be: it is settled, and its answer is put out
-record Emits (before after : SessionState) (unsettled : Order) : Type 0 where
+-- the oldest request that is not answered, where it can be: it is complete, and its answer is put out
+record Emits (before after : SessionState) (incomplete : Order) : Type 0 where
   pub first : Entry
   pub others : Order
-  pub is : unsettled ≡ first ∷ others
-  pub settled : is_settled first ≡ true
+  pub is : incomplete ≡ first ∷ others
+  pub complete : is_complete first ≡ true
   pub now : after ≡ record before { output = before.output ++ answer_of_one (unanswered_of first); unanswered = map unanswered_of others }
 
-emits_from : (before after : SessionState) (unsettled : Order) → emitted_from before (map unanswered_of unsettled) ≡ Some after → Emits before after unsettled
+emits_from : (before after : SessionState) (incomplete : Order) → emitted_from before (map unanswered_of incomplete) ≡ Some after → Emits before after incomplete
 emits_from before after [] is = absurd cc
 emits_from before after (e ∷ es) is =
-    (elim (is_settled e) as (λ v. is_settled e ≡ v
+    (elim (is_complete e) as (λ v. is_complete e ≡ v
     → (if v then Some (record before { output = before.output ++ answer_of_one (unanswered_of e); unanswered = map unanswered_of es }) else None) ≡ Some after
     → Emits before after (e ∷ es)) [
-      | true ↦ λ settled now. record { first = e; others = es; is = refl; settled = settled; now = cc }
-      | false ↦ λ settled now. absurd cc
+      | true ↦ λ complete now. record { first = e; others = es; is = refl; complete = complete; now = cc }
+      | false ↦ λ complete now. absurd cc
     ]) refl is
 
 pub session_emitted : (number : ℕ) (order : Order) (text sent : List ℕ) (before after : SessionState) → SessionStands number order text sent before
     → emitted before ≡ Some after → SessionStands number order text sent after
 session_emitted number order text sent before after h is =
-    let e = emits_from before after h.unsettled (ap (λ (us : List Unanswered). emitted_from before us) (sym h.unanswered) ∙ is) in
+    let e = emits_from before after h.incomplete (ap (λ (us : List Unanswered). emitted_from before us) (sym h.unanswered) ∙ is) in
     record {
       rest = λ more. ap (λ (s : SessionState). taken_of number order ++ rest_of s.reader more) e.now ∙ h.rest more;
       done = h.done ++ e.first ∷ [];
-      unsettled = e.others;
+      incomplete = e.others;
       split = h.split ∙ ap (λ (es : Order). h.done ++ es) e.is ∙ sym (append_assoc h.done (e.first ∷ []) e.others);
-      settled = passes_joined is_settled h.done (e.first ∷ []) h.settled (and_from (is_settled e.first) true e.settled refl);
+      complete = passes_joined is_complete h.done (e.first ∷ []) h.complete (and_from (is_complete e.first) true e.complete refl);
       answered =
           ap (λ (s : SessionState). sent ++ s.output) e.now
           ∙ sym (append_assoc sent before.output (answer_of_one (unanswered_of e.first)))
@@ -252,92 +252,92 @@ noted_among tag outcome at (e ∷ es) whose numbered h =
     ∙ ap (λ (n : ℕ). noted_at n tag.atom outcome (unanswered_of e ∷ map unanswered_of es)) (sym none))
     (cases_lt at tag.request)
 
--- the entry of a tag that is not settled is not among those that are
-record NotDone (tag : Tag) (done unsettled : Order) : Type 0 where
+-- the entry of a tag that is not complete is not among those that are
+record NotDone (tag : Tag) (done incomplete : Order) : Type 0 where
   pub absent : owners tag done ≡ 0
-  pub there : 1 ≤ owners tag unsettled
+  pub there : 1 ≤ owners tag incomplete
 
-not_done : (tag : Tag) (order done unsettled : Order) → entries_of tag.session order ≡ done ++ unsettled → list_all is_settled done ≡ true
-    → owners tag order ≤ 1 → 1 ≤ unsettled_owners tag order → NotDone tag done unsettled
-not_done tag order done unsettled split settled once open_one =
-    let own : owners tag (done ++ unsettled) ≡ owners tag order = ap (λ (es : Order). owners tag es) (sym split) ∙ owners_of tag order in
-    let waits : unsettled_owners tag (done ++ unsettled) ≡ unsettled_owners tag order = ap (λ (es : Order). unsettled_owners tag es) (sym split) ∙ unsettled_of tag order in
-    let there : 1 ≤ owners tag unsettled =
-    omega (arith, waits, unsettled-append tag done unsettled, unsettled_none tag done settled, unsettled_owners-le tag unsettled, open_one) in
+not_done : (tag : Tag) (order done incomplete : Order) → entries_of tag.session order ≡ done ++ incomplete → list_all is_complete done ≡ true
+    → owners tag order ≤ 1 → 1 ≤ incomplete_owners tag order → NotDone tag done incomplete
+not_done tag order done incomplete split complete once open_one =
+    let own : owners tag (done ++ incomplete) ≡ owners tag order = ap (λ (es : Order). owners tag es) (sym split) ∙ owners_of tag order in
+    let waits : incomplete_owners tag (done ++ incomplete) ≡ incomplete_owners tag order = ap (λ (es : Order). incomplete_owners tag es) (sym split) ∙ incomplete_of tag order in
+    let there : 1 ≤ owners tag incomplete =
+    omega (arith, waits, incomplete-append tag done incomplete, incomplete_none tag done complete, incomplete_owners-le tag incomplete, open_one) in
     record {
-      absent = omega (arith, own, owners-append tag done unsettled, there, once);
+      absent = omega (arith, own, owners-append tag done incomplete, there, once);
       there = there;
     }
 
 -- what was taken of the tag's session, where its outcome is noted
-noted_split : (tag : Tag) (outcome : Outcome) (order done unsettled : Order) → entries_of tag.session order ≡ done ++ unsettled → owners tag done ≡ 0
-    → entries_of tag.session (note tag outcome order) ≡ done ++ note tag outcome unsettled
-noted_split tag outcome order done unsettled split absent =
+noted_split : (tag : Tag) (outcome : Outcome) (order done incomplete : Order) → entries_of tag.session order ≡ done ++ incomplete → owners tag done ≡ 0
+    → entries_of tag.session (note tag outcome order) ≡ done ++ note tag outcome incomplete
+noted_split tag outcome order done incomplete split absent =
     entries-note tag.session tag outcome order
     ∙ ap (λ (es : Order). note tag outcome es) split
-    ∙ note-append tag outcome done unsettled
-    ∙ ap (λ (es : Order). es ++ note tag outcome unsettled) (note_absent tag outcome done absent)
+    ∙ note-append tag outcome done incomplete
+    ∙ ap (λ (es : Order). es ++ note tag outcome incomplete) (note_absent tag outcome done absent)
 
 noted_taken : (tag : Tag) (outcome : Outcome) (number : ℕ) (order : Order) → taken_of number (note tag outcome order) ≡ taken_of number order
 noted_taken tag outcome number order =
     ap (λ (es : Order). map (λ (e : Entry). e.what) es) (entries-note number tag outcome order) ∙ taken-note tag outcome (entries_of number order)
 
 -- the session keeps it at the same place
-noted_unanswered : (tag : Tag) (outcome : Outcome) (session : SessionState) (done unsettled : Order) → AreOf tag.session unsettled
-    → map (λ (e : Entry). e.request) unsettled ≡ numbers_from (length done) unsettled → session.unanswered ≡ map unanswered_of unsettled
-    → session.taken ≡ length done + length unsettled → 1 ≤ owners tag unsettled
-    → noted_in tag outcome session ≡ record session { unanswered = map unanswered_of (note tag outcome unsettled) }
-noted_unanswered tag outcome session done unsettled whose numbered unanswered taken there =
-    let many : length session.unanswered ≡ length unsettled = ap (λ (us : List Unanswered). length us) unanswered ∙ length-map unsettled unanswered_of in
+noted_unanswered : (tag : Tag) (outcome : Outcome) (session : SessionState) (done incomplete : Order) → AreOf tag.session incomplete
+    → map (λ (e : Entry). e.request) incomplete ≡ numbers_from (length done) incomplete → session.unanswered ≡ map unanswered_of incomplete
+    → session.taken ≡ length done + length incomplete → 1 ≤ owners tag incomplete
+    → noted_in tag outcome session ≡ record session { unanswered = map unanswered_of (note tag outcome incomplete) }
+noted_unanswered tag outcome session done incomplete whose numbered unanswered taken there =
+    let many : length session.unanswered ≡ length incomplete = ap (λ (us : List Unanswered). length us) unanswered ∙ length-map incomplete unanswered_of in
     let first : answered session ≡ length done = omega (arith, many, taken) in
     let late : length done ≤ tag.request =
-    ⊎_elim (λ (early : tag.request < length done). absurd (omega (arith, owners_later tag (length done) unsettled numbered early, there))) (λ (fine : length done ≤ tag.request). fine)
+    ⊎_elim (λ (early : tag.request < length done). absurd (omega (arith, owners_later tag (length done) incomplete numbered early, there))) (λ (fine : length done ≤ tag.request). fine)
     (cases_lt tag.request (length done)) in
     let not_answered : nat_lt tag.request (answered session) ≡ false = le-ltb tag.request (answered session) (omega (arith, first, late)) in
     ap (λ (v : Bool). if v then session else record session { unanswered = noted_at (tag.request - answered session) tag.atom outcome session.unanswered }) not_answered
     ∙ ap₂ (λ (n : ℕ) (us : List Unanswered). record session { unanswered = noted_at (tag.request - n) tag.atom outcome us }) first unanswered
-    ∙ ap (λ (us : List Unanswered). record session { unanswered = us }) (sym (noted_among tag outcome (length done) unsettled whose numbered late))
+    ∙ ap (λ (us : List Unanswered). record session { unanswered = us }) (sym (noted_among tag outcome (length done) incomplete whose numbered late))
 
 -- an outcome is noted that was awaited: the session of its tag
 pub session_noted : (tag : Tag) (outcome : Outcome) (order : Order) (text sent : List ℕ) (session : SessionState) → AreInOrder (entries_of tag.session order)
-    → owners tag order ≤ 1 → 1 ≤ unsettled_owners tag order
+    → owners tag order ≤ 1 → 1 ≤ incomplete_owners tag order
     → SessionStands tag.session order text sent session → SessionStands tag.session (note tag outcome order) text sent (noted_in tag outcome session)
 session_noted tag outcome order text sent session numbered once open_one h =
-    let n = not_done tag order h.done h.unsettled h.split h.settled once open_one in
-    let whose = are_of_behind tag.session h.done h.unsettled (subst (λ (es : Order). AreOf tag.session es) h.split (are_of tag.session order)) in
-    let behind = numbered_behind 0 h.done h.unsettled (subst (λ (es : Order). AreInOrder es) h.split numbered) in
-    let ahead : map (λ (e : Entry). e.request) h.unsettled ≡ numbers_from (length h.done) h.unsettled =
-    subst (λ (at : ℕ). map (λ (e : Entry). e.request) h.unsettled ≡ numbers_from at h.unsettled) (omega arith) behind in
-    let size : session.taken ≡ length h.done + length h.unsettled = h.taken ∙ ap (λ (es : Order). length es) h.split ∙ length-append h.done h.unsettled in
-    let now = noted_unanswered tag outcome session h.done h.unsettled whose ahead h.unanswered size n.there in
-    let split = noted_split tag outcome order h.done h.unsettled h.split n.absent in
+    let n = not_done tag order h.done h.incomplete h.split h.complete once open_one in
+    let whose = are_of_behind tag.session h.done h.incomplete (subst (λ (es : Order). AreOf tag.session es) h.split (are_of tag.session order)) in
+    let behind = numbered_behind 0 h.done h.incomplete (subst (λ (es : Order). AreInOrder es) h.split numbered) in
+    let ahead : map (λ (e : Entry). e.request) h.incomplete ≡ numbers_from (length h.done) h.incomplete =
+    subst (λ (at : ℕ). map (λ (e : Entry). e.request) h.incomplete ≡ numbers_from at h.incomplete) (omega arith) behind in
+    let size : session.taken ≡ length h.done + length h.incomplete = h.taken ∙ ap (λ (es : Order). length es) h.split ∙ length-append h.done h.incomplete in
+    let now = noted_unanswered tag outcome session h.done h.incomplete whose ahead h.unanswered size n.there in
+    let split = noted_split tag outcome order h.done h.incomplete h.split n.absent in
     record {
       rest = λ more.
           ap₂ (λ (ts : List Taken) (s : SessionState). ts ++ rest_of s.reader more) (noted_taken tag outcome tag.session order) now ∙ h.rest more;
       done = h.done;
-      unsettled = note tag outcome h.unsettled;
+      incomplete = note tag outcome h.incomplete;
       split = split;
-      settled = h.settled;
+      complete = h.complete;
       answered = ap (λ (s : SessionState). sent ++ s.output) now ∙ h.answered;
       unanswered = ap (λ (s : SessionState). s.unanswered) now;
       taken =
-          let longer : length (entries_of tag.session (note tag outcome order)) ≡ length (h.done ++ note tag outcome h.unsettled) = ap (λ (es : Order). length es) split in
+          let longer : length (entries_of tag.session (note tag outcome order)) ≡ length (h.done ++ note tag outcome h.incomplete) = ap (λ (es : Order). length es) split in
           let same : (noted_in tag outcome session).taken ≡ session.taken = ap (λ (s : SessionState). s.taken) now in
-          omega (arith, same, size, longer, length-append h.done (note tag outcome h.unsettled), length-map h.unsettled (note_in tag outcome));
+          omega (arith, same, size, longer, length-append h.done (note tag outcome h.incomplete), length-map h.incomplete (note_in tag outcome));
     }
 
 -- the same where it is open no more
-pub left_noted : (tag : Tag) (outcome : Outcome) (order : Order) (text sent : List ℕ) → owners tag order ≤ 1 → 1 ≤ unsettled_owners tag order
+pub left_noted : (tag : Tag) (outcome : Outcome) (order : Order) (text sent : List ℕ) → owners tag order ≤ 1 → 1 ≤ incomplete_owners tag order
     → SessionLeft tag.session order text sent → SessionLeft tag.session (note tag outcome order) text sent
 left_noted tag outcome order text sent once open_one h =
-    let n = not_done tag order h.done h.unsettled h.split h.settled once open_one in
+    let n = not_done tag order h.done h.incomplete h.split h.complete once open_one in
     record {
       untaken = h.untaken;
       rest = ap (λ (ts : List Taken). ts ++ h.untaken) (noted_taken tag outcome tag.session order) ∙ h.rest;
       done = h.done;
-      unsettled = note tag outcome h.unsettled;
-      split = noted_split tag outcome order h.done h.unsettled h.split n.absent;
-      settled = h.settled;
+      incomplete = note tag outcome h.incomplete;
+      split = noted_split tag outcome order h.done h.incomplete h.split n.absent;
+      complete = h.complete;
       unsent = h.unsent;
       answered = h.answered;
     }

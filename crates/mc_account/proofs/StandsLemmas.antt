@@ -19,12 +19,12 @@ use Rattle.mc_session.specs.declared.turns.Turn.TheVariants as turns
 use Rattle.mc_proxy.specs.ProxyState.{ProxyState, Sessions, output_of, sent_by, session_at, session_in, updated, with_fresh, without}
 use Rattle.mc_proxy.specs.Turns.{Alone, Steps}
 use Rattle.mc_account.specs.Lanes.{Lane, LinkStands}
-use Rattle.mc_account.specs.Orders.{AreInOrder, Entry, IsSized, Order, entries_of, is_settled}
+use Rattle.mc_account.specs.Orders.{AreInOrder, Entry, IsSized, Order, entries_of, is_complete}
 use Rattle.mc_account.specs.Stands.{ProxyStands, SessionStands, SessionStandsAt, changed, grown}
 use Rattle.mc_account.proofs.OpenSessions.{at_each, fresh_other, fresh_own, other_number, own_number, updated_other, without_other}
 use Rattle.mc_account.proofs.OrderLemmas.{entries_push_other, entries_push_own, in_order_push}
 use Rattle.mc_account.proofs.HandingLemmas.{link_taken}
-use Rattle.mc_account.proofs.LaneLemmas.{nothing_waits, settled_order}
+use Rattle.mc_account.proofs.LaneLemmas.{nothing_waits, complete_order}
 use Rattle.mc_account.proofs.SessionLemmas.{session_emitted, session_fed, session_fresh, session_left, session_same, session_sent, session_took}
 
 -- what is changed at its own place, and at another
@@ -244,8 +244,8 @@ stands-gone texts sent order lanes number old h not_open =
       links = h.links;
     }
 
--- where nothing waits on any link, each entry is settled
-pub stands-settled : (texts sent : ℕ → List ℕ) (order : Order) (lanes : ℕ → Lane) (now : ProxyState) → ProxyStands texts sent order lanes now
-    → ((place : ℕ) → (link_at now.links place).waiting ≡ []) → list_all is_settled order ≡ true
-stands-settled texts sent order lanes now h none =
-    settled_order order h.sized (λ place. nothing_waits place order (lanes place) (link_at now.links place) (none place) (h.links place))
+-- where nothing waits on any link, each entry is complete
+pub stands-complete : (texts sent : ℕ → List ℕ) (order : Order) (lanes : ℕ → Lane) (now : ProxyState) → ProxyStands texts sent order lanes now
+    → ((place : ℕ) → (link_at now.links place).waiting ≡ []) → list_all is_complete order ≡ true
+stands-complete texts sent order lanes now h none =
+    complete_order order h.sized (λ place. nothing_waits place order (lanes place) (link_at now.links place) (none place) (h.links place))

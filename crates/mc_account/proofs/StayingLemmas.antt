@@ -16,7 +16,7 @@ use Rattle.mc_proxy.specs.ProxyState.{ProxyState}
 use Rattle.mc_account.specs.Answered.{AreAnswers}
 use Rattle.mc_account.specs.Lanes.{Lane}
 use Rattle.mc_account.specs.Lookups.{AreAwaited, outcome_at, outcome_in}
-use Rattle.mc_account.specs.Orders.{AreInOrder, Entry, Order, answers_of, entries_of, is_settled, note, note_all, note_in, numbers_from, owns}
+use Rattle.mc_account.specs.Orders.{AreInOrder, Entry, Order, answers_of, entries_of, is_complete, note, note_all, note_in, numbers_from, owns}
 use Rattle.mc_account.specs.Stands.{ProxyStands}
 use Rattle.mc_account.proofs.OpenSessions.{other_number}
 use Rattle.mc_account.proofs.OrderLemmas.{entries-append, entries-note}
@@ -31,14 +31,14 @@ told_at [] (suc k) x known at = absurd (none-some x at)
 told_at (y ∷ ys) zero x known at = subst (λ (z : Outcome). is_told z ≡ true) (same_Some y x at) (and_parts (is_told y) (list_all is_told ys) known).0
 told_at (y ∷ ys) (suc k) x known at = told_at ys k x (and_parts (is_told y) (list_all is_told ys) known).1 at
 
--- of entries of which so many are settled
-settled_at : (es : Order) (count k atom : ℕ) (x : Outcome) → list_all is_settled (take count es) ≡ true → k < count → outcome_in (slice_get es k) atom ≡ Some x → is_told x ≡ true
-settled_at [] count zero atom x settled below at = absurd (none-some x at)
-settled_at [] count (suc k) atom x settled below at = absurd (none-some x at)
-settled_at (e ∷ es) zero k atom x settled below at = absurd (omega (arith, below))
-settled_at (e ∷ es) (suc count) zero atom x settled below at = told_at e.outcomes atom x (and_parts (is_settled e) (list_all is_settled (take count es)) settled).0 at
-settled_at (e ∷ es) (suc count) (suc k) atom x settled below at =
-    settled_at es count k atom x (and_parts (is_settled e) (list_all is_settled (take count es)) settled).1 (omega (arith, below)) at
+-- of entries of which so many are complete
+complete_at : (es : Order) (count k atom : ℕ) (x : Outcome) → list_all is_complete (take count es) ≡ true → k < count → outcome_in (slice_get es k) atom ≡ Some x → is_told x ≡ true
+complete_at [] count zero atom x complete below at = absurd (none-some x at)
+complete_at [] count (suc k) atom x complete below at = absurd (none-some x at)
+complete_at (e ∷ es) zero k atom x complete below at = absurd (omega (arith, below))
+complete_at (e ∷ es) (suc count) zero atom x complete below at = told_at e.outcomes atom x (and_parts (is_complete e) (list_all is_complete (take count es)) complete).0 at
+complete_at (e ∷ es) (suc count) (suc k) atom x complete below at =
+    complete_at es count k atom x (and_parts (is_complete e) (list_all is_complete (take count es)) complete).1 (omega (arith, below)) at
 
 -- a command that is awaited is of no request that is answered
 pub awaited_not_answered : (number : ℕ) (order : Order) (count : ℕ) (sent unsent : List ℕ) (tag : Tag) → AreAnswers number order count sent unsent
@@ -48,7 +48,7 @@ awaited_not_answered number order count sent unsent tag h awaited own =
     ap (λ (n : ℕ). outcome_in (slice_get (entries_of n order) tag.request) tag.atom) (sym own) ∙ awaited in
     ⊎_elim
     (λ (early : tag.request < count).
-    let clash : false ≡ true = settled_at (entries_of number order) count tag.request tag.atom Awaited h.settled early mine in absurd cc)
+    let clash : false ≡ true = complete_at (entries_of number order) count tag.request tag.atom Awaited h.complete early mine in absurd cc)
     (λ (late : count ≤ tag.request). late)
     (cases_lt tag.request count)
 
@@ -58,20 +58,20 @@ answers_same : (number : ℕ) (order longer : Order) (count : ℕ) (sent unsent 
     → AreAnswers number order count sent unsent → AreAnswers number longer count sent unsent
 answers_same number order longer count sent unsent within same h = record {
   within = within;
-  settled = ap (λ (es : Order). list_all is_settled es) same ∙ h.settled;
+  complete = ap (λ (es : Order). list_all is_complete es) same ∙ h.complete;
   answers = h.answers ∙ ap (λ (es : Order). answers_of es) (sym same);
 }
 
 -- a number of which nothing is answered
 pub answers_nothing : (number : ℕ) (order : Order) → AreAnswers number order 0 [] []
-answers_nothing number order = record { within = omega arith; settled = refl; answers = refl }
+answers_nothing number order = record { within = omega arith; complete = refl; answers = refl }
 
 -- bytes are taken out
 pub answers_sent : (number : ℕ) (order : Order) (count : ℕ) (sent unsent : List ℕ) (bytes : ℕ) → AreAnswers number order count sent unsent
     → AreAnswers number order count (sent ++ take bytes unsent) (drop bytes unsent)
 answers_sent number order count sent unsent bytes h = record {
   within = h.within;
-  settled = h.settled;
+  complete = h.complete;
   answers =
       append_assoc sent (take bytes unsent) (drop bytes unsent)
       ∙ ap (λ (more : List ℕ). sent ++ more) (take-append-drop bytes unsent) ∙ h.answers;

@@ -11,7 +11,7 @@ use Rattle.mc_route.specs.declared.routes.Routed.{Routed}
 use Rattle.mc_link.specs.declared.turns.Tag.{Tag}
 use Rattle.mc_session.specs.Emits.{is_told}
 use Rattle.mc_session.specs.Sending.{tag_of}
-use Rattle.mc_account.specs.Orders.{Entry, Order, Tagged, AreInOrder, IsSized, commands_from, commands_in, commands_to, entries_of, is_settled, numbers_from, outcomes_from, outcomes_in, outcomes_to, owns}
+use Rattle.mc_account.specs.Orders.{Entry, Order, Tagged, AreInOrder, IsSized, commands_from, commands_in, commands_to, entries_of, is_complete, numbers_from, outcomes_from, outcomes_in, outcomes_to, owns}
 use Rattle.mc_account.proofs.OpenSessions.{own_number, other_number}
 use Rattle.mc_account.proofs.OrderLemmas.{lengths_in}
 
@@ -172,42 +172,42 @@ owners_once tag at (e ∷ es) numbered =
 pub tag_once : (tag : Tag) (es : Order) → AreInOrder (entries_of tag.session es) → owners tag es ≤ 1
 tag_once tag es numbered = omega (arith, owners_of tag es, owners_once tag 0 (entries_of tag.session es) numbered)
 
--- how many entries have the command of a tag and are not settled
-abbrev pub unsettled_owners : Tag → Order → ℕ
-unsettled_owners tag [] = 0
-unsettled_owners tag (e ∷ es) = weight (not (is_settled e) && owns tag e) + unsettled_owners tag es
+-- how many entries have the command of a tag and are not complete
+abbrev pub incomplete_owners : Tag → Order → ℕ
+incomplete_owners tag [] = 0
+incomplete_owners tag (e ∷ es) = weight (not (is_complete e) && owns tag e) + incomplete_owners tag es
 
-pub unsettled-append : (tag : Tag) (es fs : Order) → unsettled_owners tag (es ++ fs) ≡ unsettled_owners tag es + unsettled_owners tag fs
-unsettled-append tag [] fs = omega arith
-unsettled-append tag (e ∷ es) fs = omega (arith, unsettled-append tag es fs)
+pub incomplete-append : (tag : Tag) (es fs : Order) → incomplete_owners tag (es ++ fs) ≡ incomplete_owners tag es + incomplete_owners tag fs
+incomplete-append tag [] fs = omega arith
+incomplete-append tag (e ∷ es) fs = omega (arith, incomplete-append tag es fs)
 
-pub unsettled_of : (tag : Tag) (es : Order) → unsettled_owners tag (entries_of tag.session es) ≡ unsettled_owners tag es
-unsettled_of tag [] = refl
-unsettled_of tag (e ∷ es) =
-    let again = unsettled_of tag es in
+pub incomplete_of : (tag : Tag) (es : Order) → incomplete_owners tag (entries_of tag.session es) ≡ incomplete_owners tag es
+incomplete_of tag [] = refl
+incomplete_of tag (e ∷ es) =
+    let again = incomplete_of tag es in
     (elim (e.session == tag.session) as (λ v. e.session == tag.session ≡ v
-    → unsettled_owners tag (if v then e ∷ entries_of tag.session es else entries_of tag.session es) ≡ weight (not (is_settled e) && owns tag e) + unsettled_owners tag es) [
+    → incomplete_owners tag (if v then e ∷ entries_of tag.session es else entries_of tag.session es) ≡ weight (not (is_complete e) && owns tag e) + incomplete_owners tag es) [
       | true ↦ λ is. omega (arith, again)
       | false ↦ λ is.
-          let apart : (not (is_settled e) && owns tag e) ≡ false =
-          and_right (not (is_settled e)) (owns tag e) (and_left (e.session == tag.session) (e.request == tag.request) is) in
+          let apart : (not (is_complete e) && owns tag e) ≡ false =
+          and_right (not (is_complete e)) (owns tag e) (and_left (e.session == tag.session) (e.request == tag.request) is) in
           rw apart (omega (arith, again))
     ]) refl
 
-unsettled_weight : (settled own : Bool) → weight (not settled && own) ≤ weight own
-unsettled_weight true own = omega arith
-unsettled_weight false own = omega arith
+incomplete_weight : (complete own : Bool) → weight (not complete && own) ≤ weight own
+incomplete_weight true own = omega arith
+incomplete_weight false own = omega arith
 
-pub unsettled_owners-le : (tag : Tag) (es : Order) → unsettled_owners tag es ≤ owners tag es
-unsettled_owners-le tag [] = omega arith
-unsettled_owners-le tag (e ∷ es) = omega (arith, unsettled_weight (is_settled e) (owns tag e), unsettled_owners-le tag es)
+pub incomplete_owners-le : (tag : Tag) (es : Order) → incomplete_owners tag es ≤ owners tag es
+incomplete_owners-le tag [] = omega arith
+incomplete_owners-le tag (e ∷ es) = omega (arith, incomplete_weight (is_complete e) (owns tag e), incomplete_owners-le tag es)
 
-pub unsettled_none : (tag : Tag) (es : Order) → list_all is_settled es ≡ true → unsettled_owners tag es ≡ 0
-unsettled_none tag [] h = refl
-unsettled_none tag (e ∷ es) h =
-    let parts = and_parts (is_settled e) (list_all is_settled es) h in
-    let apart : (not (is_settled e) && owns tag e) ≡ false = and_left (not (is_settled e)) (owns tag e) (ap not parts.0) in
-    rw apart (omega (arith, unsettled_none tag es parts.1))
+pub incomplete_none : (tag : Tag) (es : Order) → list_all is_complete es ≡ true → incomplete_owners tag es ≡ 0
+incomplete_none tag [] h = refl
+incomplete_none tag (e ∷ es) h =
+    let parts = and_parts (is_complete e) (list_all is_complete es) h in
+    let apart : (not (is_complete e) && owns tag e) ≡ false = and_left (not (is_complete e)) (owns tag e) (ap not parts.0) in
+    rw apart (omega (arith, incomplete_none tag es parts.1))
 
 -- how often a tag is among commands of which it is not known what became
 abbrev pub awaited : Tag → List Tagged → List Outcome → ℕ
@@ -225,7 +225,7 @@ awaited-append tag (c ∷ cs) ds (x ∷ xs) ys h = omega (arith, awaited-append 
 awaited-le : (tag : Tag) (cs : List Tagged) (xs : List Outcome) → awaited tag cs xs ≤ count tag cs
 awaited-le tag [] xs = omega arith
 awaited-le tag (c ∷ cs) [] = omega arith
-awaited-le tag (c ∷ cs) (x ∷ xs) = omega (arith, unsettled_weight (is_told x) (same_tag c.1 tag), awaited-le tag cs xs)
+awaited-le tag (c ∷ cs) (x ∷ xs) = omega (arith, incomplete_weight (is_told x) (same_tag c.1 tag), awaited-le tag cs xs)
 
 awaited_none : (tag : Tag) (cs : List Tagged) (xs : List Outcome) → list_all is_told xs ≡ true → awaited tag cs xs ≡ 0
 awaited_none tag [] xs h = refl
@@ -247,15 +247,15 @@ told_from place (command ∷ commands) (x ∷ xs) h =
       | false ↦ again
     ])
 
--- where a command is awaited, its entry is not settled
-awaited_in : (tag : Tag) (place : ℕ) (e : Entry) → awaited tag (commands_in place e) (outcomes_in place e) ≤ weight (not (is_settled e) && owns tag e)
+-- where a command is awaited, its entry is not complete
+awaited_in : (tag : Tag) (place : ℕ) (e : Entry) → awaited tag (commands_in place e) (outcomes_in place e) ≤ weight (not (is_complete e) && owns tag e)
 awaited_in tag place e =
-    (elim (is_settled e) as (λ v. is_settled e ≡ v → awaited tag (commands_in place e) (outcomes_in place e) ≤ weight (not v && owns tag e)) [
+    (elim (is_complete e) as (λ v. is_complete e ≡ v → awaited tag (commands_in place e) (outcomes_in place e) ≤ weight (not v && owns tag e)) [
       | true ↦ λ is. omega (arith, awaited_none tag (commands_in place e) (outcomes_in place e) (told_from place (route_of_taken e.ring e.what) e.outcomes is))
       | false ↦ λ is. omega (arith, awaited-le tag (commands_in place e) (outcomes_in place e), count_in tag place e)
     ]) refl
 
-pub awaited_to : (tag : Tag) (place : ℕ) (es : Order) → All IsSized es → awaited tag (commands_to place es) (outcomes_to place es) ≤ unsettled_owners tag es
+pub awaited_to : (tag : Tag) (place : ℕ) (es : Order) → All IsSized es → awaited tag (commands_to place es) (outcomes_to place es) ≤ incomplete_owners tag es
 awaited_to tag place [] sized = omega arith
 awaited_to tag place (e ∷ es) sized =
     let here = lengths_in place e (All-head IsSized e es sized) in

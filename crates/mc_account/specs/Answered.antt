@@ -4,13 +4,13 @@ use Rattle.std.specs.List.{list_all}
 use Rattle.std.specs.Option.{option_map}
 use Rattle.mc_session.specs.SessionState.{SessionState, answered}
 use Rattle.mc_proxy.specs.ProxyState.{ProxyState, session_at}
-use Rattle.mc_account.specs.Orders.{Order, answers_of, entries_of, is_settled}
+use Rattle.mc_account.specs.Orders.{Order, answers_of, entries_of, is_complete}
 
--- So many of a session's first requests are settled, and the bytes that were taken out, with those that were put out and not
+-- So many of a session's first requests are complete, and the bytes that were taken out, with those that were put out and not
 -- taken out, are their answers.
 pub record AreAnswers (number : ℕ) (order : Order) (count : ℕ) (sent unsent : List ℕ) : Type 0 where
   pub within : count ≤ length (entries_of number order)
-  pub settled : list_all is_settled (take count (entries_of number order)) ≡ true
+  pub complete : list_all is_complete (take count (entries_of number order)) ≡ true
   pub answers : sent ++ unsent ≡ answers_of (take count (entries_of number order))
 
 -- what a client was sent: where its session is open, the answers to all requests that are answered, but for its output; where it

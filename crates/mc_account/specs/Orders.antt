@@ -82,8 +82,8 @@ abbrev pub IsSized : Entry → Type 0
 IsSized e = length e.outcomes ≡ length (route_of_taken e.ring e.what)
 
 -- whether it is known of each command of an entry what became of it
-abbrev pub is_settled : Entry → Bool
-is_settled e = list_all is_told e.outcomes
+abbrev pub is_complete : Entry → Bool
+is_complete e = list_all is_told e.outcomes
 
 -- whether a tag is of a command of an entry
 abbrev pub owns : Tag → Entry → Bool

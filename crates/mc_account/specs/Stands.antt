@@ -6,20 +6,20 @@ use Rattle.mc_request.specs.Requests.{requests_of}
 use Rattle.mc_request.specs.declared.parts.Taken.{Taken}
 use Rattle.mc_session.specs.SessionState.{SessionState, link_at}
 use Rattle.mc_proxy.specs.ProxyState.{ProxyState, session_at}
-use Rattle.mc_account.specs.Orders.{Order, AreInOrder, IsSized, answers_of, entries_of, is_settled, taken_of, unanswered_of}
+use Rattle.mc_account.specs.Orders.{Order, AreInOrder, IsSized, answers_of, entries_of, is_complete, taken_of, unanswered_of}
 use Rattle.mc_account.specs.Lanes.{Lane, LinkStands}
 
 -- The session of a number after a text has come and these bytes were taken out: what was taken of it is the first of the text,
--- in order, and what is left is the rest, whatever follows; its first requests are settled, and the bytes taken out and those
+-- in order, and what is left is the rest, whatever follows; its first requests are complete, and the bytes taken out and those
 -- that were not are their answers; the others are not answered.
 pub record SessionStands (number : ℕ) (order : Order) (text sent : List ℕ) (session : SessionState) : Type 0 where
   pub rest : (more : List ℕ) → taken_of number order ++ rest_of session.reader more ≡ requests_of (text ++ more)
   pub done : Order
-  pub unsettled : Order
-  pub split : entries_of number order ≡ done ++ unsettled
-  pub settled : list_all is_settled done ≡ true
+  pub incomplete : Order
+  pub split : entries_of number order ≡ done ++ incomplete
+  pub complete : list_all is_complete done ≡ true
   pub answered : sent ++ session.output ≡ answers_of done
-  pub unanswered : session.unanswered ≡ map unanswered_of unsettled
+  pub unanswered : session.unanswered ≡ map unanswered_of incomplete
   pub taken : session.taken ≡ length (entries_of number order)
 
 -- The same where it is open no more: the bytes taken out are the first of the answers to its first requests.
@@ -27,9 +27,9 @@ pub record SessionLeft (number : ℕ) (order : Order) (text sent : List ℕ) : T
   pub untaken : List Taken
   pub rest : taken_of number order ++ untaken ≡ requests_of text
   pub done : Order
-  pub unsettled : Order
-  pub split : entries_of number order ≡ done ++ unsettled
-  pub settled : list_all is_settled done ≡ true
+  pub incomplete : Order
+  pub split : entries_of number order ≡ done ++ incomplete
+  pub complete : list_all is_complete done ≡ true
   pub unsent : List ℕ
   pub answered : sent ++ unsent ≡ answers_of done
 

@@ -22,7 +22,7 @@ ghost use Rattle.mc_proxy.specs.ProxyState.{ProxyState, output_of, sent_by, sess
 ghost use Rattle.mc_proxy.specs.Turns.{Alone, Steps};
 ghost use Rattle.mc_account.specs.Lanes.{Lane, fresh_lane};
 ghost use Rattle.mc_account.specs.Lookups.{AreAwaited, IsAwaited, IsBefore, IsRoutedWithin, command_at, outcome_at};
-ghost use Rattle.mc_account.specs.Orders.{AreInOrder, Entry, IsSized, Order, Tagged, commands_to, entries_of, is_settled, note, note_all, outcomes_to};
+ghost use Rattle.mc_account.specs.Orders.{AreInOrder, Entry, IsSized, Order, Tagged, commands_to, entries_of, is_complete, note, note_all, outcomes_to};
 ghost use Rattle.mc_account.specs.Answered.{AreAnswers, WasAnswered, answered_at};
 ghost use Rattle.mc_account.specs.Stands.{ProxyStands, changed, grown};
 
@@ -147,7 +147,7 @@ pub fn joined_servers_stand()
         → ProxyStands texts sent order (changed place (fresh_lane (length order)) lanes) new }
 {}
 
-/// What each client was sent is the answers to its first requests, in their order, each settled. Of an open session these are
+/// What each client was sent is the answers to its first requests, in their order, each complete. Of an open session these are
 /// the requests that are answered, and its output is what of their answers was not taken out.
 pub fn clients_are_answered()
     ensures { (texts sent : ℕ → List ℕ) (order : Order) (lanes : ℕ → Lane) (now : ProxyState)
@@ -156,10 +156,10 @@ pub fn clients_are_answered()
 
 /// Where no command waits on any link, it is known of each what became of it: so each session can be answered to its last
 /// request.
-pub fn nothing_awaited_is_settled()
+pub fn nothing_awaited_is_complete()
     ensures { (texts sent : ℕ → List ℕ) (order : Order) (lanes : ℕ → Lane) (now : ProxyState)
         → ProxyStands texts sent order lanes now → ((place : ℕ) → (link_at now.links place).waiting ≡ [])
-        → list_all is_settled order ≡ true }
+        → list_all is_complete order ≡ true }
 {}
 
 /// Of an open session: the bytes that were taken out, and then its output, are the answers to the requests that are answered.

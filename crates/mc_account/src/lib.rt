@@ -8,7 +8,7 @@
 //! bytes are answers.
 //!
 //! Each function is a law; all of them do nothing. Most say how a call of [`mc_proxy::Proxy`] keeps it, by what the call's contract
-//! says. [`clients_are_answered`] and [`nothing_awaited_is_settled`] say what follows from it.
+//! says. [`clients_are_answered`] and [`nothing_awaited_is_complete`] say what follows from it.
 #![tactic(auto)]
 
 mod laws;
@@ -19,7 +19,7 @@ pub use laws::{
     bytes_sent_to_clients_stand, bytes_sent_to_servers_stand, clients_are_answered,
     commands_are_found, commands_rise, commands_stay_within, found_commands_are_there,
     idle_calls_stand, joined_servers_stand, known_commands_come_first, lost_links_stand,
-    nothing_awaited_is_settled, open_sessions_are_answered, pieces_stand, replies_stand,
+    nothing_awaited_is_complete, open_sessions_are_answered, pieces_stand, replies_stand,
     returned_links_stand, server_bytes_stand, sessions_gone_stand, taken_requests_stand,
     waiting_commands_are_awaited,
 };

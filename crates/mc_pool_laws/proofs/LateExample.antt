@@ -19,7 +19,7 @@ use Rattle.mc_world.specs.Logs.{IsRingAfter, Log, before, serves, takes}
 use Rattle.mc_pool_laws.specs.Told.{LinkHeld}
 use Rattle.mc_pool_laws.specs.Without.{AccountsBut, Allows, Unanswered}
 use Rattle.mc_pool_laws.proofs.SentLemmas.{in_request}
-use Rattle.mc_pool_laws.proofs.NeedLemmas.{a_cache, asked_by, asked_only, asked_text, few_of, first_only, first_there, flush, flush_asked, flush_text, flushed, moments_one, no_loss, once_in_one, one_here, one_of, one_outcome, one_server, outs_of, own_by, puts_one, serves_one, settled_of, takes_one}
+use Rattle.mc_pool_laws.proofs.NeedLemmas.{a_cache, asked_by, asked_only, asked_text, few_of, first_only, first_there, flush, flush_asked, flush_text, flushed, moments_one, no_loss, once_in_one, one_here, one_of, one_outcome, one_server, outs_of, own_by, puts_one, serves_one, complete_of, takes_one}
 use Rattle.mc_pool_laws.proofs.OrderExample.{reply_in, tag_is}
 
 abbrev replied : AskedFor
@@ -72,7 +72,7 @@ late_but = record {
       let there = first_there (flushed ∷ []) place k x also in
       let same = once_in_one flushed j k d x here.1 there.1 in
       absurd (omega (arith, less, same));
-  answered = λ keeps client. settled_of (0 == client) replied refl;
+  answered = λ keeps client. complete_of (0 == client) replied refl;
   put = λ keeps client. refl;
   few = λ keeps client. few_of (0 == client) replied;
   moments = λ keeps place. moments_one (0 == place) flushed refl;

@@ -30,7 +30,7 @@ use Rattle.mc_session.specs.Sending.{tag_of}
 use Rattle.mc_cache.specs.CacheState.{CacheState, opening_cache}
 use Rattle.mc_cache.specs.Step.{step_of}
 use Rattle.mc_account.specs.Lookups.{asked_at, command_at, outcome_at, outcome_in}
-use Rattle.mc_account.specs.Orders.{Entry as AskedFor, IsSized, Order, answers_of, entries_of, is_settled, taken_of}
+use Rattle.mc_account.specs.Orders.{Entry as AskedFor, IsSized, Order, answers_of, entries_of, is_complete, taken_of}
 use Rattle.mc_history.specs.declared.entries.Entry.{Entry}
 use Rattle.mc_history.specs.Histories.{IsLegal, tag_in}
 use Rattle.mc_world.specs.Accounts.{WasTaken}
@@ -149,9 +149,9 @@ pub one_of : {X : Type 0} (v : Bool) (x : X) → length (if v then x ∷ [] else
 one_of true x = refl
 one_of false x = refl
 
-pub settled_of : (v : Bool) (e : AskedFor) → is_settled e ≡ true → list_all is_settled (take (if v then suc 0 else 0) (if v then e ∷ [] else [])) ≡ true
-settled_of true e known = ap (λ (b : Bool). b && true) known
-settled_of false e known = refl
+pub complete_of : (v : Bool) (e : AskedFor) → is_complete e ≡ true → list_all is_complete (take (if v then suc 0 else 0) (if v then e ∷ [] else [])) ≡ true
+complete_of true e known = ap (λ (b : Bool). b && true) known
+complete_of false e known = refl
 
 pub few_of : {X : Type 0} (v : Bool) (x : X) → (if v then suc 0 else 0) ≤ length (if v then x ∷ [] else [])
 few_of true x = omega arith
@@ -203,7 +203,7 @@ answered_but : (one : Clause) (ring by : RingState) (what : Taken) (told : List 
     → (one ≢ Asked → (client : ℕ) → (untaken : List Taken) × (taken_of client (asked_by by what told ∷ []) ++ untaken ≡ requests_of (texts client)))
     → (one ≢ Rings → by ≡ ring)
     → (one ≢ Sized → IsSized (asked_by by what told))
-    → (one ≢ Answered → is_settled (asked_by by what told) ≡ true)
+    → (one ≢ Answered → is_complete (asked_by by what told) ≡ true)
     → (one ≢ Replied → (tag : Tag) (reply : AReply (List ℕ)) → outcome_at (asked_by by what told ∷ []) tag ≡ Some (outcomes.Reply reply) → ⊥)
     → (one ≢ Lost → (tag : Tag) → outcome_at (asked_by by what told ∷ []) tag ≡ Some outcomes.Lost → ⊥)
     → AccountsBut one ring a_cache (asked_by by what told ∷ []) texts (outs_of (asked_by by what told ∷ []) answered_log) no_history answered_log
@@ -223,7 +223,7 @@ answered_but one ring by what told texts asked routed sized known replied lost =
       replied = λ keeps tag place atom reply at became. absurd (replied keeps tag reply became);
       lost = λ keeps tag place atom at became. absurd (lost keeps tag became);
       ordered = λ keeps place j k d x r q at. absurd (none_there j d at);
-      answered = λ keeps client. settled_of (0 == client) e (known keeps);
+      answered = λ keeps client. complete_of (0 == client) e (known keeps);
       put = λ keeps client. refl;
       few = λ keeps client. few_of (0 == client) e;
       moments = λ keeps place. refl;
@@ -373,7 +373,7 @@ nothing_but : (one : Clause) (outs : ℕ → List ℕ) (log : Log)
     → (one ≢ Turns → (client : ℕ) → 0 ≡ number_of (takes client) log)
     → (one ≢ Put → (client : ℕ) → outs client ≡ outs_of [] log client)
     → (one ≢ Few → (client : ℕ) → number_of (puts client) log ≤ 0)
-    → (one ≢ Answered → (client : ℕ) → list_all is_settled (take (number_of (puts client) log) []) ≡ true)
+    → (one ≢ Answered → (client : ℕ) → list_all is_complete (take (number_of (puts client) log) []) ≡ true)
     → (one ≢ Moments → (place : ℕ) → [] ≡ moments_of place log)
     → AccountsBut one one_server a_cache [] no_text outs no_history log
 nothing_but one outs log turns put few answered moments = record {
@@ -422,7 +422,7 @@ without_put = (
 )
 
 -- a put without an answer
-put_nothing : (v : Bool) → list_all is_settled (take (if v then suc 0 else 0) []) ≡ true
+put_nothing : (v : Bool) → list_all is_complete (take (if v then suc 0 else 0) []) ≡ true
 put_nothing true = refl
 put_nothing false = refl
 
@@ -459,11 +459,11 @@ without_moments = (
 abbrev awaited : Order
 awaited = asked_by one_server flush_asked (outcomes.Awaited ∷ []) ∷ []
 
-none_settled : (order : Order) (n : ℕ) → n ≡ 0 → list_all is_settled (take n order) ≡ true
-none_settled [] zero none = refl
-none_settled [] (suc n) none = refl
-none_settled (e ∷ es) zero none = refl
-none_settled (e ∷ es) (suc n) none = absurd (omega (arith, none))
+none_complete : (order : Order) (n : ℕ) → n ≡ 0 → list_all is_complete (take n order) ≡ true
+none_complete [] zero none = refl
+none_complete [] (suc n) none = refl
+none_complete (e ∷ es) zero none = refl
+none_complete (e ∷ es) (suc n) none = absurd (omega (arith, none))
 
 none_out : (order : Order) (n : ℕ) → n ≡ 0 → [] ≡ answers_of (take n order)
 none_out [] zero none = refl
@@ -503,7 +503,7 @@ served_but one es log turns ring legal once none moments placed =
       replied = λ keeps tag place atom reply at became. absurd (no_reply one_server flush_asked outcomes.Awaited refl tag reply became);
       lost = λ keeps tag place atom at became. absurd (no_loss one_server flush_asked outcomes.Awaited refl tag became);
       ordered = λ keeps place j k d x r q at also less same became. absurd (no_reply one_server flush_asked outcomes.Awaited refl (tag_in d) r became);
-      answered = λ keeps client. none_settled (entries_of client awaited) (number_of (puts client) log) (none client);
+      answered = λ keeps client. none_complete (entries_of client awaited) (number_of (puts client) log) (none client);
       put = λ keeps client. none_out (entries_of client awaited) (number_of (puts client) log) (none client);
       few = λ keeps client. (let nothing = none client in omega (arith, nothing));
       moments = λ keeps. moments;

@@ -21,7 +21,7 @@ use Rattle.mc_route.specs.declared.routes.Routed.{Routed}
 use Rattle.mc_link.specs.declared.turns.Tag.{Tag}
 use Rattle.mc_session.specs.Sending.{tag_of}
 use Rattle.mc_account.specs.Lookups.{asked_at, command_at, outcome_at}
-use Rattle.mc_account.specs.Orders.{Entry as AskedFor, IsSized, Order, is_settled}
+use Rattle.mc_account.specs.Orders.{Entry as AskedFor, IsSized, Order, is_complete}
 use Rattle.mc_history.specs.declared.entries.Entry.{Entry}
 use Rattle.mc_history.specs.Histories.{HasReply, IsBefore, IsLegal, tag_in}
 use Rattle.mc_world.specs.Accounts.{NotAnswered, WasTaken}
@@ -86,9 +86,9 @@ many_by : (v : Bool) → length (mine v) ≡ many v
 many_by true = refl
 many_by false = refl
 
-settled_by : (v : Bool) → list_all is_settled (take (many v) (mine v)) ≡ true
-settled_by true = refl
-settled_by false = refl
+complete_by : (v : Bool) → list_all is_complete (take (many v) (mine v)) ≡ true
+complete_by true = refl
+complete_by false = refl
 
 few_by : (v : Bool) → many v ≤ length (mine v)
 few_by true = omega arith
@@ -212,7 +212,7 @@ two_but = record {
   replied = λ keeps. replied_by;
   lost = λ keeps tag place atom at became. absurd (true≢false (ap is_lost (two_outcome tag outcomes.Lost became)));
   ordered = λ keeps. absurd (keeps refl);
-  answered = λ keeps client. settled_by (0 == client);
+  answered = λ keeps client. complete_by (0 == client);
   put = λ keeps client. refl;
   few = λ keeps client. few_by (0 == client);
   moments = λ keeps place. moments_by (0 == place);

@@ -16,7 +16,7 @@ use Rattle.mc_session.specs.Emits.{answer_by, is_told}
 use Rattle.mc_session.specs.Sending.{tag_of}
 use Rattle.mc_cache.specs.CacheState.{CacheState}
 use Rattle.mc_account.specs.Lookups.{asked_at, command_at, command_in, outcome_at, outcome_in}
-use Rattle.mc_account.specs.Orders.{Entry as Asked, IsSized, Order, answers_of, entries_of, is_settled}
+use Rattle.mc_account.specs.Orders.{Entry as Asked, IsSized, Order, answers_of, entries_of, is_complete}
 use Rattle.mc_history.specs.declared.entries.Entry.{Entry}
 use Rattle.mc_world.specs.Accounts.{Accounts}
 use Rattle.mc_world.specs.Logs.{Log, number_of, puts}
@@ -81,10 +81,10 @@ known_at ring opening order texts outs histories log h tag command at answered =
     let sized : length e.outcomes ≡ length (route_of_taken e.ring e.what) = sized_at tag.session order tag.request e h.sized found.1 in
     let inside = got_inside (route_of_taken e.ring e.what) tag.atom command found.2 in
     let outcome = got_some e.outcomes tag.atom (omega (arith, sized, inside)) in
-    let settled : is_settled e ≡ true =
-    passes_at is_settled (take (number_of (puts tag.session) log) (entries_of tag.session order)) tag.request e (h.answered tag.session)
+    let complete : is_complete e ≡ true =
+    passes_at is_complete (take (number_of (puts tag.session) log) (entries_of tag.session order)) tag.request e (h.answered tag.session)
     (got_taken (number_of (puts tag.session) log) (entries_of tag.session order) tag.request e answered found.1) in
-    (outcome.0, ap (λ (o : Option Asked). outcome_in o tag.atom) found.1 ∙ outcome.1, passes_at is_told e.outcomes tag.atom outcome.0 settled outcome.1)
+    (outcome.0, ap (λ (o : Option Asked). outcome_in o tag.atom) found.1 ∙ outcome.1, passes_at is_told e.outcomes tag.atom outcome.0 complete outcome.1)
 
 -- and the histories and the log tell it
 pub told_by : (ring : RingState) (opening : CacheState) (order : Order) (texts outs : ℕ → List ℕ) (histories : ℕ → List Entry) (log : Log)
@@ -110,9 +110,9 @@ are_told histories log client request at (c ∷ cs) (o ∷ os) size each = (
 
 -- the answer to a request of which all is known
 pub answer_to : (ring : RingState) (opening : CacheState) (order : Order) (texts outs : ℕ → List ℕ) (histories : ℕ → List Entry) (log : Log)
-    → Accounts ring opening order texts outs histories log → (client request : ℕ) (e : Asked) → asked_at order client request ≡ Some e → is_settled e ≡ true
+    → Accounts ring opening order texts outs histories log → (client request : ℕ) (e : Asked) → asked_at order client request ≡ Some e → is_complete e ≡ true
     → IsAnswerTo ring texts histories log client request (answer_by e.what e.outcomes)
-answer_to ring opening order texts outs histories log h client request e at settled =
+answer_to ring opening order texts outs histories log h client request e at complete =
     record {
       what = e.what;
       ring = e.ring;
@@ -125,7 +125,7 @@ answer_to ring opening order texts outs histories log h client request e at sett
           told_by ring opening order texts outs histories log h (tag_of client request n) command outcome
           (ap (λ (o : Option Asked). command_in o n) at ∙ ap (λ (m : ℕ). slice_get (route_of_taken e.ring e.what) m) same ∙ there)
           (ap (λ (o : Option Asked). outcome_in o n) at ∙ ap (λ (m : ℕ). slice_get e.outcomes m) same ∙ became)
-          (passes_at is_told e.outcomes k outcome settled became));
+          (passes_at is_told e.outcomes k outcome complete became));
       bytes = refl;
     }
 
@@ -159,5 +159,5 @@ put_answers ring opening order texts outs histories log h client =
           let same : k ≡ m = omega (arith, is) in
           answer_to ring opening order texts outs histories log h client m e
           (ap (λ (j : ℕ). slice_get (entries_of client order) j) (sym same) ∙ got_front n (entries_of client order) k e there)
-          (passes_at is_settled es k e (h.answered client) there)),
+          (passes_at is_complete es k e (h.answered client) there)),
     )

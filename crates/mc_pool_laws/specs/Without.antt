@@ -12,7 +12,7 @@ use Rattle.mc_route.specs.declared.outcomes.Outcome.TheVariants as outcomes
 use Rattle.mc_link.specs.declared.turns.Tag.{Tag}
 use Rattle.mc_cache.specs.CacheState.{CacheState}
 use Rattle.mc_account.specs.Lookups.{asked_at, command_at, outcome_at}
-use Rattle.mc_account.specs.Orders.{Entry as AskedFor, IsSized, Order, answers_of, entries_of, is_settled, taken_of}
+use Rattle.mc_account.specs.Orders.{Entry as AskedFor, IsSized, Order, answers_of, entries_of, is_complete, taken_of}
 use Rattle.mc_history.specs.declared.entries.Entry.{Entry}
 use Rattle.mc_history.specs.Histories.{HasReply, IsBefore, IsLegal, tag_in}
 use Rattle.mc_world.specs.Accounts.{IsToldLost, NotAnswered, WasTaken}
@@ -52,7 +52,7 @@ pub record AccountsBut (one : Clause) (ring : RingState) (opening : CacheState) 
   pub ordered : one ≢ Ordered → (place j k : ℕ) (d e : Entry) (r q : AReply (List ℕ)) → slice_get (histories place) j ≡ Some d
       → slice_get (histories place) k ≡ Some e → j < k → d.client ≡ e.client → outcome_at order (tag_in d) ≡ Some (outcomes.Reply r)
       → outcome_at order (tag_in e) ≡ Some (outcomes.Reply q) → IsBefore (tag_in d) (tag_in e)
-  pub answered : one ≢ Answered → (client : ℕ) → list_all is_settled (take (number_of (puts client) log) (entries_of client order)) ≡ true
+  pub answered : one ≢ Answered → (client : ℕ) → list_all is_complete (take (number_of (puts client) log) (entries_of client order)) ≡ true
   pub put : one ≢ Put → (client : ℕ) → outs client ≡ answers_of (take (number_of (puts client) log) (entries_of client order))
   pub few : one ≢ Few → (client : ℕ) → number_of (puts client) log ≤ length (entries_of client order)
   pub moments : one ≢ Moments → (place : ℕ) → map (λ (e : Entry). e.moment) (histories place) ≡ moments_of place log

@@ -7,4 +7,4 @@ pub mod JoinLemmas
 pub mod GoodLemmas
 pub mod HistoryLemmas
 pub mod EntryLemmas
-pub mod SettledLemmas
+pub mod CompleteLemmas

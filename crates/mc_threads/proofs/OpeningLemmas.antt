@@ -64,7 +64,7 @@ talks_opens ring is_ring = record {
   stands = record {
     sized = All-nil IsSized;
     numbered = λ number. refl;
-    sessions = λ number. record { untaken = []; rest = sym no_requests; done = []; unsettled = []; split = refl; settled = refl; unsent = []; answered = refl };
+    sessions = λ number. record { untaken = []; rest = sym no_requests; done = []; incomplete = []; split = refl; complete = refl; unsent = []; answered = refl };
     unused = λ number above. record { not_open = refl; nothing_came = refl; nothing_taken = refl; nothing_sent = refl };
     links = λ place. link_opens (length ring.servers) place;
   };

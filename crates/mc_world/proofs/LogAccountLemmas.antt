@@ -114,7 +114,7 @@ log_accounts ring opening texts sent order lanes outs log pool stands h =
           replied_at opening texts sent order lanes pool place tag atom reply stands (commands_within (length pool.sites) order h.requests.inside tag (to_place place atom) command) command known;
       lost = λ tag place atom command lost. h.commands.told tag place atom Lost command lost;
       ordered = λ place j k d e r q first second lt same replied also. ordered_replies order d e r q (h.histories.ordered place j k d e first second lt) same replied also;
-      answered = λ client. (h.answers.put client).settled;
+      answered = λ client. (h.answers.put client).complete;
       put = λ client. sym (append-nil (outs client)) ∙ (h.answers.put client).answers;
       few = λ client. (h.answers.put client).within;
       moments = h.histories.moments;

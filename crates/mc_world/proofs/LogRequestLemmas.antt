@@ -100,7 +100,7 @@ answers_put texts sent order lanes client outs outs' log e old new own none was 
     let all = open_answered texts sent order lanes new is client steps.after now_at in
     let mine : AreAnswers client order (answered steps.after) (outs' client) [] = record {
       within = all.within;
-      settled = all.settled;
+      complete = all.complete;
       answers = append-nil (outs' client) ∙ out ∙ all.answers;
     } in
     record {

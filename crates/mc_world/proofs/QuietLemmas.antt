@@ -19,9 +19,9 @@ use Rattle.mc_server.specs.Turns.{waiting_of}
 use Rattle.mc_session.specs.Emits.{is_told}
 use Rattle.mc_session.specs.SessionState.{SessionState, Unanswered, link_at}
 use Rattle.mc_proxy.specs.ProxyState.{output_of as output_at, session_at}
-use Rattle.mc_account.specs.Orders.{Entry as Asked, Order, entries_of, is_settled, outcomes_to, taken_of, unanswered_of}
+use Rattle.mc_account.specs.Orders.{Entry as Asked, Order, entries_of, is_complete, outcomes_to, taken_of, unanswered_of}
 use Rattle.mc_account.specs.Stands.{SessionStands, SessionStandsAt}
-use Rattle.mc_account.proofs.LaneLemmas.{settled_order, up_is_there}
+use Rattle.mc_account.proofs.LaneLemmas.{complete_order, up_is_there}
 use Rattle.mc_account.proofs.OpenSessions.{own_number}
 use Rattle.mc_account.proofs.OrderLemmas.{passes_parts, told_whole}
 use Rattle.mc_world.specs.Applies.{IsUp, way_of}
@@ -37,7 +37,7 @@ use Rattle.mc_world.proofs.RunLemmas.{course_called}
 use Rattle.mc_world.proofs.WorldOpeningLemmas.{course_opens}
 use Rattle.mc_world.specs.Quiet.{IsQuiet, is_inner}
 use Rattle.mc_world.proofs.QuietLinkLemmas.{living_none, none_left, some_at}
-use Rattle.mc_world.proofs.QuietSessionLemmas.{settled_of, unanswered_none, untaken_none}
+use Rattle.mc_world.proofs.QuietSessionLemmas.{complete_of, unanswered_none, untaken_none}
 
 -- nothing can be done inside
 abbrev pub IsStuck : PoolState → Type 0
@@ -118,10 +118,10 @@ session_quiet : (ring : RingState) (opening : CacheState) (c : CourseState) → 
 session_quiet ring opening c h stuck few client session at =
     let s : SessionStands client h.order (text_of c client) (taken_by c client) session =
     subst (λ (o : Option SessionState). SessionStandsAt client h.order (text_of c client) (taken_by c client) o) at (h.pool.proxy.sessions client) in
-    let settled = settled_order h.order h.pool.proxy.sized (told_at ring opening c h stuck) in
-    let own = settled_of client h.order settled in
-    let later = (passes_parts is_settled s.done s.unsettled (ap (λ (es : Order). list_all is_settled es) (sym s.split) ∙ own)).1 in
-    let none = unanswered_none session s.unsettled s.unanswered later (λ some. stuck (Emit client) refl (session, at, some)) in
+    let complete = complete_order h.order h.pool.proxy.sized (told_at ring opening c h stuck) in
+    let own = complete_of client h.order complete in
+    let later = (passes_parts is_complete s.done s.incomplete (ap (λ (es : Order). list_all is_complete es) (sym s.split) ∙ own)).1 in
+    let none = unanswered_none session s.incomplete s.unanswered later (λ some. stuck (Emit client) refl (session, at, some)) in
     let no_unanswered : session.unanswered ≡ [] = s.unanswered ∙ ap (λ (es : Order). map unanswered_of es) none in
     let no_output : session.output ≡ [] = none_left session.output
     (λ can. stuck (ClientTakes client 1) refl (subst (λ (o : Option SessionState). (0 < 1) × (0 < length (output_at o))) (sym at) can)) in

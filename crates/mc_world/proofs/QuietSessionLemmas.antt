@@ -13,19 +13,19 @@ use Rattle.mc_session.specs.Sending.{is_link_marked, is_marked}
 use Rattle.mc_session.specs.SessionState.{SessionState, link_at}
 use Rattle.mc_session.specs.declared.limits.TheConstants.{LINK_MARK, MAX_UNANSWERED, UNSENT_MARK}
 use Rattle.mc_session.specs.SessionState.{Unanswered}
-use Rattle.mc_account.specs.Orders.{Order, entries_of, is_settled, unanswered_of}
+use Rattle.mc_account.specs.Orders.{Order, entries_of, is_complete, unanswered_of}
 
--- the requests of one session among settled ones are
-pub settled_of : (session : ℕ) (order : Order) → list_all is_settled order ≡ true → list_all is_settled (entries_of session order) ≡ true
-settled_of session [] settled = refl
-settled_of session (e ∷ es) settled =
-    let parts = and_parts (is_settled e) (list_all is_settled es) settled in
-    (elim (e.session == session) as (λ v. list_all is_settled (if v then e ∷ entries_of session es else entries_of session es) ≡ true) [
-      | true ↦ and_from (is_settled e) (list_all is_settled (entries_of session es)) parts.0 (settled_of session es parts.1)
-      | false ↦ settled_of session es parts.1
+-- the requests of one session among complete ones are
+pub complete_of : (session : ℕ) (order : Order) → list_all is_complete order ≡ true → list_all is_complete (entries_of session order) ≡ true
+complete_of session [] complete = refl
+complete_of session (e ∷ es) complete =
+    let parts = and_parts (is_complete e) (list_all is_complete es) complete in
+    (elim (e.session == session) as (λ v. list_all is_complete (if v then e ∷ entries_of session es else entries_of session es) ≡ true) [
+      | true ↦ and_from (is_complete e) (list_all is_complete (entries_of session es)) parts.0 (complete_of session es parts.1)
+      | false ↦ complete_of session es parts.1
     ])
 
--- the oldest of settled ones can be answered
+-- the oldest of complete ones can be answered
 can_answer : (session : SessionState) (u : Unanswered) (us : List Unanswered) → is_known u ≡ true → emitted_from session (u ∷ us) ≢ None
 can_answer session u us known none =
     (elim (is_known u) as (λ v. v ≡ true → (if v then Some (record session { output = session.output ++ answer_of_one u; unanswered = us }) else None) ≡ None → ⊥) [
@@ -34,12 +34,12 @@ can_answer session u us known none =
     ]) known none
 
 -- so none is left where none can be answered
-pub unanswered_none : (session : SessionState) (unsettled : Order) → session.unanswered ≡ map unanswered_of unsettled → list_all is_settled unsettled ≡ true
-    → (emitted session ≢ None → ⊥) → unsettled ≡ []
-unanswered_none session [] unanswered settled never = refl
-unanswered_none session (e ∷ es) unanswered settled never =
+pub unanswered_none : (session : SessionState) (incomplete : Order) → session.unanswered ≡ map unanswered_of incomplete → list_all is_complete incomplete ≡ true
+    → (emitted session ≢ None → ⊥) → incomplete ≡ []
+unanswered_none session [] unanswered complete never = refl
+unanswered_none session (e ∷ es) unanswered complete never =
     absurd (never (subst (λ (us : List Unanswered). emitted_from session us ≢ None) (sym unanswered)
-    (can_answer session (unanswered_of e) (map unanswered_of es) (and_parts (is_settled e) (list_all is_settled es) settled).0)))
+    (can_answer session (unanswered_of e) (map unanswered_of es) (and_parts (is_complete e) (list_all is_complete es) complete).0)))
 
 -- a link with nothing to send has reached no mark
 link_unmarked : (link : LinkState) → link.output ≡ [] → is_link_marked link ≡ false

@@ -11,7 +11,7 @@ use Rattle.mc_route.specs.Routes.{to_place}
 use Rattle.mc_route.specs.declared.outcomes.Outcome.TheVariants.{Lost, Reply}
 use Rattle.mc_link.specs.declared.turns.Tag.{Tag}
 use Rattle.mc_cache.specs.CacheState.{CacheState}
-use Rattle.mc_account.specs.Orders.{Entry as Asked, IsSized, Order, answers_of, entries_of, is_settled, taken_of}
+use Rattle.mc_account.specs.Orders.{Entry as Asked, IsSized, Order, answers_of, entries_of, is_complete, taken_of}
 use Rattle.mc_history.specs.declared.entries.Entry.{Entry}
 use Rattle.mc_world.specs.Logs.{IsRingAfter, Log, before, is_up, loses, moments_of, number_of, puts, serves, takes}
 use Rattle.mc_history.specs.Histories.{HasNone, HasReply, IsBefore, IsLegal, tag_in}
@@ -64,7 +64,7 @@ pub record Accounts (ring : RingState) (opening : CacheState) (order : Order) (t
   pub ordered : (place j k : ℕ) (d e : Entry) (r q : AReply (List ℕ)) → slice_get (histories place) j ≡ Some d → slice_get (histories place) k ≡ Some e → j < k
       → d.client ≡ e.client → outcome_at order (tag_in d) ≡ Some (Reply r) → outcome_at order (tag_in e) ≡ Some (Reply q) → IsBefore (tag_in d) (tag_in e)
   -- what was put out to a client is the answers to its first requests, one for each put
-  pub answered : (client : ℕ) → list_all is_settled (take (number_of (puts client) log) (entries_of client order)) ≡ true
+  pub answered : (client : ℕ) → list_all is_complete (take (number_of (puts client) log) (entries_of client order)) ≡ true
   pub put : (client : ℕ) → outs client ≡ answers_of (take (number_of (puts client) log) (entries_of client order))
   pub few : (client : ℕ) → number_of (puts client) log ≤ length (entries_of client order)
   -- a history has one entry for each turn of its server, at its moment; its request was taken before, and answered after where it was replied

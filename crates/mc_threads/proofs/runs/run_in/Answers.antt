@@ -6,7 +6,7 @@ use Rattle.mc_threads.specs.Talks.{came_from, went_to}
 use Rattle.mc_threads.specs.Workers.{IsWorked}
 use Rattle.mc_threads.proofs.JoinLemmas.{fresh_ends, worked_at}
 use Rattle.mc_threads.proofs.ListLemmas.{still_of}
-use Rattle.mc_threads.proofs.SettledLemmas.{settles}
+use Rattle.mc_threads.proofs.CompleteLemmas.{completes}
 use Rattle.mc_threads.proofs.TalkLemmas.{talks_as}
 use Rattle.mc_threads.proofs.runs.run_in.Goals as goal
 
@@ -33,7 +33,7 @@ returns-in-Ok-clause-account g c =
     let talks = talks_as ring clients texts texts (λ _. []) (outs_of outputs) (λ _. []) (went_to began) (λ _. []) (came_from began) c.in_ok-proxy.proxy
     (λ n. refl) (λ n. sym (c.in_ok-outputs.ensures.empty n)) (λ n. sym (fresh n).0) (λ n. sym (fresh n).1) c.in_ok-proxy.ensures in
     let ended = c.in-Ok.ensures.ended ring clients texts (many ∙ lens.0 ∙ servers) (several ∙ c.in_ok-outputs.ensures.len) talks in
-    settles ring (opening_cache c.args.config.now.budget c.args.config.now.items 0) clients texts (outs_of c.talk_all.new.outputs.items) ended.went (came_from ends)
+    completes ring (opening_cache c.args.config.now.budget c.args.config.now.items 0) clients texts (outs_of c.talk_all.new.outputs.items) ended.went (came_from ends)
     (at (map g.C.Clock.times c.args.clocks.items)) (at (map g.C.Clock.times c.in_ok-clocks-in-Ok.clocks.items)) c.talk_all.new.proxy
     (opening_is_good c.args.config.now.budget c.args.config.now.items 0 c.requires.bounds.some_items (omega arith)) ended.talks ended.quiet
     (λ server low.

@@ -56,7 +56,7 @@ map_none (e ∷ es) h = absurd cc
 over_answered : (client : ℕ) (order : Order) (text out : List ℕ) (s : SessionState) → SessionStands client order text out s → rest_of s.reader [] ≡ []
     → length s.unanswered ≡ 0 → s.output ≡ [] → IsOver order text out client
 over_answered client order text out s h taken answered moved =
-    let none : h.unsettled ≡ [] = map_none h.unsettled (sym h.unanswered ∙ none_of s.unanswered answered) in
+    let none : h.incomplete ≡ [] = map_none h.incomplete (sym h.unanswered ∙ none_of s.unanswered answered) in
     let all : entries_of client order ≡ h.done = h.split ∙ ap (λ (es : Order). h.done ++ es) none ∙ append-nil h.done in
     record {
       asked = sym (append-nil (taken_of client order)) ∙ ap (λ (ts : List Taken). taken_of client order ++ ts) (sym taken) ∙ h.rest [] ∙ ap requests_of (append-nil text);
@@ -209,11 +209,11 @@ all_replies (m ∷ ms) = all_replies ms
 
 -- A run in which the caller's thread is through with all clients and servers, and in which each server's worker received what its link
 -- sent and `quit`, and sent what came.
-pub settles : (ring : RingState) (opening : CacheState) (clients : ℕ) (texts outs went came began ended : ℕ → List ℕ) (proxy : ProxyState) → IsGoodCache opening
+pub completes : (ring : RingState) (opening : CacheState) (clients : ℕ) (texts outs went came began ended : ℕ → List ℕ) (proxy : ProxyState) → IsGoodCache opening
     → Talks ring clients texts outs went came proxy → IsQuiet clients (length ring.servers) proxy
     → ((server : ℕ) → server < length ring.servers → (history : List Taking) × IsWorked opening (began server) (ended server) (went server ++ codes "quit\r\n") (came server) history)
     → Account ring opening texts outs began ended
-settles ring opening clients texts outs went came began ended proxy good_cache h quiet worked =
+completes ring opening clients texts outs went came began ended proxy good_cache h quiet worked =
     let over : (client : ℕ) → IsOver h.order (texts client) (outs client) client = λ client. ⊎_elim
     (λ below. let q = quiet.answered client below in
     let o = h.is_open client below in
