@@ -21,6 +21,7 @@ use Rattle.mc_request.specs.declared.names.Name.TheVariants as names
 use Rattle.mc_request.specs.declared.parts.Direction.{Direction}
 use Rattle.mc_request.specs.declared.parts.Direction.TheVariants.{Up, Down}
 use Rattle.mc_request.specs.declared.parts.StoreMode.{StoreMode}
+use Rattle.mc_request.specs.declared.parts.StoreMode.TheVariants.{Set, Add, Replace, Append, Prepend}
 use Rattle.mc_request.specs.declared.parts.Update.{Update}
 use Rattle.mc_request.specs.declared.parts.Update.TheVariants.{Store, Touch, Delete, Count, FlushAll}
 use Rattle.mc_request.specs.declared.parts.Taken.{Taken}
@@ -162,12 +163,12 @@ store_good mode compares (key ∷ flags ∷ exptime ∷ len ∷ more) =
 
 -- a line that has so many words as its command has
 named_good : (name : Name) (words : List (List ℕ)) → has_arity name words ≡ true → holds (is_good_line (announced name words)) (line_named name words) ≡ true
-named_good names.Set words h = store_good _ _ words
-named_good names.Add words h = store_good _ _ words
-named_good names.Replace words h = store_good _ _ words
-named_good names.Append words h = store_good _ _ words
-named_good names.Prepend words h = store_good _ _ words
-named_good names.Cas words h = store_good _ _ words
+named_good names.Set words h = store_good Set false words
+named_good names.Add words h = store_good Add false words
+named_good names.Replace words h = store_good Replace false words
+named_good names.Append words h = store_good Append false words
+named_good names.Prepend words h = store_good Prepend false words
+named_good names.Cas words h = store_good Set true words
 named_good names.Get words h = keys_good None false words refl h
 named_good names.Gets words h = keys_good None true words refl h
 named_good names.Gat words h = gat_good false words h
