@@ -1,2 +1,2 @@
 pub mod EntryLemmas
-mod RisesLemmas
+pub mod RisesLemmas

@@ -1,5 +1,5 @@
 -- Entries by their places: what a search finds, and what a change leaves.
-use Rattle.std.proofs.Common.{◌≡◌, ◌≢◌, ℕ, zero, suc, ◌+◌, ◌==◌, ◌<◌, ◌≤◌, List, [], ◌∷◌, ◌++◌, length, get_or, set, Some, None, Result, Ok, Err, refl, sym, ap, subst, arith}
+use Rattle.std.proofs.Common.{◌≡◌, ◌≢◌, ℕ, zero, suc, ◌+◌, ◌==◌, ◌<◌, ◌≤◌, List, [], ◌∷◌, ◌++◌, length, get_or, set, Some, None, Result, Ok, Err, refl, sym, ap, subst, ◌∙◌, arith}
 use Rattle.std.specs.Prelude.{remove, IfSome, IfNone}
 use Rattle.std.specs.Result.{result_ok}
 use Rattle.std.specs.List.Sorted.{IsSearchInRange, IsBinarySearchResult, IsNonDecreasingBy}
@@ -84,7 +84,7 @@ module _ {T : Type 0} where
       grind (arith, nat_tests, is, above, entry_at (e.0 + 1) es next number place default rises.1 (omega arith) is)
 
   -- it is the one that is updated
-  pub set_at : (low : ℕ) (es : List (ℕ × T)) (next number place : ℕ) (default : ℕ × T) (after : T) → Rises low es next → place < length es → (get_or es place default).0 ≡ number
+  set_at : (low : ℕ) (es : List (ℕ × T)) (next number place : ℕ) (default : ℕ × T) (after : T) → Rises low es next → place < length es → (get_or es place default).0 ≡ number
       → set es place (number, after) ≡ updated number after es
   set_at low [] next number place default after rises inside is = absurd (omega arith)
   set_at low (e ∷ es) next number zero default after rises inside is = grind (arith, nat_tests, is)
@@ -93,7 +93,7 @@ module _ {T : Type 0} where
       grind (arith, nat_tests, is, above, set_at (e.0 + 1) es next number place default after rises.1 (omega arith) is)
 
   -- and the one that is taken out
-  pub remove_at : (low : ℕ) (es : List (ℕ × T)) (next number place : ℕ) (default : ℕ × T) → Rises low es next → place < length es → (get_or es place default).0 ≡ number
+  remove_at : (low : ℕ) (es : List (ℕ × T)) (next number place : ℕ) (default : ℕ × T) → Rises low es next → place < length es → (get_or es place default).0 ≡ number
       → remove es place ≡ without number es
   remove_at low [] next number place default rises inside is = absurd (omega arith)
   remove_at low (e ∷ es) next number zero default rises inside is = grind (arith, nat_tests, is)
@@ -137,3 +137,18 @@ module _ {T : Type 0} where
               λ (above : place ≤ i). ranked _ number _ (sym ((parted comparisons_rise).1 i default above lt)),
             ));
       }
+
+  -- what was read where the number is, is its entry
+  pub entry_there : (es : List (ℕ × T)) (next number place : ℕ) (own : ℕ × T) → Rises 0 es next → IsAt es number place → own ≡ get_or es place own → Some own.1 ≡ entry_of es number
+  entry_there es next number place own rises at is =
+      ap (λ (e : ℕ × T). Some e.1) is ∙ sym (entry_at 0 es next number place own rises at.inside (at.has_number own))
+
+  -- what is written there updates it
+  pub set_there : (es : List (ℕ × T)) (next number place : ℕ) (after : T) → Rises 0 es next → IsAt es number place
+      → set es place ((get_or es place (0, after)).0, after) ≡ updated number after es
+  set_there es next number place after rises at =
+      ap (λ (n : ℕ). set es place (n, after)) (at.has_number (0, after)) ∙ set_at 0 es next number place (0, after) after rises at.inside (at.has_number (0, after))
+
+  -- and what is removed there is taken out
+  pub remove_there : (es : List (ℕ × T)) (next number place : ℕ) (own : T) → Rises 0 es next → IsAt es number place → remove es place ≡ without number es
+  remove_there es next number place own rises at = remove_at 0 es next number place (0, own) rises at.inside (at.has_number (0, own))

@@ -30,7 +30,7 @@ impl<T> Model for Numbered<T> {
 
 impl<T> Numbered<T> {
     ghost use Rattle.mc_numbered.specs.Entries.{entry_of, without, with_next};
-    ghost use Rattle.mc_numbered.specs.Rises.{IsAt};
+    ghost use Rattle.mc_numbered.specs.Rises.{Rises, IsAt};
     ghost use Rattle.mc_numbered.specs.Lends.{LendsPlace, LendsEntry};
 
     /// Nothing, and 0 as the number of the first. It takes no memory.
@@ -92,6 +92,7 @@ impl<T> Numbered<T> {
 
     /// Where the entry of a number is.
     fn place_of(&self, number: u64) -> Option<usize>
+        ensures rises { Rises 0 self.now.entries self.now.next }
         ensures found { IfSome result (IsAt self.now.entries number) }
         ensures absent { IfNone result (entry_of self.now.entries number ≡ None) }
     {
@@ -136,7 +137,9 @@ impl<T: Drop> Numbered<T> {
         ensures others { self.new ≡ record self.old { entries = without number self.old.entries } }
         ensures is_free { entry_of self.new.entries number ≡ None }
     {
-        let place = self.place_of(number)?;
-        Some(self.entries.remove(place).1)
+        match self.place_of(number) {
+            Some(place) => Some(self.entries.remove(place).1),
+            None => None,
+        }
     }
 }

@@ -1,0 +1,12 @@
+use Rattle.std.proofs.Common.{◌≡◌, get_or, subst}
+use Rattle.mc_numbered.specs.Entries.{Numbering}
+use Rattle.mc_numbered.proofs.RisesLemmas.{entry_there}
+use Rattle.mc_numbered.proofs.numbered.Numbered.get.Goals as goal
+
+-- what is at the place is the entry of the number
+pub returns-in-Some : goal.returns-in-Some
+returns-in-Some g c =
+    let own = c.index.result.now in
+    let now = c.args.self.now in
+    entry_there now.entries now.next c.args.number c.in-Some.place own c.place_of.ensures.rises c.in-Some.ensures.found
+    (subst (λ (n : Numbering g.row.T.Denot). own ≡ get_or n.entries c.in-Some.place own) c.self.view_is c.index.ensures)
