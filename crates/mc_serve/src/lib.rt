@@ -25,8 +25,8 @@ mod serving;
 mod settings;
 
 pub use clocks::{Seconds, SystemSeconds};
+pub use mc_program::ServeError;
 pub use mc_socket::{PIECE_LEN, bind};
-pub use mc_stream::ServeError;
 pub use options::{Options, PROGRAM, command};
 pub use serving::serve;
 pub use settings::{Service, Settings, USUAL_ANSWER};

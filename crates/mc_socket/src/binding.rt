@@ -3,8 +3,8 @@ ghost use Rattle.std.specs.Prelude.{◌≡◌, true, IfOk};
 ghost use Rattle.mc_ring.specs.Addresses.{is_address};
 
 use crate::keeping::keep_alive;
+use mc_program::ServeError;
 use mc_ring::{Address, RingError};
-use mc_stream::ServeError;
 use mio::net::TcpListener;
 use std::alloc::Global;
 use std::net::{Net, SocketAddr, ToSocketAddrs};
