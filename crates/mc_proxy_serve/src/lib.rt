@@ -13,10 +13,10 @@
 //! [`serve`] waits for its sockets, and may wait for ever; no other call does. What a socket carries, no contract says.
 #![tactic(auto)]
 
-mod clients;
 mod delays;
-mod entrances;
+mod handlers;
 mod hosts;
+mod joining;
 mod limits;
 mod lines;
 mod notices;

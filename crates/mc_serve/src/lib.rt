@@ -13,11 +13,10 @@
 //! the clock tells, and what is done with it afterwards; of the system's clock, that it never goes back.
 #![tactic(auto)]
 
-mod clients;
 mod clocks;
 mod counted;
 mod counts;
-mod duties;
+mod handlers;
 mod hosts;
 mod options;
 mod reports;

@@ -27,7 +27,7 @@ pub use binding::{bind, first_address};
 pub use doors::{Door, Waiting};
 pub use inputs::{Edge, Input};
 pub use keeping::keep_alive;
-pub use limits::{KEPT_ROOM, PATIENCE, PIECE_LEN};
+pub use limits::{KEPT_ROOM, PIECE_LEN};
 pub use steps::{Step, step_after};
 pub use stopwatches::Stopwatch;
 pub use uptimes::Uptime;
