@@ -47,6 +47,7 @@ SECONDS = {
     "mc_bench": 230,
     "mc_cache": 120,
     "mc_cache_laws": 21,
+    "mc_clients": 60,
     "mc_fixtures": 34,
     "mc_forms": 22,
     "mc_history": 12,

@@ -2,8 +2,8 @@
 ghost use Rattle.std.specs.Prelude.{◌≡◌, MatchResult};
 ghost use Rattle.mc_program.specs.Statuses.{status_of};
 
+use crate::errors::ServeError;
 use clap::error::ErrorKind;
-use mc_stream::ServeError;
 use std::alloc::AllocError;
 
 /// Why a program ends with another status than 0.

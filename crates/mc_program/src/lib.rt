@@ -1,12 +1,21 @@
 //! A program that serves sockets: its words, and how it ends.
 //!
+//! [`listen`], [`idle`], [`report`] and [`accept`] are options that such programs have alike, and [`number`] and [`flag`] make
+//! others; [`Terms`] are what the words say of all clients. [`ServeError`] is why a program cannot serve.
+//!
 //! The exit status is 0 where the program came to its end. Else it is 1 where standard output cannot be written, 2 where the
 //! words are refused (those that ask for help among them), 3 where it cannot listen, and 4 where there was no memory to start
 //! with; standard error says why.
 #![tactic(auto)]
 
+mod errors;
 mod failures;
+mod options;
+mod terms;
 mod words;
 
+pub use errors::ServeError;
 pub use failures::{Failure, exit_status};
+pub use options::{accept, flag, idle, listen, number, report};
+pub use terms::Terms;
 pub use words::read_words;

@@ -1,7 +1,7 @@
 //! The words of a program.
 
+use crate::errors::ServeError;
 use crate::failures::Failure;
-use mc_stream::ServeError;
 use std::rt::Env;
 use std::{env, io};
 

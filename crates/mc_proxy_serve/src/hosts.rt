@@ -1,240 +1,106 @@
-//! A proxy, the sockets of its clients, and its lines to the servers.
-ghost use Rattle.std.specs.Prelude.{◌<◌, vec_len};
+//! A proxy, its clients, and its upstream servers.
+ghost use Rattle.std.specs.Prelude.{◌<◌, ◌^◌};
 
-use crate::clients::Client;
+use crate::handlers::{Held, ProxyHandler};
+use crate::joining::Joining;
 use crate::limits::MAX_PASSES;
-use crate::notices::Cause;
 use crate::options::PROGRAM;
 use crate::pools::Pool;
-use crate::reports::Report;
 use crate::settings::ProxySettings;
 use crate::woken::Woken;
-use mc_proxy::{MAX_SESSIONS, Proxy};
-use mc_ring::{Address, Ring, SERVER_LIMIT};
-use mc_socket::{KEPT_ROOM, PIECE_LEN, Step};
-use mc_stream::ServeError;
-use mc_watch::{Tally, earlier};
+use mc_clients::{Clients, Rounds, patience};
+use mc_program::ServeError;
+use mc_proxy::MAX_SESSIONS;
+use mc_ring::{Ring, SERVER_LIMIT};
+use mc_socket::{Stopwatch, Backlog};
+use mc_watch::{Pace, earlier};
 use mio::event::Event;
 use mio::net::TcpStream;
-use mio::{Interest, Registry, Token};
-use slab::Slab;
+use mio::{Registry, Token};
 use std::alloc::Global;
-use std::collections::HashMap;
-use std::mem;
 use std::net::Net;
+use std::rt::Clock;
+use std::time::Duration;
 
-/// A proxy, the sockets of its clients, and its lines to the servers. A client's token is its key; a line's is its server's
-/// place after all keys.
+/// A proxy, its clients, and its upstream servers. A client's token is its key; that of an upstream is its server's place after all keys.
 #[derive(Drop)]
-pub struct Host {
-    proxy: Proxy,
+pub struct Host<'a> {
+    handler: ProxyHandler,
+    clients: Clients<Held>,
     pool: Pool,
-    clients: Slab<Client>,
-    /// The keys of the clients by the numbers of their sessions.
-    keys: HashMap<u64, usize>,
-    /// What reads fill: made once.
-    piece: Vec<u8>,
-    /// The keys of the clients that go on in the next round, though nothing happens.
-    queue: Vec<usize>,
-    /// The same of this round.
-    going_on: Vec<usize>,
+    joining: Joining<'a>,
+    /// The client that waits until each upstream was tried.
+    next: Option<TcpStream>,
     /// The sessions whose commands were answered in this pass.
     woken: Woken,
     /// The places of the links that came below their mark in this pass.
     freed: Vec<usize>,
     /// Whether all that clients sent was carried to servers, and all that came from these to clients, as far as it goes.
-    settled: bool,
-    /// Whether a client was busy since the last rest.
-    busy: bool,
+    carried: bool,
     /// The moment of the round, in milliseconds.
     now: u64,
     /// In which second the clients rested last.
     rested: u64,
-    /// As many bytes kept for one client stop its turns and reads.
-    held: u64,
-    /// After how many seconds a client is closed that sent nothing and is owed nothing; 0 for never.
-    idle: u64,
-    /// In which second a client may have been idle for too long, at the earliest.
-    due: Option<u64>,
-    /// What passed of all clients.
-    tally: Tally,
-    /// How many clients were closed as they came.
-    refused: u64,
-    ghost reads: { 0 < vec_len piece },
+    pace: Pace,
 }
 
-impl Host {
-    /// A host without a client, whose lines were not tried. A random number says when lines that failed are tried again.
+impl<'a> Host<'a> {
+    /// A host without a client, whose upstreams were not tried. A random number says when upstreams that failed are tried again.
     pub fn new(
         alloc: Global,
         ring: Ring,
-        settings: &ProxySettings,
+        settings: &'a ProxySettings,
         random: u64,
     ) -> Result<Self, ServeError> {
         let pool = Pool::new(alloc, &ring, settings.timeout, random)?;
         Ok(Host {
-            proxy: Proxy::new(alloc, ring).map_err(|_| ServeError::Memory)?,
+            handler: ProxyHandler::new(alloc, ring, settings.held)?,
+            clients: Clients::new(alloc, MAX_SESSIONS, settings.terms.idle)?,
             pool,
-            clients: Slab::with_capacity(alloc, MAX_SESSIONS)?,
-            keys: HashMap::with_capacity(alloc, MAX_SESSIONS)?,
-            piece: Vec::from_elem(alloc, 0, PIECE_LEN)?,
-            queue: Vec::with_capacity(alloc, MAX_SESSIONS)?,
-            going_on: Vec::with_capacity(alloc, MAX_SESSIONS)?,
+            joining: Joining::new(&settings.join),
+            next: None,
             woken: Woken::with_capacity(alloc, MAX_SESSIONS)?,
             freed: Vec::with_capacity(alloc, SERVER_LIMIT)?,
-            settled: true,
-            busy: false,
+            carried: true,
             now: 0,
             rested: 0,
-            held: settings.held,
-            idle: settings.idle,
-            due: None,
-            tally: Tally::new(),
-            refused: 0,
+            pace: Pace::new(settings.terms.report, 0),
         })
     }
 
-    /// Whether no client is connected.
-    pub fn is_empty(&self) -> bool {
-        self.clients.is_empty()
-    }
-
-    /// Whether a client or a line goes on though nothing happens.
-    pub fn goes_on(&self) -> bool {
-        !self.settled || !self.queue.is_empty() || self.pool.is_stirred()
-    }
-
-    /// Whether a client is to rest in a second.
-    pub fn is_busy(&self) -> bool {
-        self.busy
-    }
-
-    /// When something is to be done unasked beside that, at the earliest, in milliseconds.
-    pub fn due(&self) -> Option<u64> {
-        let idle = self.due.map(|second| second.saturating_mul(1000));
-        earlier(idle, self.pool.due(self.now))
-    }
-
     /// The second of the round.
-    fn second(&self) -> u64 {
+    fn second(&self) -> u64
+        ensures { result < 2 ^ 63 }
+    {
         self.now / 1000
     }
 
-    /// Comes to a moment, in milliseconds. Lines on which a reply is late are lost, and clients are told so.
-    pub fn come_to(&mut self, now: u64) {
-        self.now = now;
-        if self.pool.give_up(&mut self.proxy, now) {
-            self.settled = false;
-            self.serve_all();
-        }
+    /// Whether somebody goes on though nothing happens, or may be let in, where so much is known of those who wait.
+    fn goes_on(&self, backlog: Backlog) -> bool {
+        let is_awaited = self.next.is_some() || backlog == Backlog::More;
+        !self.carried
+            || self.clients.goes_on()
+            || self.pool.is_stirred()
+            || (is_awaited && self.pool.is_tried())
     }
 
-    /// Whether each line was tried.
-    pub fn is_settled(&self) -> bool {
-        self.pool.is_settled()
-    }
-
-    /// Tries the lines that are down where it is time for them.
-    pub fn keep<R: Net>(&mut self, rt: &R, registry: &Registry) {
-        self.pool.keep(rt, registry, self.now);
-    }
-
-    /// Says on standard error what is new of the servers, of each at most once in a second.
-    pub fn tell<R: Eprint>(&mut self, rt: &R) {
-        self.pool.tell(rt, self.now / 1000);
-    }
-
-    /// Says on standard error what was done, where so many clients were accepted.
-    pub fn report<R: Eprint>(&self, rt: &R, accepted: u64) {
-        let report = Report {
-            uptime: self.second(),
-            connections: self.clients.len(),
-            accepted,
-            refused: self.refused,
-            tally: self.tally,
-        };
-        // Where it cannot be said, all are served all the same.
-        let _ = eprintln!(rt; "{PROGRAM}: {report}");
-        self.pool.report(rt, &self.proxy);
-    }
-
-    /// Has a server join, whose line was not tried. At an error nothing has changed.
-    pub fn join(&mut self, server: &Address) -> Result<(), Cause> {
-        self.pool.join(&mut self.proxy, server)
-    }
-
-    /// Takes a client in. One for whom there is no place or no memory is closed at once.
-    pub fn admit(&mut self, mut stream: TcpStream, registry: &Registry) {
-        let Ok(session) = self.proxy.admit() else {
-            self.refused = self.refused.saturating_add(1);
-            return;
-        };
-        let key = self.clients.vacant_key();
-        let both = Interest::READABLE | Interest::WRITABLE;
-        // A client whose answers may come late is served all the same.
-        let _ = stream.set_nodelay(true);
-        let registered = registry.register(&mut stream, Token(key), both);
-        let client = Client::new(stream, session, self.second());
-        if registered.is_err()
-            || self.keys.insert(session, key).is_err()
-            || self.clients.insert(client).is_err()
-        {
-            self.keys.remove(&session);
-            let _ = self.proxy.gone(session);
-            self.refused = self.refused.saturating_add(1);
-            return;
-        }
-        self.expect(self.second());
-    }
-
-    /// Expects a client that was used in a second to be idle for too long once so many have passed, and one more: they are whole.
-    fn expect(&mut self, used: u64) {
-        if self.idle > 0 {
-            let due = used.saturating_add(self.idle).saturating_add(1);
-            self.due = earlier(self.due, Some(due));
-        }
-    }
-
-    /// Serves the client of an event, or notes what it says of a line.
-    pub fn wake(&mut self, event: &Event) {
-        let second = self.second();
-        let Token(key) = event.token();
-        if key >= MAX_SESSIONS {
-            self.pool.note(&mut self.proxy, event);
-        } else if let Some(client) = self.clients.get_mut(key) {
-            client.note(event, second);
-            self.serve(key);
-        }
-    }
-
-    /// Serves the clients whose rounds were used up in the round before.
-    pub fn go_on(&mut self) {
-        mem::swap(&mut self.queue, &mut self.going_on);
-        for index in 0..self.going_on.len() {
-            let Some(key) = self.going_on.get(index).copied() else {
-                break;
-            };
-            if let Some(client) = self.clients.get_mut(key) {
-                client.queue(false);
-                self.serve(key);
-            }
-        }
-        self.going_on.clear();
+    /// In how many milliseconds something is to be done unasked, at the earliest.
+    fn left(&self) -> Option<u64> {
+        let second = earlier(self.clients.due(), self.pace.due());
+        let millis = second.map(|second| second.saturating_mul(1000));
+        let due = earlier(millis, self.pool.due(self.now))?;
+        Some(due.saturating_sub(self.now))
     }
 
     /// Carries what is to go to servers and what came from them, and then serves the clients that go on by it: once for all that
     /// came together, so that it goes out together.
-    pub fn settle(&mut self) {
+    fn carry(&mut self) {
         for _ in 0..MAX_PASSES {
-            let others = self.pool.carry(
-                &mut self.proxy,
-                &mut self.piece,
-                &mut self.woken,
-                &mut self.freed,
-                self.now,
-            );
-            self.settled = !others && self.woken.is_empty() && self.freed.is_empty();
-            if self.settled {
+            let others = self
+                .handler
+                .carry(&mut self.pool, &mut self.woken, &mut self.freed, self.now);
+            self.carried = !others && self.woken.is_empty() && self.freed.is_empty();
+            if self.carried {
                 return;
             }
             if others {
@@ -248,11 +114,20 @@ impl Host {
         }
     }
 
+    /// Serves the client of a key.
+    fn serve(&mut self, key: usize) {
+        let second = self.second();
+        self.clients.serve(&mut self.handler, key, second);
+    }
+
     /// Serves the clients whose requests wait for a link that came below its mark.
     fn let_on(&mut self) {
         for key in 0..MAX_SESSIONS {
             if let Some(client) = self.clients.get(key) {
-                if waits_for_any(&self.proxy, client.session(), self.freed.as_slice()) {
+                if self
+                    .handler
+                    .waits_for_any(client.number, self.freed.as_slice())
+                {
                     self.serve(key);
                 }
             }
@@ -275,9 +150,9 @@ impl Host {
     fn take_woken(&mut self) -> Option<usize> {
         for _ in 0..self.woken.len() {
             let (session, brought) = self.woken.take()?;
-            if let Some(key) = self.keys.get(&session).copied() {
+            if let Some(key) = self.handler.key_of(session) {
                 if let Some(client) = self.clients.get_mut(key) {
-                    client.hold(brought);
+                    client.kept.add(brought);
                     return Some(key);
                 }
             }
@@ -293,88 +168,110 @@ impl Host {
             }
         }
         self.freed.clear();
-        for key in 0..MAX_SESSIONS {
-            self.serve(key);
+        let second = self.second();
+        self.clients.serve_all(&mut self.handler, second);
+    }
+
+    /// Lets the client in that waits, once each upstream was tried.
+    fn let_in(&mut self, registry: &Registry) {
+        if !self.pool.is_tried() {
+            return;
+        }
+        if let Some(stream) = self.next.take() {
+            let second = self.second();
+            self.clients
+                .admit(&mut self.handler, stream, registry, second);
         }
     }
 
-    /// Once in a second gives back the memory that clients have reserved to whom nothing has happened since the last rest, and closes
-    /// those that have been idle for too long.
-    pub fn rest(&mut self) {
+    /// Has the server join that joins once so many clients were accepted, and tries it.
+    fn join<R: Net>(&mut self, rt: &R, registry: &Registry, accepted: u64) {
+        let Some(server) = self.joining.server(accepted) else {
+            return;
+        };
+        let joined = self.pool.join(&mut self.handler.proxy, server);
+        if joined.is_ok() {
+            self.pool.keep(rt, registry, self.now);
+        }
+        self.joining.note(joined);
+    }
+
+    /// Says on standard error what was done, where so many clients were accepted.
+    fn report<R: Eprint>(&self, rt: &R, accepted: u64) {
+        let report = self
+            .clients
+            .report(self.second(), accepted, self.handler.tally());
+        // Where it cannot be said, all are served all the same.
+        let _ = eprintln!(rt; "{PROGRAM}: {report}");
+        self.pool.report(rt, &self.handler.proxy);
+    }
+}
+
+impl<'a, R: Net + Clock + Eprint> Rounds<R, Stopwatch> for Host<'a> {
+    /// Tries the upstreams that are down where it is time for them, and says what is new of the servers, of each at most once in a
+    /// second.
+    fn before(&mut self, rt: &R, registry: &Registry, backlog: Backlog) -> Option<Duration> {
+        self.pool.keep(rt, registry, self.now);
+        let second = self.second();
+        self.pool.tell(rt, second);
+        self.joining.tell(rt, second);
+        let soon = self.clients.is_busy() || backlog == Backlog::Refused || self.joining.is_due();
+        patience(self.goes_on(backlog), soon, self.left())
+    }
+
+    /// Upstreams on which a reply is late are lost, and clients are told so.
+    fn begin(&mut self, rt: &R, clock: &mut Stopwatch) {
+        self.now = clock.millis(rt);
+        if self.pool.give_up(&mut self.handler.proxy, self.now) {
+            self.carried = false;
+            self.serve_all();
+        }
+        let second = self.second();
+        self.clients.go_on(&mut self.handler, second);
+    }
+
+    fn wake(&mut self, event: &Event) {
+        let Token(key) = event.token();
+        if key >= MAX_SESSIONS {
+            self.pool.note(&mut self.handler.proxy, event);
+        } else {
+            let second = self.second();
+            self.clients.wake(&mut self.handler, event, second);
+        }
+    }
+
+    fn carry_on(&mut self, registry: &Registry) {
+        self.carry();
+        self.let_in(registry);
+    }
+
+    fn is_open(&self) -> bool {
+        self.pool.is_tried()
+    }
+
+    /// With the client that the settings name a server joins, and that client is let in once that was tried.
+    fn admit(&mut self, rt: &R, registry: &Registry, stream: TcpStream, accepted: u64) {
+        self.join(rt, registry, accepted);
+        self.next = Some(stream);
+        self.let_in(registry);
+    }
+
+    fn finish(&mut self, rt: &R, accepted: u64) {
         let second = self.second();
         if second == self.rested {
             return;
         }
         self.rested = second;
-        self.busy = false;
-        self.due = None;
-        for key in 0..MAX_SESSIONS {
-            self.rest_one(key, second);
+        self.clients.rest(&mut self.handler, second);
+        if !self.clients.is_busy() {
+            self.pool.rest(&mut self.handler.proxy);
         }
-        if !self.busy {
-            self.pool.rest(&mut self.proxy);
-        }
-    }
-
-    /// The same for one client.
-    fn rest_one(&mut self, key: usize, second: u64) {
-        let Some(client) = self.clients.get_mut(key) else {
-            return;
-        };
-        let session = client.session();
-        if client.take_busy() {
-            self.busy = true;
-        } else {
-            self.proxy.give_back(session, 0);
-        }
-        let owed = self.proxy.unanswered(session) > 0 || !self.proxy.output(session).is_empty();
-        let used = client.used(owed, second);
-        if self.idle > 0 && second.saturating_sub(used) > self.idle {
-            self.close(key);
-        } else {
-            self.expect(used);
+        if self.pace.comes(second) {
+            self.report(rt, accepted);
         }
     }
 
-    /// Serves a client as far as it goes.
-    fn serve(&mut self, key: usize) {
-        let Some(client) = self.clients.get_mut(key) else {
-            return;
-        };
-        self.busy = true;
-        let step = client.serve(&mut self.proxy, &mut self.piece, &mut self.tally, self.held);
-        match step {
-            Step::GoOn => self.enqueue(key),
-            Step::Wait => self.proxy.give_back(client.session(), KEPT_ROOM),
-            Step::Close => self.close(key),
-        }
+    fn is_empty(&self) -> bool {
+        self.clients.is_empty() && self.next.is_none()
     }
-
-    /// Has a client go on in the next round.
-    fn enqueue(&mut self, key: usize) {
-        let Some(client) = self.clients.get_mut(key) else {
-            return;
-        };
-        if !client.queue(true) && self.queue.push(key).is_err() {
-            self.close(key);
-        }
-    }
-
-    /// Ends a client's session and closes its socket.
-    fn close(&mut self, key: usize) {
-        if let Some(client) = self.clients.try_remove(key) {
-            self.keys.remove(&client.session());
-            let _ = self.proxy.gone(client.session());
-        }
-    }
-}
-
-/// Whether the next request of a session waits for one of the links to the servers of some places.
-fn waits_for_any(proxy: &Proxy, session: u64, places: &[usize]) -> bool {
-    for place in places {
-        if proxy.waits_for(session, *place) {
-            return true;
-        }
-    }
-    false
 }

@@ -13,18 +13,18 @@
 //! [`serve`] waits for its sockets, and may wait for ever; no other call does. What a socket carries, no contract says.
 #![tactic(auto)]
 
-mod clients;
 mod delays;
-mod entrances;
+mod handlers;
 mod hosts;
+mod joining;
 mod limits;
-mod lines;
 mod notices;
 mod options;
 mod pools;
 mod reports;
 mod serving;
 mod settings;
+mod upstreams;
 mod waits;
 mod woken;
 

@@ -8,6 +8,3 @@ pub const CONNECT_MILLIS: u64 = 3000;
 
 /// Two connections to a server are begun with at least so many milliseconds between.
 pub const LEAST_DELAY: u64 = 1000;
-
-/// A round that waits because something is to be done unasked waits at most so many milliseconds.
-pub const MOST_PATIENCE: u64 = 3_600_000;

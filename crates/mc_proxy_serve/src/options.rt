@@ -2,7 +2,8 @@
 
 use crate::settings::ProxySettings;
 use clap::builder::ValueParser;
-use clap::{Arg, ArgAction, ArgMatches, Command};
+use clap::{Arg, ArgMatches, Command};
+use mc_program::{Terms, accept, flag, idle, listen, number, report};
 use mc_ring::{Address, Ring, RingError};
 use std::alloc::{AllocError, Global};
 use thiserror::Error;
@@ -73,11 +74,9 @@ impl<'a> Options<'a> {
             listen: matches.get_str("listen").ok_or(ListError::Bad)?,
             ring,
             settings: ProxySettings {
-                accept: matches.get_one::<u64>("accept").unwrap_or(0),
+                terms: Terms::of(matches),
                 held: matches.get_one::<u64>("held").unwrap_or(USUAL_HELD),
                 timeout: matches.get_one::<u64>("timeout").unwrap_or(0),
-                idle: matches.get_one::<u64>("idle").unwrap_or(0),
-                report: matches.get_one::<u64>("report").unwrap_or(0),
                 join,
             },
             check: matches.get_flag("check"),
@@ -105,24 +104,33 @@ fn joining(
 pub fn command<'a>(alloc: Global) -> Result<Command<'a>, AllocError> {
     Command::new(alloc, PROGRAM)
         .about("A memcached proxy: spreads keys over servers by libketama's ring")
-        .arg(listen(alloc))?
+        .arg(listen(alloc, "127.0.0.1:11212"))?
         .arg(held(alloc))?
-        .arg(timeout(alloc))?
+        .arg(number(
+            alloc,
+            "timeout",
+            "milliseconds",
+            "Lose the connection to a server that owes a reply for so long; 0 for never",
+        ))?
         .arg(idle(alloc))?
         .arg(report(alloc))?
-        .arg(accept(alloc))?
+        .arg(accept(
+            alloc,
+            "End once so many clients were accepted and all are gone; 0 for never",
+        ))?
         .arg(join(alloc))?
-        .arg(join_after(alloc))?
-        .arg(check(alloc))?
+        .arg(number(
+            alloc,
+            "join-after",
+            "n",
+            "With which accepted client the server of --join joins; 0 for none",
+        ))?
+        .arg(flag(
+            alloc,
+            "check",
+            "Print how many servers and points there are and end, without listening",
+        ))?
         .arg(server(alloc))
-}
-
-fn listen<'a>(alloc: Global) -> Arg<'a> {
-    Arg::new(alloc, "listen")
-        .long("listen")
-        .value_name("host:port")
-        .default_value("127.0.0.1:11212")
-        .help("Where to listen: a host's name or IPv4 address, and a port from 1 to 65535")
 }
 
 fn held<'a>(alloc: Global) -> Arg<'a> {
@@ -136,63 +144,11 @@ fn held<'a>(alloc: Global) -> Arg<'a> {
         )
 }
 
-fn timeout<'a>(alloc: Global) -> Arg<'a> {
-    Arg::new(alloc, "timeout")
-        .long("timeout")
-        .value_name("milliseconds")
-        .value_parser(ValueParser::unsigned(0, u64::MAX))
-        .default_value("0")
-        .help("Lose the connection to a server that owes a reply for so long; 0 for never")
-}
-
-fn idle<'a>(alloc: Global) -> Arg<'a> {
-    Arg::new(alloc, "idle")
-        .long("idle")
-        .value_name("seconds")
-        .value_parser(ValueParser::unsigned(0, u64::MAX))
-        .default_value("0")
-        .help("Close a client that for so long sent nothing and was owed nothing; 0 for never")
-}
-
-fn report<'a>(alloc: Global) -> Arg<'a> {
-    Arg::new(alloc, "report")
-        .long("report")
-        .value_name("seconds")
-        .value_parser(ValueParser::unsigned(0, u64::MAX))
-        .default_value("0")
-        .help("Say on standard error, once in so many seconds, what was done; 0 for never")
-}
-
-fn accept<'a>(alloc: Global) -> Arg<'a> {
-    Arg::new(alloc, "accept")
-        .long("accept")
-        .value_name("n")
-        .value_parser(ValueParser::unsigned(0, u64::MAX))
-        .default_value("0")
-        .help("End once so many clients were accepted and all are gone; 0 for never")
-}
-
 fn join<'a>(alloc: Global) -> Arg<'a> {
     Arg::new(alloc, "join")
         .long("join")
         .value_name("host:port")
         .help("A server that joins while the proxy runs: see --join-after")
-}
-
-fn join_after<'a>(alloc: Global) -> Arg<'a> {
-    Arg::new(alloc, "join-after")
-        .long("join-after")
-        .value_name("n")
-        .value_parser(ValueParser::unsigned(0, u64::MAX))
-        .default_value("0")
-        .help("With which accepted client the server of --join joins; 0 for none")
-}
-
-fn check<'a>(alloc: Global) -> Arg<'a> {
-    Arg::new(alloc, "check")
-        .long("check")
-        .action(ArgAction::SetTrue)
-        .help("Print how many servers and points there are and end, without listening")
 }
 
 fn server<'a>(alloc: Global) -> Arg<'a> {

@@ -1,7 +1,7 @@
-//! The lines to the servers of a ring.
+//! The upstream servers of a ring.
 ghost use Rattle.std.specs.Prelude.{◌<◌, length};
 
-use crate::lines::Line;
+use crate::upstreams::Upstream;
 use crate::notices::Cause;
 use crate::options::PROGRAM;
 use crate::woken::Woken;
@@ -14,77 +14,77 @@ use mio::{Registry, Token};
 use std::alloc::{AllocError, Global};
 use std::net::Net;
 
-/// The lines to the servers of a ring, by their places.
+/// The upstream servers of a ring, by their places.
 #[derive(Drop)]
 pub struct Pool {
     alloc: Global,
-    lines: Vec<Line>,
+    upstreams: Vec<Upstream>,
     /// After how many milliseconds a command without a reply loses its link; 0 for never.
     timeout: u64,
-    /// What says when lines that failed are tried again: another number at each try.
+    /// What says when upstreams that failed are tried again: another number at each try.
     random: u64,
 }
 
 impl Pool {
-    /// Lines of which none was tried, and a random number to begin with.
+    /// Upstreams of which none was tried, and a random number to begin with.
     pub fn new(alloc: Global, ring: &Ring, timeout: u64, random: u64) -> Result<Pool, AllocError> {
-        let mut lines = Vec::with_capacity(alloc, ring.servers().len())?;
+        let mut upstreams = Vec::with_capacity(alloc, ring.servers().len())?;
         for server in ring.servers() {
-            lines.push(line_to(alloc, server)?)?;
+            upstreams.push(upstream_to(alloc, server)?)?;
         }
         Ok(Pool {
             alloc,
-            lines,
+            upstreams,
             timeout,
             random,
         })
     }
 
-    /// Whether each line was tried.
-    pub fn is_settled(&self) -> bool {
-        self.lines.iter().all(|line| line.is_tried())
+    /// Whether each upstream was tried.
+    pub fn is_tried(&self) -> bool {
+        self.upstreams.iter().all(|upstream| upstream.is_tried())
     }
 
-    /// When something is to be done for a line unasked, at the earliest.
+    /// When something is to be done for an upstream unasked, at the earliest.
     pub fn due(&self, now: u64) -> Option<u64> {
         let mut due = None;
-        for line in self.lines.iter() {
-            due = earlier(due, line.due(now, self.timeout));
+        for upstream in self.upstreams.iter() {
+            due = earlier(due, upstream.due(now, self.timeout));
         }
         due
     }
 
-    /// Whether the socket of a line may have something for it.
+    /// Whether the socket of an upstream may have something for it.
     pub fn is_stirred(&self) -> bool {
-        self.lines.iter().any(|line| line.is_stirred())
+        self.upstreams.iter().any(|upstream| upstream.is_stirred())
     }
 
-    /// Tries the lines that are down where it is time for them.
+    /// Tries the upstreams that are down where it is time for them.
     pub fn keep<R: Net>(&mut self, rt: &R, registry: &Registry, now: u64) {
         let mut random = self.random;
-        for (place, line) in self.lines.iter_mut().enumerate() {
+        for (place, upstream) in self.upstreams.iter_mut().enumerate() {
             random = next_random(random);
-            line.keep(rt, registry, token_of(place), now, random >> 32);
+            upstream.keep(rt, registry, token_of(place), now, random >> 32);
         }
         self.random = random;
     }
 
-    /// Loses the lines on which a reply is late, and says whether there was one.
+    /// Loses the upstreams on which a reply is late, and says whether there was one.
     pub fn give_up(&mut self, proxy: &mut Proxy, now: u64) -> bool {
         let mut any = false;
-        for (place, line) in self.lines.iter_mut().enumerate() {
-            if line.is_late(now, self.timeout) {
-                line.lose_by(proxy, place, Cause::Late);
+        for (place, upstream) in self.upstreams.iter_mut().enumerate() {
+            if upstream.is_late(now, self.timeout) {
+                upstream.lose_by(proxy, place, Cause::Late);
                 any = true;
             }
         }
         any
     }
 
-    /// Says on standard error what became of each line.
+    /// Says on standard error what became of each upstream.
     pub fn report<R: Eprint>(&self, rt: &R, proxy: &Proxy) {
-        for (place, line) in self.lines.iter().enumerate() {
-            let report = line.report(proxy.waiting(place));
+        for (place, upstream) in self.upstreams.iter().enumerate() {
+            let report = upstream.report(proxy.waiting(place));
             // Where it cannot be said, all are served all the same.
             let _ = eprintln!(rt; "{PROGRAM}: {report}");
         }
@@ -92,42 +92,42 @@ impl Pool {
 
     /// Says on standard error what is new of the servers, of each at most once in a second.
     pub fn tell<R: Eprint>(&mut self, rt: &R, second: u64) {
-        for line in self.lines.iter_mut() {
-            line.tell(rt, second);
+        for upstream in self.upstreams.iter_mut() {
+            upstream.tell(rt, second);
         }
     }
 
-    /// Has a server join, whose line was not tried. At an error nothing has changed.
+    /// Has a server join, that was not tried. At an error nothing has changed.
     pub fn join(&mut self, proxy: &mut Proxy, server: &Address) -> Result<(), Cause> {
         Ok(self.try_join(proxy, server)?)
     }
 
     /// The same, in the proxy's words.
     fn try_join(&mut self, proxy: &mut Proxy, server: &Address) -> Result<(), ProxyError> {
-        let line = line_to(self.alloc, server)?;
+        let upstream = upstream_to(self.alloc, server)?;
         let address = server.clone()?;
-        self.lines.reserve(1)?;
+        self.upstreams.reserve(1)?;
         proxy.join_server(address, false)?;
-        self.lines.push(line)?;
+        self.upstreams.push(upstream)?;
         Ok(())
     }
 
-    /// Notes what an event says of the line whose token it has.
+    /// Notes what an event says of the upstream whose token it has.
     pub fn note(&mut self, proxy: &mut Proxy, event: &Event) {
         let Token(token) = event.token();
         let Some(place) = token.checked_sub(MAX_SESSIONS) else {
             return;
         };
-        if let Some(line) = self.lines.get_mut(place) {
-            line.note(event, proxy, place);
+        if let Some(upstream) = self.upstreams.get_mut(place) {
+            upstream.note(event, proxy, place);
         }
     }
 
-    /// Carries the bytes of the lines that have something to send, or may have received something, at a moment. The sessions that
+    /// Carries the bytes of the upstreams that have something to send, or may have received something, at a moment. The sessions that
     /// were answered are put after `woken`, and the places whose links are at their mark no more after `freed`. The result says
-    /// whether any other session may go on, since a line was lost or there was no memory to note one.
+    /// whether any other session may go on, since an upstream was lost or there was no memory to note one.
     ///
-    /// A line that fails is let go and its link is lost: the commands that wait on it are lost, and it is tried again.
+    /// An upstream that fails is let go and its link is lost: the commands that wait on it are lost, and it is tried again.
     pub fn carry(
         &mut self,
         proxy: &mut Proxy,
@@ -139,21 +139,21 @@ impl Pool {
         requires piece { 0 < length piece.old }
     {
         let mut others = false;
-        for (place, line) in self.lines.iter_mut().enumerate() {
-            if !line.is_stirred() && proxy.link_output(place).is_empty() {
+        for (place, upstream) in self.upstreams.iter_mut().enumerate() {
+            if !upstream.is_stirred() && proxy.link_output(place).is_empty() {
                 continue;
             }
             let was_marked = is_marked(proxy, place);
-            let pumped = line.pump(proxy, place, piece, &mut woken.pumped);
-            others |= !woken.bring(line.brought());
+            let pumped = upstream.pump(proxy, place, piece, &mut woken.pumped);
+            others |= !woken.bring(upstream.brought());
             if self.timeout > 0 {
-                line.note_waiting(proxy, place, now);
+                upstream.note_waiting(proxy, place, now);
             }
             match step_after(pumped) {
                 Step::GoOn => {}
                 Step::Wait => proxy.link_give_back(place, KEPT_ROOM),
                 Step::Close => {
-                    line.lose(proxy, place);
+                    upstream.lose(proxy, place);
                     others = true;
                 }
             }
@@ -166,7 +166,7 @@ impl Pool {
 
     /// Gives back the memory that the links have reserved and that holds nothing.
     pub fn rest(&self, proxy: &mut Proxy) {
-        for place in 0..self.lines.len() {
+        for place in 0..self.upstreams.len() {
             proxy.link_give_back(place, 0);
         }
     }
@@ -177,15 +177,15 @@ fn is_marked(proxy: &Proxy, place: usize) -> bool {
     proxy.link_output(place).len() >= LINK_MARK
 }
 
-/// The token of the line to the server of a place. No client has it.
+/// The token of the server of a place. No client has it.
 fn token_of(place: usize) -> Token {
     Token(MAX_SESSIONS.saturating_add(place))
 }
 
-/// A line to a server that no connection was begun to.
-fn line_to(alloc: Global, server: &Address) -> Result<Line, AllocError> {
+/// An upstream server to which no connection was begun.
+fn upstream_to(alloc: Global, server: &Address) -> Result<Upstream, AllocError> {
     let address = String::from_utf8_lossy(alloc, server.as_bytes())?;
-    Ok(Line::new(alloc, address))
+    Ok(Upstream::new(alloc, address))
 }
 
 /// The number after a random one: a step of a generator that has each number of 64 bits in turn.

@@ -5,12 +5,11 @@
 //! then the list, then `--check` is obeyed, then it listens.
 #![tactic(auto)]
 
-use mc_program::{Failure, exit_status, read_words};
+use mc_program::{Failure, ServeError, exit_status, read_words};
 use mc_proxy::MAX_SESSIONS;
 use mc_proxy_serve::{ListError, Options, PROGRAM, command, serve};
 use mc_ring::Ring;
 use mc_socket::bind;
-use mc_stream::ServeError;
 use mc_watch::{OWN_FILES, open_files, served};
 use std::net::Net;
 use std::process::ExitCode;

@@ -1,249 +1,117 @@
-//! A server and the sockets of its connections.
-ghost use Rattle.std.specs.Prelude.{◌<◌, ◌^◌, vec_len};
+//! A server, its clients and what it does unasked.
+ghost use Rattle.std.specs.Prelude.{◌<◌, ◌^◌};
 
-use crate::clients::Client;
+use crate::clocks::Seconds;
 use crate::counts::Counts;
+use crate::handlers::ServerHandler;
 use crate::options::PROGRAM;
-use crate::reports::Report;
+use crate::reports::ServerReport;
 use crate::settings::Service;
-use mc_pump::Watch;
-use mc_server::{AnswerLimit, MAX_CONNECTIONS, Server};
-use mc_socket::{KEPT_ROOM, PIECE_LEN, Step, step_after};
+use mc_clients::{Clients, Rounds, patience};
+use mc_server::{MAX_CONNECTIONS, Server};
+use mc_socket::Backlog;
 use mc_store::Store;
-use mc_watch::{Seldom, earlier};
+use mc_watch::{Pace, earlier};
+use mio::Registry;
 use mio::event::Event;
 use mio::net::TcpStream;
-use mio::{Interest, Registry, Token};
-use slab::Slab;
 use std::alloc::{AllocError, Global};
-use std::mem;
 use std::rc::Rc;
+use std::time::Duration;
 
-/// A server and the sockets of its connections. A socket's token is its client's key.
+/// A server, its clients and what it does unasked: once in a second or less often it has clients rest, and says what it has done.
 #[derive(Drop)]
 pub struct Host<S: Store + Drop> {
-    server: Server<S>,
-    clients: Slab<Client>,
-    /// What reads fill: made once.
-    piece: Vec<u8>,
-    /// The keys of the clients that go on in the next round, though nothing happens.
-    queue: Vec<usize>,
-    /// The same of this round.
-    going_on: Vec<usize>,
-    /// Whether a client was busy since the last rest.
-    busy: bool,
-    service: Service,
-    /// How large an answer may be, and what passed of all clients.
-    watch: Watch,
+    handler: ServerHandler<S>,
+    clients: Clients<()>,
     /// What the server's store has done.
     counts: Rc<Counts>,
-    /// How many clients were closed as they came.
-    refused: u64,
-    /// What is to be said of a request whose answer may be too large: how many bytes it might have.
-    too_large: Seldom,
-    /// When a client may have been idle for too long, at the earliest.
-    due: Option<u64>,
-    ghost reads: { 0 < vec_len piece },
+    start: u64,
+    /// The moment of the round.
+    moment: u64,
+    /// When the clients rested last.
+    rested: u64,
+    pace: Pace,
+    ghost within: { moment < 2 ^ 63 },
 }
 
 impl<S: Store + Drop> Host<S> {
-    /// A host without a client, over a server whose store counts what it does.
+    /// A host without a client, over a server whose store counts what it does, from a moment on.
     pub fn new(
         alloc: Global,
         server: Server<S>,
         counts: Rc<Counts>,
         service: Service,
-    ) -> Result<Self, AllocError> {
+        moment: u64,
+    ) -> Result<Self, AllocError>
+        requires { moment < 2 ^ 63 }
+    {
         Ok(Host {
-            server,
-            clients: Slab::with_capacity(alloc, MAX_CONNECTIONS)?,
-            piece: Vec::from_elem(alloc, 0, PIECE_LEN)?,
-            queue: Vec::with_capacity(alloc, MAX_CONNECTIONS)?,
-            going_on: Vec::with_capacity(alloc, MAX_CONNECTIONS)?,
-            busy: false,
-            service,
-            watch: Watch::new(AnswerLimit {
-                bytes: service.answer,
-            }),
+            handler: ServerHandler::new(alloc, server, service.answer)?,
+            clients: Clients::new(alloc, MAX_CONNECTIONS, service.terms.idle)?,
             counts,
-            refused: 0,
-            too_large: Seldom::new(),
-            due: None,
+            start: moment,
+            moment,
+            rested: moment,
+            pace: Pace::new(service.terms.report, moment),
         })
     }
 
-    /// Whether no client is connected.
-    pub fn is_empty(&self) -> bool {
-        self.clients.is_empty()
+    /// What it has done, where so many connections were accepted.
+    fn report(&self, accepted: u64) -> ServerReport<'_> {
+        let uptime = self.moment.saturating_sub(self.start);
+        ServerReport {
+            clients: self.clients.report(uptime, accepted, self.handler.tally()),
+            counts: &self.counts,
+        }
+    }
+}
+
+impl<R: Eprint, C: Seconds, S: Store + Drop> Rounds<R, C> for Host<S> {
+    fn before(&mut self, _rt: &R, _registry: &Registry, backlog: Backlog) -> Option<Duration> {
+        let goes_on = self.clients.goes_on() || backlog == Backlog::More;
+        let soon = self.clients.is_busy() || backlog == Backlog::Refused;
+        let due = earlier(self.clients.due(), self.pace.due());
+        let left = due.map(|due| due.saturating_sub(self.moment).saturating_mul(1000));
+        patience(goes_on, soon, left)
     }
 
-    /// Whether a client goes on though nothing happens.
-    pub fn goes_on(&self) -> bool {
-        !self.queue.is_empty()
+    fn begin(&mut self, _rt: &R, clock: &mut C) {
+        self.moment = clock.now();
+        self.counts.come_to(self.moment);
+        self.clients.go_on(&mut self.handler, self.moment);
     }
 
-    /// Whether there may be a client that is to rest.
-    pub fn is_busy(&self) -> bool {
-        self.busy
+    fn wake(&mut self, event: &Event) {
+        self.clients.wake(&mut self.handler, event, self.moment);
     }
 
-    /// When a client may have been idle for too long, at the earliest.
-    pub fn due(&self) -> Option<u64> {
-        self.due
+    fn carry_on(&mut self, _registry: &Registry) {}
+
+    fn is_open(&self) -> bool {
+        true
     }
 
-    /// Takes a client in at a moment. One for whom there is no place or no memory is closed at once.
-    pub fn admit(&mut self, mut stream: TcpStream, registry: &Registry, moment: u64) {
-        let Ok(number) = self.server.admit() else {
-            self.refused = self.refused.saturating_add(1);
+    fn admit(&mut self, _rt: &R, registry: &Registry, stream: TcpStream, _accepted: u64) {
+        self.clients
+            .admit(&mut self.handler, stream, registry, self.moment);
+    }
+
+    fn finish(&mut self, rt: &R, accepted: u64) {
+        self.handler.tell(rt, self.moment);
+        if self.moment == self.rested {
             return;
-        };
-        let token = Token(self.clients.vacant_key());
-        let both = Interest::READABLE | Interest::WRITABLE;
-        // A client whose answers may come late is served all the same.
-        let _ = stream.set_nodelay(true);
-        let registered = registry.register(&mut stream, token, both);
-        let client = Client::new(stream, number, moment);
-        if registered.is_err() || self.clients.insert(client).is_err() {
-            let _ = self.server.close(number);
-            self.refused = self.refused.saturating_add(1);
-            return;
         }
-        self.expect(moment);
-    }
-
-    /// Expects a client that was used at a moment to be idle for too long once so many seconds have passed.
-    fn expect(&mut self, used: u64) {
-        if self.service.idle > 0 {
-            let due = used.saturating_add(self.service.idle).saturating_add(1);
-            self.due = earlier(self.due, Some(due));
-        }
-    }
-
-    /// Comes to a moment.
-    pub fn come_to(&mut self, moment: u64) {
-        self.counts.come_to(moment);
-    }
-
-    /// Serves the client of an event.
-    pub fn wake(&mut self, event: &Event, moment: u64)
-        requires { moment < 2 ^ 63 }
-    {
-        let Token(key) = event.token();
-        if let Some(client) = self.clients.get_mut(key) {
-            client.note(event, moment);
-            self.serve(key, moment);
-        }
-    }
-
-    /// Serves the clients whose rounds were used up in the round before.
-    pub fn go_on(&mut self, moment: u64)
-        requires { moment < 2 ^ 63 }
-    {
-        mem::swap(&mut self.queue, &mut self.going_on);
-        for index in 0..self.going_on.len() {
-            let Some(key) = self.going_on.get(index).copied() else {
-                break;
-            };
-            if let Some(client) = self.clients.get_mut(key) {
-                client.queue(false);
-                self.serve(key, moment);
-            }
-        }
-        self.going_on.clear();
-    }
-
-    /// Gives back the memory that clients have reserved to whom nothing has happened since the last rest, and closes those that
-    /// have been idle for too long.
-    pub fn rest(&mut self, moment: u64) {
-        self.busy = false;
-        self.due = None;
-        for key in 0..MAX_CONNECTIONS {
-            if let Some(client) = self.clients.get_mut(key) {
-                if client.take_busy() {
-                    self.busy = true;
-                } else {
-                    self.server.give_back(client.number(), 0);
-                }
-                let owed = !self.server.output(client.number()).is_empty();
-                let used = client.used(owed, moment);
-                if self.is_too_idle(used, moment) {
-                    self.close(key);
-                } else {
-                    self.expect(used);
-                }
-            }
-        }
-    }
-
-    /// Whether a client that was used at a moment has been idle for too long: moments are whole seconds, so that one more has to pass.
-    fn is_too_idle(&self, used: u64, moment: u64) -> bool {
-        self.service.idle > 0 && moment.saturating_sub(used) > self.service.idle
-    }
-
-    /// Says on standard error, at most once in a second, that a request was refused whose answer may be too large.
-    pub fn tell<R: Eprint>(&mut self, rt: &R, moment: u64) {
-        if let Some(bytes) = self.too_large.take(moment) {
+        self.rested = self.moment;
+        self.clients.rest(&mut self.handler, self.moment);
+        if self.pace.comes(self.moment) {
+            let report = self.report(accepted);
             // Where it cannot be said, all are served all the same.
-            let _ = eprintln!(rt;
-                "{PROGRAM}: request refused: its answer may have more than {bytes} bytes"
-            );
+            let _ = eprintln!(rt; "{PROGRAM}: {report}");
         }
     }
 
-    /// What it has done, in so many seconds in which so many connections were accepted.
-    pub fn report(&self, uptime: u64, accepted: u64) -> Report {
-        Report {
-            uptime,
-            connections: self.clients.len(),
-            accepted,
-            refused: self.refused,
-            tally: self.watch.tally,
-            hits: self.counts.hits(),
-            misses: self.counts.misses(),
-            stores: self.counts.stores(),
-            evictions: self.counts.evictions(),
-            expired: self.counts.expired(),
-            items: self.counts.items(),
-            bytes: self.counts.used(),
-        }
-    }
-
-    /// Serves a client as far as it goes.
-    fn serve(&mut self, key: usize, moment: u64)
-        requires { moment < 2 ^ 63 }
-    {
-        let Some(client) = self.clients.get_mut(key) else {
-            return;
-        };
-        self.busy = true;
-        let pumped = client.pump(&mut self.server, &mut self.piece, moment, &mut self.watch);
-        match step_after(pumped) {
-            Step::GoOn => self.enqueue(key),
-            Step::Wait => self.server.give_back(client.number(), KEPT_ROOM),
-            Step::Close => {
-                if mem::replace(&mut self.watch.refused, false) {
-                    self.too_large.note(self.watch.limit.bytes as u64);
-                }
-                self.close(key);
-            }
-        }
-    }
-
-    /// Has a client go on in the next round.
-    fn enqueue(&mut self, key: usize) {
-        let Some(client) = self.clients.get_mut(key) else {
-            return;
-        };
-        if !client.queue(true) && self.queue.push(key).is_err() {
-            self.close(key);
-        }
-    }
-
-    /// Closes a client's connection and its socket.
-    fn close(&mut self, key: usize) {
-        if let Some(client) = self.clients.try_remove(key) {
-            let _ = self.server.close(client.number());
-        }
+    fn is_empty(&self) -> bool {
+        self.clients.is_empty()
     }
 }

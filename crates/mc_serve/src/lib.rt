@@ -13,11 +13,10 @@
 //! the clock tells, and what is done with it afterwards; of the system's clock, that it never goes back.
 #![tactic(auto)]
 
-mod clients;
 mod clocks;
 mod counted;
 mod counts;
-mod duties;
+mod handlers;
 mod hosts;
 mod options;
 mod reports;
@@ -25,8 +24,8 @@ mod serving;
 mod settings;
 
 pub use clocks::{Seconds, SystemSeconds};
+pub use mc_program::ServeError;
 pub use mc_socket::{PIECE_LEN, bind};
-pub use mc_stream::ServeError;
 pub use options::{Options, PROGRAM, command};
 pub use serving::serve;
 pub use settings::{Service, Settings, USUAL_ANSWER};

@@ -2,8 +2,9 @@
 
 use crate::settings::{Service, Settings};
 use clap::builder::ValueParser;
-use clap::{Arg, ArgAction, ArgMatches, Command};
+use clap::{Arg, ArgMatches, Command};
 use mc_cache::{MAX_BUDGET, MAX_ITEMS};
+use mc_program::{Terms, accept, flag, idle, listen, report};
 use std::alloc::{AllocError, Global};
 
 /// The fewest bytes that an answer may be allowed: what is counted for a request without a value.
@@ -29,10 +30,8 @@ impl<'a> Options<'a> {
         let budget = matches.get_one::<u64>("budget")?;
         let items = matches.get_one::<usize>("items")?;
         let service = Service {
-            accept: matches.get_one::<u64>("accept")?,
+            terms: Terms::of(matches),
             answer: matches.get_one::<usize>("answer")?,
-            idle: matches.get_one::<u64>("idle")?,
-            report: matches.get_one::<u64>("report")?,
         };
         Some(Options {
             listen: matches.get_str("listen")?,
@@ -46,22 +45,21 @@ impl<'a> Options<'a> {
 pub fn command<'a>(alloc: Global) -> Result<Command<'a>, AllocError> {
     Command::new(alloc, PROGRAM)
         .about("A memcached server: a cache that is proved, for clients of the text protocol")
-        .arg(listen(alloc))?
+        .arg(listen(alloc, "127.0.0.1:11211"))?
         .arg(budget(alloc))?
         .arg(items(alloc))?
         .arg(answer(alloc))?
         .arg(idle(alloc))?
         .arg(report(alloc))?
-        .arg(accept(alloc))?
-        .arg(check(alloc))
-}
-
-fn listen<'a>(alloc: Global) -> Arg<'a> {
-    Arg::new(alloc, "listen")
-        .long("listen")
-        .value_name("host:port")
-        .default_value("127.0.0.1:11211")
-        .help("Where to listen: a host's name or IPv4 address, and a port from 1 to 65535")
+        .arg(accept(
+            alloc,
+            "End once so many connections were accepted and all are closed; 0 for never",
+        ))?
+        .arg(flag(
+            alloc,
+            "check",
+            "Print the settings and end, without listening",
+        ))
 }
 
 fn budget<'a>(alloc: Global) -> Arg<'a> {
@@ -93,38 +91,4 @@ fn answer<'a>(alloc: Global) -> Arg<'a> {
         .help(
             "The most bytes of an answer: a request whose answer may have more closes its connection; 1024 to 1099511627776",
         )
-}
-
-fn idle<'a>(alloc: Global) -> Arg<'a> {
-    Arg::new(alloc, "idle")
-        .long("idle")
-        .value_name("seconds")
-        .value_parser(ValueParser::unsigned(0, u64::MAX))
-        .default_value("0")
-        .help("Close a client that for so long sent nothing and was owed nothing; 0 for never")
-}
-
-fn report<'a>(alloc: Global) -> Arg<'a> {
-    Arg::new(alloc, "report")
-        .long("report")
-        .value_name("seconds")
-        .value_parser(ValueParser::unsigned(0, u64::MAX))
-        .default_value("0")
-        .help("Say on standard error, once in so many seconds, what was done; 0 for never")
-}
-
-fn accept<'a>(alloc: Global) -> Arg<'a> {
-    Arg::new(alloc, "accept")
-        .long("accept")
-        .value_name("n")
-        .value_parser(ValueParser::unsigned(0, u64::MAX))
-        .default_value("0")
-        .help("End once so many connections were accepted and all are closed; 0 for never")
-}
-
-fn check<'a>(alloc: Global) -> Arg<'a> {
-    Arg::new(alloc, "check")
-        .long("check")
-        .action(ArgAction::SetTrue)
-        .help("Print the settings and end, without listening")
 }

@@ -3,6 +3,7 @@ ghost use Rattle.std.specs.Prelude.{◌≡◌, ◌↔◌, IfSome, IsSome};
 ghost use Rattle.mc_cache.specs.CacheState.{IsWithinBounds};
 
 use mc_cache::is_within_bounds;
+use mc_program::Terms;
 
 /// The most bytes that an answer may have, where nobody says otherwise: 256 MiB.
 pub const USUAL_ANSWER: usize = 268_435_456;
@@ -10,24 +11,22 @@ pub const USUAL_ANSWER: usize = 268_435_456;
 /// How clients are served.
 #[derive(Clone, Copy, Debug)]
 pub struct Service {
-    /// After how many connections the server ends, once all of them are closed; 0 for never.
-    pub accept: u64,
+    /// On which terms all clients are served.
+    pub terms: Terms,
     /// The most bytes that an answer may have: a request whose answer may have more closes its connection.
     pub answer: usize,
-    /// After how many seconds a client is closed that sent nothing and is owed nothing; 0 for never.
-    pub idle: u64,
-    /// In how many seconds the server says once what it has done; 0 for never.
-    pub report: u64,
 }
 
 impl Service {
     /// The usual service, until so many connections were accepted.
     pub fn until(accept: u64) -> Service {
         Service {
-            accept,
+            terms: Terms {
+                accept,
+                idle: 0,
+                report: 0,
+            },
             answer: USUAL_ANSWER,
-            idle: 0,
-            report: 0,
         }
     }
 }

@@ -1,7 +1,8 @@
 //! The command line of the program.
 
 use crate::texts::Printed;
-use clap::{Arg, ArgAction, ArgMatches, Command};
+use clap::{ArgMatches, Command};
+use mc_program::flag;
 use std::alloc::{AllocError, Global};
 
 /// What a command line asks for.
@@ -35,22 +36,14 @@ pub fn command<'a>(alloc: Global) -> Result<Command<'a>, AllocError> {
         .after_help(
             "The line 'drain <moment>' of a pool's script does all that is left to do, at that second",
         )
-        .arg(account(alloc))?
-        .arg(trace(alloc))
-}
-
-fn account<'a>(alloc: Global) -> Arg<'a> {
-    Arg::new(alloc, "account")
-        .long("account")
-        .action(ArgAction::SetTrue)
-        .help(
+        .arg(flag(
+            alloc,
+            "account",
             "Of a pool, print then what each event did, what each client sent, and what each server took",
-        )
-}
-
-fn trace<'a>(alloc: Global) -> Arg<'a> {
-    Arg::new(alloc, "trace")
-        .long("trace")
-        .action(ArgAction::SetTrue)
-        .help("Of a pool, say on standard error what each line did")
+        ))?
+        .arg(flag(
+            alloc,
+            "trace",
+            "Of a pool, say on standard error what each line did",
+        ))
 }

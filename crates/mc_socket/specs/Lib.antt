@@ -1,2 +1,2 @@
-pub mod Doors
+pub mod Acceptors
 pub mod Steps

@@ -1,10 +1,10 @@
-//! Where to listen.
+//! Where to listen, and where a peer is.
 ghost use Rattle.std.specs.Prelude.{◌≡◌, true, IfOk};
 ghost use Rattle.mc_address.specs.Addresses.{is_address};
 
 use crate::keeping::keep_alive;
 use mc_address::is_address;
-use mc_stream::ServeError;
+use mc_program::ServeError;
 use mio::net::TcpListener;
 use std::net::{Net, SocketAddr, ToSocketAddrs};
 
@@ -17,13 +17,16 @@ pub fn bind<R: Net>(rt: &R, listen: &str) -> Result<TcpListener, ServeError>
     if !is_address(listen.as_bytes()) {
         return Err(ServeError::Listen);
     }
-    let found = listen.to_socket_addrs(rt).map_err(|_| ServeError::Listen)?;
-    for address in found {
-        if address.is_ipv4() {
-            let listener = TcpListener::bind(rt, address).map_err(|_| ServeError::Listen)?;
-            keep_alive(&listener);
-            return Ok(listener);
-        }
-    }
-    Err(ServeError::Listen)
+    let address = first_address(rt, listen).ok_or(ServeError::Listen)?;
+    let listener = TcpListener::bind(rt, address).map_err(|_| ServeError::Listen)?;
+    keep_alive(&listener);
+    Ok(listener)
+}
+
+/// The first IPv4 address of a host and a port, `<host>:<port>`; none where the host is not known, or has none.
+///
+/// A host that is a name is looked up, as by [`bind`].
+pub fn first_address<R: Net>(rt: &R, place: &str) -> Option<SocketAddr> {
+    let mut found = place.to_socket_addrs(rt).ok()?;
+    found.find(|address| address.is_ipv4())
 }

@@ -1,21 +1,21 @@
 //! What a program on sockets needs beside what it serves: where it listens, who waits to be accepted, what has come, how long
 //! it has served.
 //!
-//! [`bind`] gives a listener. A [`Door`] is a listener and how many connections it has accepted: a poll that it is
-//! [registered](Door::register) with reports it, which it is [told](Door::note), and [`Door::accept`] gives the
-//! connections, one by one. Of a connection's socket an [`Edge`] keeps what events say ([`Edge::note`]), and an [`Input`] is
-//! the reader over both, which asks the system for nothing that is known not to be there. [`step_after`] says what is done
-//! with a client whose pump ended, and [`Uptime`] and [`Stopwatch`] how long a program has served. [`keep_alive`] has the system
-//! look for peers that are gone without a word. [`PIECE_LEN`], [`KEPT_ROOM`] and
-//! [`PATIENCE`] are limits that all who serve sockets share.
+//! [`bind`] gives a listener, at the [`first_address`] of a host. A [`Acceptor`] is a listener and how many connections it has
+//! accepted: a poll that it is [registered](Acceptor::register) with reports it, which it is [told](Acceptor::note), and
+//! [`Acceptor::accept`] gives the connections, one by one. Of a connection's socket an [`Edge`] keeps what events say
+//! ([`Edge::note`]), and an [`Input`] is the reader over both, which asks the system for nothing that is known not to be there.
+//! [`step_after`] says what is done with a client whose pump ended, and [`Uptime`] and [`Stopwatch`] how long a program has
+//! served. [`keep_alive`] has the system look for peers that are gone without a word. [`PIECE_LEN`] and [`KEPT_ROOM`] are limits
+//! that all who serve sockets share.
 //!
-//! No call waits but [`bind`], which looks a name up. What a socket carries, and who comes, no contract says. Proved are how
-//! many a door accepts, that an input drops and repeats no byte of its stream, what is done after a pump, and that an uptime
-//! never goes back.
+//! No call waits but [`bind`] and [`first_address`], which look a name up. What a socket carries, and who comes, no contract
+//! says. Proved are how many an acceptor accepts, that an input drops and repeats no byte of its stream, what is done after a pump,
+//! and that an uptime never goes back.
 #![tactic(auto)]
 
 mod binding;
-mod doors;
+mod acceptors;
 mod inputs;
 mod keeping;
 mod limits;
@@ -23,11 +23,11 @@ mod steps;
 mod stopwatches;
 mod uptimes;
 
-pub use binding::bind;
-pub use doors::{Door, Waiting};
+pub use binding::{bind, first_address};
+pub use acceptors::{Acceptor, Backlog};
 pub use inputs::{Edge, Input};
 pub use keeping::keep_alive;
-pub use limits::{KEPT_ROOM, PATIENCE, PIECE_LEN};
+pub use limits::{KEPT_ROOM, PIECE_LEN};
 pub use steps::{Step, step_after};
 pub use stopwatches::Stopwatch;
 pub use uptimes::Uptime;

@@ -5,6 +5,3 @@ pub const PIECE_LEN: usize = 65_536;
 
 /// As many bytes may stay reserved for a buffer of a client that waits for something to happen: 256 KiB.
 pub const KEPT_ROOM: usize = 262_144;
-
-/// How long a round of the poll waits at most where something is to be done unasked: in milliseconds.
-pub const PATIENCE: u64 = 1000;

@@ -3,15 +3,12 @@
 //! A body that carries bytes between a stream and what is after it, a pump, is made of these two, at most [`MAX_ROUNDS`]
 //! of each a call, and says by [`Pump`] how it left the stream. The stream is any reader and any writer: no socket is known
 //! here, and nothing of what is after it. `specs/Sides.antt` has what the two sides carry.
-//! [`ServeError`] is why a program that serves streams cannot start.
 #![tactic(auto)]
 
-mod errors;
 mod limits;
 mod outcomes;
 mod sides;
 
-pub use errors::ServeError;
 pub use limits::MAX_ROUNDS;
 pub use outcomes::Pump;
 pub use sides::{read_once, write_once};

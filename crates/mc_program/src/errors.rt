@@ -1,7 +1,7 @@
 //! Why a program cannot serve.
 ghost use Rattle.std.specs.Prelude.{◌≡◌};
-ghost use Rattle.mc_stream.specs.Statuses.{status_of};
-ghost use Rattle.mc_stream.specs.declared.errors.ServeError.TheVariants.{Memory};
+ghost use Rattle.mc_program.specs.Statuses.{status_of_error};
+ghost use Rattle.mc_program.specs.declared.errors.ServeError.TheVariants.{Memory};
 
 use std::alloc::AllocError;
 use thiserror::Error;
@@ -21,7 +21,7 @@ pub enum ServeError {
 impl ServeError {
     /// The exit status of a program that ends by it: 3 where it cannot listen, 4 for want of memory.
     pub fn status(&self) -> u8
-        ensures { result ≡ status_of self.now }
+        ensures { result ≡ status_of_error self.now }
     {
         match self {
             ServeError::Listen => 3,

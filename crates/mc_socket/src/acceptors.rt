@@ -12,7 +12,7 @@ const MAX_TRIES: u32 = 16;
 
 /// What is known of the connections that wait to be accepted.
 #[derive(Clone, Copy, Debug, PartialEq, Eq)]
-pub enum Waiting {
+pub enum Backlog {
     /// None waits until the listener is reported again.
     Nobody,
     /// There may be more.
@@ -24,34 +24,34 @@ pub enum Waiting {
 /// A listener, and how many connections it has accepted. Contracts see its limit, that number, and what is known of those who
 /// wait.
 #[derive(Drop)]
-pub struct Door {
+pub struct Acceptor {
     listener: TcpListener,
     /// How many are accepted in all; 0 for no limit.
     limit: u64,
     accepted: u64,
-    waiting: Waiting,
+    backlog: Backlog,
 }
 
-impl Model for Door {
-    ghost use Rattle.mc_socket.specs.Doors.{DoorState};
+impl Model for Acceptor {
+    ghost use Rattle.mc_socket.specs.Acceptors.{AcceptorState};
 
-    ghost Value = { DoorState };
+    ghost Value = { AcceptorState };
 
-    ghost view = { λ d. record { limit = d.limit; accepted = d.accepted; waiting = d.waiting } };
+    ghost view = { λ d. record { limit = d.limit; accepted = d.accepted; backlog = d.backlog } };
 }
 
-impl Door {
-    ghost use Rattle.mc_socket.specs.Doors.{new_door, told, is_shut, IsAccept};
+impl Acceptor {
+    ghost use Rattle.mc_socket.specs.Acceptors.{new_acceptor, told, is_shut, IsAccept};
 
-    /// A door that has accepted nobody, and will accept so many connections; 0 for no limit.
-    pub fn new(listener: TcpListener, limit: u64) -> Door
-        ensures { result ≡ new_door limit }
+    /// An acceptor that has accepted nobody, and will accept so many connections; 0 for no limit.
+    pub fn new(listener: TcpListener, limit: u64) -> Acceptor
+        ensures { result ≡ new_acceptor limit }
     {
-        Door {
+        Acceptor {
             listener,
             limit,
             accepted: 0,
-            waiting: Waiting::Nobody,
+            backlog: Backlog::Nobody,
         }
     }
 
@@ -66,37 +66,37 @@ impl Door {
     pub fn note(&mut self)
         ensures { self.new ≡ told self.old }
     {
-        self.waiting = Waiting::More;
+        self.backlog = Backlog::More;
     }
 
-    /// The next connection. Where there is none, [`waiting`](Self::waiting) says why; a door that is shut gives none.
+    /// The next connection. Where there is none, [`backlog`](Self::backlog) says why; an acceptor that is shut gives none.
     ///
     /// A call that the system interrupted, or whose connection is gone again, is made anew, up to 16 times.
     pub fn accept(&mut self) -> Option<TcpStream>
         ensures { IsAccept result self.old self.new }
     {
         if self.is_shut() {
-            self.waiting = Waiting::Nobody;
+            self.backlog = Backlog::Nobody;
             return None;
         }
         match next_connection(&self.listener) {
             Ok(stream) => {
                 self.accepted = self.accepted.saturating_add(1);
-                self.waiting = Waiting::More;
+                self.backlog = Backlog::More;
                 Some(stream)
             }
-            Err(waiting) => {
-                self.waiting = waiting;
+            Err(backlog) => {
+                self.backlog = backlog;
                 None
             }
         }
     }
 
     /// What is known of the connections that wait.
-    pub fn waiting(&self) -> Waiting
-        ensures { result ≡ self.now.waiting }
+    pub fn backlog(&self) -> Backlog
+        ensures { result ≡ self.now.backlog }
     {
-        self.waiting
+        self.backlog
     }
 
     /// How many connections it has accepted.
@@ -115,32 +115,32 @@ impl Door {
 }
 
 /// The next connection of a listener, or what is then known of those who wait.
-fn next_connection(listener: &TcpListener) -> Result<TcpStream, Waiting> {
+fn next_connection(listener: &TcpListener) -> Result<TcpStream, Backlog> {
     for _ in 0..MAX_TRIES {
         match listener.accept() {
             Ok((stream, _)) => return Ok(stream),
             Err(error) => {
-                if let Some(waiting) = waiting_by(error.kind()) {
-                    return Err(waiting);
+                if let Some(backlog) = backlog_by(error.kind()) {
+                    return Err(backlog);
                 }
             }
         }
     }
-    Err(Waiting::More)
+    Err(Backlog::More)
 }
 
 /// What an accept that failed by an error of a kind says of those who wait; none where it is to be tried again at once, since
 /// the system interrupted it, or the connection is gone again.
-fn waiting_by(kind: ErrorKind) -> Option<Waiting>
-    ensures nobody { kind ≡ ErrorKind.WouldBlock → result ≡ Some Waiting.Nobody }
+fn backlog_by(kind: ErrorKind) -> Option<Backlog>
+    ensures nobody { kind ≡ ErrorKind.WouldBlock → result ≡ Some Backlog.Nobody }
     ensures interrupted { kind ≡ ErrorKind.Interrupted → result ≡ None }
     ensures aborted { kind ≡ ErrorKind.ConnectionAborted → result ≡ None }
     ensures refused { kind ≢ ErrorKind.WouldBlock → kind ≢ ErrorKind.Interrupted → kind ≢ ErrorKind.ConnectionAborted
-        → result ≡ Some Waiting.Refused }
+        → result ≡ Some Backlog.Refused }
 {
     match kind {
-        ErrorKind::WouldBlock => Some(Waiting::Nobody),
+        ErrorKind::WouldBlock => Some(Backlog::Nobody),
         ErrorKind::Interrupted | ErrorKind::ConnectionAborted => None,
-        _ => Some(Waiting::Refused),
+        _ => Some(Backlog::Refused),
     }
 }

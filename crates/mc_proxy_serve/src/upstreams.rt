@@ -1,4 +1,4 @@
-//! The line to a server: its socket, if there is one, how far the connection is, and what is to be said of it.
+//! An upstream server: its socket, if there is one, how far the connection is, and what is to be said of it.
 ghost use Rattle.std.specs.Prelude.{◌<◌, length};
 
 use crate::delays::delay_after;
@@ -8,14 +8,14 @@ use crate::reports::LineReport;
 use crate::waits::Waits;
 use mc_proxy::Proxy;
 use mc_proxy_pump::{Pump, pump_link};
-use mc_socket::{Edge, Input, keep_alive};
+use mc_socket::{Edge, Input, first_address, keep_alive};
 use mc_watch::{Tally, earlier};
 use mio::event::Event;
 use mio::net::TcpStream;
 use mio::{Interest, Registry, Token};
 use std::alloc::Global;
 use std::mem;
-use std::net::{Net, SocketAddr, ToSocketAddrs};
+use std::net::Net;
 
 /// How far the connection to a server is.
 #[derive(Drop)]
@@ -28,9 +28,9 @@ enum State {
     Up(TcpStream),
 }
 
-/// The line to the server of a place.
+/// The server of a place, as a proxy reaches it.
 #[derive(Drop)]
-pub struct Line {
+pub struct Upstream {
     /// `<host>:<port>`.
     address: String,
     state: State,
@@ -55,10 +55,10 @@ pub struct Line {
     brought: u64,
 }
 
-impl Line {
-    /// A line to a server that no connection was begun to.
-    pub fn new(alloc: Global, address: String) -> Line {
-        Line {
+impl Upstream {
+    /// An upstream server to which no connection was begun.
+    pub fn new(alloc: Global, address: String) -> Upstream {
+        Upstream {
             address,
             state: State::Down,
             begun: 0,
@@ -173,7 +173,7 @@ impl Line {
 
     /// Begins a connection to the first IPv4 address that the server's host has. The error is why it could not.
     fn connect<R: Net>(&mut self, rt: &R, registry: &Registry, token: Token) -> Result<(), Cause> {
-        let address = address_of(rt, self.address.as_str())?;
+        let address = first_address(rt, self.address.as_str()).ok_or(Cause::UnknownHost)?;
         let mut stream = TcpStream::connect(rt, address)?;
         registry.register(&mut stream, token, Interest::READABLE | Interest::WRITABLE)?;
         // A server whose commands may come late is used all the same.
@@ -322,14 +322,6 @@ impl Line {
             _ => Cause::Ended,
         }
     }
-}
-
-/// The first IPv4 address of `<host>:<port>`.
-fn address_of<R: Net>(rt: &R, server: &str) -> Result<SocketAddr, Cause> {
-    let mut found = server.to_socket_addrs(rt).map_err(|_| Cause::UnknownHost)?;
-    found
-        .find(|address| address.is_ipv4())
-        .ok_or(Cause::UnknownHost)
 }
 
 /// Whether a connection that was begun is there, by an event of it. The error is why it has failed.

@@ -1,0 +1,266 @@
+//! The clients of a host, who of them goes on, and who is idle.
+ghost use Rattle.std.specs.Prelude.{◌<◌, ◌^◌};
+
+use crate::handlers::{Client, Handler};
+use crate::reports::Report;
+use mc_socket::{Edge, KEPT_ROOM, Step};
+use mc_watch::{Tally, earlier};
+use mio::event::Event;
+use mio::net::TcpStream;
+use mio::{Interest, Registry, Token};
+use slab::Slab;
+use std::alloc::{AllocError, Global};
+use std::mem;
+
+/// A client, and what is known of its rounds.
+#[derive(Drop)]
+struct Seat<K> {
+    client: Client<K>,
+    /// Whether it goes on in the next round, though nothing happens.
+    queued: bool,
+    /// Whether anything has happened since the last rest.
+    busy: bool,
+    /// In which second its socket was reported last, or it was owed something.
+    used: u64,
+}
+
+/// The clients of a host. The token of a client's socket is its key.
+#[derive(Drop)]
+pub struct Clients<K: Drop> {
+    seats: Slab<Seat<K>>,
+    /// The most clients.
+    most: usize,
+    /// The keys of the clients that go on in the next round, though nothing happens.
+    queue: Vec<usize>,
+    /// The same of this round.
+    going_on: Vec<usize>,
+    /// Whether a client was busy since the last rest.
+    busy: bool,
+    /// After how many seconds a client is closed that sent nothing and is owed nothing; 0 for never.
+    idle: u64,
+    /// In which second a client may have been idle for too long, at the earliest.
+    due: Option<u64>,
+    /// How many clients were closed as they came.
+    refused: u64,
+}
+
+impl<K: Default + Drop> Clients<K> {
+    /// Nobody, with room for so many. A client that is idle for longer than so many seconds is closed; 0 for never.
+    pub fn new(alloc: Global, most: usize, idle: u64) -> Result<Self, AllocError> {
+        Ok(Clients {
+            seats: Slab::with_capacity(alloc, most)?,
+            most,
+            queue: Vec::with_capacity(alloc, most)?,
+            going_on: Vec::with_capacity(alloc, most)?,
+            busy: false,
+            idle,
+            due: None,
+            refused: 0,
+        })
+    }
+
+    /// Whether there is nobody.
+    pub fn is_empty(&self) -> bool {
+        self.seats.is_empty()
+    }
+
+    /// What was done for them, in so many seconds in which so many were accepted, and by this tally.
+    pub fn report(&self, uptime: u64, accepted: u64, tally: Tally) -> Report {
+        Report {
+            uptime,
+            connections: self.seats.len(),
+            accepted,
+            refused: self.refused,
+            tally,
+        }
+    }
+
+    /// Whether one goes on though nothing happens.
+    pub fn goes_on(&self) -> bool {
+        !self.queue.is_empty()
+    }
+
+    /// Whether there may be one that is to rest.
+    pub fn is_busy(&self) -> bool {
+        self.busy
+    }
+
+    /// In which second one may have been idle for too long, at the earliest.
+    pub fn due(&self) -> Option<u64> {
+        self.due
+    }
+
+    /// The client of a key.
+    pub fn get(&self, key: usize) -> Option<&Client<K>> {
+        let seat = self.seats.get(key)?;
+        Some(&seat.client)
+    }
+
+    /// The client of a key, to write to what is kept of it.
+    pub fn get_mut(&mut self, key: usize) -> Option<&mut Client<K>> {
+        let seat = self.seats.get_mut(key)?;
+        Some(&mut seat.client)
+    }
+
+    /// Takes a client in at a moment. One for whom there is no place or no memory is closed at once.
+    pub fn admit<H: Handler<K>>(
+        &mut self,
+        handler: &mut H,
+        stream: TcpStream,
+        registry: &Registry,
+        moment: u64,
+    ) {
+        if self.try_admit(handler, stream, registry, moment) {
+            self.expect(moment);
+        } else {
+            self.refused = self.refused.saturating_add(1);
+        }
+    }
+
+    /// The same, which says whether there was a place and memory.
+    fn try_admit<H: Handler<K>>(
+        &mut self,
+        handler: &mut H,
+        mut stream: TcpStream,
+        registry: &Registry,
+        moment: u64,
+    ) -> bool {
+        let key = self.seats.vacant_key();
+        let Some(number) = handler.admit(key) else {
+            return false;
+        };
+        let both = Interest::READABLE | Interest::WRITABLE;
+        // A client whose answers may come late is served all the same.
+        let _ = stream.set_nodelay(true);
+        let registered = registry.register(&mut stream, Token(key), both);
+        let seat = Seat {
+            client: Client {
+                stream,
+                number,
+                ended: false,
+                edge: Edge::new(),
+                kept: K::default(),
+            },
+            queued: false,
+            busy: false,
+            used: moment,
+        };
+        if registered.is_err() || self.seats.insert(seat).is_err() {
+            handler.end(number);
+            return false;
+        }
+        true
+    }
+
+    /// Serves the client of an event.
+    pub fn wake<H: Handler<K>>(&mut self, handler: &mut H, event: &Event, moment: u64)
+        requires { moment < 2 ^ 63 }
+    {
+        let Token(key) = event.token();
+        if let Some(seat) = self.seats.get_mut(key) {
+            seat.client.edge.note(event);
+            seat.used = moment;
+            self.serve(handler, key, moment);
+        }
+    }
+
+    /// Serves the clients whose rounds were used up in the round before.
+    pub fn go_on<H: Handler<K>>(&mut self, handler: &mut H, moment: u64)
+        requires { moment < 2 ^ 63 }
+    {
+        mem::swap(&mut self.queue, &mut self.going_on);
+        for index in 0..self.going_on.len() {
+            let Some(key) = self.going_on.get(index).copied() else {
+                break;
+            };
+            if let Some(seat) = self.seats.get_mut(key) {
+                seat.queued = false;
+                self.serve(handler, key, moment);
+            }
+        }
+        self.going_on.clear();
+    }
+
+    /// Serves all clients.
+    pub fn serve_all<H: Handler<K>>(&mut self, handler: &mut H, moment: u64)
+        requires { moment < 2 ^ 63 }
+    {
+        for key in 0..self.most {
+            self.serve(handler, key, moment);
+        }
+    }
+
+    /// Serves the client of a key as far as it goes.
+    pub fn serve<H: Handler<K>>(&mut self, handler: &mut H, key: usize, moment: u64)
+        requires { moment < 2 ^ 63 }
+    {
+        let Some(seat) = self.seats.get_mut(key) else {
+            return;
+        };
+        self.busy = true;
+        seat.busy = true;
+        match handler.serve(&mut seat.client, moment) {
+            Step::GoOn => {
+                let was_queued = mem::replace(&mut seat.queued, true);
+                if !was_queued && self.queue.push(key).is_err() {
+                    self.close(handler, key);
+                }
+            }
+            Step::Wait => handler.give_back(seat.client.number, KEPT_ROOM),
+            Step::Close => self.close(handler, key),
+        }
+    }
+
+    /// Gives back the memory that is reserved for clients to whom nothing has happened since the last rest, and closes those that
+    /// have been idle for too long.
+    pub fn rest<H: Handler<K>>(&mut self, handler: &mut H, moment: u64) {
+        self.busy = false;
+        self.due = None;
+        for key in 0..self.most {
+            self.rest_one(handler, key, moment);
+        }
+    }
+
+    /// The same of the client of a key.
+    fn rest_one<H: Handler<K>>(&mut self, handler: &mut H, key: usize, moment: u64) {
+        let Some(seat) = self.seats.get_mut(key) else {
+            return;
+        };
+        let number = seat.client.number;
+        if mem::replace(&mut seat.busy, false) {
+            self.busy = true;
+        } else {
+            handler.give_back(number, 0);
+        }
+        if handler.owes(number) {
+            seat.used = moment;
+        }
+        let used = seat.used;
+        if self.is_too_idle(used, moment) {
+            self.close(handler, key);
+        } else {
+            self.expect(used);
+        }
+    }
+
+    /// Whether a client that was used in a second has been idle for too long: moments are whole seconds, so that one more has to
+    /// pass.
+    fn is_too_idle(&self, used: u64, moment: u64) -> bool {
+        self.idle > 0 && moment.saturating_sub(used) > self.idle
+    }
+
+    /// Expects a client that was used in a second to be idle for too long once so many have passed.
+    fn expect(&mut self, used: u64) {
+        if self.idle > 0 {
+            let due = used.saturating_add(self.idle).saturating_add(1);
+            self.due = earlier(self.due, Some(due));
+        }
+    }
+
+    /// Ends what a client has with the handler, and closes its socket.
+    fn close<H: Handler<K>>(&mut self, handler: &mut H, key: usize) {
+        if let Some(seat) = self.seats.try_remove(key) {
+            handler.end(seat.client.number);
+        }
+    }
+}

@@ -1,0 +1,57 @@
+//! Options that programs that serve sockets have alike.
+
+use clap::builder::ValueParser;
+use clap::{Arg, ArgAction};
+use std::alloc::Global;
+
+/// The option that says where to listen, and where without it.
+pub fn listen<'a>(alloc: Global, usual: &'a str) -> Arg<'a> {
+    Arg::new(alloc, "listen")
+        .long("listen")
+        .value_name("host:port")
+        .default_value(usual)
+        .help("Where to listen: a host's name or IPv4 address, and a port from 1 to 65535")
+}
+
+/// The option that says when an idle client is closed.
+pub fn idle<'a>(alloc: Global) -> Arg<'a> {
+    number(
+        alloc,
+        "idle",
+        "seconds",
+        "Close a client that for so long sent nothing and was owed nothing; 0 for never",
+    )
+}
+
+/// The option that says how often a program tells what it has done.
+pub fn report<'a>(alloc: Global) -> Arg<'a> {
+    number(
+        alloc,
+        "report",
+        "seconds",
+        "Say on standard error, once in so many seconds, what was done; 0 for never",
+    )
+}
+
+/// The option that says after how many clients a program ends.
+pub fn accept<'a>(alloc: Global, help: &'a str) -> Arg<'a> {
+    number(alloc, "accept", "n", help)
+}
+
+/// An option that is there or not.
+pub fn flag<'a>(alloc: Global, name: &'a str, help: &'a str) -> Arg<'a> {
+    Arg::new(alloc, name)
+        .long(name)
+        .action(ArgAction::SetTrue)
+        .help(help)
+}
+
+/// An option whose value is any number of 64 bits, and 0 without it.
+pub fn number<'a>(alloc: Global, name: &'a str, unit: &'a str, help: &'a str) -> Arg<'a> {
+    Arg::new(alloc, name)
+        .long(name)
+        .value_name(unit)
+        .value_parser(ValueParser::unsigned(0, u64::MAX))
+        .default_value("0")
+        .help(help)
+}

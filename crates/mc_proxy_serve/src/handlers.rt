@@ -1,0 +1,171 @@
+//! What serves the clients of a proxy.
+ghost use Rattle.std.specs.Prelude.{◌≡◌, ◌<◌, vec_len};
+
+use crate::pools::Pool;
+use crate::woken::Woken;
+use mc_clients::{Client, Handler};
+use mc_program::ServeError;
+use mc_proxy::{MAX_SESSIONS, Proxy};
+use mc_proxy_pump::{Pump, is_owed, pump_answers, pump_client};
+use mc_ring::Ring;
+use mc_socket::{Input, PIECE_LEN, Step, step_after};
+use mc_watch::Tally;
+use std::alloc::Global;
+use std::collections::HashMap;
+
+/// How many bytes a client has sent, and servers have sent for it, since it was owed nothing: no fewer than are kept for it.
+#[derive(Clone, Copy, Debug, Default)]
+pub struct Held {
+    /// So many.
+    pub bytes: u64,
+}
+
+impl Held {
+    /// Notes that so many more have come.
+    pub fn add(&mut self, bytes: u64) {
+        self.bytes = self.bytes.saturating_add(bytes);
+    }
+}
+
+/// A proxy, and what its clients share.
+#[derive(Drop)]
+pub struct ProxyHandler {
+    /// The proxy.
+    pub proxy: Proxy,
+    /// The keys of the clients by the numbers of their sessions.
+    keys: HashMap<u64, usize>,
+    /// What reads fill: made once.
+    piece: Vec<u8>,
+    /// What passed of all clients.
+    tally: Tally,
+    /// As many bytes kept for one client stop its turns and reads.
+    most: u64,
+    ghost reads: { 0 < vec_len piece },
+}
+
+impl ProxyHandler {
+    /// The handler of the clients of a new proxy over a ring. Where more bytes than so many are kept for a client, it is sent its
+    /// answers alone.
+    pub fn new(alloc: Global, ring: Ring, most: u64) -> Result<Self, ServeError> {
+        Ok(ProxyHandler {
+            proxy: Proxy::new(alloc, ring).map_err(|_| ServeError::Memory)?,
+            keys: HashMap::with_capacity(alloc, MAX_SESSIONS)?,
+            piece: Vec::from_elem(alloc, 0, PIECE_LEN)?,
+            tally: Tally::new(),
+            most,
+        })
+    }
+
+    /// What passed of all clients.
+    pub fn tally(&self) -> Tally {
+        self.tally
+    }
+
+    /// The key of the client of a session.
+    pub fn key_of(&self, session: u64) -> Option<usize> {
+        self.keys.get(&session).copied()
+    }
+
+    /// Whether the next request of a session waits for one of the links to the servers of some places.
+    pub fn waits_for_any(&self, session: u64, places: &[usize]) -> bool {
+        for place in places {
+            if self.proxy.waits_for(session, *place) {
+                return true;
+            }
+        }
+        false
+    }
+
+    /// Has a pool carry the bytes of its upstreams ([`Pool::carry`]).
+    pub fn carry(
+        &mut self,
+        pool: &mut Pool,
+        woken: &mut Woken,
+        freed: &mut Vec<usize>,
+        now: u64,
+    ) -> bool {
+        pool.carry(&mut self.proxy, &mut self.piece, woken, freed, now)
+    }
+
+    /// Sends a client its answers, and says what is done with it then. Once it is owed nothing, it is served again.
+    fn drain(&mut self, client: &mut Client<Held>) -> Step
+        ensures { client.new.number ≡ client.old.number }
+    {
+        let mut output = &client.stream;
+        match pump_answers(&mut self.proxy, client.number, &mut output, &mut self.tally) {
+            Err(pump) => step_after(pump),
+            Ok(moved) => {
+                let owed = is_owed(&self.proxy, client.number);
+                if !owed {
+                    client.kept.bytes = 0;
+                }
+                if moved || !owed {
+                    Step::GoOn
+                } else {
+                    Step::Wait
+                }
+            }
+        }
+    }
+
+    /// Carries a client's bytes, takes its requests, and puts its answers out. What passed is counted.
+    fn pump(&mut self, client: &mut Client<Held>) -> Pump
+        ensures { client.new.number ≡ client.old.number }
+    {
+        let mut input = Input {
+            stream: &client.stream,
+            edge: client.edge,
+        };
+        let mut output = &client.stream;
+        let pumped = pump_client(
+            &mut self.proxy,
+            client.number,
+            &mut client.ended,
+            &mut input,
+            &mut output,
+            &mut self.piece,
+            &mut self.tally,
+        );
+        client.edge = input.edge;
+        pumped
+    }
+}
+
+impl Handler<Held> for ProxyHandler {
+    fn admit(&mut self, key: usize) -> Option<u64> {
+        let session = self.proxy.admit().ok()?;
+        if self.keys.insert(session, key).is_err() {
+            let _ = self.proxy.gone(session);
+            return None;
+        }
+        Some(session)
+    }
+
+    fn end(&mut self, number: u64) {
+        self.keys.remove(&number);
+        let _ = self.proxy.gone(number);
+    }
+
+    /// Where more bytes are kept for the client than may be, it is sent its answers alone.
+    fn serve(&mut self, client: &mut Client<Held>, _moment: u64) -> Step {
+        if client.kept.bytes > self.most {
+            return self.drain(client);
+        }
+        let before = self.tally.read;
+        let pumped = self.pump(client);
+        if is_owed(&self.proxy, client.number) {
+            client.kept.add(self.tally.read.saturating_sub(before));
+        } else {
+            client.kept.bytes = 0;
+        }
+        step_after(pumped)
+    }
+
+    fn give_back(&mut self, number: u64, room: usize) {
+        self.proxy.give_back(number, room);
+    }
+
+    fn owes(&self, number: u64) -> bool {
+        is_owed(&self.proxy, number)
+    }
+}

@@ -1,0 +1,62 @@
+//! The server that joins while a proxy runs.
+
+use crate::notices::{Cause, Notice, Notices, tell};
+use mc_ring::Address;
+
+/// The server that joins with a client, and what is to be said of it.
+#[derive(Drop)]
+pub struct Joining<'a> {
+    /// The server, and with which client's coming it joins.
+    join: &'a Option<(Address, u64)>,
+    /// Whether it has joined.
+    joined: bool,
+    notices: Notices,
+}
+
+impl<'a> Joining<'a> {
+    /// A server that has not joined.
+    pub fn new(join: &'a Option<(Address, u64)>) -> Self {
+        Joining {
+            join,
+            joined: false,
+            notices: Notices::new(Notice::Joined),
+        }
+    }
+
+    /// The server, where it is to join now that so many clients were accepted.
+    pub fn server(&self, accepted: u64) -> Option<&'a Address> {
+        match self.join {
+            Some((server, with)) if !self.joined && accepted >= *with => Some(server),
+            _ => None,
+        }
+    }
+
+    /// Notes whether it has joined. Where it has not, it is tried again with the next client.
+    pub fn note(&mut self, joined: Result<(), Cause>) {
+        match joined {
+            Ok(()) => {
+                self.joined = true;
+                self.notices.note(Notice::Joined);
+            }
+            Err(cause) => self.notices.note(Notice::NotJoined(cause)),
+        }
+    }
+
+    /// Whether something is to be said of it.
+    pub fn is_due(&self) -> bool {
+        self.notices.is_due()
+    }
+
+    /// Says on standard error how it has fared.
+    pub fn tell<R: Eprint>(&mut self, rt: &R, second: u64) {
+        let Some((server, _)) = self.join else {
+            return;
+        };
+        if let (Some(notice), Ok(server)) = (
+            self.notices.take(second),
+            str::from_utf8(server.as_bytes()),
+        ) {
+            tell(rt, server, notice);
+        }
+    }
+}

@@ -1,0 +1,121 @@
+//! What serves the clients of a server.
+ghost use Rattle.std.specs.Prelude.{◌≡◌, ◌<◌, ◌^◌, None, IsSome, length, vec_len};
+ghost use Rattle.mc_server.specs.ServerState.{connection_at};
+ghost use Rattle.mc_pump.specs.Pumps.{Pumps};
+
+use crate::options::PROGRAM;
+use mc_clients::{Client, Handler};
+use mc_pump::{Pump, Watch, pump};
+use mc_server::{AnswerLimit, Server};
+use mc_socket::{Input, PIECE_LEN, Step, step_after};
+use mc_store::Store;
+use mc_watch::{Seldom, Tally};
+use std::alloc::{AllocError, Global};
+use std::mem;
+
+/// A server, and what its clients share.
+#[derive(Drop)]
+pub struct ServerHandler<S: Store + Drop> {
+    server: Server<S>,
+    /// What reads fill: made once.
+    piece: Vec<u8>,
+    /// How large an answer may be, and what passed of all clients.
+    watch: Watch,
+    /// What is to be said of a request whose answer may be too large: how many bytes it might have.
+    too_large: Seldom,
+    ghost reads: { 0 < vec_len piece },
+}
+
+impl<S: Store + Drop> ServerHandler<S> {
+    /// The handler of a server's clients, whose answers may have so many bytes.
+    pub fn new(alloc: Global, server: Server<S>, answer: usize) -> Result<Self, AllocError> {
+        Ok(ServerHandler {
+            server,
+            piece: Vec::from_elem(alloc, 0, PIECE_LEN)?,
+            watch: Watch::new(AnswerLimit { bytes: answer }),
+            too_large: Seldom::new(),
+        })
+    }
+
+    /// What passed of all clients.
+    pub fn tally(&self) -> Tally {
+        self.watch.tally
+    }
+
+    /// Says on standard error, at most once in a second, that a request was refused whose answer may be too large.
+    pub fn tell<R: Eprint>(&mut self, rt: &R, moment: u64) {
+        if let Some(bytes) = self.too_large.take(moment) {
+            // Where it cannot be said, all are served all the same.
+            let _ = eprintln!(rt;
+                "{PROGRAM}: request refused: its answer may have more than {bytes} bytes"
+            );
+        }
+    }
+}
+
+impl<S: Store + Drop> Handler<()> for ServerHandler<S> {
+    fn admit(&mut self, _key: usize) -> Option<u64> {
+        self.server.admit().ok()
+    }
+
+    fn end(&mut self, number: u64) {
+        let _ = self.server.close(number);
+    }
+
+    fn serve(&mut self, client: &mut Client<()>, moment: u64) -> Step {
+        let pumped = pump_client(
+            &mut self.server,
+            client,
+            &mut self.piece,
+            moment,
+            &mut self.watch,
+        );
+        let step = step_after(pumped);
+        if step == Step::Close && mem::replace(&mut self.watch.refused, false) {
+            self.too_large.note(self.watch.limit.bytes as u64);
+        }
+        step
+    }
+
+    fn give_back(&mut self, number: u64, room: usize) {
+        self.server.give_back(number, room);
+    }
+
+    fn owes(&self, number: u64) -> bool {
+        !self.server.output(number).is_empty()
+    }
+}
+
+/// Carries a client's bytes, and serves what comes whole, where the watch allows its answer. Which bytes a socket gives, and which
+/// it takes, is not known.
+fn pump_client<S: Store + Drop>(
+    server: &mut Server<S>,
+    client: &mut Client<()>,
+    piece: &mut [u8],
+    moment: u64,
+    watch: &mut Watch,
+) -> Pump
+    requires piece { 0 < length piece.old }
+    requires moment { moment < 2 ^ 63 }
+    ensures pumps { IsSome (connection_at server.old client.old.number) → Pumps client.old.number moment result server.old server.new
+        None None None None client.old.ended client.new.ended }
+    ensures number { client.new.number ≡ client.old.number }
+{
+    let mut input = Input {
+        stream: &client.stream,
+        edge: client.edge,
+    };
+    let mut output = &client.stream;
+    let pumped = pump(
+        server,
+        client.number,
+        &mut client.ended,
+        &mut input,
+        &mut output,
+        piece,
+        moment,
+        watch,
+    );
+    client.edge = input.edge;
+    pumped
+}
