@@ -66,7 +66,8 @@ pub fn serve_rounds<R: Net + Wait, C, H: Rounds<R, C>>(
     let mut events = Events::with_capacity(alloc, MAX_EVENTS)?;
     let mut poll = Poll::new(rt).map_err(|_| ServeError::Listen)?;
     let mut acceptor = Acceptor::new(listener, accept);
-    acceptor.register(poll.registry(), LISTENER)
+    acceptor
+        .register(poll.registry(), LISTENER)
         .map_err(|_| ServeError::Listen)?;
     for _ in rt.forever() {
         let patience = host.before(rt, poll.registry(), acceptor.backlog());
@@ -91,7 +92,12 @@ pub fn serve_rounds<R: Net + Wait, C, H: Rounds<R, C>>(
 }
 
 /// Lets clients in until none waits, or as many as a round lets in.
-fn let_in<R, C, H: Rounds<R, C>>(rt: &R, registry: &Registry, acceptor: &mut Acceptor, host: &mut H) {
+fn let_in<R, C, H: Rounds<R, C>>(
+    rt: &R,
+    registry: &Registry,
+    acceptor: &mut Acceptor,
+    host: &mut H,
+) {
     for _ in 0..MAX_ACCEPTS {
         if acceptor.backlog() == Backlog::Nobody || !host.is_open() {
             return;

@@ -12,7 +12,7 @@ use mc_clients::{Clients, Rounds, patience};
 use mc_program::ServeError;
 use mc_proxy::MAX_SESSIONS;
 use mc_ring::{Ring, SERVER_LIMIT};
-use mc_socket::{Stopwatch, Backlog};
+use mc_socket::{Backlog, Stopwatch};
 use mc_watch::{Pace, earlier};
 use mio::event::Event;
 use mio::net::TcpStream;

@@ -1,9 +1,9 @@
 //! The upstream servers of a ring.
 ghost use Rattle.std.specs.Prelude.{◌<◌, length};
 
-use crate::upstreams::Upstream;
 use crate::notices::Cause;
 use crate::options::PROGRAM;
+use crate::upstreams::Upstream;
 use crate::woken::Woken;
 use mc_proxy::{LINK_MARK, MAX_SESSIONS, Proxy, ProxyError};
 use mc_ring::{Address, Ring};

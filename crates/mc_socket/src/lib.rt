@@ -14,8 +14,8 @@
 //! and that an uptime never goes back.
 #![tactic(auto)]
 
-mod binding;
 mod acceptors;
+mod binding;
 mod inputs;
 mod keeping;
 mod limits;
@@ -23,8 +23,8 @@ mod steps;
 mod stopwatches;
 mod uptimes;
 
-pub use binding::{bind, first_address};
 pub use acceptors::{Acceptor, Backlog};
+pub use binding::{bind, first_address};
 pub use inputs::{Edge, Input};
 pub use keeping::keep_alive;
 pub use limits::{KEPT_ROOM, PIECE_LEN};
