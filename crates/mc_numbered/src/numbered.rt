@@ -136,6 +136,7 @@ impl<T: Drop> Numbered<T> {
         ensures removed { result ≡ entry_of self.old.entries number }
         ensures others { self.new ≡ record self.old { entries = without number self.old.entries } }
         ensures is_free { entry_of self.new.entries number ≡ None }
+        ensures unchanged { IfNone result (self.new ≡ self.old) }
     {
         match self.place_of(number) {
             Some(place) => Some(self.entries.remove(place).1),

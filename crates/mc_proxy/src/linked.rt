@@ -118,12 +118,14 @@ impl Proxy {
     }
 
     /// Notes what became of a command. Where its session is gone it is dropped.
+    #[tactic(auto, using(crate::proofs::NotingLemmas::noted_gone))]
     fn note(&mut self, tag: Tag, outcome: Outcome)
         ensures { self.new ≡ record self.old { sessions = noted tag outcome self.old.sessions } }
     {
-        if let Some(session) = self.sessions.get_mut(tag.session) {
-            session.note(tag, outcome);
-        }
+        let Some(session) = self.sessions.get_mut(tag.session) else {
+            return;
+        };
+        session.note(tag, outcome);
     }
 
     /// A link that is down comes up, and its new generation is given: one more than the last.

@@ -92,6 +92,7 @@ impl Proxy {
     }
 
     /// Takes the next piece of a session's text.
+    #[tactic(auto, using(mc_numbered::proofs::EntryLemmas::updated_same))]
     pub fn feed(&mut self, number: u64, piece: &[u8]) -> Result<(), ProxyError>
         ensures fed { OnOk result (Steps number self.old self.new (Alone (IsFed piece.now))) }
         ensures no_session { IsErrOf result ProxyError.NoSession ↔ (session_at self.old number ≡ None) }
@@ -109,6 +110,7 @@ impl Proxy {
     ///
     /// At an error the request is not taken, and no command was sent. Where none has come whole, or the first has to wait for
     /// a mark, no memory is taken.
+    #[tactic(auto, using(mc_numbered::proofs::EntryLemmas::updated_same))]
     pub fn turn(&mut self, number: u64) -> Result<Turn, ProxyError>
         ensures turn { IfOk result (λ turn. Steps number self.old self.new (IsTurn number turn self.old.ring)) }
         ensures memory { IsErrOf result ProxyError.Memory → IfSome (session_at self.old number) (IsReady self.old.ring self.old.links) }
@@ -151,6 +153,7 @@ impl Proxy {
     /// became of it.
     ///
     /// At an error nothing was put out. Where no answer is known no memory is taken.
+    #[tactic(auto, using(mc_numbered::proofs::EntryLemmas::updated_same))]
     pub fn emit(&mut self, number: u64) -> Result<Emit, ProxyError>
         ensures emit { IfOk result (λ emit. Steps number self.old self.new (Alone (IsEmit emit))) }
         ensures memory { IsErrOf result ProxyError.Memory → IfSome (session_at self.old number) (λ session. emitted session ≢ None) }
@@ -179,9 +182,10 @@ impl Proxy {
         requires { count ≤ length (output_of (session_at self.old number)) }
         ensures { self.new ≡ sent_by number count (session_at self.old number) self.old }
     {
-        if let Some(session) = self.sessions.get_mut(number) {
-            session.taken_out(count);
-        }
+        let Some(session) = self.sessions.get_mut(number) else {
+            return;
+        };
+        session.taken_out(count);
     }
 
     /// How many requests and faults of a session were taken and are not answered: none where it is not open.
@@ -207,12 +211,14 @@ impl Proxy {
 
     /// Gives back the memory that a session has reserved and that holds nothing, where there is room for more than `kept`
     /// bytes or requests. It is for a session that is idle. Where none of the number is open it does nothing.
+    #[tactic(auto, using(mc_numbered::proofs::EntryLemmas::updated_same))]
     pub fn give_back(&mut self, number: u64, kept: usize)
         ensures { self.new ≡ self.old }
     {
-        if let Some(session) = self.sessions.get_mut(number) {
-            session.give_back(kept);
-        }
+        let Some(session) = self.sessions.get_mut(number) else {
+            return;
+        };
+        session.give_back(kept);
     }
 
     /// Ends a session: its text, its answers and its unanswered requests are let go. What its commands are still answered

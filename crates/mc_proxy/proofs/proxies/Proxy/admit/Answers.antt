@@ -7,6 +7,6 @@ returns-clause-too_many c = rw (← c.self.view_is) (
   λ is. absurd cc,
   λ either. elim either [
     | inl many ↦ absurd (omega (arith, many, c.if-is_full.false, c.len-is_full.ensures))
-    | inr last ↦ absurd (omega (arith, last, c.if-self.false))
+    | inr last ↦ absurd (omega (arith, last, c.if-next_number.false, c.next_number.ensures))
   ],
 )

@@ -2,5 +2,5 @@ use Rattle.std.proofs.Common.{refl}
 use Rattle.mc_proxy.proofs.proxies.Proxy.taken_out.Goals as goal
 
 -- the session of the number is changed
-pub returns-in-Some : goal.returns-in-Some
-returns-in-Some c = rw (← c.self.view_is, ← c.in-Some.ensures.value, c.taken_out.ensures) refl
+pub returns : goal.returns
+returns c = rw (← c.self.view_is, ← c.in-Some.ensures.value, c.taken_out.ensures) refl
