@@ -49,8 +49,8 @@ add tests/gate/chart.py tests/examples/pool/pool_late_bytes_are_served.txt docs/
 add tests/gate/pools.py --worlds 100
 add tests/gate/pool_mistakes.py 150
 add tests/gate/spellings.py 5
-add tests/refused.py crates/mc_pool_rows/out/mc_pool_rows_tests pools::dialogues_of_a_pool_go_so
-add tests/refused.py crates/mc_pool_rows/out/mc_pool_rows_tests worlds::links_are_lost_and_back
+add tests/gate/refused.py crates/mc_pool_rows/out/mc_pool_rows_tests pools::dialogues_of_a_pool_go_so
+add tests/gate/refused.py crates/mc_pool_rows/out/mc_pool_rows_tests worlds::links_are_lost_and_back
 add tests/gate/refused_scripts.py
 add tests/gate/serverd.py crates/mc_serverd/out/mc_serverd
 add tests/gate/proxyd.py crates/mc_proxyd/out/mc_proxyd crates/mc_serverd/out/mc_serverd
