@@ -21,7 +21,7 @@ serve:
 
 pool:
 	@./prove.py mc_serverd mc_proxyd
-	@tests/pool.py crates/mc_proxyd/out/mc_proxyd crates/mc_serverd/out/mc_serverd
+	@tests/by_hand/pool.py crates/mc_proxyd/out/mc_proxyd crates/mc_serverd/out/mc_serverd
 
 install:
 	@./prove.py $(PROGRAMS)

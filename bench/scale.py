@@ -9,7 +9,7 @@ picture docs/scale_shares.svg is drawn. With --check it is seen that both are wh
 the owners of single keys. With --beside, MC_SIM is the built mc_sim: it plays pools in which 2,000 keys are set, and its account has to
 name the owners that the model names. The last line of both is 'N passed, M failed'.
 
-The ring is the model of tests/rings.py. A server's share of the keys is the part of the circle before its points: it is exact for a
+The ring is the model of tests/lib/rings.py. A server's share of the keys is the part of the circle before its points: it is exact for a
 great many keys. Its share of the requests is that of 1,000,000 keys by Zipf's law. Both depend on the addresses of the pool. So a
 figure is the middle one of 20 pools of other addresses, and in brackets is the worst of them.
 """
@@ -27,7 +27,7 @@ import sys
 from typing import NamedTuple
 
 TOP = pathlib.Path(__file__).resolve().parent.parent
-sys.path.insert(0, str(TOP / "tests"))
+sys.path.insert(0, str(TOP / "tests" / "lib"))
 
 import scale_picture
 from checks import Wrong, tally, want
@@ -447,13 +447,10 @@ def main():
     ways.add_argument("--beside", metavar="MC_SIM")
     asked = words.parse_args()
     if asked.beside:
-        return tally(
-            "../bench/scale.py",
-            [(f"{count} servers", program_names_the_same_owners, (asked.beside, count)) for count in (1, *SIZES)],
-        )
+        return tally((f"{count} servers", program_names_the_same_owners, (asked.beside, count)) for count in (1, *SIZES))
     pools = Pools()
     if asked.check:
-        return tally("../bench/scale.py", checks(pools))
+        return tally(checks(pools))
     if asked.write:
         write(pools)
         return 0

@@ -6,7 +6,7 @@ Usage: scale_load.py SERVER PROXY [--servers N] [--proxies N] [--clients N] [--k
 
 SERVER is the built mc_serverd, PROXY the built mc_proxyd. Each client is a plain socket, and has keys of its own. So it knows each
 answer byte for byte, and looks at each: while all servers are there, while one is lost, and once it is back and empty. At the end each
-server is asked for the keys that are its own by the model of the ring (tests/rings.py).
+server is asked for the keys that are its own by the model of the ring (tests/lib/rings.py).
 
 It prints two tables in Markdown: of each load what a request cost, and memory, files, and how long a loss and a return took. A cost is
 the processor time of all servers, or of all proxies, for a request. The last line is 'N passed, M failed'.
@@ -23,7 +23,7 @@ import time
 from pathlib import Path
 from typing import NamedTuple
 
-sys.path.insert(0, str(Path(__file__).resolve().parent.parent / "tests"))
+sys.path.insert(0, str(Path(__file__).resolve().parents[1] / "tests" / "lib"))
 
 from checks import PATIENCE, Wrong, allow_many_files, is_served, received, shortened, tally, want
 from rings import Ring
@@ -311,7 +311,7 @@ def main():
     asked = words.parse_args()
     allow_many_files()
     with contextlib.ExitStack() as stack:
-        return tally("../bench/scale_load.py", Trial(asked, stack).checks())
+        return tally(Trial(asked, stack).checks())
 
 
 if __name__ == "__main__":

@@ -6,9 +6,11 @@ Usage: world.py EVENTS [LOST]      (LOST: after each so many rounds a link is lo
 3 servers, 8 clients, keys of 20 bytes, values of 100. A round is a set or a get of each client, each taken, sent, served, replied and
 answered: 8 events a request.
 """
+import pathlib
 import sys
 
-sys.path.insert(0, __file__.rsplit("/", 2)[0] + "/tests")
+sys.path.insert(0, str(pathlib.Path(__file__).resolve().parents[1] / "tests" / "lib"))
+
 from rings import Ring
 
 SERVERS = [f"127.0.0.1:{11211 + number}" for number in range(3)]

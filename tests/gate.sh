@@ -1,6 +1,6 @@
 #!/usr/bin/env bash
 # The merge gate: every proof from nothing, the must-fail edits, tests and programs (`rt ci`), and then the scripts of
-# tests/ with the programs that were just built. The last line is 'N passed, M failed', the sum of all parts.
+# tests/gate/ with the programs that were just built. The last line is 'N passed, M failed', the sum of all parts.
 set -u
 shopt -s lastpipe
 cd "$(dirname "$0")/.."
@@ -37,23 +37,23 @@ if [ -z "${RT_JOBS:-}" ]; then
 fi
 
 add rt ci
-add tests/edits.py --read
-add tests/cited.py
-add tests/believed.py --check
-add tests/proving.py
+add tests/gate/edits.py --read
+add tests/gate/cited.py
+add tests/gate/believed.py --check
+add tests/gate/proving.py
 add bench/plot.py --check
-add tests/examples.sh
-add tests/prefixes.py
-add tests/random.sh 5 2000
-add tests/chart.py tests/examples/pool_late_bytes_are_served.txt docs/lost_link.svg --check
-add tests/pools.py --worlds 100
-add tests/pool_mistakes.py 150
-add tests/spellings.py 5
-add tests/refused.py crates/mc_pool_rows/out/mc_pool_rows_tests pools::dialogues_of_a_pool_go_so
-add tests/refused.py crates/mc_pool_rows/out/mc_pool_rows_tests worlds::links_are_lost_and_back
-add tests/refused_scripts.py
-add tests/serverd.py crates/mc_serverd/out/mc_serverd
-add tests/proxyd.py crates/mc_proxyd/out/mc_proxyd crates/mc_serverd/out/mc_serverd
-add tests/keys_at_owners.py crates/mc_proxyd/out/mc_proxyd crates/mc_serverd/out/mc_serverd
+add tests/gate/examples.sh
+add tests/gate/prefixes.py
+add tests/gate/random.sh 5 2000
+add tests/gate/chart.py tests/examples/pool/pool_late_bytes_are_served.txt docs/lost_link.svg --check
+add tests/gate/pools.py --worlds 100
+add tests/gate/pool_mistakes.py 150
+add tests/gate/spellings.py 5
+add tests/gate/refused.py crates/mc_pool_rows/out/mc_pool_rows_tests pools::dialogues_of_a_pool_go_so
+add tests/gate/refused.py crates/mc_pool_rows/out/mc_pool_rows_tests worlds::links_are_lost_and_back
+add tests/gate/refused_scripts.py
+add tests/gate/serverd.py crates/mc_serverd/out/mc_serverd
+add tests/gate/proxyd.py crates/mc_proxyd/out/mc_proxyd crates/mc_serverd/out/mc_serverd
+add tests/gate/keys_at_owners.py crates/mc_proxyd/out/mc_proxyd crates/mc_serverd/out/mc_serverd
 echo "$passed passed, $failed failed"
 [ "$failed" -eq 0 ]

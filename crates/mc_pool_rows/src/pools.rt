@@ -1,7 +1,7 @@
 //! Sessions over links: dialogues of a proxy with its clients and its servers, step by step.
 //!
 //! A call that is refused memory is made again. So a dialogue goes the same way whichever allocation of it is refused, and
-//! `tests/refused.py` refuses each of them in turn.
+//! `tests/gate/refused.py` refuses each of them in turn.
 
 use mc_proxy::{Emit, LinkTurn, Proxy, ProxyError, Turn};
 use mc_ring::{Address, Point, Ring, RingError};

@@ -1,7 +1,7 @@
 //! Worlds whose links are lost and come back: they play pool scripts, line by line.
 //!
 //! A call that is refused memory is made again. So a script ends as with ample memory, or as where one store was refused, whichever
-//! allocation is refused: `tests/refused.py` refuses each of them in turn.
+//! allocation is refused: `tests/gate/refused.py` refuses each of them in turn.
 ghost use Rattle.std.specs.Prelude.{◌<◌, ◌^◌};
 ghost use Rattle.mc_pool_script.specs.PoolLines.{HasMoment};
 

@@ -1,0 +1,85 @@
+#!/usr/bin/env python3
+"""Tries the must-fail edits that the gate does not: wrong bodies that the prover must refuse, below tests/must-fail.
+
+Usage: edits.py [--read] [CRATE ...]       (all crates that have such edits, where none is named)
+
+The crates are copied to a temporary folder, what is built of them too, and have these edits there in the place of the gate's;
+`rt must-fail` tries them. That takes a crate's proof and some 20 seconds an edit, and first the proof of each library below that
+is not built. With --read it is only seen that each edit can be made: each text that it names stands in its file exactly once.
+That is a part of `make test`. The last line is 'N passed, M failed', one for each edit.
+"""
+import argparse
+import pathlib
+import re
+import shutil
+import subprocess
+import sys
+import tempfile
+
+sys.path.insert(0, str(pathlib.Path(__file__).resolve().parents[1] / "lib"))
+
+from suite import CRATES, TESTS, TOP
+
+EDITS = TESTS / "must-fail"
+REFUSED = re.compile(r"must-fail \S+: refused, as it must be")
+
+
+def faults_of(edit):
+    """Why an edit cannot be made: an empty list where it can."""
+    faults, text, old, changes = [], "", "", 0
+    for line in edit.read_text().splitlines():
+        name, _, rest = line.partition(": ")
+        if name == "file":
+            text = (CRATES / edit.parent.name / rest).read_text()
+        elif name == "old":
+            old, found = rest, text.count(rest)
+            if found != 1:
+                faults.append(f"{rest!r} is there {found} times")
+        elif name == "new":
+            text, changes = text.replace(old, rest), changes + 1
+    return faults if changes else ["it changes nothing"]
+
+
+def read(edits):
+    """Sees that each edit can be made, and says how many can."""
+    made = 0
+    for edit in edits:
+        try:
+            faults = faults_of(edit)
+        except OSError as error:
+            faults = [str(error)]
+        for fault in faults:
+            print(f"{edit.relative_to(TOP)}: {fault}")
+        made += not faults
+    return made
+
+
+def refused(edits):
+    """Has rt try the edits in a copy of the crates, and says how many are refused."""
+    with tempfile.TemporaryDirectory() as room:
+        for name in ("HANDLES", "crates.txt"):
+            shutil.copy(TOP / name, room)
+        copy = pathlib.Path(room, "crates")
+        shutil.copytree(CRATES, copy, ignore=shutil.ignore_patterns("must-fail"))
+        for edit in edits:
+            (copy / edit.parent.name / "must-fail").mkdir(exist_ok=True)
+            shutil.copy(edit, copy / edit.parent.name / "must-fail")
+        names = sorted({edit.parent.name for edit in edits})
+        ran = subprocess.run(["rt", "must-fail", *names], cwd=room, stdout=subprocess.PIPE, stderr=subprocess.STDOUT, text=True)
+    print(ran.stdout, end="")
+    return len(REFUSED.findall(ran.stdout))
+
+
+def main():
+    words = argparse.ArgumentParser(description=__doc__, formatter_class=argparse.RawDescriptionHelpFormatter)
+    words.add_argument("--read", action="store_true")
+    words.add_argument("crates", metavar="CRATE", nargs="*")
+    asked = words.parse_args()
+    edits = [it for it in sorted(EDITS.glob("*/*.edit")) if not asked.crates or it.parent.name in asked.crates]
+    passed = read(edits) if asked.read else refused(edits)
+    print(f"{passed} passed, {len(edits) - passed} failed")
+    return passed != len(edits) or not edits
+
+
+if __name__ == "__main__":
+    sys.exit(main())

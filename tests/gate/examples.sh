@@ -1,0 +1,123 @@
+#!/usr/bin/env bash
+# Plays each script of the folders of tests/examples/ and compares what is printed with what is beside it: the examples of
+# docs/SCRIPTS.md and docs/PROTOCOL.md, and the worked examples over all crates.
+#
+# Usage: examples.sh [PROGRAM [POOLS]]      (mc_sim, as each compiler built it)
+#
+# PROGRAM is played the scripts of a server, and POOLS those of a pool, which begin with `pool`; with PROGRAM alone no pool is played.
+# tests/lib/model.py can take the place of the one, and tests/lib/pool_model.py that of the other.
+#
+# NAME.txt is the script and NAME.out what is printed; NAME.args are words for mc_sim, where there are any. NAME.err, where there is one,
+# is what is written on standard error, with status 2. mc_sim is played each script twice, as it is and with its bytes fed one by
+# one, but for those with words, which ask for an account of each line. Then it is seen that a read and a write that fail are told, and
+# that the program's words do what they say (sim.help, sim.trace). The program must be built (`make run`, or `rt ci`). It prints a
+# line for each script that fails; the last line is 'N passed, M failed'.
+set -u
+program=$(realpath "${1:-/}")
+pools=${2:+$(realpath "$2")}
+cd "$(dirname "$0")"
+examples=../examples
+built=../../crates/mc_sim/out/mc_sim
+if [ $# -eq 0 ] && ! [ -x "$built" ]; then
+    echo "examples.sh: $built is not built, so no example was played"
+    echo "0 passed, 1 failed"
+    exit 1
+fi
+scratch=$(mktemp -d)
+trap 'rm -rf "$scratch"' EXIT
+passed=0
+failed=0
+
+# Whether a script is one of a pool.
+is_of_pool() {
+    head -c 5 "$1" | grep -q '^pool '
+}
+
+# Whether a program given a script writes what is beside an example, and ends as it is to.
+plays() {
+    local err=/dev/null status=0 words=
+    [ -f "$3.err" ] && err=$3.err status=2
+    [ -f "$3.args" ] && words=$(cat "$3.args")
+    "$1" $words < "$2" > "$scratch/out" 2> "$scratch/err"
+    [ $? -eq "$status" ] && cmp -s "$scratch/out" "$3.out" && cmp -s "$scratch/err" "$err"
+}
+
+# Whether mc_sim plays an example as each compiler built it, whole and in bytes. (In bytes a bad line has another number.)
+plays_however() {
+    LC_ALL=C awk -f in_bytes.awk "$1.txt" > "$scratch/in_bytes"
+    for each in "$built" "$built.by-rattle"; do
+        [ -x "$each" ] || continue
+        plays "$each" "$1.txt" "$1" || return 1
+        [ -f "$1.err" ] || [ -f "$1.args" ] || plays "$each" "$scratch/in_bytes" "$1" || return 1
+    done
+}
+
+# Whether mc_sim says that its input or its output failed.
+tells() {
+    [ "$1" -eq 3 ] && [ "$(cat "$scratch/err")" = 'mc_sim: input or output failed' ]
+}
+
+reads_that_fail() {
+    "$built" < . > /dev/null 2> "$scratch/err"
+    tells $?
+}
+
+writes_that_fail() {
+    "$built" < $examples/classic/set.txt > /dev/full 2> "$scratch/err"
+    tells $?
+}
+
+# Whether mc_sim shows its help (sim.help), and refuses a word that it does not know.
+shows_help() {
+    "$built" --help < /dev/null > "$scratch/out"
+    [ $? -eq 2 ] && cmp -s "$scratch/out" sim.help
+}
+
+refuses_words() {
+    "$built" --aside < $examples/classic/set.txt > "$scratch/out" 2> "$scratch/err"
+    [ $? -eq 2 ] && [ ! -s "$scratch/out" ] && [ -s "$scratch/err" ]
+}
+
+# Whether mc_sim says what each line of some scripts does (sim.trace), and prints the same as without that.
+tells_lines() {
+    local name
+    for name in pool_points_and_empty_lines pool_lost_where_the_link_is_down pool_drain; do
+        "$built" --trace < "$examples/pool/$name.txt" > "$scratch/out" 2>> "$scratch/trace" || return 1
+        cmp -s "$scratch/out" "$examples/pool/$name.out" || return 1
+    done
+    cmp -s "$scratch/trace" sim.trace
+}
+
+# Runs a check, counts it, and tells where it failed.
+count() {
+    local name=$1
+    shift
+    if "$@"; then
+        passed=$((passed + 1))
+    else
+        echo "${name#../}: another output"
+        failed=$((failed + 1))
+    fi
+}
+
+for script in $examples/*/*.txt; do
+    name=${script%.txt}
+    if [ $# -eq 0 ]; then
+        count "$name" plays_however "$name"
+    elif [ -f "$name.err" ]; then
+        continue
+    elif ! is_of_pool "$script"; then
+        count "$name" plays "$program" "$script" "$name"
+    elif [ -n "$pools" ]; then
+        count "$name" plays "$pools" "$script" "$name"
+    fi
+done
+if [ $# -eq 0 ]; then
+    count "set, from a stream that fails" reads_that_fail
+    count "set, to a stream that fails" writes_that_fail
+    count "--help" shows_help
+    count "a word that is not known" refuses_words
+    count "--trace" tells_lines
+fi
+echo "$passed passed, $failed failed"
+[ "$failed" -eq 0 ]

@@ -1,0 +1,170 @@
+#!/usr/bin/env python3
+"""Sees that what a world tells is as it must be, over random worlds: proxy, servers, links and clients, with all that can happen to them.
+
+Usage: pools.py [--worlds N] [--seed S] [--program PROGRAM]      (200 worlds from seed 1 on; mc_sim as it was built)
+       pools.py --write SEED                                      (writes the script of a seed)
+
+The program plays the script of a random world (random_world.py) with `--account`, and then two things are seen: that each event was
+done where a plain model of a pool does it, and left the same texts, answers and histories (pool_model.py, `Pool`); and that the
+account holds of what was told, by the events that were done alone (`faults_of`), those that the model does in each drain among them.
+After a drain each whole request of each client that has not gone is answered, and nothing that a pool does by itself applies. At the
+first world that differs the script is made shorter while it still does, and is printed with what is wrong; the exit status is then 1.
+The last line is 'N passed, M failed', in worlds.
+"""
+
+import argparse
+import collections
+import pathlib
+import re
+import subprocess
+import sys
+
+sys.path.insert(0, str(pathlib.Path(__file__).resolve().parents[1] / "lib"))
+
+from model import unescaped
+from pool_model import LINK_LOST, BadLine, Entry, Script, Told, faults_of, played, requests_of
+from random_world import lines_of_world
+from suite import are_built, built
+
+
+# What a program tells
+
+
+class Failed(Exception):
+    """A program that did not play a script."""
+
+
+def told_by(program, lines):
+    script = "\n".join([*lines, ""]).encode("latin-1")
+    run = subprocess.run([program, "--account"], input=script, capture_output=True)
+    if run.returncode:
+        raise Failed(f"status {run.returncode}, {run.stderr.decode()}")
+    return read_told(run.stdout.decode("latin-1"))
+
+
+ENTRY = re.compile(r"server (\d+), client (\d+), request (\d+), command (\d+)(, refused)?, moment (\d+)")
+DONE = {"done": True, "nothing": False}
+
+
+def read_told(text):
+    told, histories = {"client": [], "event": [], "text": [], "history": []}, []
+    for line in text.split("\n")[:-1]:
+        what, _, said = line.partition(": ")
+        name, _, number = what.partition(" ")
+        if ENTRY.fullmatch(what):
+            server, client, request, atom, refused, moment = ENTRY.fullmatch(what).groups()
+            entry = Entry(int(client), int(request), int(atom), int(moment), int(bool(refused)), unescaped(said))
+            if int(server) != len(histories) - 1:
+                raise Failed(f"an entry of another server: {line}")
+            histories[-1].append(entry)
+            continue
+        if name not in told or number != str(len(told[name])):
+            raise Failed(f"a line that is not known, or out of order: {line}")
+        told[name].append(said)
+        histories += [[]] if name == "history" else []
+    if [int(count) for count in told["history"]] != [len(history) for history in histories]:
+        raise Failed("a history has not as many commands as are told")
+    texts, outs = ([unescaped(said) for said in told[name]] for name in ("text", "client"))
+    return Told([DONE[word] for word in told["event"]], texts, outs, histories, None)
+
+
+def differences(script, told):
+    """What is wrong in what was told, beside the model's."""
+    model = played(script)
+    for number, (got, wanted) in enumerate(zip(told.done, model.done)):
+        if got != wanted:
+            return [f"event {number}, {script.events[number]}: {'done' if got else 'nothing'}, and the model says otherwise"]
+    told = told._replace(drains=model.drains)
+    wrong = [f"the {what} are other than the model's" for what in Told._fields if getattr(told, what) != getattr(model, what)]
+    return wrong + faults_of(script, told) + left_after_drain(script, told)
+
+
+INNER = ("turn", "toserver", "serve", "toproxy", "reply", "emit", "takes", "end")
+
+
+def left_after_drain(script, told):
+    """What is wrong after the last drain of a script, where only events follow that a pool does by itself: none is to apply, and each
+    client that has not gone was sent an answer to each of its whole requests."""
+    names = [event[0] for event in script.events]
+    last = max((at for at, name in enumerate(names) if name == "drain"), default=len(names))
+    if any(name not in INNER for name in names[last + 1 :]):
+        return []
+    wrong = [f"event {at}, {script.events[at]}: done after a drain" for at in range(last + 1, len(names)) if told.done[at]]
+    gone = {event[1] for event, done in zip(script.events, told.done) if event[0] == "gone" and done}
+    there = [] if last == len(names) else [client for client in range(script.clients) if client not in gone]
+    return wrong + [f"client {client} is not answered in full" for client in there if not is_answered(client, told)]
+
+
+def is_answered(client, told):
+    """Whether a client was sent an answer to each request of its text, and no more. It is told here by the histories alone: the
+    answer is what the replies to all of the request's commands make, or that a link was lost."""
+    replies = collections.defaultdict(dict)
+    for history in told.histories:
+        for entry in history:
+            if entry.client == client:
+                replies[entry.request][entry.atom] = entry.reply
+    out, ends = told.outs[client], {0}
+    for number, request in enumerate(requests_of(told.texts[client])):
+        known = [reply for _, reply in sorted(replies[number].items())]
+        answers = [LINK_LOST] if request.atoms else []
+        if len(known) >= len(request.atoms):
+            answers.append(request.answer(known))
+        ends = {at + len(answer) for at in ends for answer in answers if out.startswith(answer, at)}
+    return len(out) in ends
+
+
+def wrong_in(lines, program):
+    """What is wrong where a program plays a script; nothing where that is no script."""
+    try:
+        script = Script(lines)
+    except (BadLine, ValueError):
+        return []
+    try:
+        return differences(script, told_by(program, lines))
+    except Failed as failed:
+        return [str(failed)]
+
+
+def shortened(lines, program):
+    """A script that still differs, with no line in it that could go."""
+    size = len(lines) // 2
+    while size:
+        at = 1
+        while at < len(lines):
+            fewer = lines[:at] + lines[at + size :]
+            if wrong_in(fewer, program):
+                lines = fewer
+            else:
+                at += size
+        size //= 2
+    return lines
+
+
+def main():
+    words = argparse.ArgumentParser(description=__doc__.split("\n")[0])
+    words.add_argument("--worlds", type=int, default=200)
+    words.add_argument("--seed", type=int, default=1)
+    words.add_argument("--program", default=built("mc_sim"))
+    words.add_argument("--write", type=int)
+    words = words.parse_args()
+    if words.write is not None:
+        print("\n".join(lines_of_world(words.write)))
+        return 0
+    if not are_built(words.program):
+        return 1
+    events = 0
+    for passed, seed in enumerate(range(words.seed, words.seed + words.worlds)):
+        lines = lines_of_world(seed)
+        wrong = wrong_in(lines, words.program)
+        if wrong:
+            lines = shortened(lines, words.program)
+            print("\n".join([f"pools.py --seed {seed}:", *lines, *wrong_in(lines, words.program)]))
+            print(f"{passed} passed, 1 failed")
+            return 1
+        events += len(Script(lines).events)
+    print(f"{words.worlds} worlds of {events} events are as they should be\n{words.worlds} passed, 0 failed")
+    return 0
+
+
+if __name__ == "__main__":
+    sys.exit(main())

@@ -1,0 +1,350 @@
+#!/usr/bin/env python3
+"""Sees that `prove.py` proves crates in order, side by side, once, and leaves nothing half made.
+
+Usage: proving.py
+
+It is tried in temporary repositories whose `rt` is a stand-in that proves nothing: it notes when it begins and ends and where, waits
+a little, and writes what `rt` leaves in out/. A crate whose text says so fails, or takes long, or does not end.
+The last line is 'N passed, M failed'.
+"""
+
+import contextlib
+import json
+import os
+import pathlib
+import shutil
+import signal
+import subprocess
+import sys
+import tempfile
+import time
+
+sys.path.insert(0, str(pathlib.Path(__file__).resolve().parents[1] / "lib"))
+
+from checks import PATIENCE, Wrong, tally, want
+from suite import TOP
+
+PROVE = TOP / "prove.py"
+
+STAND_IN = '''#!/usr/bin/env python3
+import json, os, pathlib, sys, time
+
+if sys.argv[1:] == ["version"]:
+    print(os.environ["TOOLCHAIN"])
+    sys.exit()
+crate, top = pathlib.Path.cwd(), pathlib.Path.cwd().parent.parent
+is_program = (crate / "src/main.rt").is_file()
+text = (crate / ("src/main.rt" if is_program else "src/lib.rt")).read_text()
+uses = {}
+for line in (top / "crates.txt").read_text().splitlines():
+    uses[line.partition(":")[0]] = [it for it in line.partition(":")[2].split() if it != "kit"]
+note = {"name": crate.name, "words": sys.argv[1:], "uses": uses, "process": os.getpid(), "begun": time.monotonic(),
+        "handles": (top / "HANDLES").read_text(), "given": sys.stdin.read() if is_program else "",
+        "before": (crate / "out/kept.oantt").is_file()}
+
+def tell(**more):
+    with open(os.environ["LOG"], "a") as log:
+        log.write(json.dumps({**note, **more}) + "\\n")
+
+for below in uses[crate.name]:
+    if not (top / "crates" / below / "out/rlib/stamp").is_file():
+        sys.exit(f"{below} is not built")
+out = crate / "out"
+(out / "rlib").mkdir(parents=True, exist_ok=True)
+(out / "kept.oantt").unlink(missing_ok=True)
+(out / "kept.oantt").write_text(text)
+if "slow" in text:
+    tell(ended=None)
+    time.sleep(60)
+time.sleep(2 if "long" in text else 0.2)
+tell(ended=time.monotonic())
+if "wrong" in text:
+    sys.exit(f"a goal of {crate.name} is left")
+if is_program:
+    (out / crate.name).write_text(text)
+    (out / f"{crate.name}.stamp").write_text(text)
+    sys.exit(3)
+(out / "rlib/stamp").unlink(missing_ok=True)
+(out / "rlib/stamp").write_text(text)
+'''
+
+CRATES = """# crate: the libraries that it uses
+low: kit
+left: low
+middle: low kit
+right: low
+high: left middle right
+program: high
+apart:
+"""
+
+
+class Repository:
+    """A temporary repository with some crates and a stand-in for rt."""
+
+    def __init__(self, room):
+        self.top, self.log, self.toolchain = pathlib.Path(room, "top"), pathlib.Path(room, "log"), "kit 1"
+        self.bin = pathlib.Path(room, "bin")
+        self.bin.mkdir()
+        (self.bin / "rt").write_text(STAND_IN)
+        (self.bin / "rt").chmod(0o755)
+        for folder in (".git", "crates"):
+            (self.top / folder).mkdir(parents=True)
+        shutil.copy(PROVE, self.top)
+        (self.top / "crates.txt").write_text(CRATES)
+        (self.top / "HANDLES").write_text("Handles allowed: none.\n")
+        for name in ("low", "left", "middle", "right", "high", "apart"):
+            self.write(name, "first")
+        self.write("program", "first", "src/main.rt")
+        self.write("program", "--check\n", "args")
+        self.write("program", "what it reads", "stdin")
+
+    def write(self, name, text, file="src/lib.rt"):
+        path = self.top / "crates" / name / file
+        path.parent.mkdir(parents=True, exist_ok=True)
+        path.write_text(text)
+
+    def out(self, name):
+        return self.top / "crates" / name / "out"
+
+    def start(self, *words):
+        more = {"LOG": str(self.log), "TOOLCHAIN": self.toolchain, "PATH": f"{self.bin}:{os.environ['PATH']}"}
+        how = {"stdout": subprocess.PIPE, "stderr": subprocess.STDOUT, "text": True}
+        return subprocess.Popen([self.top / "prove.py", *words], env={**os.environ, **more}, **how)
+
+    def prove(self, *words, status=0):
+        """What the stand-in noted of a run with that status, by crate, and what was printed."""
+        self.log.write_text("")
+        process = self.start("--processors", "4", *words)
+        said, _ = process.communicate(timeout=3 * PATIENCE)
+        want((process.returncode, said if process.returncode != status else ""), (status, ""))
+        self.want_nothing_left()
+        return self.noted(), said
+
+    def noted(self):
+        notes = [json.loads(line) for line in self.log.read_text().splitlines()]
+        want(len({note["name"] for note in notes}), len(notes))
+        return {note["name"]: note for note in notes}
+
+    def want_nothing_left(self):
+        """No copy is left, and beside crates there is only what was there."""
+        want(sorted(it.name for it in self.top.iterdir()), [".git", "HANDLES", "crates", "crates.txt", "prove.py"])
+        want(list((self.top / ".git").iterdir()), [])
+
+    def want_whole(self, *names):
+        """These crates, and no others, have an out/, and it is of their text."""
+        found = {it.parent.name: it for it in self.top.glob("crates/*/out")}
+        want(sorted(found), sorted(names))
+        for name, out in found.items():
+            text = (self.top / "crates" / name / "src" / ("main.rt" if name == "program" else "lib.rt")).read_text()
+            want((out / ("program.stamp" if name == "program" else "rlib/stamp")).read_text(), text)
+
+
+def overlap(one, other):
+    return one["begun"] < other["ended"] and other["begun"] < one["ended"]
+
+
+BELOW = ["low", "left", "middle", "right"]
+
+
+def lowest_come_first(repository):
+    notes, _ = repository.prove("program")
+    want(sorted(notes), sorted([*BELOW, "high", "program"]))
+    for note in notes.values():
+        for below in note["uses"][note["name"]]:
+            if notes[below]["ended"] > note["begun"]:
+                raise Wrong(f"{note['name']} begins before {below} ends")
+    repository.want_whole(*BELOW, "high", "program")
+
+
+def those_that_are_ready_run_side_by_side(repository):
+    for name in ("left", "middle", "right"):
+        repository.write(name, "long")
+    notes, _ = repository.prove("high")
+    want([overlap(notes["left"], notes[it]) for it in ("low", "middle", "right", "high")], [False, True, True, False])
+
+
+def one_processor_takes_one_at_a_time(repository):
+    notes, _ = repository.prove("high", "--processors", "1")
+    spans = sorted((note["begun"], note["ended"]) for note in notes.values())
+    want([one[1] <= other[0] for one, other in zip(spans, spans[1:])], [True] * 4)
+    want({note["words"][-1] for note in notes.values()}, {"1"})
+
+
+def free_processors_are_shared(repository):
+    notes, _ = repository.prove("high")
+    jobs = {name: int(note["words"][2]) for name, note in notes.items()}
+    want((jobs["low"], jobs["high"]), (4, 4))
+    want(sorted(jobs[it] for it in ("left", "middle", "right")), [1, 1, 2])
+
+
+def a_copy_has_what_the_crate_needs(repository):
+    notes, _ = repository.prove("program", "apart")
+    want(notes["left"]["uses"], {"low": [], "left": ["low"]})
+    want(notes["apart"]["uses"], {"apart": []})
+    want({note["handles"] for note in notes.values()}, {"Handles allowed: none.\n"})
+
+
+def a_program_has_its_words_and_input(repository):
+    notes, _ = repository.prove("program")
+    want(notes["program"]["words"], ["run", "--jobs", "4", "--", "--check"])
+    want(notes["program"]["given"], "what it reads")
+    want(notes["low"]["words"], ["lib", "--jobs", "4"])
+
+
+def it_says_how_far_it_is(repository):
+    _, said = repository.prove("high")
+    lines = said.splitlines()
+    want(lines[0].partition(";")[0], "5 of 5 crates are to be proved")
+    want([line.partition(" is")[0] for line in (lines[1], lines[5])], ["1 of 5: low", "5 of 5: high"])
+    want((lines[1].endswith(" to go"), lines[5].endswith(")"), len(lines)), (True, True, 6))
+
+
+def what_is_proved_is_skipped(repository):
+    repository.prove("program")
+    want(repository.prove("program"), ({}, ""))
+
+
+def what_uses_a_changed_crate_is_proved_anew(repository):
+    repository.prove("program", "apart")
+    repository.write("left", "second", "specs/Lib.antt")
+    notes, said = repository.prove("program", "apart")
+    want(sorted(notes), ["high", "left", "program"])
+    want(said.partition(";")[0], "3 of 7 crates are to be proved")
+    want([notes[it]["before"] for it in notes], [True] * 3)
+
+
+def another_toolchain_proves_all_anew(repository):
+    repository.prove("high")
+    repository.toolchain = "kit 2"
+    want(sorted(repository.prove("high")[0]), sorted([*BELOW, "high"]))
+
+
+def another_line_of_crates_proves_anew(repository):
+    repository.prove("high")
+    (repository.top / "crates.txt").write_text(CRATES.replace("right: low", "right: low kit"))
+    want(sorted(repository.prove("high")[0]), ["high", "right"])
+
+
+def what_was_built_since_is_not_trusted(repository):
+    repository.prove("left")
+    (repository.out("low") / "rlib" / "stamp").write_text("of another text")
+    shutil.rmtree(repository.out("left") / "rlib")
+    want(sorted(repository.prove("left")[0]), ["left", "low"])
+    repository.want_whole("low", "left")
+
+
+def a_failure_is_printed_and_ends_all(repository):
+    repository.write("middle", "wrong, after long")
+    repository.write("left", "slow")
+    notes, said = repository.prove("program", status=1)
+    want([it in said for it in ("a goal of middle is left", "middle is not proved")], [True] * 2)
+    want(sorted(notes), sorted(BELOW))
+    want_ended(notes["left"]["process"])
+    repository.want_whole("low", *(["right"] if repository.out("right").exists() else []))
+
+
+def a_failure_leaves_what_was_built(repository):
+    repository.prove("high")
+    kept = (repository.out("left") / "rlib" / "stamp").read_text()
+    repository.write("left", "wrong")
+    repository.prove("high", status=1)
+    want((repository.out("left") / "rlib" / "stamp").read_text(), kept)
+    want((repository.out("left") / "kept.oantt").read_text(), kept)
+    repository.write("left", "mended")
+    want(sorted(repository.prove("high")[0]), ["high", "left"])
+    repository.want_whole(*BELOW, "high")
+
+
+def a_program_that_is_not_built_fails(repository):
+    repository.write("program", "wrong", "src/main.rt")
+    _, said = repository.prove("program", status=1)
+    want("a goal of program is left" in said, True)
+    repository.want_whole(*BELOW, "high")
+
+
+def a_library_that_is_used_stays_as_it_was(repository):
+    repository.prove("low")
+    before = {it: it.read_text() for it in repository.out("low").rglob("*") if it.is_file()}
+    repository.prove("high")
+    want({it: it.read_text() for it in repository.out("low").rglob("*") if it.is_file()}, before)
+
+
+def want_ended(number):
+    """A process is gone, or is so soon."""
+    for _ in range(100):
+        try:
+            os.kill(number, 0)
+        except ProcessLookupError:
+            return
+        time.sleep(0.02)
+    raise Wrong(f"process {number} still runs")
+
+
+def an_interrupt_ends_all(repository):
+    repository.write("left", "slow")
+    repository.log.write_text("")
+    process = repository.start("high", "--processors", "4")
+    patience = time.monotonic() + 2 * PATIENCE
+    while "left" not in repository.noted() and time.monotonic() < patience:
+        time.sleep(0.05)
+    process.send_signal(signal.SIGTERM)
+    said, _ = process.communicate(timeout=PATIENCE)
+    want((process.returncode, said.splitlines()[-1]), (130, "prove.py: ended; what was proved is kept"))
+    want_ended(repository.noted()["left"]["process"])
+    repository.want_nothing_left()
+    want(repository.out("left").exists(), False)
+
+
+def two_at_once_prove_each_crate_once(repository):
+    repository.log.write_text("")
+    both = [repository.start("high", "--processors", "4") for _ in range(2)]
+    said = [process.communicate(timeout=3 * PATIENCE)[0] for process in both]
+    want([process.returncode for process in both], [0, 0])
+    want(sorted("waiting for another prove.py to end" in it for it in said), [False, True])
+    want(sorted(repository.noted()), sorted([*BELOW, "high"]))
+
+
+def a_plan_proves_nothing(repository):
+    notes, said = repository.prove("--plan", "high")
+    want((notes, len(said.splitlines())), ({}, 6))
+    repository.want_whole()
+
+
+def a_name_that_is_no_crate_is_refused(repository):
+    want(repository.prove("other", status=1), ({}, "prove.py: crates.txt lists no other\n"))
+
+
+def tried(check):
+    with tempfile.TemporaryDirectory() as room:
+        check(Repository(room))
+
+
+CHECKS = [
+    lowest_come_first,
+    those_that_are_ready_run_side_by_side,
+    one_processor_takes_one_at_a_time,
+    free_processors_are_shared,
+    a_copy_has_what_the_crate_needs,
+    a_program_has_its_words_and_input,
+    it_says_how_far_it_is,
+    what_is_proved_is_skipped,
+    what_uses_a_changed_crate_is_proved_anew,
+    another_toolchain_proves_all_anew,
+    another_line_of_crates_proves_anew,
+    what_was_built_since_is_not_trusted,
+    a_failure_is_printed_and_ends_all,
+    a_failure_leaves_what_was_built,
+    a_program_that_is_not_built_fails,
+    a_library_that_is_used_stays_as_it_was,
+    an_interrupt_ends_all,
+    two_at_once_prove_each_crate_once,
+    a_plan_proves_nothing,
+    a_name_that_is_no_crate_is_refused,
+]
+
+if __name__ == "__main__":
+    if len(sys.argv) != 1:
+        sys.exit(__doc__)
+    with contextlib.suppress(KeyboardInterrupt):
+        sys.exit(tally([(check.__name__, tried, (check,)) for check in CHECKS]))

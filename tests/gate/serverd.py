@@ -1,0 +1,221 @@
+#!/usr/bin/env python3
+"""Tries the built mc_serverd on sockets: its words, its exit statuses and their texts, and what it does with connections.
+
+Usage: serverd.py PROGRAM
+
+serverd.help is the text of --help. It prints a line for each check that fails; the last line is 'N passed, M failed'. Each
+server listens at a port of 127.0.0.1 that was free a moment ago, and is ended with its check. What a proxy does with connections
+as well stands in connections.py.
+"""
+
+import pathlib
+import resource
+import subprocess
+import sys
+import time
+
+sys.path.insert(0, str(pathlib.Path(__file__).resolve().parents[1] / "lib"))
+
+from checks import (
+    KILOBYTE, MARK, Program, asked, checks_of_words, is_served, received, received_to_the_end, settles, tally, want,
+    want_at_most,
+)  # fmt: skip
+from connections import checks_of_connections, fields_of, lines_said
+from servers import HOST, Listener, free_port
+from suite import are_built
+
+HELP = pathlib.Path(__file__).with_name("serverd.help").read_text()
+VALUE = b"v" * 1_000_000
+ANSWER = b"VALUE k 0 1000000\r\n" + VALUE + b"\r\nEND\r\n"
+
+# --check: the words beside it, and what is printed of them.
+SETTINGS = {
+    "the_defaults": (
+        "",
+        "listen 127.0.0.1:11211 budget 67108864 items 65536 accept 0 answer 268435456 idle 0 report 0",
+    ),
+    "the_least": (
+        "--listen a:1 --budget 1 --items 1 --accept 0 --answer 1024 --idle 0 --report 0",
+        "listen a:1 budget 1 items 1 accept 0 answer 1024 idle 0 report 0",
+    ),
+    "the_greatest": (
+        "--listen=Cache-7.example.org:65535 --budget=1099511627776 --items=16777216 --accept=18446744073709551615"
+        " --answer=1099511627776 --idle=18446744073709551615 --report=18446744073709551615",
+        "listen Cache-7.example.org:65535 budget 1099511627776 items 16777216 accept 18446744073709551615"
+        " answer 1099511627776 idle 18446744073709551615 report 18446744073709551615",
+    ),
+    "in_another_order": (
+        "--report 4 --accept 3 --items 2",
+        "listen 127.0.0.1:11211 budget 67108864 items 2 accept 3 answer 268435456 idle 0 report 4",
+    ),
+}
+
+USAGE = "\n\nUsage: mc_serverd [OPTIONS]"
+
+# Words that are refused, and why.
+REFUSED = {
+    "an_unknown_option": (["--bind", "1"], "unexpected argument '--bind' found" + USAGE),
+    "a_word": (["--check", "x"], "unexpected argument 'x' found" + USAGE),
+    "an_option_twice": (["--check", "--check"], "the argument '--check' cannot be used multiple times" + USAGE),
+    "no_value": (["--listen"], "a value is required for '--listen <host:port>' but none was supplied"),
+    "no_budget": (["--budget", "0"], "invalid value '0' for '--budget <bytes>': 0 is not in 1..=1099511627776"),
+    "too_much_budget": (
+        ["--budget", "1099511627777"],
+        "invalid value '1099511627777' for '--budget <bytes>': 1099511627777 is not in 1..=1099511627776",
+    ),
+    "no_items": (["--items", "0"], "invalid value '0' for '--items <n>': 0 is not in 1..=16777216"),
+    "too_many_items": (
+        ["--items", "16777217"],
+        "invalid value '16777217' for '--items <n>': 16777217 is not in 1..=16777216",
+    ),
+    "too_small_an_answer": (
+        ["--answer", "1023"],
+        "invalid value '1023' for '--answer <bytes>': 1023 is not in 1024..=1099511627776",
+    ),
+    "no_seconds": (["--idle", "1s"], "invalid value '1s' for '--idle <seconds>': invalid digit found in string"),
+    "seconds_below_0": (["--report=-1"], "invalid value '-1' for '--report <seconds>': invalid digit found in string"),
+    "no_number": (["--accept", "x"], "invalid value 'x' for '--accept <n>': invalid digit found in string"),
+    "a_number_below_0": (["--accept=-1"], "invalid value '-1' for '--accept <n>': invalid digit found in string"),
+    "too_large_a_number": (
+        ["--accept", "18446744073709551616"],
+        "invalid value '18446744073709551616' for '--accept <n>': number too large to fit in target type",
+    ),
+}
+
+
+def start(words="", limits=(), says=True):
+    """A server that was started with these words and limits, and has said where it listens, if it can."""
+    port = free_port()
+    words = ["--listen", f"{HOST}:{port}", *words.split()]
+    with open("/dev/full", "wb") as full:
+        stdout = subprocess.PIPE if says else full
+        return Listener(PROGRAM.path, words, port, limits, stdout=stdout, stderr=subprocess.PIPE)
+
+
+def no_memory_to_start_is_told():
+    words = ["--listen", f"{HOST}:{free_port()}", "--items", "16777216"]
+    status, _, errors = PROGRAM.run(*words, limits=[(resource.RLIMIT_AS, 100_000 * KILOBYTE)])
+    want((status, errors), (4, "mc_serverd: out of memory\n"))
+
+
+def a_slow_reader_is_waited_for():
+    """Who sends 100 gets of a large value and reads nothing costs the mark and one answer, and holds nobody up."""
+    with start() as server, server.connected() as other, server.connected() as slow:
+        asked(other, b"set k 0 0 1000000\r\n" + VALUE + b"\r\n", b"STORED\r\n")
+        asked(other, b"get k\r\n", ANSWER)
+        before = settles(server.memory)
+        slow.sendall(b"get k\r\n" * 100)
+        is_served(other)
+        grown = settles(server.memory) - before
+        want_at_most(grown, MARK + len(ANSWER) + 256 * KILOBYTE)
+        is_served(other)
+        want(received(slow, 100 * len(ANSWER)) == ANSWER * 100, True)
+
+
+def too_large_an_answer_is_refused():
+    """A request whose answer may be larger than is allowed closes its connection, and is not made; others are served. It is said,
+    at most once in a second. Where the request is cut plays no part."""
+    keys = b" k" * 300
+    for answer, asks in (
+        (2_000_000, b"gat -1 k k\r\n"),
+        (268_435_456, b"gat -1" + keys + b"\r\n"),
+    ):
+        with start(f"--answer {answer}") as server, server.connected() as other:
+            asked(other, b"set k 0 0 1000000\r\n" + VALUE + b"\r\n", b"STORED\r\n")
+            before = settles(server.memory)
+            for cut in (0, 1, len(asks) // 2, len(asks) - 1):
+                with server.connected() as client:
+                    client.sendall(b"version\r\n" + asks[:cut])
+                    want(received(client, 15), b"VERSION 1.6.0\r\n")
+                    client.sendall(asks[cut:])
+                    want(received_to_the_end(client), b"")
+            want(lines_said(server), [f"mc_serverd: request refused: its answer may have more than {answer} bytes"])
+            asked(other, b"get k\r\n", ANSWER)
+            want_at_most(settles(server.memory) - before, 4 * len(ANSWER))
+
+
+def a_report_is_said():
+    """Each second: what was done, and what there is."""
+    with start("--report 1 --items 3", [(resource.RLIMIT_NOFILE, 2_000)]) as server:
+        with server.connected() as gone, server.connected() as client:
+            is_served(gone)
+            gone.close()
+            sent = b"".join(b"set %s 0 0 1\r\nx\r\n" % key for key in (b"a", b"b", b"c", b"d"))
+            sent += b"get a b c d\r\nset e 0 -1 1\r\nx\r\nget e\r\nincr b 1\r\nadd d 0 0 1\r\nx\r\nmn\r\n"
+            answers = b"STORED\r\n" * 4 + b"".join(b"VALUE %s 0 1\r\nx\r\n" % key for key in (b"b", b"c", b"d")) + b"END\r\n"
+            answers += b"STORED\r\nEND\r\nNOT_FOUND\r\nNOT_STORED\r\nMN\r\n"
+            asked(client, sent, answers)
+            fields = {}
+            while fields.get("requests") != "11" and fields.get("uptime") != "9":
+                fields = fields_of(lines_said(server)[0], "mc_serverd")
+        uptime = int(fields.pop("uptime"))
+        want(1 <= uptime <= 8, True)
+        wanted = dict(connections=1, accepted=2, refused=0, requests=11, hits=3, misses=2, stores=5, evictions=2, expired=1)
+        wanted |= dict(items=2, bytes=2 * 66, read=len(sent) + 9, written=len(answers) + 15)
+        want(fields, {key: str(number) for key, number in wanted.items()})
+
+
+def idle_connections_hold_little():
+    """1,000 clients each store and read a large value. Idle, they cost less than 100 MB beside the items. One of them has
+    stored a value for a second, which is gone by then."""
+    budget = 67_108_864
+    with start(f"--budget {budget}", [(resource.RLIMIT_NOFILE, 2_000)]) as server:
+        clients = [server.connected() for _ in range(1_000)]
+        stored = b"set k 0 0 1000000\r\n" + VALUE + b"\r\n"
+        try:
+            for number, client in enumerate(clients):
+                key = b"%03d" % number
+                asked(client, stored.replace(b"k", key, 1) + b"get %s\r\n" % key, b"STORED\r\n")
+                want(received(client, len(ANSWER) + 2) == ANSWER.replace(b"k", key, 1), True)
+            asked(clients[0], b"set a 0 1 1\r\nx\r\nset b 0 60 1\r\ny\r\n", b"STORED\r\nSTORED\r\n")
+            time.sleep(3)
+            want_at_most(server.memory() - budget, 99_999_999)
+            asked(clients[999], b"get a b\r\n", b"VALUE b 0 1\r\ny\r\nEND\r\n")
+        finally:
+            for client in clients:
+                client.close()
+
+
+def no_memory_closes_connections_alone():
+    """Where there is no memory for what clients send, they are told or closed, and the server goes on."""
+    limits = [(resource.RLIMIT_AS, 40_000 * KILOBYTE), (resource.RLIMIT_NOFILE, 2_000)]
+    with start("--items 1000", limits) as server:
+        told = b"SERVER_ERROR out of memory storing object\r\n"
+        answers = set()
+        clients = [server.connected() for _ in range(60)]
+        for number, client in enumerate(clients):
+            try:
+                client.sendall(b"set %03d 0 0 1000000\r\n" % number + VALUE + b"\r\nquit\r\n")
+                answers.add(received_to_the_end(client))
+            except ConnectionError:
+                answers.add(b"")
+            finally:
+                client.close()
+        want(answers - {told, b"STORED\r\n", b""}, set())
+        want(b"STORED\r\n" in answers and len(answers) > 1, True)
+        with server.connected() as client:
+            is_served(client)
+
+
+def checks():
+    """Each check by its name."""
+    yield from checks_of_words(PROGRAM, SETTINGS, REFUSED, HELP)
+    yield from checks_of_connections(start, "mc_serverd", 5)
+    for check in (
+        no_memory_to_start_is_told,
+        a_slow_reader_is_waited_for,
+        too_large_an_answer_is_refused,
+        a_report_is_said,
+        idle_connections_hold_little,
+        no_memory_closes_connections_alone,
+    ):
+        yield check.__name__, check, ()
+
+
+if __name__ == "__main__":
+    if len(sys.argv) != 2:
+        sys.exit(__doc__.strip().split("\n\n")[1])
+    if not are_built(sys.argv[1]):
+        sys.exit(1)
+    PROGRAM = Program(sys.argv[1])
+    sys.exit(tally(checks()))

@@ -1,0 +1,178 @@
+"""What the scripts share that try a built program on sockets: what came beside what is wanted, the bytes of a connection, what a
+program says to its words, and the count of the checks.
+
+A check is a function that raises an error where it fails: `Wrong`, where something else came than is wanted.
+"""
+
+import pathlib
+import resource
+import socket
+import subprocess
+import sys
+import time
+
+from servers import HOST, limit
+from suite import NAME, counted
+
+PATIENCE = 10  # seconds until a check gives up
+KILOBYTE = 1024
+MARK = 4_194_304  # as many unsent bytes stop a connection's turns
+FAILURES = (OSError, RuntimeError, ValueError, subprocess.SubprocessError)
+
+
+class Wrong(Exception):
+    """What came is not what is wanted."""
+
+
+def want(got, wanted):
+    if got != wanted:
+        raise Wrong(f"{shortened(got)} came for {shortened(wanted)}")
+
+
+def want_at_most(got, most):
+    if got > most:
+        raise Wrong(f"{got} is more than {most}")
+
+
+def shortened(value):
+    text = repr(value)
+    return text if len(text) < 200 else f"{text[:150]}.. ({len(value)} long)"
+
+
+# Connections.
+
+
+def received(connection, count):
+    """As many bytes, or those that came before the end."""
+    came = bytearray()
+    while len(came) < count:
+        piece = connection.recv(min(count - len(came), 1 << 20))
+        if not piece:
+            break
+        came += piece
+    return bytes(came)
+
+
+def received_to_the_end(connection):
+    return received(connection, sys.maxsize)
+
+
+def asked(connection, text, answer):
+    """Sends a text and sees that its answer comes."""
+    connection.sendall(text)
+    want(received(connection, len(answer)), answer)
+
+
+def is_served(connection):
+    asked(connection, b"version\r\n", b"VERSION 1.6.0\r\n")
+
+
+def settles(number):
+    """A number, once it stays the same for a fifth of a second."""
+    before, same = number(), 0
+    for _ in range(200):
+        time.sleep(0.05)
+        now = number()
+        same = same + 1 if now == before else 0
+        if same == 4:
+            return now
+        before = now
+    raise Wrong("it does not settle")
+
+
+# Words and statuses.
+
+
+class Program:
+    """A built program, and the words that each of its runs begins with."""
+
+    def __init__(self, path, words=()):
+        self.path, self.words = str(pathlib.Path(path).resolve()), list(words)
+        self.name = pathlib.Path(path).name
+
+    def run(self, *words, limits=(), **streams):
+        """The status and the output of a run that ends by itself."""
+        streams = {"stdout": subprocess.PIPE, **streams}
+        ended = subprocess.run(
+            [self.path, *self.words, *words],
+            stderr=subprocess.PIPE,
+            timeout=PATIENCE,
+            preexec_fn=lambda: limit(limits),
+            **streams,
+        )
+        return ended.returncode, (ended.stdout or b"").decode(), ended.stderr.decode()
+
+
+def settings_are_printed(program, words, line):
+    want(program.run(*words.split(), "--check"), (0, line + "\n", ""))
+
+
+def words_are_refused(program, words, why):
+    want(program.run(*words), (2, "", f"error: {why}\n\nFor more information, try '--help'.\n"))
+
+
+def help_is_printed(program, word, text):
+    """Help is on standard output; its status is that of refused words."""
+    want(program.run(word), (2, text, ""))
+
+
+def no_text_is_refused(program):
+    want(program.run(b"--listen", b"\xff:1"), (2, "", f"{program.name}: a word is no text in UTF-8\n"))
+
+
+def output_that_fails_is_told(program):
+    with open("/dev/full", "wb") as full:
+        want(program.run("--check", stdout=full), (1, "", f"{program.name}: output failed\n"))
+
+
+def it_cannot_listen(program, listen):
+    want(program.run(f"--listen={listen}"), (3, "", f"{program.name}: cannot listen\n"))
+
+
+def a_port_in_use_is_told(program):
+    with socket.create_server((HOST, 0)) as other:
+        it_cannot_listen(program, f"{HOST}:{other.getsockname()[1]}")
+
+
+# What is no address to listen at.
+NO_ADDRESSES = ["", "a", ":1", "127.0.0.1:0", "127.0.0.1:65536", "127.0.0.1:01", "[::1]:1", "192.0.2.1:1"]
+UNKNOWN_HOSTS = ["a" * 64 + ":1", "unknown.invalid:1"]
+
+
+def checks_of_words(program, settings, refused, text_of_help):
+    """Each check of what a program says to its words, by its name."""
+    for name, (words, line) in settings.items():
+        yield f"--check, {name}", settings_are_printed, (program, words, line)
+    for name, (words, why) in refused.items():
+        yield f"refused, {name}", words_are_refused, (program, words, why)
+    for word in ("--help", "-h"):
+        yield word, help_is_printed, (program, word, text_of_help)
+    for listen in NO_ADDRESSES + UNKNOWN_HOSTS:
+        yield f"cannot listen at {listen!r}", it_cannot_listen, (program, listen)
+    for check in (no_text_is_refused, output_that_fails_is_told, a_port_in_use_is_told):
+        yield check.__name__, check, (program,)
+
+
+# The count.
+
+
+def allow_many_files():
+    """Lets this process have as many files open as the system allows: the clients' ends of 1,025 connections are open at once."""
+    _, most = resource.getrlimit(resource.RLIMIT_NOFILE)
+    limit([(resource.RLIMIT_NOFILE, most)])
+
+
+def passes(name, check, arguments):
+    """Makes a check, and prints a line where it fails."""
+    try:
+        check(*arguments)
+    except (Wrong, *FAILURES) as error:
+        print(f"{NAME}: {name}: {type(error).__name__}: {error}")
+        return False
+    return True
+
+
+def tally(checks):
+    """Makes checks (names, functions, arguments), and prints the count. Gives the exit status."""
+    allow_many_files()
+    return counted(passes(*each) for each in checks)

@@ -1,0 +1,135 @@
+"""A proxy in front of servers: of those that are started, or of some that a check plays; and what checks of both ask and await."""
+
+import contextlib
+import select
+import socket
+import struct
+import subprocess
+import time
+
+from checks import PATIENCE, Wrong, is_served, received_to_the_end, want
+from rings import Ring
+from servers import HOST, Proxy, Server, free_port
+
+LOST = b"SERVER_ERROR link lost\r\n"
+SECONDS_TO_RETURN = 5  # a lost link is tried again at once, then after 1, after 1 to 2, after 2 to 4 seconds
+QUIET = 0.1  # seconds in which nothing comes where nothing is to come
+
+
+class Pool:
+    """Servers, and a proxy in front of them. It can be used as the proxy can."""
+
+    programs = None  # the paths of mc_proxyd and of mc_serverd
+
+    def __init__(self, words=(), limits=(), count=2, **streams):
+        self.stack = contextlib.ExitStack()
+        with self.stack:
+            self.servers = [self.stack.enter_context(self.new_server()) for _ in range(count)]
+            self.enter_proxy(words, limits, **streams)
+            self.stack = self.stack.pop_all()
+
+    def new_server(self, port=None):
+        return Server(self.programs[1], port=port)
+
+    def enter_proxy(self, words, limits, **streams):
+        addresses = [server.address for server in self.servers]
+        self.ring = Ring(addresses)
+        streams = {"stderr": subprocess.PIPE, **streams}
+        self.proxy = self.stack.enter_context(Proxy(self.programs[0], addresses, words, limits, **streams))
+
+    def __getattr__(self, name):
+        return getattr(self.proxy, name)
+
+    def __enter__(self):
+        return self
+
+    def __exit__(self, *_):
+        self.stack.close()
+
+    def restart(self, place):
+        """Starts a server again that was stopped."""
+        server = self.servers[place]
+        self.servers[place] = self.stack.enter_context(self.new_server(server.port))
+
+    def holds(self, place, key):
+        """What a server holds under a key, asked without the proxy."""
+        with self.servers[place].connected() as direct:
+            direct.sendall(b"get %s\r\nquit\r\n" % key)
+            return received_to_the_end(direct)
+
+
+class Played(Pool):
+    """Servers that the check plays, and a proxy in front of them that has connected to each: `links` are their connections."""
+
+    class Server:
+        def __init__(self):
+            self.port = free_port()
+            self.address = f"{HOST}:{self.port}"
+            self.listener = socket.create_server((HOST, self.port))
+            self.listener.settimeout(PATIENCE)
+
+        def accept(self):
+            link, _ = self.listener.accept()
+            link.setsockopt(socket.IPPROTO_TCP, socket.TCP_NODELAY, 1)
+            link.settimeout(PATIENCE)
+            return link
+
+        def __enter__(self):
+            return self
+
+        def __exit__(self, *_):
+            self.listener.close()
+
+    def __init__(self, count=1, words=()):
+        self.stack = contextlib.ExitStack()
+        with self.stack:
+            self.servers = [self.stack.enter_context(Played.Server()) for _ in range(count)]
+            self.enter_proxy(words, ())
+            self.links = [self.stack.enter_context(server.accept()) for server in self.servers]
+            self.stack = self.stack.pop_all()
+
+    def lost(self, place, client):
+        """Sees that a link was closed, and takes the next one. A client that is served says that the proxy has seen it too."""
+        try:
+            want(received_to_the_end(self.links[place]), b"")
+        except ConnectionResetError:
+            pass  # There were bytes that the proxy had not read.
+        self.links[place] = self.stack.enter_context(self.servers[place].accept())
+        is_served(client)
+
+
+def nothing_comes(connection):
+    want(select.select([connection], [], [], QUIET)[0], [])
+
+
+def all_that_comes(connection):
+    """What has come already."""
+    came = bytearray()
+    while select.select([connection], [], [], QUIET / 10)[0]:
+        came += connection.recv(1 << 20)
+    return bytes(came)
+
+
+def answered_in_time(client, text, answer, seconds=SECONDS_TO_RETURN):
+    """Sends a text until another line comes than that of a lost link, and sees that it is this one."""
+    deadline = time.monotonic() + seconds
+    while True:
+        client.sendall(text)
+        came = client.recv(4096)
+        if came != LOST:
+            return want(came, answer)
+        if time.monotonic() > deadline:
+            raise Wrong("the link stays lost")
+        time.sleep(0.02)
+
+
+def stored(key, value=b"x"):
+    """A store of a value, and a get of it, each with its answer."""
+    size = len(value)
+    asks = b"set %s 0 0 %d\r\n%s\r\n" % (key, size, value), b"get %s\r\n" % key
+    return asks[0], b"STORED\r\n", asks[1], b"VALUE %s 0 %d\r\n%s\r\nEND\r\n" % (key, size, value)
+
+
+def data_segments(connection):
+    """How many segments with bytes the system has received on a connection (`tcpi_data_segs_in`)."""
+    return struct.unpack_from("I", connection.getsockopt(socket.IPPROTO_TCP, socket.TCP_INFO, 256), 152)[0]

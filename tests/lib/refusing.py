@@ -1,0 +1,54 @@
+"""Refuses allocations of a program, by a library in front of the C library. The toolchain's own clang builds it."""
+
+import os
+import shutil
+import subprocess
+
+SECONDS = 60  # until a run is given up
+TOLD = b"refused\n"  # what it writes on standard error for each that it refuses
+
+SOURCE = r"""
+typedef unsigned long size_t;
+void *__libc_malloc(size_t);
+void *__libc_realloc(void *, size_t);
+char *getenv(const char *);
+long atol(const char *);
+long write(int, const void *, size_t);
+
+static long made;
+
+static int is_refused(void) {
+    const char *first = getenv("REFUSED_FIRST"), *count = getenv("REFUSED_COUNT");
+    long past = ++made - (first ? atol(first) : 0);
+    if (!first || !count || past < 0 || past >= atol(count))
+        return 0;
+    write(2, "refused\n", 8);
+    return 1;
+}
+
+void *malloc(size_t size) { return is_refused() ? 0 : __libc_malloc(size); }
+void *realloc(void *block, size_t size) { return is_refused() ? 0 : __libc_realloc(block, size); }
+"""
+
+
+def build(folder):
+    """Builds the library, and gives its path."""
+    kit = os.path.dirname(os.path.dirname(os.path.realpath(shutil.which("rt"))))
+    source, library = f"{folder}/refuses.c", f"{folder}/refuses.so"
+    with open(source, "w", encoding="ascii") as file:
+        file.write(SOURCE)
+    words = [f"{kit}/toolchain/bin/clang", "-O1", "-fPIC", "-ffreestanding", "-c", source, "-o", f"{folder}/refuses.o"]
+    subprocess.run(words, check=True)
+    words = [f"{kit}/toolchain/bin/ld.lld", "-shared", f"{folder}/refuses.o", "-o", library]
+    subprocess.run(words, check=True)
+    return library
+
+
+def run(library, words, first, count, **how):
+    """Runs a program with so many allocations refused from the first on. Gives the run, whose errors are the program's own, and how many
+    were refused."""
+    names = {"LD_PRELOAD": library, "REFUSED_FIRST": str(first), "REFUSED_COUNT": str(count)}
+    streams = {"stdout": subprocess.PIPE, "stderr": subprocess.PIPE, "close_fds": False}
+    ran = subprocess.run(words, env={**os.environ, **names}, timeout=SECONDS, **streams, **how)
+    ran.stderr, refused = ran.stderr.replace(TOLD, b""), ran.stderr.count(TOLD)
+    return ran, refused
