@@ -7,7 +7,7 @@ use mc_fixtures::{
     Call, Calls, MANY, MOMENT, MeagreStore, SCRIPTS, Sides, Sink, Source, WIDE, new_server,
 };
 use mc_proxy::Proxy;
-use mc_proxy_pump::{Pump, pump_client, pump_link};
+use mc_proxy_pump::{Pumped, pump_client, pump_link};
 use mc_server::Server;
 use mc_watch::Tally;
 use std::alloc::{AllocError, Global};
@@ -142,7 +142,7 @@ fn pump_server(proxy: &mut Proxy, link: &mut Stream, woken: &mut Vec<u64>) -> Re
     let mut piece = [0u8; 16];
     let Stream { source, sink } = link;
     let pumped = pump_link(proxy, 0, source, sink, &mut piece, woken, &mut Tally::new());
-    if (pumped == Pump::Failed || pumped == Pump::Done) && proxy.is_up(0) {
+    if (pumped == Pumped::Failed || pumped == Pumped::Done) && proxy.is_up(0) {
         proxy.lost(0)?;
     }
     Ok(())
@@ -154,7 +154,7 @@ fn pumped(
     session: u64,
     client: &mut Stream,
     woken: &mut Vec<u64>,
-) -> Result<Pump, Fail> {
+) -> Result<Pumped, Fail> {
     let mut ended = false;
     let mut piece = [0u8; 16];
     for _ in 0..MANY {
@@ -168,13 +168,13 @@ fn pumped(
             &mut piece,
             &mut Tally::new(),
         );
-        if last == Pump::Done || last == Pump::Failed {
+        if last == Pumped::Done || last == Pumped::Failed {
             return Ok(last);
         }
         pump_server(&mut pool.proxy, &mut pool.link, woken)?;
         serve(&mut pool.server, pool.number, &mut pool.link)?;
     }
-    Ok(Pump::Again)
+    Ok(Pumped::Again)
 }
 
 /// Plays an exchange in a session of its own, whose client then goes. It gives the last pump, the calls that were made on
@@ -184,7 +184,7 @@ fn play(
     pool: &mut Pool,
     sent: &[u8],
     sides: Sides,
-) -> Result<(Pump, Sides, Vec<u8>), Fail> {
+) -> Result<(Pumped, Sides, Vec<u8>), Fail> {
     let session = pool.proxy.admit()?;
     let mut client = Stream {
         source: Source::new(alloc, sent, sides.reads)?,
@@ -317,9 +317,9 @@ fn ends_so(
 ) -> Result<bool, Fail> {
     let (last, _, taken) = play(alloc, pool, exchange.sent, sides)?;
     if end.is_link {
-        Ok(last == Pump::Done && is_told(alloc, exchange, &taken)?)
+        Ok(last == Pumped::Done && is_told(alloc, exchange, &taken)?)
     } else {
-        Ok(last == Pump::Failed && is_begun(alloc, exchange, &taken)?)
+        Ok(last == Pumped::Failed && is_begun(alloc, exchange, &taken)?)
     }
 }
 
@@ -327,7 +327,7 @@ fn ends_so(
 fn is_served(alloc: Global, pool: &mut Pool, sides: Sides) -> Result<bool, Fail> {
     let [exchange, _] = &EXCHANGES;
     let (last, _, taken) = play(alloc, pool, exchange.sent, sides)?;
-    Ok(last == Pump::Done && is_whole(alloc, exchange, &taken)?)
+    Ok(last == Pumped::Done && is_whole(alloc, exchange, &taken)?)
 }
 
 /// Whether it is right how an exchange goes, whichever of its calls ends its stream.
@@ -357,7 +357,7 @@ fn is_pumped(alloc: Global, exchange: &Exchange, calm: Streams) -> Result<bool, 
             writes: pool.link.sink.calls,
         },
     };
-    let is_so = last == Pump::Done && is_whole(alloc, exchange, &taken)?;
+    let is_so = last == Pumped::Done && is_whole(alloc, exchange, &taken)?;
     Ok(is_so && end_alone(alloc, exchange, calm, made)?)
 }
 

@@ -13,8 +13,8 @@ use Rattle.mc_proxy.specs.ProxyState.{ProxyState}
 use Rattle.mc_proxy.specs.declared.turns.LinkTurn.TheVariants as turns
 use Rattle.mc_account.proofs.LaneLemmas.{link_own, up_is_there}
 use Rattle.mc_stream.specs.Sides.{Brings, Carries, CarriesBy, HowItCame, HowItWent, IsStopOfSide, StopsRead}
-use Rattle.mc_stream.specs.declared.outcomes.Pump.{Pump}
-use Rattle.mc_stream.specs.declared.outcomes.Pump.TheVariants.{Again, Blocked, Done, Failed}
+use Rattle.mc_stream.specs.declared.outcomes.Pumped.{Pumped}
+use Rattle.mc_stream.specs.declared.outcomes.Pumped.TheVariants.{Again, Blocked, Done, Failed}
 use Rattle.mc_stream.proofs.SideLemmas.{came_any, carried_as, carried_then, carries_none, carries_sent, stop_of_read, went_any}
 use Rattle.mc_proxy_pump.specs.LinkCalls.{LinkCall, Fed, Sent, Replied, Rested, Lost, IsLinkCall, LinkCalls, LinkStretch, came_by, came_of, went_by, went_of, with_woken, woken_by}
 use Rattle.mc_proxy_pump.specs.Links.{LeavesLink, PumpsLink, is_done}
@@ -71,7 +71,7 @@ link_is : (place : ℕ) (link : LinkState) (old new : ProxyState) → (link_at o
 link_is place link old new up is = ap (λ (p : ProxyState). link_at p.links place) is ∙ link_own place link old.links (up_is_there place old.links up)
 
 -- nothing was sent
-pub link_unsent : (place : ℕ) (side : Result Bool Pump) (s : ProxyState) (written written' : Option (List ℕ)) → (link_at s.links place).up ≡ true
+pub link_unsent : (place : ℕ) (side : Result Bool Pumped) (s : ProxyState) (written written' : Option (List ℕ)) → (link_at s.links place).up ≡ true
     → HowItWent side written written' [] (s ≡ s) → SendsLink place side s s written written'
 link_unsent place side s written written' up how = record { went = []; stretch = λ woken. link_none place s woken; how = how; still_up = up }
 
@@ -90,7 +90,7 @@ link_sent place count output old new written written' up unsent few is appended 
     }
 
 -- nothing came
-pub link_unfed : (place : ℕ) (side : Result Bool Pump) (s : ProxyState) (unread unread' : Option (List ℕ)) (ended' : Bool) → (link_at s.links place).up ≡ true
+pub link_unfed : (place : ℕ) (side : Result Bool Pumped) (s : ProxyState) (unread unread' : Option (List ℕ)) (ended' : Bool) → (link_at s.links place).up ≡ true
     → HowItCame side unread unread' ended' [] (s ≡ s) → ReceivesLink place side s s unread unread' ended'
 link_unfed place side s unread unread' ended' up how = record { came = []; stretch = λ woken. link_none place s woken; how = how; still_up = up }
 
@@ -151,7 +151,7 @@ reply_strange place old new woken up turn = record {
 }
 
 -- turns after turns
-pub turns_then : (place : ℕ) (side : Result Bool Pump) (a b c : ProxyState) (first second third : List ℕ) → LinkStretch place a b [] [] first second → TakesReply place side b c second third
+pub turns_then : (place : ℕ) (side : Result Bool Pumped) (a b c : ProxyState) (first second third : List ℕ) → LinkStretch place a b [] [] first second → TakesReply place side b c second third
     → LinkStretch place a c [] [] first third
 turns_then place side a b c first second third h k = link_then place a b c [] [] [] [] first second third h k.stretch
 
@@ -175,7 +175,7 @@ link_pumps_none place s unread written woken up = record {
 }
 
 -- a pump that goes on
-pub link_pumps_then : (place : ℕ) (pump : Pump) (a b c : ProxyState) (unread middle unread' written between written' : Option (List ℕ)) (first second third : List ℕ)
+pub link_pumps_then : (place : ℕ) (pump : Pumped) (a b c : ProxyState) (unread middle unread' written between written' : Option (List ℕ)) (first second third : List ℕ)
     → PumpsLink place Again a b unread middle written between first second → PumpsLink place pump b c middle unread' between written' second third
     → PumpsLink place pump a c unread unread' written written' first third
 link_pumps_then place pump a b c unread middle unread' written between written' first second third h k = record {
@@ -187,7 +187,7 @@ link_pumps_then place pump a b c unread middle unread' written between written' 
 }
 
 -- how a link is left by a side that stops the pump
-left_by_side : (pump : Pump) (link : LinkState) → link.up ≡ true → IsStopOfSide pump → LeavesLink pump link
+left_by_side : (pump : Pumped) (link : LinkState) → link.up ≡ true → IsStopOfSide pump → LeavesLink pump link
 left_by_side Again link up h = up
 left_by_side Blocked link up h = absurd h
 left_by_side Done link up h = absurd h
@@ -205,7 +205,7 @@ link_pumps_sent place moved a b unread written written' woken h = record {
 }
 
 -- what a write carried that stopped the pump
-carried_unsent : (pump : Pump) (unread written written' : Option (List ℕ)) (went : List ℕ) → IsStopOfSide pump × Appends written written' went
+carried_unsent : (pump : Pumped) (unread written written' : Option (List ℕ)) (went : List ℕ) → IsStopOfSide pump × Appends written written' went
     → CarriesBy pump unread unread written written' false (is_done pump) [] went
 carried_unsent Again unread written written' went h = carries_sent unread written written' false went h.1
 carried_unsent Blocked unread written written' went h = absurd h.0
@@ -213,7 +213,7 @@ carried_unsent Done unread written written' went h = absurd h.0
 carried_unsent Failed unread written written' went h = ([], carries_sent unread written written' false went h.1)
 
 -- a write that stopped the pump
-pub link_pumps_unsent : (place : ℕ) (pump : Pump) (a b : ProxyState) (unread written written' : Option (List ℕ)) (woken : List ℕ)
+pub link_pumps_unsent : (place : ℕ) (pump : Pumped) (a b : ProxyState) (unread written written' : Option (List ℕ)) (woken : List ℕ)
     → SendsLink place (Err pump) a b written written' → PumpsLink place pump a b unread unread written written' woken woken
 link_pumps_unsent place pump a b unread written written' woken h = record {
   came = [];
@@ -230,7 +230,7 @@ carries_read unread unread' written ended' came h =
     record { consumed = h.consumed; appended = none.appended; still_ended = λ e. e; at_end = λ e. absurd cc }
 
 -- what a read carried that stopped the pump
-carried_unread : (pump : Pump) (unread unread' written : Option (List ℕ)) (ended' : Bool) (came : List ℕ) → StopsRead pump unread unread' ended' came
+carried_unread : (pump : Pumped) (unread unread' written : Option (List ℕ)) (ended' : Bool) (came : List ℕ) → StopsRead pump unread unread' ended' came
     → CarriesBy pump unread unread' written written false (is_done pump) came []
 carried_unread Again unread unread' written ended' came h = carries_read unread unread' written ended' came h
 carried_unread Blocked unread unread' written ended' came h = absurd h
@@ -238,7 +238,7 @@ carried_unread Done unread unread' written ended' came h = absurd h
 carried_unread Failed unread unread' written ended' came h = (h.0, carries_read unread unread' written ended' (came ++ h.0) h.1)
 
 -- a read that stopped the pump
-pub link_pumps_unheard : (place : ℕ) (pump : Pump) (a b : ProxyState) (unread unread' written : Option (List ℕ)) (ended' : Bool) (woken : List ℕ)
+pub link_pumps_unheard : (place : ℕ) (pump : Pumped) (a b : ProxyState) (unread unread' written : Option (List ℕ)) (ended' : Bool) (woken : List ℕ)
     → ReceivesLink place (Err pump) a b unread unread' ended' → PumpsLink place pump a b unread unread' written written woken woken
 link_pumps_unheard place pump a b unread unread' written ended' woken h = record {
   came = h.came;
@@ -249,7 +249,7 @@ link_pumps_unheard place pump a b unread unread' written ended' woken h = record
 }
 
 -- a read that went on and turns, and how the pump then stops: done only at the end
-pub link_pumps_turned : (place : ℕ) (pump : Pump) (moved : Bool) (side : Result (Unit {0}) Pump) (a b c : ProxyState) (unread unread' written : Option (List ℕ)) (ended' : Bool) (woken woken' : List ℕ)
+pub link_pumps_turned : (place : ℕ) (pump : Pumped) (moved : Bool) (side : Result (Unit {0}) Pumped) (a b c : ProxyState) (unread unread' written : Option (List ℕ)) (ended' : Bool) (woken woken' : List ℕ)
     → ReceivesLink place (Ok moved) a b unread unread' ended' → TakesReplies place side b c woken woken' → (is_done pump ≡ true → ended' ≡ true) → LeavesLink pump (link_at c.links place)
     → PumpsLink place pump a c unread unread' written written woken woken'
 link_pumps_turned place pump moved side a b c unread unread' written ended' woken woken' h k ends left =
@@ -271,14 +271,14 @@ link_pumps_turned place pump moved side a b c unread unread' written ended' woke
     }
 
 -- a pump that failed is not done
-pub absurd_done : (pump : Pump) {P : Type 0} → pump ≡ Failed → is_done pump ≡ true → P
+pub absurd_done : (pump : Pumped) {P : Type 0} → pump ≡ Failed → is_done pump ≡ true → P
 absurd_done Again f e = absurd cc
 absurd_done Blocked f e = absurd cc
 absurd_done Done f e = absurd cc
 absurd_done Failed f e = absurd cc
 
 -- a round: a write, a read, and turns
-pub link_round : (place : ℕ) (pump : Pump) (sent came : Bool) (side : Result (Unit {0}) Pump) (a b c d : ProxyState) (unread unread' written written' : Option (List ℕ)) (ended' : Bool) (woken woken' : List ℕ)
+pub link_round : (place : ℕ) (pump : Pumped) (sent came : Bool) (side : Result (Unit {0}) Pumped) (a b c d : ProxyState) (unread unread' written written' : Option (List ℕ)) (ended' : Bool) (woken woken' : List ℕ)
     → SendsLink place (Ok sent) a b written written' → ReceivesLink place (Ok came) b c unread unread' ended' → TakesReplies place side c d woken woken' → (is_done pump ≡ true → ended' ≡ true)
     → LeavesLink pump (link_at d.links place) → PumpsLink place pump a d unread unread' written written' woken woken'
 link_round place pump sent came side a b c d unread unread' written written' ended' woken woken' h k l ends left =

@@ -3,8 +3,8 @@ use Rattle.std.proofs.Common.{◌≡◌, ℕ, Bool, true, false, Ok, Err, List, 
 use Rattle.mc_session.specs.SessionState.{SessionState}
 use Rattle.mc_proxy.specs.ProxyState.{ProxyState, session_at}
 use Rattle.mc_stream.specs.Sides.{IsStopOfSide}
-use Rattle.mc_stream.specs.declared.outcomes.Pump.{Pump}
-use Rattle.mc_stream.specs.declared.outcomes.Pump.TheVariants.{Again, Blocked, Done, Failed}
+use Rattle.mc_stream.specs.declared.outcomes.Pumped.{Pumped}
+use Rattle.mc_stream.specs.declared.outcomes.Pumped.TheVariants.{Again, Blocked, Done, Failed}
 use Rattle.mc_stream.proofs.SideLemmas.{came_any, carried_as, carried_then, carried_unheard, carries_brought, carries_none, carries_sent, stop_of_read, went_any}
 use Rattle.mc_proxy_pump.specs.Calls.{Stretch}
 use Rattle.mc_proxy_pump.specs.Clients.{Leaves, PumpsClient}
@@ -23,7 +23,7 @@ pumps_none number s unread written ended there = record {
 }
 
 -- a pump that goes on
-pub pumps_then : (number : ℕ) (pump : Pump) (a b c : ProxyState) (unread middle unread' written between written' : Option (List ℕ)) (ended later ended' : Bool)
+pub pumps_then : (number : ℕ) (pump : Pumped) (a b c : ProxyState) (unread middle unread' written between written' : Option (List ℕ)) (ended later ended' : Bool)
     → PumpsClient number Again a b unread middle written between ended later → PumpsClient number pump b c middle unread' between written' later ended'
     → PumpsClient number pump a c unread unread' written written' ended ended'
 pumps_then number pump a b c unread middle unread' written between written' ended later ended' h k = record {
@@ -35,14 +35,14 @@ pumps_then number pump a b c unread middle unread' written between written' ende
 }
 
 -- a stop of a side leaves nothing to say
-left_by_side : (pump : Pump) (ended : Bool) (proxy : ProxyState) (session : Option SessionState) → IsStopOfSide pump → Leaves pump ended proxy session
+left_by_side : (pump : Pumped) (ended : Bool) (proxy : ProxyState) (session : Option SessionState) → IsStopOfSide pump → Leaves pump ended proxy session
 left_by_side Again ended proxy session h = tt
 left_by_side Blocked ended proxy session h = absurd h
 left_by_side Done ended proxy session h = absurd h
 left_by_side Failed ended proxy session h = tt
 
 -- turns alone
-pub pumps_turns : (number : ℕ) (pump : Pump) (a b : ProxyState) (unread written : Option (List ℕ)) (ended : Bool)
+pub pumps_turns : (number : ℕ) (pump : Pumped) (a b : ProxyState) (unread written : Option (List ℕ)) (ended : Bool)
     → Stretch number a b [] [] → Leaves pump ended b (session_at b number) → PumpsClient number pump a b unread unread written written ended ended
 pumps_turns number pump a b unread written ended h left = record {
   came = [];
@@ -64,7 +64,7 @@ pumps_sent number moved a b unread written written' ended h = record {
 }
 
 -- a write that stopped the pump
-pub pumps_unsent : (number : ℕ) (pump : Pump) (a b : ProxyState) (unread written written' : Option (List ℕ)) (ended : Bool)
+pub pumps_unsent : (number : ℕ) (pump : Pumped) (a b : ProxyState) (unread written written' : Option (List ℕ)) (ended : Bool)
     → Sends number (Err pump) a b written written' → PumpsClient number pump a b unread unread written written' ended ended
 pumps_unsent number pump a b unread written written' ended h = record {
   came = [];
@@ -75,7 +75,7 @@ pumps_unsent number pump a b unread written written' ended h = record {
 }
 
 -- a read after which the pump goes on
-pub pumps_heard : (number : ℕ) (moved : Bool) (pump : Pump) (a b : ProxyState) (unread unread' written : Option (List ℕ)) (ended ended' : Bool) → ended ≡ false
+pub pumps_heard : (number : ℕ) (moved : Bool) (pump : Pumped) (a b : ProxyState) (unread unread' written : Option (List ℕ)) (ended ended' : Bool) → ended ≡ false
     → Receives number (Ok moved) a b unread unread' ended' → Leaves pump ended' b (session_at b number) → PumpsClient number pump a b unread unread' written written ended ended'
 pumps_heard number moved pump a b unread unread' written ended ended' open_yet h left = record {
   came = h.came;
@@ -87,7 +87,7 @@ pumps_heard number moved pump a b unread unread' written ended ended' open_yet h
 }
 
 -- a read that stopped the pump
-pub pumps_unheard : (number : ℕ) (pump : Pump) (a b : ProxyState) (unread unread' written : Option (List ℕ)) (ended ended' : Bool) → ended ≡ false
+pub pumps_unheard : (number : ℕ) (pump : Pumped) (a b : ProxyState) (unread unread' written : Option (List ℕ)) (ended ended' : Bool) → ended ≡ false
     → Receives number (Err pump) a b unread unread' ended' → PumpsClient number pump a b unread unread' written written ended ended'
 pumps_unheard number pump a b unread unread' written ended ended' open_yet h = record {
   came = h.came;
@@ -98,7 +98,7 @@ pumps_unheard number pump a b unread unread' written ended ended' open_yet h = r
 }
 
 -- turns, a write, and then a stop
-pub stopped : (number : ℕ) (moved : Bool) (pump : Pump) (a b c : ProxyState) (unread written written' : Option (List ℕ)) (ended : Bool)
+pub stopped : (number : ℕ) (moved : Bool) (pump : Pumped) (a b c : ProxyState) (unread written written' : Option (List ℕ)) (ended : Bool)
     → Stretch number a b [] [] → Sends number (Ok moved) b c written written' → Leaves pump ended c (session_at c number)
     → PumpsClient number pump a c unread unread written written' ended ended
 stopped number moved pump a b c unread written written' ended turns sent left =

@@ -17,7 +17,7 @@ use Rattle.mc_session.specs.declared.turns.Turn.TheVariants as turns
 use Rattle.mc_proxy.specs.ProxyState.{ProxyState, output_of, sent_by, session_at, unanswered_of}
 use Rattle.mc_proxy.specs.Turns.{Alone, Steps, waiting_of}
 use Rattle.mc_stream.specs.Sides.{HowItCame, HowItWent}
-use Rattle.mc_stream.specs.declared.outcomes.Pump.{Pump}
+use Rattle.mc_stream.specs.declared.outcomes.Pumped.{Pumped}
 use Rattle.mc_proxy_pump.specs.Calls.{Fed, Turned, Emitted, Sent, Stretch}
 use Rattle.mc_proxy_pump.specs.Clients.{IsHeldUpAt, IsOver, IsStuck, emitted_at, is_closed_at}
 use Rattle.mc_proxy_pump.specs.Rounds.{HasAnswered, HowMany, IsSentOf, Receives, Sends, StopsAt, ends_by, reads_by, work_of}
@@ -133,7 +133,7 @@ put_none number old new steps =
     )
 
 -- nothing was sent
-pub sends_still : (number : ℕ) (side : Result Bool Pump) (s : ProxyState) (written written' : Option (List ℕ)) → IsSome (session_at s number)
+pub sends_still : (number : ℕ) (side : Result Bool Pumped) (s : ProxyState) (written written' : Option (List ℕ)) → IsSome (session_at s number)
     → HowItWent side written written' [] (s ≡ s) → Sends number side s s written written'
 sends_still number side s written written' there how = record {
   went = [];
@@ -175,7 +175,7 @@ sends_some number count output old new written written' there unsent few is appe
     }
 
 -- nothing came
-pub receives_still : (number : ℕ) (side : Result Bool Pump) (s : ProxyState) (unread unread' : Option (List ℕ)) (ended' : Bool) → IsSome (session_at s number)
+pub receives_still : (number : ℕ) (side : Result Bool Pumped) (s : ProxyState) (unread unread' : Option (List ℕ)) (ended' : Bool) → IsSome (session_at s number)
     → HowItCame side unread unread' ended' [] (s ≡ s) → Receives number side s s unread unread' ended'
 receives_still number side s unread unread' ended' there how = record { came = []; stretch = stretch_none number s there; how = how }
 

@@ -9,8 +9,8 @@ use Rattle.mc_session.specs.declared.limits.TheConstants.{UNSENT_MARK}
 use Rattle.mc_proxy.specs.ProxyState.{ProxyState, output_of, session_at, unanswered_of}
 use Rattle.mc_proxy.specs.Turns.{waiting_of}
 use Rattle.mc_stream.specs.Sides.{CarriesBy}
-use Rattle.mc_stream.specs.declared.outcomes.Pump.{Pump}
-use Rattle.mc_stream.specs.declared.outcomes.Pump.TheVariants.{Again, Blocked, Done, Failed}
+use Rattle.mc_stream.specs.declared.outcomes.Pumped.{Pumped}
+use Rattle.mc_stream.specs.declared.outcomes.Pumped.TheVariants.{Again, Blocked, Done, Failed}
 use Rattle.mc_proxy_pump.specs.Calls.{Stretch}
 
 -- whether nothing is read of a session any more; not so where it is not open
@@ -47,7 +47,7 @@ pub record IsStuck (ended : Bool) (proxy : ProxyState) (session : Option Session
   pub goes_on : IsOver ended session → ⊥
 
 -- how a session is left: done where it is over, blocked where it is stuck
-abbrev pub Leaves : Pump → Bool → ProxyState → Option SessionState → Type 0
+abbrev pub Leaves : Pumped → Bool → ProxyState → Option SessionState → Type 0
 Leaves Again ended proxy session = Unit {0}
 Leaves Blocked ended proxy session = IsStuck ended proxy session
 Leaves Done ended proxy session = IsOver ended session
@@ -55,7 +55,7 @@ Leaves Failed ended proxy session = Unit {0}
 
 -- What a pump of the session of a number does: calls for it, and nothing else. The bytes that came by them are those that the
 -- reader gave, or the first of them where the pump failed, and the bytes that went are those that the writer took.
-pub record PumpsClient (number : ℕ) (pump : Pump) (old new : ProxyState) (unread unread' written written' : Option (List ℕ)) (ended ended' : Bool) : Type 0 where
+pub record PumpsClient (number : ℕ) (pump : Pumped) (old new : ProxyState) (unread unread' written written' : Option (List ℕ)) (ended ended' : Bool) : Type 0 where
   pub came : List ℕ
   pub went : List ℕ
   pub stretch : Stretch number old new came went

@@ -5,19 +5,19 @@ use Rattle.mc_link.specs.Turns.{IsIdle}
 use Rattle.mc_session.specs.SessionState.{link_at}
 use Rattle.mc_proxy.specs.ProxyState.{ProxyState}
 use Rattle.mc_stream.specs.Sides.{CarriesBy}
-use Rattle.mc_stream.specs.declared.outcomes.Pump.{Pump}
-use Rattle.mc_stream.specs.declared.outcomes.Pump.TheVariants.{Again, Blocked, Done, Failed}
+use Rattle.mc_stream.specs.declared.outcomes.Pumped.{Pumped}
+use Rattle.mc_stream.specs.declared.outcomes.Pumped.TheVariants.{Again, Blocked, Done, Failed}
 use Rattle.mc_proxy_pump.specs.LinkCalls.{LinkStretch}
 
 -- how a link is left: up but where the pump failed, and blocked or done where no whole reply waits
-abbrev pub LeavesLink : Pump → LinkState → Type 0
+abbrev pub LeavesLink : Pumped → LinkState → Type 0
 LeavesLink Again link = link.up ≡ true
 LeavesLink Blocked link = (link.up ≡ true) × IsIdle link.waiting link.unread
 LeavesLink Done link = (link.up ≡ true) × IsIdle link.waiting link.unread
 LeavesLink Failed link = Unit {0}
 
 -- whether a pump of a link is done, which it is where the input has ended
-abbrev pub is_done : Pump → Bool
+abbrev pub is_done : Pumped → Bool
 is_done Again = false
 is_done Blocked = false
 is_done Done = true
@@ -26,7 +26,7 @@ is_done Failed = false
 -- What a pump of the link of a place does: calls for it, and nothing else. The bytes that came by them are those that the
 -- reader gave, or the first of them where the pump failed, and all of them where it is done; the bytes that went are those that
 -- the writer took. The sessions that were woken come after those that were woken before.
-pub record PumpsLink (place : ℕ) (pump : Pump) (old new : ProxyState) (unread unread' written written' : Option (List ℕ)) (woken woken' : List ℕ) : Type 0 where
+pub record PumpsLink (place : ℕ) (pump : Pumped) (old new : ProxyState) (unread unread' written written' : Option (List ℕ)) (woken woken' : List ℕ) : Type 0 where
   pub came : List ℕ
   pub went : List ℕ
   pub stretch : LinkStretch place old new came went woken woken'

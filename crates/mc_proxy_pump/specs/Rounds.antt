@@ -7,8 +7,8 @@ use Rattle.mc_session.specs.declared.turns.Turn.TheVariants as turns
 use Rattle.mc_proxy.specs.ProxyState.{ProxyState, output_of, session_at, unanswered_of}
 use Rattle.mc_proxy.specs.Turns.{waiting_of}
 use Rattle.mc_stream.specs.Sides.{HowItCame, HowItWent}
-use Rattle.mc_stream.specs.declared.outcomes.Pump.{Pump}
-use Rattle.mc_stream.specs.declared.outcomes.Pump.TheVariants.{Again}
+use Rattle.mc_stream.specs.declared.outcomes.Pumped.{Pumped}
+use Rattle.mc_stream.specs.declared.outcomes.Pumped.TheVariants.{Again}
 use Rattle.mc_proxy_pump.specs.Calls.{Stretch}
 use Rattle.mc_proxy_pump.specs.Clients.{IsHeldUpAt, emitted_at, is_closed_at}
 
@@ -59,24 +59,24 @@ pub record IsSentOf (old new : Option SessionState) : Type 0 where
   pub fewer : length (output_of new) ≤ length (output_of old)
 
 -- a write of what is unsent
-pub record Sends (number : ℕ) (side : Result Bool Pump) (old new : ProxyState) (written written' : Option (List ℕ)) : Type 0 where
+pub record Sends (number : ℕ) (side : Result Bool Pumped) (old new : ProxyState) (written written' : Option (List ℕ)) : Type 0 where
   pub went : List ℕ
   pub stretch : Stretch number old new [] went
   pub how : HowItWent side written written' went (new ≡ old)
   pub same : IsSentOf (session_at old number) (session_at new number)
 
 -- a read, of which the session is fed
-pub record Receives (number : ℕ) (side : Result Bool Pump) (old new : ProxyState) (unread unread' : Option (List ℕ)) (ended' : Bool) : Type 0 where
+pub record Receives (number : ℕ) (side : Result Bool Pumped) (old new : ProxyState) (unread unread' : Option (List ℕ)) (ended' : Bool) : Type 0 where
   pub came : List ℕ
   pub stretch : Stretch number old new came []
   pub how : HowItCame side unread unread' ended' came (new ≡ old)
 
 -- a round that does not stop goes on as a pump that may be called again
-abbrev pub pump_of : Result (Unit {0}) Pump → Pump
+abbrev pub pump_of : Result (Unit {0}) Pumped → Pumped
 pump_of (Ok u) = Again
 pump_of (Err pump) = pump
 
 -- the same of a part that says whether it moved anything
-abbrev pub pump_by : Result Bool Pump → Pump
+abbrev pub pump_by : Result Bool Pumped → Pumped
 pump_by (Ok moved) = Again
 pump_by (Err pump) = pump

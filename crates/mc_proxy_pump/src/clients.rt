@@ -7,7 +7,7 @@ ghost use Rattle.mc_proxy_pump.specs.Clients.{PumpsClient, emitted_at, is_closed
 ghost use Rattle.mc_proxy_pump.specs.Rounds.{HasAnswered, HowMany, Receives, Sends, StopsAt, TakesTurns, ends_by, pump_by, pump_of, reads_by};
 
 use mc_proxy::{Emit, Proxy, ProxyError, Turn, UNSENT_MARK};
-use mc_stream::{MAX_ROUNDS, Pump, read_once, write_once};
+use mc_stream::{MAX_ROUNDS, Pumped, read_once, write_once};
 use mc_watch::Tally;
 use std::io::{Read, Write};
 
@@ -20,9 +20,9 @@ use std::io::{Read, Write};
 /// a read gives no byte, and then reads no more; a caller hands in `false` at first. The tally counts the requests that are taken,
 /// and the bytes.
 ///
-/// Where it says [`Pump::Blocked`], the stream may move, a server may answer one of the session's commands, or a link whose
+/// Where it says [`Pumped::Blocked`], the stream may move, a server may answer one of the session's commands, or a link whose
 /// mark a request waits for may be sent more of its bytes: then the pump is called again. Where the session is not open it says
-/// [`Pump::Failed`].
+/// [`Pumped::Failed`].
 pub fn pump_client<R: Read, W: Write>(
     proxy: &mut Proxy,
     session: u64,
@@ -31,15 +31,15 @@ pub fn pump_client<R: Read, W: Write>(
     writer: &mut W,
     piece: &mut [u8],
     tally: &mut Tally,
-) -> Pump
+) -> Pumped
     requires piece { 0 < length piece.old }
     ensures pumps { IsSome (session_at proxy.old session) → PumpsClient session result proxy.old proxy.new
         (R.remaining reader.old) (R.remaining reader.new) (W.contents writer.old) (W.contents writer.new) ended.old ended.new }
-    ensures not_open { session_at proxy.old session ≡ None → (result ≡ Pump.Failed) × (proxy.new ≡ proxy.old) }
+    ensures not_open { session_at proxy.old session ≡ None → (result ≡ Pumped.Failed) × (proxy.new ≡ proxy.old) }
 {
     // A session that is not open takes no turn.
     let Ok(turn) = proxy.turn(session) else {
-        return Pump::Failed;
+        return Pumped::Failed;
     };
     count_turn(turn, tally);
     for _ in 0..MAX_ROUNDS {
@@ -47,7 +47,7 @@ pub fn pump_client<R: Read, W: Write>(
             return pump;
         }
     }
-    Pump::Again
+    Pumped::Again
 }
 
 /// Puts the answers out that are known, and writes what is unsent in one call, and says whether the writer took any. No request
@@ -60,7 +60,7 @@ pub fn pump_answers<W: Write>(
     session: u64,
     writer: &mut W,
     tally: &mut Tally,
-) -> Result<bool, Pump>
+) -> Result<bool, Pumped>
     ensures pumps { (unread : Option (List ℕ)) (ended : Bool) → IsSome (session_at proxy.old session)
         → PumpsClient session (pump_by result) proxy.old proxy.new unread unread (W.contents writer.old) (W.contents writer.new) ended ended }
     ensures not_open { session_at proxy.old session ≡ None → (result ≡ Ok false) × (proxy.new ≡ proxy.old) }
@@ -69,7 +69,7 @@ pub fn pump_answers<W: Write>(
         return Ok(false);
     }
     let Ok(_) = put_out(proxy, session) else {
-        return Err(Pump::Failed);
+        return Err(Pumped::Failed);
     };
     send(proxy, session, writer, tally)
 }
@@ -97,28 +97,28 @@ fn round<R: Read, W: Write>(
     writer: &mut W,
     piece: &mut [u8],
     tally: &mut Tally,
-) -> Result<(), Pump>
+) -> Result<(), Pumped>
     requires is_open { IsSome (session_at proxy.old session) }
     requires piece { 0 < length piece.old }
     ensures { PumpsClient session (pump_of result) proxy.old proxy.new (R.remaining reader.old)
         (R.remaining reader.new) (W.contents writer.old) (W.contents writer.new) ended.old ended.new }
 {
     let Ok(turn) = advance(proxy, session, tally) else {
-        return Err(Pump::Failed);
+        return Err(Pumped::Failed);
     };
     let is_marked = proxy.output(session).len() >= UNSENT_MARK;
     let moved = send(proxy, session, writer, tally)?;
     if is_over(proxy, session, turn, *ended) {
-        return Err(Pump::Done);
+        return Err(Pumped::Done);
     }
     if is_read(turn, *ended, is_marked) {
         let can_send = moved && !proxy.output(session).is_empty();
-        return listen(proxy, session, ended, reader, piece, can_send, tally);
+        return read_or_block(proxy, session, ended, reader, piece, can_send, tally);
     }
     if moved {
         return Ok(());
     }
-    Err(Pump::Blocked)
+    Err(Pumped::Blocked)
 }
 
 /// Whether all that was taken of a session is answered, all its answers are sent, and nothing more will come, where no more is
@@ -204,7 +204,7 @@ fn send<W: Write>(
     session: u64,
     writer: &mut W,
     tally: &mut Tally,
-) -> Result<bool, Pump>
+) -> Result<bool, Pumped>
     requires { IsSome (session_at proxy.old session) }
     ensures { Sends session result proxy.old proxy.new (W.contents writer.old) (W.contents writer.new) }
 {
@@ -218,7 +218,7 @@ fn send<W: Write>(
 }
 
 /// Reads, and says how the pump stops where nothing came and nothing more can be sent.
-fn listen<R: Read>(
+fn read_or_block<R: Read>(
     proxy: &mut Proxy,
     session: u64,
     ended: &mut bool,
@@ -226,7 +226,7 @@ fn listen<R: Read>(
     piece: &mut [u8],
     can_send: bool,
     tally: &mut Tally,
-) -> Result<(), Pump>
+) -> Result<(), Pumped>
     requires is_open { IsSome (session_at proxy.old session) }
     requires none_waits { waiting_of (session_at proxy.old session) ≡ [] }
     requires none_known { emitted_at (session_at proxy.old session) ≡ None }
@@ -241,7 +241,7 @@ fn listen<R: Read>(
     if moved || can_send {
         return Ok(());
     }
-    Err(Pump::Blocked)
+    Err(Pumped::Blocked)
 }
 
 /// Reads once, feeds the session with what came, and says whether anything came, or the end.
@@ -252,7 +252,7 @@ fn receive<R: Read>(
     reader: &mut R,
     piece: &mut [u8],
     tally: &mut Tally,
-) -> Result<bool, Pump>
+) -> Result<bool, Pumped>
     requires is_open { IsSome (session_at proxy.old session) }
     requires none_waits { waiting_of (session_at proxy.old session) ≡ [] }
     requires below { length (output_of (session_at proxy.old session)) < UNSENT_MARK }
@@ -268,6 +268,6 @@ fn receive<R: Read>(
     tally.came(count);
     match proxy.feed(session, came) {
         Ok(()) => Ok(true),
-        Err(_) => Err(Pump::Failed),
+        Err(_) => Err(Pumped::Failed),
     }
 }

@@ -1,6 +1,6 @@
 //! The bodies of a proxy's streams: bytes carried between a proxy and the two sides of a client's stream, or of a server's.
 //!
-//! [`pump_client`] and [`pump_link`] are called again and again, as long as they say [`Pump::Again`], or [`Pump::Blocked`] and
+//! [`pump_client`] and [`pump_link`] are called again and again, as long as they say [`Pumped::Again`], or [`Pumped::Blocked`] and
 //! the stream or the proxy then moves. The streams are any reader and any writer: no socket is known here. [`MAX_ROUNDS`] and
 //! [`UNSENT_MARK`] are their limits. A pump of a link tells which sessions got replies, so that each of them is pumped once for
 //! all that came in a read: what came together goes out together. [`pump_answers`] sends a session its answers and takes nothing of
@@ -20,4 +20,4 @@ pub use clients::{is_owed, pump_answers, pump_client};
 pub use laws::{proxies_stand_behind_a_client, proxies_stand_behind_a_link};
 pub use links::pump_link;
 pub use mc_proxy::UNSENT_MARK;
-pub use mc_stream::{MAX_ROUNDS, Pump};
+pub use mc_stream::{MAX_ROUNDS, Pumped};

@@ -7,7 +7,7 @@ ghost use Rattle.mc_proxy_pump.specs.LinkRounds.{ReceivesLink, SendsLink, TakesR
 ghost use Rattle.mc_proxy_pump.specs.Rounds.{pump_of};
 
 use mc_proxy::{LinkTurn, Proxy};
-use mc_stream::{MAX_ROUNDS, Pump, read_once, write_once};
+use mc_stream::{MAX_ROUNDS, Pumped, read_once, write_once};
 use mc_watch::Tally;
 use std::io::{Read, Write};
 
@@ -17,7 +17,7 @@ use std::io::{Read, Write};
 /// and after mean nothing, and takes all replies that have come whole. The sessions whose commands got their replies are put
 /// after those in `woken`, one that follows itself once. A link has no mark here: it is always read. The tally counts the bytes.
 ///
-/// It says [`Pump::Done`] where the input has ended: then all replies that came whole are taken. It says [`Pump::Failed`] where
+/// It says [`Pumped::Done`] where the input has ended: then all replies that came whole are taken. It says [`Pumped::Failed`] where
 /// the link is down or not there, where the stream failed, where a call was refused memory, and where what came is no reply,
 /// which has lost the link: then each command that waited on it is lost, and any session may have an answer more. In both cases
 /// the caller loses the link if it is still up.
@@ -29,22 +29,22 @@ pub fn pump_link<R: Read, W: Write>(
     piece: &mut [u8],
     woken: &mut Vec<u64>,
     tally: &mut Tally,
-) -> Pump
+) -> Pumped
     requires piece { 0 < length piece.old }
     ensures pumps { (link_at proxy.old.links server).up ≡ true → PumpsLink server result proxy.old proxy.new
         (R.remaining reader.old) (R.remaining reader.new) (W.contents writer.old) (W.contents writer.new) woken.old.items woken.new.items }
     ensures not_up { (link_at proxy.old.links server).up ≡ false
-        → (result ≡ Pump.Failed) × (proxy.new ≡ proxy.old) × (woken.new.items ≡ woken.old.items) }
+        → (result ≡ Pumped.Failed) × (proxy.new ≡ proxy.old) × (woken.new.items ≡ woken.old.items) }
 {
     if !proxy.is_up(server) {
-        return Pump::Failed;
+        return Pumped::Failed;
     }
     for _ in 0..MAX_ROUNDS {
         if let Err(pump) = round(proxy, server, reader, writer, piece, woken, tally) {
             return pump;
         }
     }
-    Pump::Again
+    Pumped::Again
 }
 
 /// One round: a write, a read, replies. The error is how the pump stops.
@@ -56,7 +56,7 @@ fn round<R: Read, W: Write>(
     piece: &mut [u8],
     woken: &mut Vec<u64>,
     tally: &mut Tally,
-) -> Result<(), Pump>
+) -> Result<(), Pumped>
     requires is_up { (link_at proxy.old.links server).up ≡ true }
     requires piece { 0 < length piece.old }
     ensures { PumpsLink server (pump_of result) proxy.old proxy.new (R.remaining reader.old)
@@ -67,12 +67,12 @@ fn round<R: Read, W: Write>(
     let came = receive(proxy, server, &mut ended, reader, piece, tally)?;
     take_replies(proxy, server, woken)?;
     if ended {
-        return Err(Pump::Done);
+        return Err(Pumped::Done);
     }
     if came || (sent && !proxy.link_output(server).is_empty()) {
         return Ok(());
     }
-    Err(Pump::Blocked)
+    Err(Pumped::Blocked)
 }
 
 /// Writes what is unsent, in one call, lets go of what the writer took, and says whether it took any.
@@ -81,7 +81,7 @@ fn send<W: Write>(
     server: usize,
     writer: &mut W,
     tally: &mut Tally,
-) -> Result<bool, Pump>
+) -> Result<bool, Pumped>
     requires { (link_at proxy.old.links server).up ≡ true }
     ensures { SendsLink server result proxy.old proxy.new (W.contents writer.old) (W.contents writer.new) }
 {
@@ -102,7 +102,7 @@ fn receive<R: Read>(
     reader: &mut R,
     piece: &mut [u8],
     tally: &mut Tally,
-) -> Result<bool, Pump>
+) -> Result<bool, Pumped>
     requires is_up { (link_at proxy.old.links server).up ≡ true }
     requires goes_on { ended.old ≡ false }
     requires piece { 0 < length piece.old }
@@ -116,12 +116,12 @@ fn receive<R: Read>(
     tally.came(count);
     match proxy.link_feed(server, came) {
         Ok(()) => Ok(true),
-        Err(_) => Err(Pump::Failed),
+        Err(_) => Err(Pumped::Failed),
     }
 }
 
 /// Takes all replies that have come whole.
-fn take_replies(proxy: &mut Proxy, server: usize, woken: &mut Vec<u64>) -> Result<(), Pump>
+fn take_replies(proxy: &mut Proxy, server: usize, woken: &mut Vec<u64>) -> Result<(), Pumped>
     requires { (link_at proxy.old.links server).up ≡ true }
     ensures { TakesReplies server result proxy.old proxy.new woken.old.items woken.new.items }
 {
@@ -132,25 +132,25 @@ fn take_replies(proxy: &mut Proxy, server: usize, woken: &mut Vec<u64>) -> Resul
 /// Takes one reply, if one has come whole, wakes the session of its command, and says whether it took one.
 ///
 /// The room for the session is there before the reply is taken, so that no session waits for what has come.
-fn take_reply(proxy: &mut Proxy, server: usize, woken: &mut Vec<u64>) -> Result<bool, Pump>
+fn take_reply(proxy: &mut Proxy, server: usize, woken: &mut Vec<u64>) -> Result<bool, Pumped>
     requires { (link_at proxy.old.links server).up ≡ true }
     ensures { TakesReply server result proxy.old proxy.new woken.old.items woken.new.items }
 {
     let tag = proxy.tag(server, 0);
     if woken.reserve(1).is_err() {
-        return Err(Pump::Failed);
+        return Err(Pumped::Failed);
     }
     match proxy.link_turn(server) {
         Ok(LinkTurn::Took) => {
             let Some(tag) = tag else {
-                return Err(Pump::Failed);
+                return Err(Pumped::Failed);
             };
             wake(woken, tag.session);
             Ok(true)
         }
         Ok(LinkTurn::Idle) => Ok(false),
-        Ok(LinkTurn::Strange) => Err(Pump::Failed),
-        Err(_) => Err(Pump::Failed),
+        Ok(LinkTurn::Strange) => Err(Pumped::Failed),
+        Err(_) => Err(Pumped::Failed),
     }
 }
 

@@ -6,7 +6,7 @@ use crate::woken::Woken;
 use mc_clients::{Client, Handler};
 use mc_program::ServeError;
 use mc_proxy::{MAX_SESSIONS, Proxy};
-use mc_proxy_pump::{Pump, is_owed, pump_answers, pump_client};
+use mc_proxy_pump::{Pumped, is_owed, pump_answers, pump_client};
 use mc_ring::Ring;
 use mc_socket::{Input, PIECE_LEN, Step, step_after};
 use mc_watch::Tally;
@@ -109,7 +109,7 @@ impl ProxyHandler {
     }
 
     /// Carries a client's bytes, takes its requests, and puts its answers out. What passed is counted.
-    fn pump(&mut self, client: &mut Client<Held>) -> Pump
+    fn pump(&mut self, client: &mut Client<Held>) -> Pumped
         ensures { client.new.number ≡ client.old.number }
     {
         let mut input = Input {

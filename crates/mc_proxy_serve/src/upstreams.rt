@@ -7,7 +7,7 @@ use crate::notices::{Cause, Notice, Notices, tell};
 use crate::reports::LineReport;
 use crate::waits::Waits;
 use mc_proxy::Proxy;
-use mc_proxy_pump::{Pump, pump_link};
+use mc_proxy_pump::{Pumped, pump_link};
 use mc_socket::{Edge, Input, first_address, keep_alive};
 use mc_watch::{Tally, earlier};
 use mio::event::Event;
@@ -227,11 +227,11 @@ impl Upstream {
         server: usize,
         piece: &mut [u8],
         woken: &mut Vec<u64>,
-    ) -> Pump
+    ) -> Pumped
         requires piece { 0 < length piece.old }
     {
         let State::Up(stream) = &self.state else {
-            return Pump::Blocked;
+            return Pumped::Blocked;
         };
         let mut input = Input {
             stream,
@@ -250,7 +250,7 @@ impl Upstream {
             &mut tally,
         );
         self.edge = input.edge;
-        self.stirred = pumped == Pump::Again;
+        self.stirred = pumped == Pumped::Again;
         let fewer = before.saturating_sub(proxy.waiting(server));
         if proxy.is_up(server) {
             self.waits.answer(fewer);

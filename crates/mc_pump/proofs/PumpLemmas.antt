@@ -5,8 +5,8 @@ use Rattle.mc_stream.specs.Sides.{IsStopOfSide}
 use Rattle.mc_pump.specs.Stretches.{Stretch}
 use Rattle.mc_pump.specs.Pumps.{Leaves, Pumps}
 use Rattle.mc_pump.specs.Rounds.{Receives, Sends}
-use Rattle.mc_stream.specs.declared.outcomes.Pump.{Pump}
-use Rattle.mc_stream.specs.declared.outcomes.Pump.TheVariants.{Again, Blocked, Done, Failed}
+use Rattle.mc_stream.specs.declared.outcomes.Pumped.{Pumped}
+use Rattle.mc_stream.specs.declared.outcomes.Pumped.TheVariants.{Again, Blocked, Done, Failed}
 use Rattle.mc_stream.proofs.SideLemmas.{came_any, carried_as, carried_then, carried_unheard, carries_brought, carries_none, carries_sent, stop_of_read, went_any}
 use Rattle.mc_pump.proofs.StretchLemmas.{stretch_none, stretch_then}
 
@@ -22,7 +22,7 @@ pumps_none number moment s c unread written ended was = record {
 }
 
 -- a pump that goes on
-pub pumps_then : (number moment : ℕ) (pump : Pump) (a b c : ServerState) (unread middle unread' written between written' : Option (List ℕ)) (ended later ended' : Bool)
+pub pumps_then : (number moment : ℕ) (pump : Pumped) (a b c : ServerState) (unread middle unread' written between written' : Option (List ℕ)) (ended later ended' : Bool)
     → Pumps number moment Again a b unread middle written between ended later → Pumps number moment pump b c middle unread' between written' later ended'
     → Pumps number moment pump a c unread unread' written written' ended ended'
 pumps_then number moment pump a b c unread middle unread' written between written' ended later ended' h k = record {
@@ -34,14 +34,14 @@ pumps_then number moment pump a b c unread middle unread' written between writte
 }
 
 -- a stop of a side leaves nothing to say
-left_by_side : (pump : Pump) (ended : Bool) (connection : Option ConnectionState) → IsStopOfSide pump → Leaves pump ended connection
+left_by_side : (pump : Pumped) (ended : Bool) (connection : Option ConnectionState) → IsStopOfSide pump → Leaves pump ended connection
 left_by_side Again ended connection h = tt
 left_by_side Blocked ended connection h = absurd h
 left_by_side Done ended connection h = absurd h
 left_by_side Failed ended connection h = tt
 
 -- turns alone
-pub pumps_turns : (number moment : ℕ) (pump : Pump) (a b : ServerState) (unread written : Option (List ℕ)) (ended : Bool)
+pub pumps_turns : (number moment : ℕ) (pump : Pumped) (a b : ServerState) (unread written : Option (List ℕ)) (ended : Bool)
     → Stretch number moment a b [] [] → Leaves pump ended (connection_at b number) → Pumps number moment pump a b unread unread written written ended ended
 pumps_turns number moment pump a b unread written ended h left = record {
   came = [];
@@ -63,7 +63,7 @@ pumps_sent number moment moved a b unread written written' ended h = record {
 }
 
 -- a write that stopped the pump
-pub pumps_unsent : (number moment : ℕ) (pump : Pump) (a b : ServerState) (unread written written' : Option (List ℕ)) (ended : Bool)
+pub pumps_unsent : (number moment : ℕ) (pump : Pumped) (a b : ServerState) (unread written written' : Option (List ℕ)) (ended : Bool)
     → Sends number moment (Err pump) a b written written' → Pumps number moment pump a b unread unread written written' ended ended
 pumps_unsent number moment pump a b unread written written' ended h = record {
   came = [];
@@ -74,7 +74,7 @@ pumps_unsent number moment pump a b unread written written' ended h = record {
 }
 
 -- a read after which the pump goes on
-pub pumps_heard : (number moment : ℕ) (moved : Bool) (pump : Pump) (a b : ServerState) (unread unread' written : Option (List ℕ)) (ended ended' : Bool) → ended ≡ false
+pub pumps_heard : (number moment : ℕ) (moved : Bool) (pump : Pumped) (a b : ServerState) (unread unread' written : Option (List ℕ)) (ended ended' : Bool) → ended ≡ false
     → Receives number moment (Ok moved) a b unread unread' ended' → Leaves pump ended' (connection_at b number) → Pumps number moment pump a b unread unread' written written ended ended'
 pumps_heard number moment moved pump a b unread unread' written ended ended' open_yet h left = record {
   came = h.came;
@@ -86,7 +86,7 @@ pumps_heard number moment moved pump a b unread unread' written ended ended' ope
 }
 
 -- a read that stopped the pump
-pub pumps_unheard : (number moment : ℕ) (pump : Pump) (a b : ServerState) (unread unread' written : Option (List ℕ)) (ended ended' : Bool) → ended ≡ false
+pub pumps_unheard : (number moment : ℕ) (pump : Pumped) (a b : ServerState) (unread unread' written : Option (List ℕ)) (ended ended' : Bool) → ended ≡ false
     → Receives number moment (Err pump) a b unread unread' ended' → Pumps number moment pump a b unread unread' written written ended ended'
 pumps_unheard number moment pump a b unread unread' written ended ended' open_yet h = record {
   came = h.came;
@@ -97,7 +97,7 @@ pumps_unheard number moment pump a b unread unread' written ended ended' open_ye
 }
 
 -- turns, a write, and then a stop
-pub stopped : (number moment : ℕ) (moved : Bool) (pump : Pump) (a b c : ServerState) (unread written written' : Option (List ℕ)) (ended : Bool)
+pub stopped : (number moment : ℕ) (moved : Bool) (pump : Pumped) (a b c : ServerState) (unread written written' : Option (List ℕ)) (ended : Bool)
     → Stretch number moment a b [] [] → Sends number moment (Ok moved) b c written written' → Leaves pump ended (connection_at c number)
     → Pumps number moment pump a c unread unread written written' ended ended
 stopped number moment moved pump a b c unread written written' ended turns sent left =

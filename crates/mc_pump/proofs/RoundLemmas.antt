@@ -14,7 +14,7 @@ use Rattle.mc_pump.specs.Rounds.{IsSentOf, Receives, Sends, StopsAt, ends_by, re
 use Rattle.mc_pump.specs.declared.limits.TheConstants.{UNSENT_MARK}
 use Rattle.mc_pump.specs.declared.rounds.Stop.{Stop}
 use Rattle.mc_pump.specs.declared.rounds.Stop.TheVariants as stops
-use Rattle.mc_stream.specs.declared.outcomes.Pump.{Pump}
+use Rattle.mc_stream.specs.declared.outcomes.Pumped.{Pumped}
 use Rattle.mc_pump.proofs.StretchLemmas.{stretch_none, stretch_sent, stretch_open}
 
 -- an open connection
@@ -64,7 +64,7 @@ closed_has_none number moment old new steps =
     subst P (sym now) (none, closed)
 
 -- nothing was sent
-pub sends_still : (number moment : ℕ) (side : Result Bool Pump) (s : ServerState) (written written' : Option (List ℕ)) → IsSome (connection_at s number)
+pub sends_still : (number moment : ℕ) (side : Result Bool Pumped) (s : ServerState) (written written' : Option (List ℕ)) → IsSome (connection_at s number)
     → HowItWent side written written' [] (s ≡ s) → Sends number moment side s s written written'
 sends_still number moment side s written written' there how =
     let c = the_open (connection_at s number) there in
@@ -96,7 +96,7 @@ sends_some number moment count output old new written written' there unsent is a
     }
 
 -- nothing came
-pub receives_still : (number moment : ℕ) (side : Result Bool Pump) (s : ServerState) (unread unread' : Option (List ℕ)) (ended' : Bool) → IsSome (connection_at s number)
+pub receives_still : (number moment : ℕ) (side : Result Bool Pumped) (s : ServerState) (unread unread' : Option (List ℕ)) (ended' : Bool) → IsSome (connection_at s number)
     → HowItCame side unread unread' ended' [] (s ≡ s) → Receives number moment side s s unread unread' ended'
 receives_still number moment side s unread unread' ended' there how =
     let c = the_open (connection_at s number) there in

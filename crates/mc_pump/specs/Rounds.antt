@@ -5,8 +5,8 @@ use Rattle.mc_server.specs.Turns.{waiting_of, is_closed_at}
 use Rattle.mc_stream.specs.Sides.{HowItCame, HowItWent}
 use Rattle.mc_pump.specs.Stretches.{Stretch}
 use Rattle.mc_pump.specs.declared.limits.TheConstants.{UNSENT_MARK}
-use Rattle.mc_stream.specs.declared.outcomes.Pump.{Pump}
-use Rattle.mc_stream.specs.declared.outcomes.Pump.TheVariants.{Again}
+use Rattle.mc_stream.specs.declared.outcomes.Pumped.{Pumped}
+use Rattle.mc_stream.specs.declared.outcomes.Pumped.TheVariants.{Again}
 use Rattle.mc_pump.specs.declared.rounds.Stop.{Stop}
 use Rattle.mc_pump.specs.declared.rounds.Stop.TheVariants.{Idle, Closing, Marked}
 
@@ -35,19 +35,19 @@ pub record IsSentOf (old new : Option ConnectionState) : Type 0 where
   pub fewer : length (output_of new) ≤ length (output_of old)
 
 -- a write of what is unsent
-pub record Sends (number moment : ℕ) (side : Result Bool Pump) (old new : ServerState) (written written' : Option (List ℕ)) : Type 0 where
+pub record Sends (number moment : ℕ) (side : Result Bool Pumped) (old new : ServerState) (written written' : Option (List ℕ)) : Type 0 where
   pub went : List ℕ
   pub stretch : Stretch number moment old new [] went
   pub how : HowItWent side written written' went (new ≡ old)
   pub same : IsSentOf (connection_at old number) (connection_at new number)
 
 -- a read, of which the connection is fed
-pub record Receives (number moment : ℕ) (side : Result Bool Pump) (old new : ServerState) (unread unread' : Option (List ℕ)) (ended' : Bool) : Type 0 where
+pub record Receives (number moment : ℕ) (side : Result Bool Pumped) (old new : ServerState) (unread unread' : Option (List ℕ)) (ended' : Bool) : Type 0 where
   pub came : List ℕ
   pub stretch : Stretch number moment old new came []
   pub how : HowItCame side unread unread' ended' came (new ≡ old)
 
 -- a round that does not stop goes on as a pump that may be called again
-abbrev pub pump_of : Result (Unit {0}) Pump → Pump
+abbrev pub pump_of : Result (Unit {0}) Pumped → Pumped
 pump_of (Ok u) = Again
 pump_of (Err pump) = pump

@@ -1,6 +1,6 @@
 //! The body of a connection: bytes carried between a server and the two sides of a stream, and what comes whole served.
 //!
-//! [`pump`] is called again and again, as long as it says [`Pump::Again`], or [`Pump::Blocked`] and the stream then moves.
+//! [`pump`] is called again and again, as long as it says [`Pumped::Again`], or [`Pumped::Blocked`] and the stream then moves.
 //! Its contract is the law of one connection, from the bytes that a reader gave to the bytes that a writer took.
 //! [`MAX_ROUNDS`] and [`UNSENT_MARK`] are its limits. The stream is any reader and any writer: no socket is known here.
 //! One call of a side of a stream is [`mc_stream::write_once`] or [`mc_stream::read_once`]. A [`Watch`] says how large an answer may
@@ -19,6 +19,6 @@ mod watches;
 
 pub use laws::servers_stand_behind_a_stretch;
 pub use limits::UNSENT_MARK;
-pub use mc_stream::{MAX_ROUNDS, Pump};
+pub use mc_stream::{MAX_ROUNDS, Pumped};
 pub use pumps::pump;
 pub use watches::Watch;

@@ -7,7 +7,7 @@ use crate::rounds::round;
 use crate::watches::Watch;
 use mc_server::Server;
 use mc_store::Store;
-use mc_stream::{MAX_ROUNDS, Pump};
+use mc_stream::{MAX_ROUNDS, Pumped};
 use std::io::{Read, Write};
 
 /// Carries a connection's bytes between a server and the two sides of a stream that do not wait, and serves what comes
@@ -18,7 +18,7 @@ use std::io::{Read, Write};
 /// bytes or more are unsent, no turn is taken and nothing is read. `ended` says whether the input has ended: the pump
 /// sets it when a read gives no byte, and then reads no more; a caller hands in `false` at first.
 ///
-/// A request whose answer may have more bytes than the watch allows is not taken: the pump says [`Pump::Failed`], and has done
+/// A request whose answer may have more bytes than the watch allows is not taken: the pump says [`Pumped::Failed`], and has done
 /// nothing for it. The watch notes that, and counts the requests that are taken, and the bytes.
 pub fn pump<S: Store + Drop, R: Read, W: Write>(
     server: &mut Server<S>,
@@ -29,20 +29,20 @@ pub fn pump<S: Store + Drop, R: Read, W: Write>(
     piece: &mut [u8],
     moment: u64,
     watch: &mut Watch,
-) -> Pump
+) -> Pumped
     requires piece { 0 < length piece.old }
     requires moment { moment < 2 ^ 63 }
     ensures pumps { IsSome (connection_at server.old number) → Pumps number moment result server.old server.new
         (R.remaining reader.old) (R.remaining reader.new) (W.contents writer.old) (W.contents writer.new) ended.old ended.new }
-    ensures not_open { connection_at server.old number ≡ None → (result ≡ Pump.Failed) × (server.new ≡ server.old) }
+    ensures not_open { connection_at server.old number ≡ None → (result ≡ Pumped.Failed) × (server.new ≡ server.old) }
 {
     let Ok(_) = server.is_closed(number) else {
-        return Pump::Failed;
+        return Pumped::Failed;
     };
     for _ in 0..MAX_ROUNDS {
         if let Err(pump) = round(server, number, ended, reader, writer, piece, moment, watch) {
             return pump;
         }
     }
-    Pump::Again
+    Pumped::Again
 }

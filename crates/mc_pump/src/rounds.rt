@@ -10,7 +10,7 @@ use crate::limits::UNSENT_MARK;
 use crate::watches::Watch;
 use mc_server::{Limited, Server, Turn};
 use mc_store::Store;
-use mc_stream::{Pump, read_once, write_once};
+use mc_stream::{Pumped, read_once, write_once};
 use std::io::{Read, Write};
 
 /// Why the turns of a round stopped.
@@ -34,7 +34,7 @@ pub fn round<S: Store + Drop, R: Read, W: Write>(
     piece: &mut [u8],
     moment: u64,
     watch: &mut Watch,
-) -> Result<(), Pump>
+) -> Result<(), Pumped>
     requires is_open { IsSome (connection_at server.old number) }
     requires piece { 0 < length piece.old }
     requires moment { moment < 2 ^ 63 }
@@ -42,20 +42,20 @@ pub fn round<S: Store + Drop, R: Read, W: Write>(
         (R.remaining reader.new) (W.contents writer.old) (W.contents writer.new) ended.old ended.new }
 {
     let Ok(stop) = take_turns(server, number, moment, watch) else {
-        return Err(Pump::Failed);
+        return Err(Pumped::Failed);
     };
     let moved = send(server, number, writer, watch)?;
     if is_over(server, number, stop, *ended) {
-        return Err(Pump::Done);
+        return Err(Pumped::Done);
     }
     if is_read(stop, *ended) {
         let can_send = moved && !server.output(number).is_empty();
-        return listen(server, number, ended, reader, piece, can_send, watch);
+        return read_or_block(server, number, ended, reader, piece, can_send, watch);
     }
     if moved {
         return Ok(());
     }
-    Err(Pump::Blocked)
+    Err(Pumped::Blocked)
 }
 
 /// Whether all is sent of a connection whose turns stopped so, and nothing more will come.
@@ -93,7 +93,7 @@ fn take_turns<S: Store + Drop>(
     number: u64,
     moment: u64,
     watch: &mut Watch,
-) -> Result<Stop, Pump>
+) -> Result<Stop, Pumped>
     requires is_open { IsSome (connection_at server.old number) }
     requires moment { moment < 2 ^ 63 }
     ensures turns { Stretch number moment server.old server.new [] [] }
@@ -101,11 +101,11 @@ fn take_turns<S: Store + Drop>(
 {
     while server.output(number).len() < UNSENT_MARK {
         let Ok(limited) = server.turn_within(number, moment, watch.limit) else {
-            return Err(Pump::Failed);
+            return Err(Pumped::Failed);
         };
         let Limited::Turned(turn) = limited else {
             watch.refused = true;
-            return Err(Pump::Failed);
+            return Err(Pumped::Failed);
         };
         match turn {
             Turn::Took => watch.tally.took(),
@@ -122,7 +122,7 @@ fn send<S: Store + Drop, W: Write>(
     number: u64,
     writer: &mut W,
     watch: &mut Watch,
-) -> Result<bool, Pump>
+) -> Result<bool, Pumped>
     requires { IsSome (connection_at server.old number) }
     ensures { (moment : ℕ) → Sends number moment result server.old server.new (W.contents writer.old) (W.contents writer.new) }
 {
@@ -136,7 +136,7 @@ fn send<S: Store + Drop, W: Write>(
 }
 
 /// Reads, and says how the pump stops where nothing came and nothing more can be sent.
-fn listen<S: Store + Drop, R: Read>(
+fn read_or_block<S: Store + Drop, R: Read>(
     server: &mut Server<S>,
     number: u64,
     ended: &mut bool,
@@ -144,7 +144,7 @@ fn listen<S: Store + Drop, R: Read>(
     piece: &mut [u8],
     can_send: bool,
     watch: &mut Watch,
-) -> Result<(), Pump>
+) -> Result<(), Pumped>
     requires is_open { IsSome (connection_at server.old number) }
     requires none_waits { waiting_of (connection_at server.old number) ≡ [] }
     requires below { length (output_of (connection_at server.old number)) < UNSENT_MARK }
@@ -158,7 +158,7 @@ fn listen<S: Store + Drop, R: Read>(
     if moved || can_send {
         return Ok(());
     }
-    Err(Pump::Blocked)
+    Err(Pumped::Blocked)
 }
 
 /// Reads once, feeds the connection with what came, and says whether anything came, or the end.
@@ -169,7 +169,7 @@ fn receive<S: Store + Drop, R: Read>(
     reader: &mut R,
     piece: &mut [u8],
     watch: &mut Watch,
-) -> Result<bool, Pump>
+) -> Result<bool, Pumped>
     requires is_open { IsSome (connection_at server.old number) }
     requires below { length (output_of (connection_at server.old number)) < UNSENT_MARK }
     requires goes_on { ended.old ≡ false }
@@ -184,6 +184,6 @@ fn receive<S: Store + Drop, R: Read>(
     watch.tally.came(count);
     match server.feed(number, came) {
         Ok(()) => Ok(true),
-        Err(_) => Err(Pump::Failed),
+        Err(_) => Err(Pumped::Failed),
     }
 }

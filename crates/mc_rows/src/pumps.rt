@@ -5,7 +5,7 @@ use mc_fixtures::{
     Call, Calls, MANY, MOMENT, MeagreStore, SCRIPTS, Sides, Sink, Source, WIDE, new_server,
     with_value,
 };
-use mc_pump::{MAX_ROUNDS, Pump, UNSENT_MARK, Watch, pump};
+use mc_pump::{MAX_ROUNDS, Pumped, UNSENT_MARK, Watch, pump};
 use mc_server::{AnswerLimit, Server};
 use std::alloc::{AllocError, Global};
 use std::test::Fail;
@@ -33,7 +33,7 @@ fn pumped(
     number: u64,
     source: &mut Source,
     sink: &mut Sink,
-) -> Pump {
+) -> Pumped {
     let mut ended = false;
     let mut piece = [0u8; 16];
     let mut watch = Watch::new(AnswerLimit::none());
@@ -41,11 +41,11 @@ fn pumped(
         let last = pump(
             server, number, &mut ended, source, sink, &mut piece, MOMENT, &mut watch,
         );
-        if last == Pump::Done || last == Pump::Failed {
+        if last == Pumped::Done || last == Pumped::Failed {
             return last;
         }
     }
-    Pump::Again
+    Pumped::Again
 }
 
 /// What ends a connection: whether a write does it, and how the call goes.
@@ -58,7 +58,7 @@ fn play(
     server: &mut Server<MeagreStore>,
     sent: &[u8],
     sides: Sides,
-) -> Result<(Pump, Sides, Vec<u8>), Fail> {
+) -> Result<(Pumped, Sides, Vec<u8>), Fail> {
     let number = server.admit()?;
     let mut source = Source::new(alloc, sent, sides.reads)?;
     let mut sink = Sink::new(alloc, sides.writes);
@@ -90,7 +90,7 @@ fn is_whole(
     calm: Sides,
 ) -> Result<bool, Fail> {
     let (last, _, taken) = play(alloc, server, exchange.sent, calm)?;
-    Ok(last == Pump::Done && taken.as_slice() == exchange.answers)
+    Ok(last == Pumped::Done && taken.as_slice() == exchange.answers)
 }
 
 /// Whether an exchange, played to a server that holds an older key, by calls one of which ends its connection, fails, and
@@ -108,7 +108,7 @@ fn fails_alone(
     let (failed, _, before) = play(alloc, &mut server, exchange.sent, sides)?;
     let is_kept = is_whole(alloc, &mut server, &KEPT, calm)?;
     let is_served = is_whole(alloc, &mut server, next, calm)?;
-    let has_failed = failed == Pump::Failed && exchange.answers.starts_with(before.as_slice());
+    let has_failed = failed == Pumped::Failed && exchange.answers.starts_with(before.as_slice());
     Ok(is_stored && has_failed && is_kept && is_served)
 }
 
@@ -116,7 +116,7 @@ fn fails_alone(
 fn calls_of(alloc: Global, exchange: &Exchange, calm: Sides) -> Result<Option<Sides>, Fail> {
     let mut server = new_server(alloc, WIDE)?;
     let (last, made, taken) = play(alloc, &mut server, exchange.sent, calm)?;
-    let is_whole = last == Pump::Done && taken.as_slice() == exchange.answers;
+    let is_whole = last == Pumped::Done && taken.as_slice() == exchange.answers;
     Ok(is_whole.then_some(made))
 }
 
@@ -224,7 +224,7 @@ fn unsent_answers_stop_reads(rt: HostRuntime) -> Result<(), Fail> {
     let is_stopped = are_unsent && source.calls.made == 9;
     sink.calls = Calls::new(&[Moves(100_000), Blocks], None);
     let last = pumped(&mut server, number, &mut source, &mut sink);
-    let is_done = last == Pump::Done && are_repeated(&sink.taken, &answer, 20);
+    let is_done = last == Pumped::Done && are_repeated(&sink.taken, &answer, 20);
     assert!(rt; is_stopped && is_done);
     Ok(())
 }
@@ -249,7 +249,7 @@ fn a_pump_ends_though_more_comes(rt: HostRuntime) -> Result<(), Fail> {
         MOMENT,
         &mut watch,
     );
-    assert!(rt; last == Pump::Again && source.calls.made == MAX_ROUNDS as usize);
+    assert!(rt; last == Pumped::Again && source.calls.made == MAX_ROUNDS as usize);
     Ok(())
 }
 
@@ -274,7 +274,7 @@ fn larger_answers_fail_a_pump(rt: HostRuntime) -> Result<(), Fail> {
         MOMENT,
         &mut watch,
     );
-    let is_refused = last == Pump::Failed && server.bound(number)? == 501_024;
+    let is_refused = last == Pumped::Failed && server.bound(number)? == 501_024;
     let is_one = watch.tally.requests == 1 && server.output(number) == b"END\r\n".as_slice();
     assert!(rt; is_refused && is_one);
     Ok(())

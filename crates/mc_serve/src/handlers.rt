@@ -5,7 +5,7 @@ ghost use Rattle.mc_pump.specs.Pumps.{Pumps};
 
 use crate::options::PROGRAM;
 use mc_clients::{Client, Handler};
-use mc_pump::{Pump, Watch, pump};
+use mc_pump::{Pumped, Watch, pump};
 use mc_server::{AnswerLimit, Server};
 use mc_socket::{Input, PIECE_LEN, Step, step_after};
 use mc_store::Store;
@@ -94,7 +94,7 @@ fn pump_client<S: Store + Drop>(
     piece: &mut [u8],
     moment: u64,
     watch: &mut Watch,
-) -> Pump
+) -> Pumped
     requires piece { 0 < length piece.old }
     requires moment { moment < 2 ^ 63 }
     ensures pumps { IsSome (connection_at server.old client.old.number) → Pumps client.old.number moment result server.old server.new

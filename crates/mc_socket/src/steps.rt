@@ -2,7 +2,7 @@
 ghost use Rattle.std.specs.Prelude.{◌≡◌};
 ghost use Rattle.mc_socket.specs.Steps.{step_after};
 
-use mc_stream::Pump;
+use mc_stream::Pumped;
 
 /// What is done with a client after its pump.
 #[derive(Clone, Copy, Debug, PartialEq, Eq)]
@@ -16,12 +16,12 @@ pub enum Step {
 }
 
 /// What is done with a client whose pump left it so. One that is over, or has failed, is closed, and nobody else is.
-pub fn step_after(pump: Pump) -> Step
+pub fn step_after(pump: Pumped) -> Step
     ensures { result ≡ step_after pump }
 {
     match pump {
-        Pump::Again => Step::GoOn,
-        Pump::Blocked => Step::Wait,
-        Pump::Done | Pump::Failed => Step::Close,
+        Pumped::Again => Step::GoOn,
+        Pumped::Blocked => Step::Wait,
+        Pumped::Done | Pumped::Failed => Step::Close,
     }
 }

@@ -4,8 +4,8 @@ use Rattle.std.proofs.lemmas.List.{append-nil}
 use Rattle.std.proofs.KnownBytes.{Appends-nil, Appends-trans, Consumes-nil, Consumes-trans}
 use Rattle.std.specs.Io.KnownBytes.{Appends, Consumes, Keeps, IsAtEnd}
 use Rattle.mc_stream.specs.Sides.{IsAll, Carries, CarriesBy, Brings, HowItCame, HowItWent, IsStopOfSide, StopsRead, MovesNothing, Reads, Writes}
-use Rattle.mc_stream.specs.declared.outcomes.Pump.{Pump}
-use Rattle.mc_stream.specs.declared.outcomes.Pump.TheVariants.{Again, Blocked, Done, Failed}
+use Rattle.mc_stream.specs.declared.outcomes.Pumped.{Pumped}
+use Rattle.mc_stream.specs.declared.outcomes.Pumped.TheVariants.{Again, Blocked, Done, Failed}
 
 -- known bytes that are kept
 pub keeps_consumes : (a b : Option (List ℕ)) → Keeps a b → Consumes a b []
@@ -56,7 +56,7 @@ carries_then unread middle unread' written between written' ended later ended' c
   ];
 }
 
-pub carried_then : (pump : Pump) (unread middle unread' written between written' : Option (List ℕ)) (ended later ended' : Bool) (came more went yet : List ℕ)
+pub carried_then : (pump : Pumped) (unread middle unread' written between written' : Option (List ℕ)) (ended later ended' : Bool) (came more went yet : List ℕ)
     → Carries unread middle written between ended later came went → CarriesBy pump middle unread' between written' later ended' more yet
     → CarriesBy pump unread unread' written written' ended ended' (came ++ more) (went ++ yet)
 carried_then Again unread middle unread' written between written' ended later ended' came more went yet h k = carries_then unread middle unread' written between written' ended later ended' came more went yet h k
@@ -75,7 +75,7 @@ carries_none unread written ended = record {
 }
 
 -- what was carried, however the pump ends: nothing was lost
-pub carried_as : (pump : Pump) (unread unread' written written' : Option (List ℕ)) (ended ended' : Bool) (came went : List ℕ)
+pub carried_as : (pump : Pumped) (unread unread' written written' : Option (List ℕ)) (ended ended' : Bool) (came went : List ℕ)
     → Carries unread unread' written written' ended ended' came went → CarriesBy pump unread unread' written written' ended ended' came went
 carried_as Again unread unread' written written' ended ended' came went h = h
 carried_as Blocked unread unread' written written' ended ended' came went h = h
@@ -95,14 +95,14 @@ carries_brought unread unread' written ended ended' came open_yet h = record {
 }
 
 -- what a read carried that stopped the pump
-pub carried_unheard : (pump : Pump) (unread unread' written : Option (List ℕ)) (ended ended' : Bool) (came : List ℕ) → ended ≡ false → StopsRead pump unread unread' ended' came
+pub carried_unheard : (pump : Pumped) (unread unread' written : Option (List ℕ)) (ended ended' : Bool) (came : List ℕ) → ended ≡ false → StopsRead pump unread unread' ended' came
     → CarriesBy pump unread unread' written written ended ended' came []
 carried_unheard Again unread unread' written ended ended' came open_yet h = carries_brought unread unread' written ended ended' came open_yet h
 carried_unheard Blocked unread unread' written ended ended' came open_yet h = absurd h
 carried_unheard Done unread unread' written ended ended' came open_yet h = absurd h
 carried_unheard Failed unread unread' written ended ended' came open_yet h = (h.0, carries_brought unread unread' written ended ended' (came ++ h.0) open_yet h.1)
 
-pub stop_of_read : (pump : Pump) (unread unread' : Option (List ℕ)) (ended' : Bool) (came : List ℕ) → StopsRead pump unread unread' ended' came → IsStopOfSide pump
+pub stop_of_read : (pump : Pumped) (unread unread' : Option (List ℕ)) (ended' : Bool) (came : List ℕ) → StopsRead pump unread unread' ended' came → IsStopOfSide pump
 stop_of_read Again unread unread' ended' came h = tt
 stop_of_read Blocked unread unread' ended' came h = absurd h
 stop_of_read Done unread unread' ended' came h = absurd h
@@ -163,29 +163,29 @@ came_none unread unread' true unmoved h u = h
 came_none unread unread' false unmoved h u = (h, refl, u)
 
 -- a write by whose error nothing went
-pub writes_nothing : (side : Result ℕ Pump) (output : List ℕ) (written written' : Option (List ℕ)) → MovesNothing side → Keeps written written' → Writes side output written written'
+pub writes_nothing : (side : Result ℕ Pumped) (output : List ℕ) (written written' : Option (List ℕ)) → MovesNothing side → Keeps written written' → Writes side output written written'
 writes_nothing (Ok count) output written written' h kept = (omega (arith, h), rw h (keeps_appends written written' kept))
 writes_nothing (Err pump) output written written' h kept = (h, kept)
 
 -- a read by whose error nothing came
-pub reads_nothing : (side : Result ℕ Pump) (piece' : List ℕ) (ended' : Bool) (unread unread' : Option (List ℕ)) → MovesNothing side → ended' ≡ false → Keeps unread unread' → Reads side piece' ended' unread unread'
+pub reads_nothing : (side : Result ℕ Pumped) (piece' : List ℕ) (ended' : Bool) (unread unread' : Option (List ℕ)) → MovesNothing side → ended' ≡ false → Keeps unread unread' → Reads side piece' ended' unread unread'
 reads_nothing (Ok count) piece' ended' unread unread' h open_yet kept =
     (omega (arith, h), λ _. h, rw h (brings_bytes unread unread' ended' [] open_yet (keeps_consumes unread unread' kept)))
 reads_nothing (Err pump) piece' ended' unread unread' h open_yet kept = (h, open_yet, kept)
 
 -- a read that stopped the pump
-unheard : (pump : Pump) (unread unread' : Option (List ℕ)) (ended' : Bool) → IsStopOfSide pump → Brings unread unread' ended' [] → StopsRead pump unread unread' ended' []
+unheard : (pump : Pumped) (unread unread' : Option (List ℕ)) (ended' : Bool) → IsStopOfSide pump → Brings unread unread' ended' [] → StopsRead pump unread unread' ended' []
 unheard Again unread unread' ended' h brings = brings
 unheard Blocked unread unread' ended' h brings = absurd h
 unheard Done unread unread' ended' h brings = absurd h
 unheard Failed unread unread' ended' h brings = ([], brings)
 
-pub read_stops : (pump : Pump) (piece' : List ℕ) (ended' : Bool) (unread unread' : Option (List ℕ)) → Reads (Err pump) piece' ended' unread unread' → StopsRead pump unread unread' ended' []
+pub read_stops : (pump : Pumped) (piece' : List ℕ) (ended' : Bool) (unread unread' : Option (List ℕ)) → Reads (Err pump) piece' ended' unread unread' → StopsRead pump unread unread' ended' []
 read_stops pump piece' ended' unread unread' h =
     unheard pump unread unread' ended' h.0 (brings_bytes unread unread' ended' [] h.1 (keeps_consumes unread unread' h.2))
 
 -- a write that stopped the pump
-pub write_stops : (pump : Pump) (output : List ℕ) (written written' : Option (List ℕ)) (unmoved : Type 0) → Writes (Err pump) output written written' → HowItWent (Err pump) written written' [] unmoved
+pub write_stops : (pump : Pumped) (output : List ℕ) (written written' : Option (List ℕ)) (unmoved : Type 0) → Writes (Err pump) output written written' → HowItWent (Err pump) written written' [] unmoved
 write_stops pump output written written' unmoved h = (h.0, keeps_appends written written' h.1)
 
 -- a write and a read by which nothing moved

@@ -2,8 +2,8 @@
 -- this project's own; `Consumes`, `Appends` and `Keeps` are std's.
 use Rattle.std.specs.Prelude.{◌≡◌, ℕ, ◌≤◌, ◌⊎◌, Bool, true, false, List, ◌++◌, length, take, Option, Some, None, Result, Ok, Err}
 use Rattle.std.specs.Io.KnownBytes.{Appends, Consumes, Keeps}
-use Rattle.mc_stream.specs.declared.outcomes.Pump.{Pump}
-use Rattle.mc_stream.specs.declared.outcomes.Pump.TheVariants.{Again, Blocked, Done, Failed}
+use Rattle.mc_stream.specs.declared.outcomes.Pumped.{Pumped}
+use Rattle.mc_stream.specs.declared.outcomes.Pumped.TheVariants.{Again, Blocked, Done, Failed}
 
 -- bytes that came are all that the reader had, where that is known
 abbrev pub IsAll : Option (List ℕ) → List ℕ → Type 0
@@ -19,21 +19,21 @@ pub record Carries (unread unread' written written' : Option (List ℕ)) (ended 
   pub at_end : ended' ≡ true → (ended ≡ true) ⊎ IsAll unread came
 
 -- The same by how a pump ends. Where it failed, bytes that the reader gave may be lost: those that came are the first of them.
-abbrev pub CarriesBy : Pump → Option (List ℕ) → Option (List ℕ) → Option (List ℕ) → Option (List ℕ) → Bool → Bool → List ℕ → List ℕ → Type 0
+abbrev pub CarriesBy : Pumped → Option (List ℕ) → Option (List ℕ) → Option (List ℕ) → Option (List ℕ) → Bool → Bool → List ℕ → List ℕ → Type 0
 CarriesBy Again unread unread' written written' ended ended' came went = Carries unread unread' written written' ended ended' came went
 CarriesBy Blocked unread unread' written written' ended ended' came went = Carries unread unread' written written' ended ended' came went
 CarriesBy Done unread unread' written written' ended ended' came went = Carries unread unread' written written' ended ended' came went
 CarriesBy Failed unread unread' written written' ended ended' came went = (lost : List ℕ) × Carries unread unread' written written' ended ended' (came ++ lost) went
 
 -- how a side stops the pump: it was interrupted, or it failed
-abbrev pub IsStopOfSide : Pump → Type 0
+abbrev pub IsStopOfSide : Pumped → Type 0
 IsStopOfSide Again = Unit {0}
 IsStopOfSide Blocked = ⊥
 IsStopOfSide Done = ⊥
 IsStopOfSide Failed = Unit {0}
 
 -- an error of a side moves nothing
-abbrev pub MovesNothing : Result ℕ Pump → Type 0
+abbrev pub MovesNothing : Result ℕ Pumped → Type 0
 MovesNothing (Ok count) = count ≡ 0
 MovesNothing (Err pump) = IsStopOfSide pump
 
@@ -43,31 +43,31 @@ pub record Brings (unread unread' : Option (List ℕ)) (ended' : Bool) (came : L
   pub at_end : ended' ≡ true → IsAll unread came
 
 -- what a read carried that stops the pump; where something failed, what it brought may be lost
-abbrev pub StopsRead : Pump → (unread unread' : Option (List ℕ)) (ended' : Bool) (came : List ℕ) → Type 0
+abbrev pub StopsRead : Pumped → (unread unread' : Option (List ℕ)) (ended' : Bool) (came : List ℕ) → Type 0
 StopsRead Again unread unread' ended' came = Brings unread unread' ended' came
 StopsRead Blocked unread unread' ended' came = ⊥
 StopsRead Done unread unread' ended' came = ⊥
 StopsRead Failed unread unread' ended' came = (lost : List ℕ) × Brings unread unread' ended' (came ++ lost)
 
 -- how a write went: whether the writer took anything, or how it stops the pump
-abbrev pub HowItWent : Result Bool Pump → (written written' : Option (List ℕ)) (went : List ℕ) (unmoved : Type 0) → Type 0
+abbrev pub HowItWent : Result Bool Pumped → (written written' : Option (List ℕ)) (went : List ℕ) (unmoved : Type 0) → Type 0
 HowItWent (Ok true) written written' went unmoved = Appends written written' went
 HowItWent (Ok false) written written' went unmoved = Appends written written' went × unmoved
 HowItWent (Err pump) written written' went unmoved = IsStopOfSide pump × Appends written written' went
 
 -- how a read went, of which something is fed: whether anything came, or the end, or how it stops the pump
-abbrev pub HowItCame : Result Bool Pump → (unread unread' : Option (List ℕ)) (ended' : Bool) (came : List ℕ) (unmoved : Type 0) → Type 0
+abbrev pub HowItCame : Result Bool Pumped → (unread unread' : Option (List ℕ)) (ended' : Bool) (came : List ℕ) (unmoved : Type 0) → Type 0
 HowItCame (Ok true) unread unread' ended' came unmoved = Brings unread unread' ended' came
 HowItCame (Ok false) unread unread' ended' came unmoved = Brings unread unread' ended' came × (ended' ≡ false) × unmoved
 HowItCame (Err pump) unread unread' ended' came unmoved = StopsRead pump unread unread' ended' came
 
 -- one write of an output: the first bytes of it, so many, went; where it stops the pump, none did
-abbrev pub Writes : Result ℕ Pump → (output : List ℕ) (written written' : Option (List ℕ)) → Type 0
+abbrev pub Writes : Result ℕ Pumped → (output : List ℕ) (written written' : Option (List ℕ)) → Type 0
 Writes (Ok count) output written written' = (count ≤ length output) × Appends written written' (take count output)
 Writes (Err pump) output written written' = IsStopOfSide pump × Keeps written written'
 
 -- One read into a piece, of an input that had not ended: the first bytes of the piece, so many, came; the end came only
 -- where none did. Where it stops the pump, none did, and not the end.
-abbrev pub Reads : Result ℕ Pump → (piece' : List ℕ) (ended' : Bool) (unread unread' : Option (List ℕ)) → Type 0
+abbrev pub Reads : Result ℕ Pumped → (piece' : List ℕ) (ended' : Bool) (unread unread' : Option (List ℕ)) → Type 0
 Reads (Ok count) piece' ended' unread unread' = (count ≤ length piece') × (ended' ≡ true → count ≡ 0) × Brings unread unread' ended' (take count piece')
 Reads (Err pump) piece' ended' unread unread' = IsStopOfSide pump × (ended' ≡ false) × Keeps unread unread'

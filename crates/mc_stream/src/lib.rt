@@ -1,7 +1,7 @@
 //! One call of a side of a stream that does not wait: [`write_once`], [`read_once`].
 //!
 //! A body that carries bytes between a stream and what is after it, a pump, is made of these two, at most [`MAX_ROUNDS`]
-//! of each a call, and says by [`Pump`] how it left the stream. The stream is any reader and any writer: no socket is known
+//! of each a call, and says by [`Pumped`] how it left the stream. The stream is any reader and any writer: no socket is known
 //! here, and nothing of what is after it. `specs/Sides.antt` has what the two sides carry.
 #![tactic(auto)]
 
@@ -10,5 +10,5 @@ mod outcomes;
 mod sides;
 
 pub use limits::MAX_ROUNDS;
-pub use outcomes::Pump;
+pub use outcomes::Pumped;
 pub use sides::{read_once, write_once};

@@ -2,7 +2,7 @@
 
 /// How a pump left a stream, and what is after it.
 #[derive(Clone, Copy, Debug, PartialEq, Eq)]
-pub enum Pump {
+pub enum Pumped {
     /// Its rounds are used up, or a call of the system was interrupted: it may go on at once.
     Again,
     /// Neither side can go on until the stream has more bytes, or takes more.

@@ -3,7 +3,7 @@ ghost use Rattle.std.specs.Prelude.{◌≡◌, ◌≢◌, ◌<◌, ◌==◌, fal
 ghost use Rattle.std.specs.IoError.{error_kind};
 ghost use Rattle.mc_stream.specs.Sides.{MovesNothing, Reads, Writes};
 
-use crate::outcomes::Pump;
+use crate::outcomes::Pumped;
 use std::io::{Error, ErrorKind, Read, Write};
 
 /// Writes an output in one call, and says how many of its first bytes the writer took: 0 where the output is empty, or
@@ -11,14 +11,14 @@ use std::io::{Error, ErrorKind, Read, Write};
 ///
 /// The error is how a pump stops, and nothing was written: `Again` where the call was interrupted, `Failed` where the
 /// writer failed, or took nothing and did not say why.
-pub fn write_once<W: Write>(writer: &mut W, output: &[u8]) -> Result<usize, Pump>
+pub fn write_once<W: Write>(writer: &mut W, output: &[u8]) -> Result<usize, Pumped>
     ensures { Writes result output.now (W.contents writer.old) (W.contents writer.new) }
 {
     if output.is_empty() {
         return Ok(0);
     }
     match writer.write(output) {
-        Ok(0) => Err(Pump::Failed),
+        Ok(0) => Err(Pumped::Failed),
         Ok(count) => Ok(count),
         Err(error) => moved_nothing(&error),
     }
@@ -28,7 +28,11 @@ pub fn write_once<W: Write>(writer: &mut W, output: &[u8]) -> Result<usize, Pump
 /// ended, which `ended` then says, or where the reader gives none now.
 ///
 /// The error is how a pump stops, and nothing came: `Again` where the call was interrupted, `Failed` where the reader failed.
-pub fn read_once<R: Read>(reader: &mut R, piece: &mut [u8], ended: &mut bool) -> Result<usize, Pump>
+pub fn read_once<R: Read>(
+    reader: &mut R,
+    piece: &mut [u8],
+    ended: &mut bool,
+) -> Result<usize, Pumped>
     requires piece { 0 < length piece.old }
     requires goes_on { ended.old ≡ false }
     ensures { Reads result piece.new ended.new (R.remaining reader.old) (R.remaining reader.new) }
@@ -37,7 +41,7 @@ pub fn read_once<R: Read>(reader: &mut R, piece: &mut [u8], ended: &mut bool) ->
 }
 
 /// What a read into a piece says: how many bytes came, where 0 is the end, which `ended` then says; or what its error says.
-fn told(read: Result<usize, Error>, ended: &mut bool) -> Result<usize, Pump>
+fn told(read: Result<usize, Error>, ended: &mut bool) -> Result<usize, Pumped>
     requires goes_on { ended.old ≡ false }
     ensures came { IfOk read (λ count. (result ≡ Ok count) × (ended.new ≡ (count == 0))) }
     ensures error { IfErr read (λ error. MovesNothing result × (ended.new ≡ false)) }
@@ -52,15 +56,15 @@ fn told(read: Result<usize, Error>, ended: &mut bool) -> Result<usize, Pump>
 }
 
 /// What an error of a read or a write says: that nothing moved, or how the pump stops.
-fn moved_nothing(error: &Error) -> Result<usize, Pump>
+fn moved_nothing(error: &Error) -> Result<usize, Pumped>
     ensures nothing { MovesNothing result }
     ensures waits { error_kind error.now ≡ ErrorKind.WouldBlock → result ≡ Ok 0 }
-    ensures interrupted { error_kind error.now ≡ ErrorKind.Interrupted → result ≡ Err Pump.Again }
-    ensures failed { error_kind error.now ≢ ErrorKind.WouldBlock → error_kind error.now ≢ ErrorKind.Interrupted → result ≡ Err Pump.Failed }
+    ensures interrupted { error_kind error.now ≡ ErrorKind.Interrupted → result ≡ Err Pumped.Again }
+    ensures failed { error_kind error.now ≢ ErrorKind.WouldBlock → error_kind error.now ≢ ErrorKind.Interrupted → result ≡ Err Pumped.Failed }
 {
     match error.kind() {
         ErrorKind::WouldBlock => Ok(0),
-        ErrorKind::Interrupted => Err(Pump::Again),
-        _ => Err(Pump::Failed),
+        ErrorKind::Interrupted => Err(Pumped::Again),
+        _ => Err(Pumped::Failed),
     }
 }

@@ -1,6 +1,6 @@
 use Rattle.std.proofs.Common.{◌≡◌, sym, subst}
 use Rattle.mc_proxy.specs.ProxyState.{ProxyState}
-use Rattle.mc_stream.specs.declared.outcomes.Pump.TheVariants.{Again, Failed}
+use Rattle.mc_stream.specs.declared.outcomes.Pumped.TheVariants.{Again, Failed}
 use Rattle.mc_proxy_pump.proofs.PumpLemmas.{pumps_then, pumps_turns}
 use Rattle.mc_proxy_pump.specs.Clients.{PumpsClient}
 use Rattle.mc_proxy_pump.proofs.RoundLemmas.{stretch_turned}

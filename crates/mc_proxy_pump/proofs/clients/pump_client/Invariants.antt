@@ -1,4 +1,4 @@
-use Rattle.mc_stream.specs.declared.outcomes.Pump.TheVariants.{Again}
+use Rattle.mc_stream.specs.declared.outcomes.Pumped.TheVariants.{Again}
 use Rattle.mc_proxy_pump.specs.Clients.{PumpsClient}
 use Rattle.mc_proxy_pump.proofs.clients.pump_client.Given as goal
 

@@ -1,7 +1,7 @@
 use Rattle.std.proofs.Common.{◌≡◌, rules, refl, sym, subst, Bool, Result, Ok, Err}
 use Rattle.mc_proxy.specs.ProxyState.{ProxyState}
-use Rattle.mc_stream.specs.declared.outcomes.Pump.{Pump}
-use Rattle.mc_stream.specs.declared.outcomes.Pump.TheVariants.{Failed}
+use Rattle.mc_stream.specs.declared.outcomes.Pumped.{Pumped}
+use Rattle.mc_stream.specs.declared.outcomes.Pumped.TheVariants.{Failed}
 use Rattle.mc_stream.proofs.SideLemmas.{came_none, read_none, read_stops}
 use Rattle.mc_proxy_pump.specs.Rounds.{Receives}
 use Rattle.mc_proxy_pump.proofs.RoundLemmas.{receives_still, stretch_fed}
@@ -10,7 +10,7 @@ use Rattle.mc_proxy_pump.proofs.clients.receive.Goals as goal
 pub returns-in_err-count : goal.returns-in_err-count
 returns-in_err-count g c =
     let same : c.from_residual.result ≡ Err c.in_err-count.field-0.0 = search rules in
-    let P : Result Bool Pump → Type 0 = λ side. Receives c.args.session side c.args.proxy.now c.args.proxy.now (g.R.Read.remaining c.args.reader.now) (g.R.Read.remaining c.read_once.new.reader) c.read_once.new.ended in
+    let P : Result Bool Pumped → Type 0 = λ side. Receives c.args.session side c.args.proxy.now c.args.proxy.now (g.R.Read.remaining c.args.reader.now) (g.R.Read.remaining c.read_once.new.reader) c.read_once.new.ended in
     subst P (sym same) (receives_still c.args.session (Err c.in_err-count.field-0.0) c.args.proxy.now _ _ c.read_once.new.ended c.requires.is_open
     (read_stops c.in_err-count.field-0.0 c.read_once.new.piece _ _ _ c.in_err-count.ensures))
 

@@ -1,7 +1,7 @@
 use Rattle.std.proofs.Common.{◌≡◌, ◌∙◌, rules, sym, subst, Result, Err}
 use Rattle.mc_proxy.specs.ProxyState.{output_of, session_at}
-use Rattle.mc_stream.specs.declared.outcomes.Pump.{Pump}
-use Rattle.mc_stream.specs.declared.outcomes.Pump.TheVariants.{Again, Blocked, Done}
+use Rattle.mc_stream.specs.declared.outcomes.Pumped.{Pumped}
+use Rattle.mc_stream.specs.declared.outcomes.Pumped.TheVariants.{Again, Blocked, Done}
 use Rattle.mc_stream.proofs.SideLemmas.{went_false}
 use Rattle.mc_proxy_pump.specs.Clients.{PumpsClient}
 use Rattle.mc_proxy_pump.specs.Rounds.{pump_of}
@@ -15,7 +15,7 @@ send-requires g c = c.in-Ok.ensures.calls.still_open
 pub returns-in_err-moved : goal.returns-in_err-moved
 returns-in_err-moved g c =
     let same : c.from_residual.result ≡ Err c.in_err-moved.field-0.0 = search rules in
-    let P : Result (Unit {0}) Pump → Type 0 = λ r. PumpsClient c.args.session (pump_of r) c.args.proxy.now c.send.new.proxy (g.R.Read.remaining c.args.reader.now) (g.R.Read.remaining c.args.reader.now)
+    let P : Result (Unit {0}) Pumped → Type 0 = λ r. PumpsClient c.args.session (pump_of r) c.args.proxy.now c.send.new.proxy (g.R.Read.remaining c.args.reader.now) (g.R.Read.remaining c.args.reader.now)
     (g.W.Write.contents c.args.writer.now) (g.W.Write.contents c.send.new.writer) c.args.ended.now c.args.ended.now in
     subst P (sym same) (pumps_then c.args.session c.in_err-moved.field-0.0 c.args.proxy.now c.advance.new.proxy c.send.new.proxy _ _ _ _ _ _ c.args.ended.now c.args.ended.now c.args.ended.now
     (pumps_turns c.args.session Again c.args.proxy.now c.advance.new.proxy (g.R.Read.remaining c.args.reader.now) (g.W.Write.contents c.args.writer.now) c.args.ended.now c.in-Ok.ensures.calls tt)
@@ -30,20 +30,20 @@ returns-then-is_over g c =
 pub returns-then-is_read : goal.returns-then-is_read
 returns-then-is_read g c =
     let before = stopped c.args.session c.in_ok-moved.moved Again c.args.proxy.now c.advance.new.proxy c.send.new.proxy (g.R.Read.remaining c.args.reader.now) (g.W.Write.contents c.args.writer.now) (g.W.Write.contents c.send.new.writer) c.args.ended.now c.in-Ok.ensures.calls c.in_ok-moved.ensures tt in
-    pumps_then c.args.session (pump_of c.listen.result) c.args.proxy.now c.send.new.proxy c.listen.new.proxy _ _ _ _ _ _ c.args.ended.now c.args.ended.now c.listen.new.ended
-    before (c.listen.ensures (g.W.Write.contents c.send.new.writer))
+    pumps_then c.args.session (pump_of c.read_or_block.result) c.args.proxy.now c.send.new.proxy c.read_or_block.new.proxy _ _ _ _ _ _ c.args.ended.now c.args.ended.now c.read_or_block.new.ended
+    before (c.read_or_block.ensures (g.W.Write.contents c.send.new.writer))
 
 pub returns-then-moved-2 : goal.returns-then-moved-2
 returns-then-moved-2 g c =
     stopped c.args.session c.in_ok-moved.moved Again c.args.proxy.now c.advance.new.proxy c.send.new.proxy (g.R.Read.remaining c.args.reader.now) _ _ c.args.ended.now c.in-Ok.ensures.calls c.in_ok-moved.ensures tt
 
-pub listen-requires-clause-none_waits : goal.listen-requires-clause-none_waits
-listen-requires-clause-none_waits g c =
+pub read_or_block-requires-clause-none_waits : goal.read_or_block-requires-clause-none_waits
+read_or_block-requires-clause-none_waits g c =
     let on = read_on c.in-Ok.turn c.args.ended.now _ _ c.advance.new.proxy _ c.in-Ok.ensures.stop c.is_read.ensures c.if-is_read.true in
     c.in_ok-moved.ensures.same.waits ∙ on.0.0
 
-pub listen-requires-clause-is_read : goal.listen-requires-clause-is_read
-listen-requires-clause-is_read g c =
+pub read_or_block-requires-clause-is_read : goal.read_or_block-requires-clause-is_read
+read_or_block-requires-clause-is_read g c =
     let on = read_on c.in-Ok.turn c.args.ended.now _ _ c.advance.new.proxy _ c.in-Ok.ensures.stop c.is_read.ensures c.if-is_read.true in
     c.in_ok-moved.ensures.same.closed ∙ on.0.1
 

@@ -1,7 +1,7 @@
 use Rattle.std.proofs.Common.{◌≡◌, rules, sym, subst, Result, Ok, Err}
 use Rattle.mc_session.specs.SessionState.{link_at}
-use Rattle.mc_stream.specs.declared.outcomes.Pump.{Pump}
-use Rattle.mc_stream.specs.declared.outcomes.Pump.TheVariants.{Again, Blocked, Done}
+use Rattle.mc_stream.specs.declared.outcomes.Pumped.{Pumped}
+use Rattle.mc_stream.specs.declared.outcomes.Pumped.TheVariants.{Again, Blocked, Done}
 use Rattle.mc_proxy_pump.specs.Links.{LeavesLink, PumpsLink}
 use Rattle.mc_proxy_pump.specs.Rounds.{pump_of}
 use Rattle.mc_proxy_pump.proofs.LinkLemmas.{absurd_done, link_pumps_sent, link_pumps_then, link_pumps_unheard, link_pumps_unsent, link_round}
@@ -10,13 +10,13 @@ use Rattle.mc_proxy_pump.proofs.links.round.Goals as goal
 pub returns-in_err-sent : goal.returns-in_err-sent
 returns-in_err-sent g c =
     let same : c.from_residual.result ≡ Err c.in_err-sent.field-0.0 = search rules in
-    let P : Result (Unit {0}) Pump → Type 0 = λ r. PumpsLink c.args.server (pump_of r) c.args.proxy.now c.send.new.proxy (g.R.Read.remaining c.args.reader.now) (g.R.Read.remaining c.args.reader.now) (g.W.Write.contents c.args.writer.now) (g.W.Write.contents c.send.new.writer) c.args.woken.now.items c.args.woken.now.items in
+    let P : Result (Unit {0}) Pumped → Type 0 = λ r. PumpsLink c.args.server (pump_of r) c.args.proxy.now c.send.new.proxy (g.R.Read.remaining c.args.reader.now) (g.R.Read.remaining c.args.reader.now) (g.W.Write.contents c.args.writer.now) (g.W.Write.contents c.send.new.writer) c.args.woken.now.items c.args.woken.now.items in
     subst P (sym same) (link_pumps_unsent c.args.server c.in_err-sent.field-0.0 c.args.proxy.now c.send.new.proxy (g.R.Read.remaining c.args.reader.now) _ _ c.args.woken.now.items c.in_err-sent.ensures)
 
 pub returns-in_err-came : goal.returns-in_err-came
 returns-in_err-came g c =
     let same : c.from_residual-in_err-came.result ≡ Err c.in_err-came.field-0.0 = search rules in
-    let P : Result (Unit {0}) Pump → Type 0 = λ r. PumpsLink c.args.server (pump_of r) c.args.proxy.now c.receive.new.proxy (g.R.Read.remaining c.args.reader.now) (g.R.Read.remaining c.receive.new.reader) (g.W.Write.contents c.args.writer.now) (g.W.Write.contents c.send.new.writer) c.args.woken.now.items c.args.woken.now.items in
+    let P : Result (Unit {0}) Pumped → Type 0 = λ r. PumpsLink c.args.server (pump_of r) c.args.proxy.now c.receive.new.proxy (g.R.Read.remaining c.args.reader.now) (g.R.Read.remaining c.receive.new.reader) (g.W.Write.contents c.args.writer.now) (g.W.Write.contents c.send.new.writer) c.args.woken.now.items c.args.woken.now.items in
     subst P (sym same) (link_pumps_then c.args.server c.in_err-came.field-0.0 c.args.proxy.now c.send.new.proxy c.receive.new.proxy _ _ _ _ _ _ c.args.woken.now.items c.args.woken.now.items c.args.woken.now.items
     (link_pumps_sent c.args.server c.in_ok-sent.sent c.args.proxy.now c.send.new.proxy (g.R.Read.remaining c.args.reader.now) (g.W.Write.contents c.args.writer.now) (g.W.Write.contents c.send.new.writer) c.args.woken.now.items c.in_ok-sent.ensures)
     (link_pumps_unheard c.args.server c.in_err-came.field-0.0 c.send.new.proxy c.receive.new.proxy (g.R.Read.remaining c.args.reader.now) (g.R.Read.remaining c.receive.new.reader) (g.W.Write.contents c.send.new.writer) c.receive.new.ended c.args.woken.now.items c.in_err-came.ensures))
@@ -24,8 +24,8 @@ returns-in_err-came g c =
 pub returns-in_err-take_replies : goal.returns-in_err-take_replies
 returns-in_err-take_replies g c =
     let same : c.from_residual-in_err-take_replies.result ≡ Err c.in_err-take_replies.field-0.0 = search rules in
-    let P : Result (Unit {0}) Pump → Type 0 = λ r. PumpsLink c.args.server (pump_of r) c.args.proxy.now c.take_replies.new.proxy (g.R.Read.remaining c.args.reader.now) (g.R.Read.remaining c.receive.new.reader) (g.W.Write.contents c.args.writer.now) (g.W.Write.contents c.send.new.writer) c.args.woken.now.items c.take_replies.new.woken.items in
-    let Q : Pump → Type 0 = λ pump. LeavesLink pump (link_at c.take_replies.new.proxy.links c.args.server) in
+    let P : Result (Unit {0}) Pumped → Type 0 = λ r. PumpsLink c.args.server (pump_of r) c.args.proxy.now c.take_replies.new.proxy (g.R.Read.remaining c.args.reader.now) (g.R.Read.remaining c.receive.new.reader) (g.W.Write.contents c.args.writer.now) (g.W.Write.contents c.send.new.writer) c.args.woken.now.items c.take_replies.new.woken.items in
+    let Q : Pumped → Type 0 = λ pump. LeavesLink pump (link_at c.take_replies.new.proxy.links c.args.server) in
     subst P (sym same) (
     link_round c.args.server c.in_err-take_replies.field-0.0 c.in_ok-sent.sent c.in_ok-came.came (Err c.in_err-take_replies.field-0.0) c.args.proxy.now c.send.new.proxy c.receive.new.proxy c.take_replies.new.proxy (g.R.Read.remaining c.args.reader.now) (g.R.Read.remaining c.receive.new.reader) (g.W.Write.contents c.args.writer.now) (g.W.Write.contents c.send.new.writer) c.receive.new.ended c.args.woken.now.items c.take_replies.new.woken.items
     c.in_ok-sent.ensures c.in_ok-came.ensures c.in_err-take_replies.ensures (λ e. absurd_done c.in_err-take_replies.field-0.0 c.in_err-take_replies.ensures.how e) (subst Q (sym c.in_err-take_replies.ensures.how) tt))

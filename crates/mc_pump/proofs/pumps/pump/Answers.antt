@@ -1,7 +1,7 @@
 use Rattle.std.proofs.Common.{◌≡◌, Ok, Err}
 use Rattle.mc_server.specs.ServerState.{connection_at}
 use Rattle.mc_server.specs.declared.turns.ServerError.TheVariants.{NoConnection}
-use Rattle.mc_stream.specs.declared.outcomes.Pump.TheVariants.{Again}
+use Rattle.mc_stream.specs.declared.outcomes.Pumped.TheVariants.{Again}
 use Rattle.mc_pump.proofs.PumpLemmas.{pumps_none, pumps_then}
 use Rattle.mc_pump.proofs.RoundLemmas.{not_none, stays_open, the_open}
 use Rattle.mc_pump.proofs.pumps.pump.Goals as goal

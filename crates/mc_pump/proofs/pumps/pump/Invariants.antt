@@ -1,5 +1,5 @@
 use Rattle.mc_pump.specs.Pumps.{Pumps}
-use Rattle.mc_stream.specs.declared.outcomes.Pump.TheVariants.{Again}
+use Rattle.mc_stream.specs.declared.outcomes.Pumped.TheVariants.{Again}
 use Rattle.mc_pump.proofs.pumps.pump.Given as goal
 
 -- the rounds so far are one pump

@@ -1,8 +1,8 @@
 use Rattle.std.proofs.Common.{◌≡◌, rules, refl, sym, subst, Bool, Result, Ok, Err}
 use Rattle.mc_server.specs.ServerState.{ServerState}
 use Rattle.mc_pump.specs.Rounds.{Receives}
-use Rattle.mc_stream.specs.declared.outcomes.Pump.{Pump}
-use Rattle.mc_stream.specs.declared.outcomes.Pump.TheVariants.{Failed}
+use Rattle.mc_stream.specs.declared.outcomes.Pumped.{Pumped}
+use Rattle.mc_stream.specs.declared.outcomes.Pumped.TheVariants.{Failed}
 use Rattle.mc_pump.proofs.StretchLemmas.{stretch_fed}
 use Rattle.mc_stream.proofs.SideLemmas.{came_none, read_none, read_stops}
 use Rattle.mc_pump.proofs.RoundLemmas.{receives_still}
@@ -11,7 +11,7 @@ use Rattle.mc_pump.proofs.rounds.receive.Goals as goal
 pub returns-in_err-count : goal.returns-in_err-count
 returns-in_err-count g c = λ moment.
     let same : c.from_residual.result ≡ Err c.in_err-count.field-0.0 = search rules in
-    let P : Result Bool Pump → Type 0 = λ side. Receives c.args.number moment side c.args.server.now c.args.server.now (g.R.Read.remaining c.args.reader.now) (g.R.Read.remaining c.read_once.new.reader) c.read_once.new.ended in
+    let P : Result Bool Pumped → Type 0 = λ side. Receives c.args.number moment side c.args.server.now c.args.server.now (g.R.Read.remaining c.args.reader.now) (g.R.Read.remaining c.read_once.new.reader) c.read_once.new.ended in
     subst P (sym same) (receives_still c.args.number moment (Err c.in_err-count.field-0.0) c.args.server.now _ _ c.read_once.new.ended c.requires.is_open
     (read_stops c.in_err-count.field-0.0 c.read_once.new.piece _ _ _ c.in_err-count.ensures))
 

@@ -2,17 +2,17 @@ use Rattle.std.proofs.Common.{◌≡◌, rules, sym, subst, Result, Err}
 use Rattle.mc_server.specs.ServerState.{ServerState, connection_at}
 use Rattle.mc_pump.specs.Pumps.{IsStuck, Pumps}
 use Rattle.mc_pump.specs.Rounds.{pump_of}
-use Rattle.mc_stream.specs.declared.outcomes.Pump.{Pump}
-use Rattle.mc_stream.specs.declared.outcomes.Pump.TheVariants.{Again, Blocked}
+use Rattle.mc_stream.specs.declared.outcomes.Pumped.{Pumped}
+use Rattle.mc_stream.specs.declared.outcomes.Pumped.TheVariants.{Again, Blocked}
 use Rattle.mc_pump.proofs.PumpLemmas.{pumps_heard, pumps_unheard}
 use Rattle.mc_stream.proofs.SideLemmas.{came_false}
 use Rattle.mc_pump.proofs.RoundLemmas.{unheard}
-use Rattle.mc_pump.proofs.rounds.listen.Goals as goal
+use Rattle.mc_pump.proofs.rounds.read_or_block.Goals as goal
 
 pub returns-in_err-moved : goal.returns-in_err-moved
 returns-in_err-moved g c = λ moment written.
     let same : c.from_residual.result ≡ Err c.in_err-moved.field-0.0 = search rules in
-    let P : Result (Unit {0}) Pump → Type 0 = λ r. Pumps c.args.number moment (pump_of r) c.args.server.now c.receive.new.server (g.R.Read.remaining c.args.reader.now) (g.R.Read.remaining c.receive.new.reader) written written c.args.ended.now c.receive.new.ended in
+    let P : Result (Unit {0}) Pumped → Type 0 = λ r. Pumps c.args.number moment (pump_of r) c.args.server.now c.receive.new.server (g.R.Read.remaining c.args.reader.now) (g.R.Read.remaining c.receive.new.reader) written written c.args.ended.now c.receive.new.ended in
     subst P (sym same) (pumps_unheard c.args.number moment c.in_err-moved.field-0.0 c.args.server.now c.receive.new.server _ _ written c.args.ended.now c.receive.new.ended c.requires.goes_on (c.in_err-moved.ensures moment))
 
 pub returns-then-moved : goal.returns-then-moved

@@ -1,18 +1,18 @@
 use Rattle.std.proofs.Common.{◌≡◌, rules, sym, subst, Result, Err}
 use Rattle.mc_proxy.specs.ProxyState.{ProxyState, session_at}
-use Rattle.mc_stream.specs.declared.outcomes.Pump.{Pump}
-use Rattle.mc_stream.specs.declared.outcomes.Pump.TheVariants.{Again, Blocked}
+use Rattle.mc_stream.specs.declared.outcomes.Pumped.{Pumped}
+use Rattle.mc_stream.specs.declared.outcomes.Pumped.TheVariants.{Again, Blocked}
 use Rattle.mc_stream.proofs.SideLemmas.{came_false}
 use Rattle.mc_proxy_pump.specs.Clients.{IsStuck, PumpsClient}
 use Rattle.mc_proxy_pump.specs.Rounds.{pump_of}
 use Rattle.mc_proxy_pump.proofs.PumpLemmas.{pumps_heard, pumps_unheard}
 use Rattle.mc_proxy_pump.proofs.RoundLemmas.{unheard}
-use Rattle.mc_proxy_pump.proofs.clients.listen.Goals as goal
+use Rattle.mc_proxy_pump.proofs.clients.read_or_block.Goals as goal
 
 pub returns-in_err-moved : goal.returns-in_err-moved
 returns-in_err-moved g c = λ written.
     let same : c.from_residual.result ≡ Err c.in_err-moved.field-0.0 = search rules in
-    let P : Result (Unit {0}) Pump → Type 0 = λ r. PumpsClient c.args.session (pump_of r) c.args.proxy.now c.receive.new.proxy (g.R.Read.remaining c.args.reader.now) (g.R.Read.remaining c.receive.new.reader) written written c.args.ended.now c.receive.new.ended in
+    let P : Result (Unit {0}) Pumped → Type 0 = λ r. PumpsClient c.args.session (pump_of r) c.args.proxy.now c.receive.new.proxy (g.R.Read.remaining c.args.reader.now) (g.R.Read.remaining c.receive.new.reader) written written c.args.ended.now c.receive.new.ended in
     subst P (sym same) (pumps_unheard c.args.session c.in_err-moved.field-0.0 c.args.proxy.now c.receive.new.proxy _ _ written c.args.ended.now c.receive.new.ended c.requires.goes_on c.in_err-moved.ensures)
 
 pub returns-then-moved : goal.returns-then-moved
