@@ -689,11 +689,11 @@ def a_late_reply_loses_the_link():
 
 def a_slow_server_that_answers_is_kept():
     """Each of its replies comes in time, though one always waits."""
-    with Played(1, ["--timeout", "400"]) as pool, pool.connected() as client:
+    with Played(1, ["--timeout", "1500"]) as pool, pool.connected() as client:
         [link] = pool.links
         client.sendall(b"get a\r\n")
         for _ in range(4):
-            time.sleep(0.2)
+            time.sleep(0.7)
             client.sendall(b"get a\r\n")
             want(received(link, 7), b"get a\r\n")
             link.sendall(b"END\r\n")
