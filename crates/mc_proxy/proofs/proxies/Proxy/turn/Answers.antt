@@ -1,5 +1,7 @@
 use Rattle.std.proofs.Common.{◌≡◌, length, refl, sym, arith}
 use Rattle.std.proofs.lemmas.List.{with_items_is}
+use Rattle.mc_numbered.proofs.EntryLemmas.{updated_same}
+use Rattle.mc_proxy.proofs.LinkLemmas.{at_error}
 use Rattle.mc_proxy.proofs.proxies.Proxy.turn.Goals as goal
 
 -- there are as many links
@@ -24,3 +26,12 @@ returns-in_ok-turn-in-Some-clause-turn c =
       admitted = refl;
       step = rw c.as_mut_slice-links.ensures.value at c.in_ok-turn-in-Some.ensures.turn;
     })
+
+-- a session that is refused memory stays, and so do the links
+pub returns-in_err-turn-in-Some-clause-err : goal.returns-in_err-turn-in-Some-clause-err
+returns-in_err-turn-in-Some-clause-err c =
+    let as_many : length c.turn.new.links ≡ c.self.inside.links.len = omega (arith, c.turn.auto.links, c.as_mut_slice-links.ensures.len, c.self.inside.links.ok) in
+    let refused = c.in_err-turn-in-Some.ensures in
+    let stays = updated_same c.args.number c.turn.new.self c.self.inside.sessions.entries (rw refused.err (sym c.in-Some.ensures.value)) in
+    at_error c.from_residual.result
+    (rw (← c.self.view_is, with_items_is c.self.inside.links c.turn.new.links as_many, stays, refused.links_kept, c.as_mut_slice-links.ensures.value) refl)
