@@ -2,15 +2,16 @@
 ghost use Rattle.std.specs.Prelude.{◌≡◌, ◌^◌, length, IfOk, IfSome, IsOkUnless};
 ghost use Rattle.mc_pool_script.specs.PoolLines.{HasMoment, line_by, line_of};
 
-use crate::client_lines::{read_bytes, read_takes};
+use crate::client_lines::{read_bytes, read_emit, read_gone, read_takes, read_turn};
 use crate::commands::{Command, command_of};
 use crate::drains::read_drain;
 use crate::joins::read_join;
 use crate::lines::PoolLine;
-use crate::server_lines::{read_end, read_serve, read_server, read_to_proxy, read_to_server};
+use crate::server_lines::{
+    read_back, read_end, read_lost, read_reply, read_serve, read_to_proxy, read_to_server,
+};
 use mc_ring::Address;
-use mc_script::{SimError, cut_at_space, read_place};
-use mc_world::Event;
+use mc_script::{SimError, cut_at_space};
 use std::alloc::Global;
 
 /// What a line says, where so many clients and these servers are there.
@@ -47,20 +48,18 @@ fn read_by(
     ensures only_memory { IsOkUnless result SimError.Memory }
 {
     let count = servers.len();
-    let client = read_place(text, clients);
-    let server = read_server(count, text);
     match command {
         Command::Bytes => read_bytes(alloc, clients, text),
-        Command::Gone => Ok(client.map(|client| PoolLine::Event(Event::ClientGone { client }))),
-        Command::Turn => Ok(client.map(|client| PoolLine::Event(Event::ProxyTurn { client }))),
-        Command::Emit => Ok(client.map(|client| PoolLine::Event(Event::Emit { client }))),
+        Command::Gone => Ok(read_gone(clients, text)),
+        Command::Turn => Ok(read_turn(clients, text)),
+        Command::Emit => Ok(read_emit(clients, text)),
         Command::Takes => Ok(read_takes(clients, text)),
         Command::ToServer => Ok(read_to_server(count, text)),
         Command::Serve => Ok(read_serve(count, text)),
         Command::ToProxy => Ok(read_to_proxy(count, text)),
-        Command::Reply => Ok(server.map(|server| PoolLine::Event(Event::ReplyTurn { server }))),
-        Command::Lost => Ok(server.map(|server| PoolLine::Event(Event::LinkLost { server }))),
-        Command::Back => Ok(server.map(|server| PoolLine::Event(Event::LinkBack { server }))),
+        Command::Reply => Ok(read_reply(count, text)),
+        Command::Lost => Ok(read_lost(count, text)),
+        Command::Back => Ok(read_back(count, text)),
         Command::End => Ok(read_end(count, text)),
         Command::Join => read_join(alloc, servers, text),
         Command::Drain => Ok(read_drain(text)),

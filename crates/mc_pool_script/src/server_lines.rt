@@ -1,7 +1,7 @@
 //! Lines of servers and their links, by what follows the line's name.
 ghost use Rattle.std.specs.Prelude.{◌≡◌, ◌^◌, ◌<◌, IfSome};
 ghost use Rattle.mc_script.specs.Numbers.{place_of};
-ghost use Rattle.mc_pool_script.specs.PoolLines.{HasMoment, end_line, serve_line, to_proxy_line, to_server_line};
+ghost use Rattle.mc_pool_script.specs.PoolLines.{HasMoment, back_line, end_line, lost_line, reply_line, serve_line, to_proxy_line, to_server_line};
 
 use crate::client_lines::read_count;
 use crate::lines::PoolLine;
@@ -15,8 +15,8 @@ pub fn read_to_server(servers: usize, text: &[u8]) -> Option<PoolLine>
     ensures line { result ≡ to_server_line servers text.now }
     ensures moment { IfSome result (λ line. HasMoment line (2 ^ 63)) }
 {
-    let (server, rest) = cut_at_space(text)?;
-    let (generation, count) = cut_at_space(rest)?;
+    let (server, behind) = cut_at_space(text)?;
+    let (generation, count) = cut_at_space(behind)?;
     let server = read_server(servers, server)?;
     let generation = read_u64(generation)?;
     let count = read_count(count)?;
@@ -33,8 +33,8 @@ pub fn read_serve(servers: usize, text: &[u8]) -> Option<PoolLine>
     ensures line { result ≡ serve_line servers text.now }
     ensures moment { IfSome result (λ line. HasMoment line (2 ^ 63)) }
 {
-    let (server, rest) = cut_at_space(text)?;
-    let (generation, moment) = cut_at_space(rest)?;
+    let (server, behind) = cut_at_space(text)?;
+    let (generation, moment) = cut_at_space(behind)?;
     let server = read_server(servers, server)?;
     let generation = read_u64(generation)?;
     let moment = read_moment(moment)?;
@@ -55,6 +55,33 @@ pub fn read_to_proxy(servers: usize, text: &[u8]) -> Option<PoolLine>
     let server = read_server(servers, server)?;
     let count = read_count(count)?;
     Some(PoolLine::Event(Event::ToProxy { server, count }))
+}
+
+/// `<server>`
+pub fn read_reply(servers: usize, text: &[u8]) -> Option<PoolLine>
+    ensures line { result ≡ reply_line servers text.now }
+    ensures moment { IfSome result (λ line. HasMoment line (2 ^ 63)) }
+{
+    let server = read_server(servers, text)?;
+    Some(PoolLine::Event(Event::ReplyTurn { server }))
+}
+
+/// `<server>`
+pub fn read_lost(servers: usize, text: &[u8]) -> Option<PoolLine>
+    ensures line { result ≡ lost_line servers text.now }
+    ensures moment { IfSome result (λ line. HasMoment line (2 ^ 63)) }
+{
+    let server = read_server(servers, text)?;
+    Some(PoolLine::Event(Event::LinkLost { server }))
+}
+
+/// `<server>`
+pub fn read_back(servers: usize, text: &[u8]) -> Option<PoolLine>
+    ensures line { result ≡ back_line servers text.now }
+    ensures moment { IfSome result (λ line. HasMoment line (2 ^ 63)) }
+{
+    let server = read_server(servers, text)?;
+    Some(PoolLine::Event(Event::LinkBack { server }))
 }
 
 /// `<server> <generation>`

@@ -4,7 +4,7 @@ ghost use Rattle.mc_forms.specs.Forms.{read, Or};
 ghost use Rattle.mc_forms.specs.Seen.{seen_by};
 ghost use Rattle.mc_reply.specs.Seen.{bytes_seen};
 ghost use Rattle.mc_reply.specs.CanHave.{is_conditional};
-ghost use Rattle.mc_reply_reader.specs.ReplyForms.{line, update_line, get_form, hit, store_form, compared_form, count_form, number_line, count_faults, update_form};
+ghost use Rattle.mc_reply_reader.specs.ReplyForms.{update_line, get_form, hit, store_form, compared_form, count_form, number_line, count_faults, update_form};
 
 use crate::limits::{FLAGS_LIMIT, NUMBER_LIMIT};
 use crate::lines::{Reading, count_fault, line, store_fault};
@@ -55,8 +55,8 @@ pub fn update_reply<'a>(update: &Update<Key, ()>, unread: &'a [u8]) -> Reading<'
         Update::Store { mode, compare, .. } => {
             store_reply(is_conditional(*mode), compare.is_some(), unread)
         }
-        Update::Touch { .. } => line_or_not_found(b"TOUCHED\r\n", Reply::Touched, unread),
-        Update::Delete { .. } => line_or_not_found(b"DELETED\r\n", Reply::Deleted, unread),
+        Update::Touch { .. } => touch_reply(unread),
+        Update::Delete { .. } => delete_reply(unread),
         Update::Count { .. } => count_reply(unread),
         Update::FlushAll { .. } => line(b"OK\r\n", Reply::Flushed, unread),
     }
@@ -98,18 +98,18 @@ fn compared(compares: bool, unread: &[u8]) -> Reading<'_>
     if !compares {
         return store_fault(unread);
     }
-    match line_or_not_found(b"EXISTS\r\n", Reply::Exists, unread) {
+    match unmet(unread) {
         Err(Unready::Strange) => store_fault(unread),
         other => other,
     }
 }
 
-/// This line, which says this reply, or that the key is not held.
-fn line_or_not_found<'a>(bytes: &[u8], reply: Reply<&'a [u8]>, unread: &'a [u8]) -> Reading<'a>
+/// The reply to a store whose item is held under another number, or not at all.
+fn unmet(unread: &[u8]) -> Reading<'_>
     ensures { seen_by (λ x. (bytes_seen x.0, x.1.now)) result
-        ≡ read (Or (line bytes.now (bytes_seen reply.entry)) (update_line Reply.NotFound)) unread.now }
+        ≡ read (Or (update_line Reply.Exists) (update_line Reply.NotFound)) unread.now }
 {
-    match line(bytes, reply, unread) {
+    match line(b"EXISTS\r\n", Reply::Exists, unread) {
         Err(Unready::Strange) => not_found(unread),
         other => other,
     }
@@ -120,6 +120,28 @@ fn not_found(unread: &[u8]) -> Reading<'_>
     ensures { seen_by (λ x. (bytes_seen x.0, x.1.now)) result ≡ read (update_line Reply.NotFound) unread.now }
 {
     line(b"NOT_FOUND\r\n", Reply::NotFound, unread)
+}
+
+/// The reply to `touch`.
+fn touch_reply(unread: &[u8]) -> Reading<'_>
+    ensures { seen_by (λ x. (bytes_seen x.0, x.1.now)) result
+        ≡ read (Or (update_line Reply.Touched) (update_line Reply.NotFound)) unread.now }
+{
+    match line(b"TOUCHED\r\n", Reply::Touched, unread) {
+        Err(Unready::Strange) => not_found(unread),
+        other => other,
+    }
+}
+
+/// The reply to `delete`.
+fn delete_reply(unread: &[u8]) -> Reading<'_>
+    ensures { seen_by (λ x. (bytes_seen x.0, x.1.now)) result
+        ≡ read (Or (update_line Reply.Deleted) (update_line Reply.NotFound)) unread.now }
+{
+    match line(b"DELETED\r\n", Reply::Deleted, unread) {
+        Err(Unready::Strange) => not_found(unread),
+        other => other,
+    }
 }
 
 /// The reply to a count.
