@@ -102,7 +102,7 @@ impl<T> Numbered<T> {
         }
     }
 
-    /// The same as a search by halves answers it.
+    /// The same by binary search.
     fn search(&self, number: u64) -> Option<usize>
         ensures found { IfSome result (IsAt self.now.entries number) }
         ensures absent { IfNone result (entry_of self.now.entries number ≡ None) }

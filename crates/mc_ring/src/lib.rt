@@ -7,7 +7,7 @@
 //!
 //! Each server has 160 points: four of each of the 40 MD5 digests of `host:port-k`. A key belongs to the server of the
 //! least point that is not below the key's hash, or, where there is none, of the least point of all. The definitions
-//! in `specs/` say this of a set of pairs; the code keeps them sorted and searches by halves. A new server takes keys
+//! in `specs/` say this of a set of pairs; the code keeps them sorted and finds an owner by binary search. A new server takes keys
 //! from the others and moves none between them.
 //!
 //! `owner` and `owner_of_bytes` take no memory. A refused call keeps nothing.
