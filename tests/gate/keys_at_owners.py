@@ -51,7 +51,7 @@ def held(connection, keys):
     return found
 
 
-def keys_stand_at_their_owners(proxy, servers, keys):
+def keys_are_at_their_owners(proxy, servers, keys):
     """Sets the keys through the proxy, looks where each stands, and asks for all of them through the proxy."""
     with proxy.connected() as client:
         set_all(client, keys)
@@ -78,9 +78,9 @@ def main():
         joins = [] if is_nutcracker(asked.proxy) else ["--join", addresses[-1], "--join-after", "2"]
         proxy = stack.enter_context(Proxy(asked.proxy, addresses[:-1], joins))
         keys = [[b"%s-%d" % (kind, number) for number in range(asked.keys)] for kind in (b"key", b"later")]
-        checks = [("keys at their owners", keys_stand_at_their_owners, (proxy, servers[:-1], keys[0]))]
+        checks = [("keys at their owners", keys_are_at_their_owners, (proxy, servers[:-1], keys[0]))]
         if joins:
-            checks.append(("once a server has joined", keys_stand_at_their_owners, (proxy, servers, keys[1])))
+            checks.append(("once a server has joined", keys_are_at_their_owners, (proxy, servers, keys[1])))
         return tally(checks)
 
 

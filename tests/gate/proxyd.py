@@ -146,7 +146,7 @@ def hashes_of_the_model():
     want((hash_of(b"a"), hash_of(b"abc")), (0xB975C10C, 0x98500190))
 
 
-def each_key_stands_at_its_owner():
+def each_key_is_at_its_owner():
     with Pool(count=3) as pool, pool.connected() as client:
         for place in range(3):
             for key in pool.ring.keys(place, 5):
@@ -459,7 +459,7 @@ def a_server_is_sent_one_spelling():
             asked(client, b"mn\r\n", answer + b"MN\r\n")
 
 
-def answers_stand_in_the_order_of_the_requests():
+def answers_are_in_the_order_of_the_requests():
     with Played(2) as pool, pool.connected() as client, pool.connected() as other:
         keys = [pool.ring.key(place) for place in (0, 1)]
         asks = [b"get %s\r\n" % key for key in keys]
@@ -743,7 +743,7 @@ def checks():
     for check in (
         no_server_is_refused,
         hashes_of_the_model,
-        each_key_stands_at_its_owner,
+        each_key_is_at_its_owner,
         a_get_of_many_keys_is_in_their_order,
         a_flush_reaches_each_server,
         a_server_that_is_gone_is_told_and_used_again,
@@ -762,7 +762,7 @@ def checks():
         a_server_joins,
         a_server_joins_that_is_not_there,
         a_server_is_sent_one_spelling,
-        answers_stand_in_the_order_of_the_requests,
+        answers_are_in_the_order_of_the_requests,
         what_comes_together_goes_on_together,
         a_reply_to_one_who_is_gone_is_nobodys,
         quit_waits_for_answers,

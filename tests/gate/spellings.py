@@ -259,9 +259,9 @@ def meta(dice):
     loose += ["Oabc"] if dice.random() < 0.2 else []
     loose += ["b"] if coded else []
     dice.shuffle(loose)
-    block_behind = data + b"\r\n" if name == "ms" else b""
-    text = spaced(dice, encoded([name, b64 if coded else key] + size + loose)) + block_behind
-    return text, b" ".join(encoded(words)) + b"\r\n" + block_behind, forms
+    block_after = data + b"\r\n" if name == "ms" else b""
+    text = spaced(dice, encoded([name, b64 if coded else key] + size + loose)) + block_after
+    return text, b" ".join(encoded(words)) + b"\r\n" + block_after, forms
 
 
 def mistaken(dice, text):

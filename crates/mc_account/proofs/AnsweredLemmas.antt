@@ -8,7 +8,7 @@ use Rattle.mc_session.specs.SessionState.{SessionState, Unanswered, answered}
 use Rattle.mc_account.specs.Answered.{AreAnswers, WasAnswered}
 use Rattle.mc_account.specs.Lanes.{Lane}
 use Rattle.mc_account.specs.Orders.{Order, answers_of, entries_of, is_complete, unanswered_of}
-use Rattle.mc_account.specs.Stands.{ProxyStands, SessionStandsAt}
+use Rattle.mc_account.specs.Holds.{ProxyHolds, SessionHoldsAt}
 
 -- what was put out are the answers to so many as are done
 answers_first : (number : ℕ) (order done others : Order) (count : ℕ) (sent unsent : List ℕ) → entries_of number order ≡ done ++ others → count ≡ length done
@@ -23,7 +23,7 @@ answers_first number order done others count sent unsent split is complete answe
     }
 
 -- what a client was sent
-was_answered : (number : ℕ) (order : Order) (text sent : List ℕ) (session : Option SessionState) → SessionStandsAt number order text sent session
+was_answered : (number : ℕ) (order : Order) (text sent : List ℕ) (session : Option SessionState) → SessionHoldsAt number order text sent session
     → WasAnswered number order sent session
 was_answered number order text sent None h =
     (length h.done, h.unsent, answers_first number order h.done h.incomplete (length h.done) sent h.unsent h.split refl h.complete h.answered)
@@ -34,12 +34,12 @@ was_answered number order text sent (Some session) h =
     answers_first number order h.done h.incomplete (answered session) sent session.output h.split many h.complete h.answered
 
 -- of each number
-pub stands-answered : (texts sent : ℕ → List ℕ) (order : Order) (lanes : ℕ → Lane) (now : ProxyState) → ProxyStands texts sent order lanes now
+pub holds-answered : (texts sent : ℕ → List ℕ) (order : Order) (lanes : ℕ → Lane) (now : ProxyState) → ProxyHolds texts sent order lanes now
     → (number : ℕ) → WasAnswered number order (sent number) (session_at now number)
-stands-answered texts sent order lanes now h number = was_answered number order (texts number) (sent number) (session_at now number) (h.sessions number)
+holds-answered texts sent order lanes now h number = was_answered number order (texts number) (sent number) (session_at now number) (h.sessions number)
 
 -- of an open session: what was put out
-pub open_answered : (texts sent : ℕ → List ℕ) (order : Order) (lanes : ℕ → Lane) (now : ProxyState) → ProxyStands texts sent order lanes now
+pub open_answered : (texts sent : ℕ → List ℕ) (order : Order) (lanes : ℕ → Lane) (now : ProxyState) → ProxyHolds texts sent order lanes now
     → (number : ℕ) (session : SessionState) → session_at now number ≡ Some session → AreAnswers number order (answered session) (sent number) session.output
 open_answered texts sent order lanes now h number session is =
-    subst (λ (s : Option SessionState). WasAnswered number order (sent number) s) is (stands-answered texts sent order lanes now h number)
+    subst (λ (s : Option SessionState). WasAnswered number order (sent number) s) is (holds-answered texts sent order lanes now h number)

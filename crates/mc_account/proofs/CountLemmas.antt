@@ -24,9 +24,9 @@ use Rattle.mc_proxy.specs.Turns.{Alone, Steps}
 use Rattle.mc_account.specs.Answered.{answered_at}
 use Rattle.mc_account.specs.Lanes.{Lane}
 use Rattle.mc_account.specs.Orders.{Order, entries_of, unanswered_of}
-use Rattle.mc_account.specs.Stands.{ProxyStands, SessionStands}
+use Rattle.mc_account.specs.Holds.{ProxyHolds, SessionHolds}
 use Rattle.mc_account.proofs.OpenSessions.{at_each, fresh_other, noted_other, noted_own, updated_other, updated_own, without_other}
-use Rattle.mc_account.proofs.StandsLemmas.{stood}
+use Rattle.mc_account.proofs.HoldsLemmas.{stood}
 
 -- a session where as many are answered as of another one
 pub answered_there : (old new : Option SessionState) (after : SessionState) → option_map answered new ≡ option_map answered old → new ≡ Some after
@@ -101,14 +101,14 @@ emitted_parts before after (u ∷ us) is =
     ]) is
 
 -- a session has taken what it has not answered
-pub unanswered_within : (number : ℕ) (order : Order) (text sent : List ℕ) (session : SessionState) → SessionStands number order text sent session
+pub unanswered_within : (number : ℕ) (order : Order) (text sent : List ℕ) (session : SessionState) → SessionHolds number order text sent session
     → length session.unanswered ≤ session.taken
 unanswered_within number order text sent session h =
     let size : length (entries_of number order) ≡ length (h.done ++ h.incomplete) = ap (λ (es : Order). length es) h.split in
     let open_ones : length session.unanswered ≡ length h.incomplete = ap (λ (us : List Unanswered). length us) h.unanswered ∙ length-map h.incomplete unanswered_of in
     omega (arith, h.taken, size, length-append h.done h.incomplete, open_ones)
 
-pub answered-emitted : (texts sent : ℕ → List ℕ) (order : Order) (lanes : ℕ → Lane) (number : ℕ) (old new : ProxyState) → ProxyStands texts sent order lanes old
+pub answered-emitted : (texts sent : ℕ → List ℕ) (order : Order) (lanes : ℕ → Lane) (number : ℕ) (old new : ProxyState) → ProxyHolds texts sent order lanes old
     → (steps : Steps number old new (Alone (IsEmit emits.Done))) → answered steps.after ≡ answered steps.before + 1
 answered-emitted texts sent order lanes number old new h steps =
     let parts = emitted_parts steps.before steps.after steps.before.unanswered steps.step.1 in

@@ -17,7 +17,7 @@ use Rattle.mc_session.specs.Emits.{is_told}
 use Rattle.mc_session.specs.Sending.{at_once, handed, handed_to, tag_of}
 use Rattle.mc_session.specs.SessionState.{link_at, with_link}
 use Rattle.mc_account.specs.Orders.{Entry, Order, Tagged, commands_from, commands_in, commands_to, outcomes_from, outcomes_in, outcomes_to}
-use Rattle.mc_account.specs.Lanes.{CanHave, Lane, LaneStands, LinkStands, as_waiting, spelled, told}
+use Rattle.mc_account.specs.Lanes.{CanHave, Lane, LaneHolds, LinkHolds, as_waiting, spelled, told}
 use Rattle.mc_account.proofs.OpenSessions.{own_number}
 use Rattle.mc_account.proofs.OrderLemmas.{commands-push, outcomes-push, passes_joined}
 use Rattle.mc_account.proofs.LaneLemmas.{can-append, can_length, link_own, link_other, spelled-append, told-append}
@@ -110,8 +110,8 @@ at_once_down place (command ∷ commands) links down =
 
 -- a lane on which it goes
 lane_taken : (place : ℕ) (order : Order) (e : Entry) (lane : Lane) (link : LinkState)
-    → outcomes_in place e ≡ map (λ (_ : Waiting). Awaited) (as_waiting (commands_in place e)) → LaneStands place order lane link
-    → LaneStands place (order ++ e ∷ []) lane (record link { output = link.output ++ spelled (commands_in place e); waiting = link.waiting ++ as_waiting (commands_in place e) })
+    → outcomes_in place e ≡ map (λ (_ : Waiting). Awaited) (as_waiting (commands_in place e)) → LaneHolds place order lane link
+    → LaneHolds place (order ++ e ∷ []) lane (record link { output = link.output ++ spelled (commands_in place e); waiting = link.waiting ++ as_waiting (commands_in place e) })
 lane_taken place order e lane link awaited h =
     let dropped : drop lane.since (order ++ e ∷ []) ≡ drop lane.since order ++ e ∷ [] = drop-append-le lane.since order (e ∷ []) h.since in
     let taken : take lane.since (order ++ e ∷ []) ≡ take lane.since order = take-append-le lane.since order (e ∷ []) h.since in
@@ -147,7 +147,7 @@ lane_taken place order e lane link awaited h =
 pub link_taken : (place session request : ℕ) (order : Order) (e : Entry) (lane : Lane) (links now : List LinkState)
     → e.session ≡ session → e.request ≡ request → e.outcomes ≡ map (at_once links) (route_of_taken e.ring e.what)
     → now ≡ handed session request 0 (route_of_taken e.ring e.what) links
-    → LinkStands place order lane (link_at links place) → LinkStands place (order ++ e ∷ []) lane (link_at now place)
+    → LinkHolds place order lane (link_at links place) → LinkHolds place (order ++ e ∷ []) lane (link_at now place)
 link_taken place session request order e lane links now whose numbered outcomes sent_now h =
     let now_is : link_at now place ≡ received (commands_in place e) (link_at links place) =
     ap (λ (ls : List LinkState). link_at ls place) sent_now ∙ handed_at place session request 0 (route_of_taken e.ring e.what) links
@@ -158,14 +158,14 @@ link_taken place session request order e lane links now whose numbered outcomes 
     (λ (up : (link_at links place).up ≡ true).
     let is : link_at now place ≡ record (link_at links place) { output = (link_at links place).output ++ spelled (commands_in place e); waiting = (link_at links place).waiting ++ as_waiting (commands_in place e) } =
     now_is ∙ received_up (commands_in place e) (link_at links place) up in
-    subst (λ (l : LinkState). LinkStands place (order ++ e ∷ []) lane l) (sym is) (
+    subst (λ (l : LinkState). LinkHolds place (order ++ e ∷ []) lane l) (sym is) (
       λ _. lane_taken place order e lane (link_at links place) (becomes ∙ at_once_up place e.session e.request 0 (route_of_taken e.ring e.what) links up) (h.0 up),
       λ down. absurd (down up),
     ))
     (λ (off : (link_at links place).up ≡ false).
     let is : link_at now place ≡ link_at links place = now_is ∙ received_down (commands_in place e) (link_at links place) off in
     let down : (link_at links place).up ≢ true = λ up. let clash : true ≡ false = sym up ∙ off in absurd cc in
-    subst (λ (l : LinkState). LinkStands place (order ++ e ∷ []) lane l) (sym is) (
+    subst (λ (l : LinkState). LinkHolds place (order ++ e ∷ []) lane l) (sym is) (
       λ up. absurd (down up),
       λ _. record {
         nothing = (h.1 down).nothing;

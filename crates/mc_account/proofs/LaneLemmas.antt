@@ -21,7 +21,7 @@ use Rattle.mc_link.specs.declared.turns.Tag.{Tag}
 use Rattle.mc_session.specs.Emits.{is_told}
 use Rattle.mc_session.specs.SessionState.{link_at, with_link}
 use Rattle.mc_account.specs.Orders.{Order, Tagged, IsSized, commands_to, is_complete, note, note_in, outcomes_from, outcomes_in, outcomes_to}
-use Rattle.mc_account.specs.Lanes.{CanHave, IsDown, Lane, LaneStands, LinkStands, as_waiting, fresh_lane, spelled, told}
+use Rattle.mc_account.specs.Lanes.{CanHave, IsDown, Lane, LaneHolds, LinkHolds, as_waiting, fresh_lane, spelled, told}
 use Rattle.mc_account.proofs.OpenSessions.{own_number}
 use Rattle.mc_account.proofs.OrderLemmas.{commands-append, commands-note, lengths_to, passes_joined, passes_parts, told_whole}
 use Rattle.mc_account.proofs.TagLemmas.{awaited, awaited-append, awaited_to, count, count-append, count_to, count_to_both, owners, owners-append, same_tag, same_tag_self, incomplete-append, incomplete_owners, weight}
@@ -95,7 +95,7 @@ pub record Pending (place since : ℕ) (order : Order) (known : List Outcome) (w
   pub known_told : list_all is_told known ≡ true
   pub before : list_all is_told (outcomes_to place (take since order)) ≡ true
 
-pub pending_of : (place : ℕ) (order : Order) (lane : Lane) (link : LinkState) → LaneStands place order lane link
+pub pending_of : (place : ℕ) (order : Order) (lane : Lane) (link : LinkState) → LaneHolds place order lane link
     → Pending place lane.since order (map (λ (reply : AReply (List ℕ)). Reply reply) lane.replies) link.waiting
 pending_of place order lane link h =
     let few = can_length (commands_to place (drop lane.since order)) lane.replies h.can in
@@ -217,7 +217,7 @@ lane_same : (place : ℕ) (order longer : Order) (lane : Lane) (link : LinkState
     → commands_to place (drop lane.since longer) ≡ commands_to place (drop lane.since order)
     → outcomes_to place (drop lane.since longer) ≡ outcomes_to place (drop lane.since order)
     → list_all is_told (outcomes_to place (take lane.since longer)) ≡ true
-    → LaneStands place order lane link → LaneStands place longer lane link
+    → LaneHolds place order lane link → LaneHolds place longer lane link
 lane_same place order longer lane link long commands outcomes before h = record {
   since = omega (arith, long, h.since);
   put = h.put ∙ ap (λ (cs : List Tagged). spelled cs) (sym commands);
@@ -242,7 +242,7 @@ told_before-note place since tag outcome order sized known h =
 
 -- the link of another place, where an outcome of a command to this place is noted
 pub lane_other : (place other : ℕ) (tag : Tag) (outcome : Outcome) (order : Order) (lane : Lane) (link : LinkState) → place ≢ other → All IsSized order → owners tag order ≤ 1
-    → is_told outcome ≡ true → IsOldest place order tag → LaneStands other order lane link → LaneStands other (note tag outcome order) lane link
+    → is_told outcome ≡ true → IsOldest place order tag → LaneHolds other order lane link → LaneHolds other (note tag outcome order) lane link
 lane_other place other tag outcome order lane link differ sized once known oldest h =
     let whole : count tag (commands_to other (take lane.since order)) + count tag (commands_to other (drop lane.since order)) ≡ count tag (commands_to other order) =
     sym (count-append tag (commands_to other (take lane.since order)) (commands_to other (drop lane.since order)))
@@ -268,7 +268,7 @@ down_other place tag outcome order link sized known h = record {
 }
 
 pub link_other_noted : (place other : ℕ) (tag : Tag) (outcome : Outcome) (order : Order) (lane : Lane) (link : LinkState) → place ≢ other → All IsSized order → owners tag order ≤ 1
-    → is_told outcome ≡ true → IsOldest place order tag → LinkStands other order lane link → LinkStands other (note tag outcome order) lane link
+    → is_told outcome ≡ true → IsOldest place order tag → LinkHolds other order lane link → LinkHolds other (note tag outcome order) lane link
 link_other_noted place other tag outcome order lane link differ sized once known oldest h = (
   λ up. lane_other place other tag outcome order lane link differ sized once known oldest (h.0 up),
   λ down. down_other other tag outcome order link sized known (h.1 down),
@@ -276,8 +276,8 @@ link_other_noted place other tag outcome order lane link differ sized once known
 
 -- a reply is taken off the lane of its place
 pub lane_replied : (place : ℕ) (order : Order) (lane : Lane) (old : LinkState) (tag : Tag) (reply : AReply (List ℕ)) (new : LinkState) → All IsSized order → owners tag order ≤ 1
-    → LinkTakes old tag reply new → LaneStands place order lane old
-    → LaneStands place (note tag (Reply reply) order) (record lane { replies = lane.replies ++ reply ∷ [] }) new
+    → LinkTakes old tag reply new → LaneHolds place order lane old
+    → LaneHolds place (note tag (Reply reply) order) (record lane { replies = lane.replies ++ reply ∷ [] }) new
 lane_replied place order lane old tag reply new sized once takes h =
     let p = subst (λ (ws : List Waiting). Pending place lane.since order (map (λ (reply : AReply (List ℕ)). Reply reply) lane.replies) ws) takes.oldest (pending_of place order lane old h) in
     let next = pending_noted place lane.since order (map (λ (reply : AReply (List ℕ)). Reply reply) lane.replies) (takes.head, tag) new.waiting (Reply reply) sized once refl p in
@@ -300,10 +300,10 @@ lane_replied place order lane old tag reply new sized once takes h =
           (can-push p.front o.others o.first lane.replies reply front_len (subst (λ (head : Atom (Unit {0})). can_have head reply ≡ true) (sym o.head) takes.can)
           (subst (λ (cs : List Tagged). CanHave cs lane.replies) commands h.can));
       waiting =
-          let behind : length (p.front ++ o.first ∷ []) ≡ length (lane.replies ++ reply ∷ []) =
+          let after : length (p.front ++ o.first ∷ []) ≡ length (lane.replies ++ reply ∷ []) =
           omega (arith, length-append p.front (o.first ∷ []), length-append lane.replies (reply ∷ []), front_len) in
           o.waits
-          ∙ ap (λ (cs : List Tagged). as_waiting cs) (sym (drop_at (p.front ++ o.first ∷ []) o.others (length (lane.replies ++ reply ∷ [])) behind))
+          ∙ ap (λ (cs : List Tagged). as_waiting cs) (sym (drop_at (p.front ++ o.first ∷ []) o.others (length (lane.replies ++ reply ∷ [])) after))
           ∙ ap (λ (cs : List Tagged). as_waiting (drop (length (lane.replies ++ reply ∷ [])) cs)) (append_assoc p.front (o.first ∷ []) o.others ∙ sym now);
       outcomes =
           next.outcomes
@@ -312,7 +312,7 @@ lane_replied place order lane old tag reply new sized once takes h =
     }
 
 -- where nothing waits on a link, it is known of each command to its place what became of it
-pub nothing_waits : (place : ℕ) (order : Order) (lane : Lane) (link : LinkState) → link.waiting ≡ [] → LinkStands place order lane link
+pub nothing_waits : (place : ℕ) (order : Order) (lane : Lane) (link : LinkState) → link.waiting ≡ [] → LinkHolds place order lane link
     → list_all is_told (outcomes_to place order) ≡ true
 nothing_waits place order lane link none h =
     ⊎_elim
@@ -347,7 +347,7 @@ complete_order (e ∷ es) sized known =
     (complete_order es (All-tail IsSized e es sized) (λ place. (parts place).1))
 
 -- a link that came up just now
-pub lane_fresh : (place generation : ℕ) (order : Order) → list_all is_told (outcomes_to place order) ≡ true → LaneStands place order (fresh_lane (length order)) (up_link generation)
+pub lane_fresh : (place generation : ℕ) (order : Order) → list_all is_told (outcomes_to place order) ≡ true → LaneHolds place order (fresh_lane (length order)) (up_link generation)
 lane_fresh place generation order known =
     let none : commands_to place (drop (length order) order) ≡ [] = ap (λ (es : Order). commands_to place es) (drop_all (length order) order (omega arith)) in
     record {

@@ -5,7 +5,7 @@ pub mod NotingLemmas
 pub mod LaneLemmas
 pub mod HandingLemmas
 pub mod SessionLemmas
-pub mod StandsLemmas
+pub mod HoldsLemmas
 pub mod LinkLemmas
 pub mod AnsweredLemmas
 pub mod CountLemmas

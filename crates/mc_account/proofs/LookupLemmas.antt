@@ -20,9 +20,9 @@ use Rattle.mc_proxy.specs.ProxyState.{ProxyState}
 use Rattle.mc_account.specs.Lanes.{Lane, as_waiting}
 use Rattle.mc_account.specs.Lookups.{AreAwaited, IsAwaited, asked_at, command_at, command_in, outcome_at, outcome_in}
 use Rattle.mc_account.specs.Orders.{AreInOrder, Entry, IsSized, Order, Tagged, commands_from, commands_in, commands_to, entries_of, note, numbers_from, outcomes_from, outcomes_in, outcomes_to}
-use Rattle.mc_account.specs.Stands.{ProxyStands}
+use Rattle.mc_account.specs.Holds.{ProxyHolds}
 use Rattle.mc_account.proofs.OpenSessions.{own_number}
-use Rattle.mc_account.proofs.OrderLemmas.{entries-append, entries-note, in_order-note, lengths_in, numbered_behind, sized-note}
+use Rattle.mc_account.proofs.OrderLemmas.{entries-append, entries-note, in_order-note, lengths_in, numbered_after, sized-note}
 use Rattle.mc_account.proofs.TagLemmas.{tag_once}
 use Rattle.mc_account.proofs.LaneLemmas.{Pending, pending_noted, pending_of}
 
@@ -111,7 +111,7 @@ asked_here order front after e is numbered =
     ap (λ (es : Order). entries_of e.session es) is ∙ entries-append e.session front (e ∷ after)
     ∙ ap (λ (v : Bool). entries_of e.session front ++ (if v then e ∷ entries_of e.session after else entries_of e.session after)) own in
     let later : map (λ (x : Entry). x.request) (e ∷ entries_of e.session after) ≡ numbers_from (0 + length (entries_of e.session front)) (e ∷ entries_of e.session after) =
-    numbered_behind 0 (entries_of e.session front) (e ∷ entries_of e.session after) (subst (λ (es : Order). AreInOrder es) mine numbered) in
+    numbered_after 0 (entries_of e.session front) (e ∷ entries_of e.session after) (subst (λ (es : Order). AreInOrder es) mine numbered) in
     let here : e.request ≡ 0 + length (entries_of e.session front) = cc in
     ap (λ (es : Order). slice_get es e.request) mine ∙ get_after (entries_of e.session front) (entries_of e.session after) e e.request (omega (arith, here))
 
@@ -196,14 +196,14 @@ pending_awaited place since known (w ∷ ws) outcome order told numbered sized h
     )
 
 -- each command that waits on a link that is up is awaited
-pub waiting_is_awaited : (texts sent : ℕ → List ℕ) (order : Order) (lanes : ℕ → Lane) (now : ProxyState) → ProxyStands texts sent order lanes now
+pub waiting_is_awaited : (texts sent : ℕ → List ℕ) (order : Order) (lanes : ℕ → Lane) (now : ProxyState) → ProxyHolds texts sent order lanes now
     → (place : ℕ) → (link_at now.links place).up ≡ true → (k : ℕ) (w : Waiting) → slice_get (link_at now.links place).waiting k ≡ Some w → IsAwaited place order w
 waiting_is_awaited texts sent order lanes now h place up k w at =
     pending_waits place (lanes place).since order (map (λ (reply : AReply (List ℕ)). Reply reply) (lanes place).replies) (link_at now.links place).waiting h.numbered h.sized
     (pending_of place order (lanes place) (link_at now.links place) ((h.links place).0 up)) k w at
 
 -- so they are where the same is noted of all of them, one after another
-pub all_waiting_are_awaited : (texts sent : ℕ → List ℕ) (order : Order) (lanes : ℕ → Lane) (now : ProxyState) → ProxyStands texts sent order lanes now
+pub all_waiting_are_awaited : (texts sent : ℕ → List ℕ) (order : Order) (lanes : ℕ → Lane) (now : ProxyState) → ProxyHolds texts sent order lanes now
     → (place : ℕ) → (link_at now.links place).up ≡ true → (outcome : Outcome) → is_told outcome ≡ true
     → AreAwaited (map (λ (w : Waiting). w.1) (link_at now.links place).waiting) outcome order
 all_waiting_are_awaited texts sent order lanes now h place up outcome told =
@@ -211,7 +211,7 @@ all_waiting_are_awaited texts sent order lanes now h place up outcome told =
     (pending_of place order (lanes place) (link_at now.links place) ((h.links place).0 up))
 
 -- and so is the command that gets its reply
-pub answered_was_awaited : (texts sent : ℕ → List ℕ) (order : Order) (lanes : ℕ → Lane) (place : ℕ) (old new : ProxyState) → ProxyStands texts sent order lanes old
+pub answered_was_awaited : (texts sent : ℕ → List ℕ) (order : Order) (lanes : ℕ → Lane) (place : ℕ) (old new : ProxyState) → ProxyHolds texts sent order lanes old
     → (link_at old.links place).up ≡ true → (answers : Answers place old new) → outcome_at order answers.tag ≡ Some Awaited
 answered_was_awaited texts sent order lanes place old new h up answers =
     let first : slice_get (link_at old.links place).waiting 0 ≡ Some (answers.takes.head, answers.tag) = ap (λ (ws : List Waiting). slice_get ws 0) answers.takes.oldest in

@@ -57,11 +57,11 @@ renoted_told tag outcome (c ∷ cs) (x ∷ xs) known h =
 pub renoted_at : (tag : Tag) (outcome : Outcome) (front back : List Tagged) (c : Tagged) (xs ys : List Outcome) (x : Outcome)
     → c.1 ≡ tag → length front ≡ length xs → length back ≡ length ys → count tag front ≡ 0 → count tag back ≡ 0
     → renoted tag outcome (front ++ c ∷ back) (xs ++ x ∷ ys) ≡ xs ++ outcome ∷ ys
-renoted_at tag outcome front back c xs ys x is front_len back_len none_before none_behind =
+renoted_at tag outcome front back c xs ys x is front_len back_len none_before none_after =
     let here : same_tag c.1 tag ≡ true = rw is (same_tag_self tag) in
     renoted-append tag outcome front (c ∷ back) xs (x ∷ ys) front_len
-    ∙ ap₂ (λ (before behind : List Outcome). before ++ behind) (renoted_absent tag outcome front xs none_before front_len)
-    (ap₂ (λ (v : Bool) (behind : List Outcome). (if v then outcome else x) ∷ behind) here (renoted_absent tag outcome back ys none_behind back_len))
+    ∙ ap₂ (λ (before after : List Outcome). before ++ after) (renoted_absent tag outcome front xs none_before front_len)
+    (ap₂ (λ (v : Bool) (after : List Outcome). (if v then outcome else x) ∷ after) here (renoted_absent tag outcome back ys none_after back_len))
 
 -- an outcome that is noted in a request, in its commands to a place from one number on
 noted_from : (tag : Tag) (outcome : Outcome) (place session request : ℕ) → ((session == tag.session) && (request == tag.request)) ≡ true
@@ -109,5 +109,5 @@ pub noted_to : (tag : Tag) (outcome : Outcome) (place : ℕ) (es : Order) → Al
 noted_to tag outcome place [] sized = refl
 noted_to tag outcome place (e ∷ es) sized =
     let here = All-head IsSized e es sized in
-    ap₂ (λ (before behind : List Outcome). before ++ behind) (noted_in_entry tag outcome place e here) (noted_to tag outcome place es (All-tail IsSized e es sized))
+    ap₂ (λ (before after : List Outcome). before ++ after) (noted_in_entry tag outcome place e here) (noted_to tag outcome place es (All-tail IsSized e es sized))
     ∙ sym (renoted-append tag outcome (commands_in place e) (commands_to place es) (outcomes_in place e) (outcomes_to place es) (lengths_in place e here))

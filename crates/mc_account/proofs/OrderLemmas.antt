@@ -90,15 +90,15 @@ in_order_push es e before next =
     ∙ ap (λ (n : ℕ). numbers_from 0 es ++ n ∷ []) same
     ∙ sym (numbers-push 0 es e)
 
-pub numbered_behind : (at : ℕ) (front back : Order) → map (λ (e : Entry). e.request) (front ++ back) ≡ numbers_from at (front ++ back)
+pub numbered_after : (at : ℕ) (front back : Order) → map (λ (e : Entry). e.request) (front ++ back) ≡ numbers_from at (front ++ back)
     → map (λ (e : Entry). e.request) back ≡ numbers_from (at + length front) back
-numbered_behind at [] back h =
+numbered_after at [] back h =
     let same : at + 0 ≡ at = omega arith in
     rw same h
-numbered_behind at (e ∷ front) back h =
+numbered_after at (e ∷ front) back h =
     let tail : map (λ (x : Entry). x.request) (front ++ back) ≡ numbers_from (suc at) (front ++ back) = cc in
     let same : suc at + length front ≡ at + suc (length front) = omega arith in
-    rw (← same) (numbered_behind (suc at) front back tail)
+    rw (← same) (numbered_after (suc at) front back tail)
 
 -- an outcome that is noted leaves all but outcomes as it was
 pub note-append : (tag : Tag) (outcome : Outcome) (es fs : Order) → note tag outcome (es ++ fs) ≡ note tag outcome es ++ note tag outcome fs

@@ -17,7 +17,7 @@ use Rattle.mc_proxy.specs.ProxyState.{ProxyState}
 use Rattle.mc_account.specs.Lanes.{Lane, as_waiting}
 use Rattle.mc_account.specs.Lookups.{IsBefore, outcome_at}
 use Rattle.mc_account.specs.Orders.{AreInOrder, Entry, Order, Tagged, commands_from, commands_in, commands_to, entries_of, numbers_from}
-use Rattle.mc_account.specs.Stands.{ProxyStands}
+use Rattle.mc_account.specs.Holds.{ProxyHolds}
 use Rattle.mc_account.proofs.OpenSessions.{own_number}
 use Rattle.mc_account.proofs.OrderLemmas.{commands-append}
 use Rattle.mc_account.proofs.LaneLemmas.{pending_of}
@@ -190,7 +190,7 @@ awaited_each : (place : ℕ) (order : Order) (rest : List Tagged) → Pairs (IsF
 awaited_each place order [] h = tt
 awaited_each place order (c ∷ cs) h = (h.0.outcome, awaited_each place order cs h.1)
 
-waits_of : (texts sent : ℕ → List ℕ) (order : Order) (lanes : ℕ → Lane) (now : ProxyState) → ProxyStands texts sent order lanes now
+waits_of : (texts sent : ℕ → List ℕ) (order : Order) (lanes : ℕ → Lane) (now : ProxyState) → ProxyHolds texts sent order lanes now
     → (place : ℕ) → (link_at now.links place).up ≡ true → WaitsLast place order (link_at now.links place).waiting
 waits_of texts sent order lanes now h place up =
     let pending = pending_of place order (lanes place) (link_at now.links place) ((h.links place).0 up) in
@@ -231,7 +231,7 @@ waiting_place place order waiting h k w i is at =
     }
 
 -- of one session what is known of a command was asked before all that waits
-pub told_before_waiting : (texts sent : ℕ → List ℕ) (order : Order) (lanes : ℕ → Lane) (now : ProxyState) → ProxyStands texts sent order lanes now
+pub told_before_waiting : (texts sent : ℕ → List ℕ) (order : Order) (lanes : ℕ → Lane) (now : ProxyState) → ProxyHolds texts sent order lanes now
     → (place : ℕ) → (link_at now.links place).up ≡ true
     → (i : ℕ) (c : Tagged) (x : Outcome) → slice_get (commands_to place order) i ≡ Some c → outcome_at order c.1 ≡ Some x → is_told x ≡ true
     → (k : ℕ) (w : Waiting) → slice_get (link_at now.links place).waiting k ≡ Some w → c.1.session ≡ w.1.session → IsBefore c.1 w.1
@@ -247,7 +247,7 @@ told_before_waiting texts sent order lanes now h place up i c x at known told k 
           let clash : false ≡ true = ap is_told is ∙ told in absurd cc
     ]
 
-pub replied_before_waiting : (texts sent : ℕ → List ℕ) (order : Order) (lanes : ℕ → Lane) (now : ProxyState) → ProxyStands texts sent order lanes now
+pub replied_before_waiting : (texts sent : ℕ → List ℕ) (order : Order) (lanes : ℕ → Lane) (now : ProxyState) → ProxyHolds texts sent order lanes now
     → (place : ℕ) → (link_at now.links place).up ≡ true
     → (i : ℕ) (c : Tagged) (reply : AReply (List ℕ)) → slice_get (commands_to place order) i ≡ Some c → outcome_at order c.1 ≡ Some (Reply reply)
     → (k : ℕ) (w : Waiting) → slice_get (link_at now.links place).waiting k ≡ Some w → c.1.session ≡ w.1.session → IsBefore c.1 w.1
@@ -255,7 +255,7 @@ replied_before_waiting texts sent order lanes now h place up i c reply at known 
     told_before_waiting texts sent order lanes now h place up i c (Reply reply) at known refl k w waits same
 
 -- of two that wait the one that waits longer was asked before
-pub waiting_in_order : (texts sent : ℕ → List ℕ) (order : Order) (lanes : ℕ → Lane) (now : ProxyState) → ProxyStands texts sent order lanes now
+pub waiting_in_order : (texts sent : ℕ → List ℕ) (order : Order) (lanes : ℕ → Lane) (now : ProxyState) → ProxyHolds texts sent order lanes now
     → (place : ℕ) → (link_at now.links place).up ≡ true
     → (k l : ℕ) (v w : Waiting) → slice_get (link_at now.links place).waiting k ≡ Some v → slice_get (link_at now.links place).waiting l ≡ Some w → k < l
     → v.1.session ≡ w.1.session → IsBefore v.1 w.1

@@ -21,15 +21,15 @@ use Rattle.mc_session.specs.Sending.{at_once}
 use Rattle.mc_session.specs.SessionState.{SessionState, Unanswered, answered, fresh_session}
 use Rattle.mc_session.specs.Turns.{IsFed, Takes}
 use Rattle.mc_account.specs.Orders.{Entry, Order, AreInOrder, entries_of, is_complete, note, note_in, numbers_from, owns, taken_of, unanswered_of}
-use Rattle.mc_account.specs.Stands.{SessionLeft, SessionStands, SessionStandsAt}
+use Rattle.mc_account.specs.Holds.{SessionLeft, SessionHolds, SessionHoldsAt}
 use Rattle.mc_account.proofs.OpenSessions.{other_number}
-use Rattle.mc_account.proofs.OrderLemmas.{answers-push, entries-note, entries_push_own, note-append, numbered_behind, passes_joined, taken-note}
+use Rattle.mc_account.proofs.OrderLemmas.{answers-push, entries-note, entries_push_own, note-append, numbered_after, passes_joined, taken-note}
 use Rattle.mc_account.proofs.TagLemmas.{owners, owners-append, owners_later, owners_of, incomplete-append, incomplete_none, incomplete_of, incomplete_owners, incomplete_owners-le, weight}
 
 -- where a session is depends on nothing of an order but what was taken of it
 pub session_same : (number : ℕ) (order longer : Order) (text text' sent sent' : List ℕ) (session : Option SessionState)
     → entries_of number longer ≡ entries_of number order → text' ≡ text → sent' ≡ sent
-    → SessionStandsAt number order text sent session → SessionStandsAt number longer text' sent' session
+    → SessionHoldsAt number order text sent session → SessionHoldsAt number longer text' sent' session
 session_same number order longer text text' sent sent' None same text_is sent_is h = record {
   untaken = h.untaken;
   rest = ap (λ (es : Order). map (λ (e : Entry). e.what) es ++ h.untaken) same ∙ h.rest ∙ ap requests_of (sym text_is);
@@ -54,7 +54,7 @@ session_same number order longer text text' sent sent' (Some session) same text_
 }
 
 -- a session of which nothing was taken yet
-pub session_fresh : (number : ℕ) (order : Order) → entries_of number order ≡ [] → SessionStands number order [] [] fresh_session
+pub session_fresh : (number : ℕ) (order : Order) → entries_of number order ≡ [] → SessionHolds number order [] [] fresh_session
 session_fresh number order none = record {
   rest = λ more. ap (λ (es : Order). map (λ (e : Entry). e.what) es ++ requests_of more) none;
   done = [];
@@ -67,7 +67,7 @@ session_fresh number order none = record {
 }
 
 -- a session that is open holds, and so it does once it is left
-pub session_left : (number : ℕ) (order : Order) (text sent : List ℕ) (session : Option SessionState) → SessionStandsAt number order text sent session
+pub session_left : (number : ℕ) (order : Order) (text sent : List ℕ) (session : Option SessionState) → SessionHoldsAt number order text sent session
     → SessionLeft number order text sent
 session_left number order text sent None h = h
 session_left number order text sent (Some session) h = record {
@@ -83,7 +83,7 @@ session_left number order text sent (Some session) h = record {
 
 -- a piece comes
 pub session_fed : (number : ℕ) (order : Order) (text sent piece : List ℕ) (before after : SessionState)
-    → SessionStands number order text sent before → IsFed piece before after → SessionStands number order (text ++ piece) sent after
+    → SessionHolds number order text sent before → IsFed piece before after → SessionHolds number order (text ++ piece) sent after
 session_fed number order text sent piece before after h fed = record {
   rest = λ more.
       ap (λ (ts : List Taken). taken_of number order ++ ts) (fed.rest more)
@@ -99,8 +99,8 @@ session_fed number order text sent piece before after h fed = record {
 
 -- a turn takes the first of the rest
 pub session_took : (number : ℕ) (order : Order) (text sent : List ℕ) (ring : RingState) (links now : List LinkState) (before after : SessionState) (what : Taken)
-    → SessionStands number order text sent before → Takes number ring links now before after what
-    → SessionStands number
+    → SessionHolds number order text sent before → Takes number ring links now before after what
+    → SessionHolds number
     (order ++ (record { session = number; request = before.taken; what = what; ring = ring; outcomes = map (at_once links) (route_of_taken ring what) }) ∷ []) text sent after
 session_took number order text sent ring links now before after what h takes =
     let e : Entry = record { session = number; request = before.taken; what = what; ring = ring; outcomes = map (at_once links) (route_of_taken ring what) } in
@@ -129,8 +129,8 @@ session_took number order text sent ring links now before after what h takes =
     }
 
 -- the client is sent the first bytes of the output
-pub session_sent : (number : ℕ) (order : Order) (text sent : List ℕ) (session : SessionState) (count : ℕ) → SessionStands number order text sent session
-    → SessionStands number order text (sent ++ take count session.output) (record session { output = drop count session.output })
+pub session_sent : (number : ℕ) (order : Order) (text sent : List ℕ) (session : SessionState) (count : ℕ) → SessionHolds number order text sent session
+    → SessionHolds number order text (sent ++ take count session.output) (record session { output = drop count session.output })
 session_sent number order text sent session count h = record {
   rest = h.rest;
   done = h.done;
@@ -167,8 +167,8 @@ emits_from before after (e ∷ es) is =
       | false ↦ λ complete now. absurd cc
     ]) refl is
 
-pub session_emitted : (number : ℕ) (order : Order) (text sent : List ℕ) (before after : SessionState) → SessionStands number order text sent before
-    → emitted before ≡ Some after → SessionStands number order text sent after
+pub session_emitted : (number : ℕ) (order : Order) (text sent : List ℕ) (before after : SessionState) → SessionHolds number order text sent before
+    → emitted before ≡ Some after → SessionHolds number order text sent after
 session_emitted number order text sent before after h is =
     let e = emits_from before after h.incomplete (ap (λ (us : List Unanswered). emitted_from before us) (sym h.unanswered) ∙ is) in
     record {
@@ -200,9 +200,9 @@ are_of number (e ∷ es) =
       | false ↦ λ is. again
     ]) refl
 
-are_of_behind : (number : ℕ) (front back : Order) → AreOf number (front ++ back) → AreOf number back
-are_of_behind number [] back h = h
-are_of_behind number (e ∷ front) back h = are_of_behind number front back h.1
+are_of_after : (number : ℕ) (front back : Order) → AreOf number (front ++ back) → AreOf number back
+are_of_after number [] back h = h
+are_of_after number (e ∷ front) back h = are_of_after number front back h.1
 
 -- where none has the tag, nothing changes
 pub note_absent : (tag : Tag) (outcome : Outcome) (es : Order) → owners tag es ≡ 0 → note tag outcome es ≡ es
@@ -235,20 +235,20 @@ noted_among : (tag : Tag) (outcome : Outcome) (at : ℕ) (es : Order) → AreOf 
 noted_among tag outcome at [] whose numbered h = refl
 noted_among tag outcome at (e ∷ es) whose numbered h =
     let here : e.request ≡ at = cc in
-    let behind : map (λ (x : Entry). x.request) es ≡ numbers_from (suc at) es = cc in
+    let past : map (λ (x : Entry). x.request) es ≡ numbers_from (suc at) es = cc in
     ⊎_elim
     (λ (later : at < tag.request).
     let apart : owns tag e ≡ false = and_right (e.session == tag.session) (e.request == tag.request) (other_number e.request tag.request (λ same. omega (arith, here, same, later))) in
     let next : tag.request - at ≡ suc (tag.request - suc at) = omega (arith, later) in
     ap (λ (v : Bool). unanswered_of (record e { outcomes = if v then with_outcome tag.atom outcome e.outcomes else e.outcomes }) ∷ map unanswered_of (note tag outcome es)) apart
-    ∙ ap (λ (us : List Unanswered). unanswered_of e ∷ us) (noted_among tag outcome (suc at) es whose.1 behind later)
+    ∙ ap (λ (us : List Unanswered). unanswered_of e ∷ us) (noted_among tag outcome (suc at) es whose.1 past later)
     ∙ ap (λ (n : ℕ). noted_at n tag.atom outcome (unanswered_of e ∷ map unanswered_of es)) (sym next))
     (λ (not_later : tag.request ≤ at).
     let own : owns tag e ≡ true = and_from (e.session == tag.session) (e.request == tag.request) whose.0 (eq-eqb e.request tag.request (omega (arith, here, h, not_later))) in
     let none : tag.request - at ≡ 0 = omega (arith, not_later) in
     ap (λ (v : Bool). unanswered_of (record e { outcomes = if v then with_outcome tag.atom outcome e.outcomes else e.outcomes }) ∷ map unanswered_of (note tag outcome es)) own
     ∙ ap (λ (xs : Order). unanswered_of (record e { outcomes = with_outcome tag.atom outcome e.outcomes }) ∷ map unanswered_of xs)
-    (note_absent tag outcome es (owners_later tag (suc at) es behind (omega (arith, not_later))))
+    (note_absent tag outcome es (owners_later tag (suc at) es past (omega (arith, not_later))))
     ∙ ap (λ (n : ℕ). noted_at n tag.atom outcome (unanswered_of e ∷ map unanswered_of es)) (sym none))
     (cases_lt at tag.request)
 
@@ -301,13 +301,13 @@ noted_unanswered tag outcome session done incomplete whose numbered unanswered t
 -- an outcome is noted that was awaited: the session of its tag
 pub session_noted : (tag : Tag) (outcome : Outcome) (order : Order) (text sent : List ℕ) (session : SessionState) → AreInOrder (entries_of tag.session order)
     → owners tag order ≤ 1 → 1 ≤ incomplete_owners tag order
-    → SessionStands tag.session order text sent session → SessionStands tag.session (note tag outcome order) text sent (noted_in tag outcome session)
+    → SessionHolds tag.session order text sent session → SessionHolds tag.session (note tag outcome order) text sent (noted_in tag outcome session)
 session_noted tag outcome order text sent session numbered once open_one h =
     let n = not_done tag order h.done h.incomplete h.split h.complete once open_one in
-    let whose = are_of_behind tag.session h.done h.incomplete (subst (λ (es : Order). AreOf tag.session es) h.split (are_of tag.session order)) in
-    let behind = numbered_behind 0 h.done h.incomplete (subst (λ (es : Order). AreInOrder es) h.split numbered) in
+    let whose = are_of_after tag.session h.done h.incomplete (subst (λ (es : Order). AreOf tag.session es) h.split (are_of tag.session order)) in
+    let past = numbered_after 0 h.done h.incomplete (subst (λ (es : Order). AreInOrder es) h.split numbered) in
     let ahead : map (λ (e : Entry). e.request) h.incomplete ≡ numbers_from (length h.done) h.incomplete =
-    subst (λ (at : ℕ). map (λ (e : Entry). e.request) h.incomplete ≡ numbers_from at h.incomplete) (omega arith) behind in
+    subst (λ (at : ℕ). map (λ (e : Entry). e.request) h.incomplete ≡ numbers_from at h.incomplete) (omega arith) past in
     let size : session.taken ≡ length h.done + length h.incomplete = h.taken ∙ ap (λ (es : Order). length es) h.split ∙ length-append h.done h.incomplete in
     let now = noted_unanswered tag outcome session h.done h.incomplete whose ahead h.unanswered size n.there in
     let split = noted_split tag outcome order h.done h.incomplete h.split n.absent in

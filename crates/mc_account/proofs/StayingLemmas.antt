@@ -17,7 +17,7 @@ use Rattle.mc_account.specs.Answered.{AreAnswers}
 use Rattle.mc_account.specs.Lanes.{Lane}
 use Rattle.mc_account.specs.Lookups.{AreAwaited, outcome_at, outcome_in}
 use Rattle.mc_account.specs.Orders.{AreInOrder, Entry, Order, answers_of, entries_of, is_complete, note, note_all, note_in, numbers_from, owns}
-use Rattle.mc_account.specs.Stands.{ProxyStands}
+use Rattle.mc_account.specs.Holds.{ProxyHolds}
 use Rattle.mc_account.proofs.OpenSessions.{other_number}
 use Rattle.mc_account.proofs.OrderLemmas.{entries-append, entries-note}
 use Rattle.mc_account.proofs.TagLemmas.{owners, owners-append}
@@ -131,17 +131,17 @@ answers_note_all number (tag ∷ tags) outcome order count sent unsent numbered 
     (answers_note number order tag outcome count sent unsent (numbered number) awaited.0 h)
 
 -- a reply is noted
-pub answers_replied : (texts sent : ℕ → List ℕ) (order : Order) (lanes : ℕ → Lane) (place : ℕ) (old new : ProxyState) → ProxyStands texts sent order lanes old
+pub answers_replied : (texts sent : ℕ → List ℕ) (order : Order) (lanes : ℕ → Lane) (place : ℕ) (old new : ProxyState) → ProxyHolds texts sent order lanes old
     → (link_at old.links place).up ≡ true → (answers : Answers place old new) → (number count : ℕ) (out unsent : List ℕ) → AreAnswers number order count out unsent
     → AreAnswers number (note answers.tag (Reply answers.reply) order) count out unsent
-answers_replied texts sent order lanes place old new stands up answers number count out unsent h =
-    answers_note number order answers.tag (Reply answers.reply) count out unsent (stands.numbered number)
-    (answered_was_awaited texts sent order lanes place old new stands up answers) h
+answers_replied texts sent order lanes place old new holds up answers number count out unsent h =
+    answers_note number order answers.tag (Reply answers.reply) count out unsent (holds.numbered number)
+    (answered_was_awaited texts sent order lanes place old new holds up answers) h
 
 -- a link is lost
-pub answers_lost : (texts sent : ℕ → List ℕ) (order : Order) (lanes : ℕ → Lane) (place : ℕ) (old : ProxyState) → ProxyStands texts sent order lanes old
+pub answers_lost : (texts sent : ℕ → List ℕ) (order : Order) (lanes : ℕ → Lane) (place : ℕ) (old : ProxyState) → ProxyHolds texts sent order lanes old
     → (link_at old.links place).up ≡ true → (number count : ℕ) (out unsent : List ℕ) → AreAnswers number order count out unsent
     → AreAnswers number (note_all (map (λ (w : Waiting). w.1) (link_at old.links place).waiting) Lost order) count out unsent
-answers_lost texts sent order lanes place old stands up number count out unsent h =
-    answers_note_all number (map (λ (w : Waiting). w.1) (link_at old.links place).waiting) Lost order count out unsent stands.numbered
-    (all_waiting_are_awaited texts sent order lanes old stands place up Lost refl) h
+answers_lost texts sent order lanes place old holds up number count out unsent h =
+    answers_note_all number (map (λ (w : Waiting). w.1) (link_at old.links place).waiting) Lost order count out unsent holds.numbered
+    (all_waiting_are_awaited texts sent order lanes old holds place up Lost refl) h

@@ -152,20 +152,20 @@ pub owners_later : (tag : Tag) (at : ℕ) (es : Order) → map (λ (e : Entry). 
 owners_later tag at [] numbered h = refl
 owners_later tag at (e ∷ es) numbered h =
     let here : e.request ≡ at = cc in
-    let behind : map (λ (x : Entry). x.request) es ≡ numbers_from (suc at) es = cc in
+    let after : map (λ (x : Entry). x.request) es ≡ numbers_from (suc at) es = cc in
     let apart : owns tag e ≡ false = and_right (e.session == tag.session) (e.request == tag.request) (other_number e.request tag.request (λ same. omega (arith, here, same, h))) in
-    rw apart (omega (arith, owners_later tag (suc at) es behind (omega (arith, h))))
+    rw apart (omega (arith, owners_later tag (suc at) es after (omega (arith, h))))
 
 owners_once : (tag : Tag) (at : ℕ) (es : Order) → map (λ (e : Entry). e.request) es ≡ numbers_from at es → owners tag es ≤ 1
 owners_once tag at [] numbered = omega arith
 owners_once tag at (e ∷ es) numbered =
     let here : e.request ≡ at = cc in
-    let behind : map (λ (x : Entry). x.request) es ≡ numbers_from (suc at) es = cc in
-    let again = owners_once tag (suc at) es behind in
+    let after : map (λ (x : Entry). x.request) es ≡ numbers_from (suc at) es = cc in
+    let again = owners_once tag (suc at) es after in
     (elim (owns tag e) as (λ v. owns tag e ≡ v → weight v + owners tag es ≤ 1) [
       | true ↦ λ is.
           let same : e.request ≡ tag.request = eqb-true e.request tag.request (and_parts (e.session == tag.session) (e.request == tag.request) is).1 in
-          omega (arith, owners_later tag (suc at) es behind (omega (arith, here, same)))
+          omega (arith, owners_later tag (suc at) es after (omega (arith, here, same)))
       | false ↦ λ is. omega (arith, again)
     ]) refl
 

@@ -15,7 +15,7 @@ use Rattle.mc_proxy.specs.ProxyState.{ProxyState}
 use Rattle.mc_account.specs.Lanes.{Lane}
 use Rattle.mc_account.specs.Lookups.{IsBefore, asked_at, command_at, command_in, outcome_at}
 use Rattle.mc_account.specs.Orders.{AreInOrder, Entry, Order, commands_from, commands_in, commands_to, entries_of, numbers_from}
-use Rattle.mc_account.specs.Stands.{ProxyStands}
+use Rattle.mc_account.specs.Holds.{ProxyHolds}
 use Rattle.mc_account.proofs.OpenSessions.{own_number}
 use Rattle.mc_account.proofs.RisingLemmas.{past_front, told_before_waiting}
 
@@ -103,7 +103,7 @@ command_is_there place order numbered tag atom there =
     there_in place tag.session 0 order e.0 tag.request tag.request tag.atom atom (numbered tag.session) (omega arith) e.1 e.2
 
 -- of one session a command to a place of which it is known what became was asked before all that wait on its link
-pub known_before_waiting : (texts sent : ℕ → List ℕ) (order : Order) (lanes : ℕ → Lane) (now : ProxyState) → ProxyStands texts sent order lanes now
+pub known_before_waiting : (texts sent : ℕ → List ℕ) (order : Order) (lanes : ℕ → Lane) (now : ProxyState) → ProxyHolds texts sent order lanes now
     → (place : ℕ) → (link_at now.links place).up ≡ true
     → (tag : Tag) (atom : Atom (List ℕ)) (x : Outcome) → command_at order tag ≡ Some (to_place place atom) → outcome_at order tag ≡ Some x → is_told x ≡ true
     → (k : ℕ) (w : Waiting) → slice_get (link_at now.links place).waiting k ≡ Some w → tag.session ≡ w.1.session → IsBefore tag w.1

@@ -47,7 +47,7 @@ as_waiting commands = map (λ command. (head_of command.0, command.1)) commands
 -- Over a link that is up went the commands to its server of all that was taken since it came up, in that order: what was put on
 -- it is their joined spellings, what came is the joined spellings of the replies taken and the unread bytes, and those without
 -- a reply wait. Nothing is awaited of it that was taken before.
-pub record LaneStands (place : ℕ) (order : Order) (lane : Lane) (link : LinkState) : Type 0 where
+pub record LaneHolds (place : ℕ) (order : Order) (lane : Lane) (link : LinkState) : Type 0 where
   pub since : lane.since ≤ length order
   pub put : lane.out ++ link.output ≡ spelled (commands_to place (drop lane.since order))
   pub came : lane.came ≡ told (commands_to place (drop lane.since order)) lane.replies ++ link.unread
@@ -62,5 +62,5 @@ pub record IsDown (place : ℕ) (order : Order) (link : LinkState) : Type 0 wher
   pub outcomes : list_all is_told (outcomes_to place order) ≡ true
 
 -- where the link of a place is
-abbrev pub LinkStands : ℕ → Order → Lane → LinkState → Type 0
-LinkStands place order lane link = (link.up ≡ true → LaneStands place order lane link) × (link.up ≢ true → IsDown place order link)
+abbrev pub LinkHolds : ℕ → Order → Lane → LinkState → Type 0
+LinkHolds place order lane link = (link.up ≡ true → LaneHolds place order lane link) × (link.up ≢ true → IsDown place order link)

@@ -1,5 +1,5 @@
 pub mod Orders
 pub mod Lookups
 pub mod Lanes
-pub mod Stands
+pub mod Holds
 pub mod Answered

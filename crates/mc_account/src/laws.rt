@@ -24,34 +24,34 @@ ghost use Rattle.mc_account.specs.Lanes.{Lane, fresh_lane};
 ghost use Rattle.mc_account.specs.Lookups.{AreAwaited, IsAwaited, IsBefore, IsRoutedWithin, command_at, outcome_at};
 ghost use Rattle.mc_account.specs.Orders.{AreInOrder, Entry, IsSized, Order, Tagged, commands_to, entries_of, is_complete, note, note_all, outcomes_to};
 ghost use Rattle.mc_account.specs.Answered.{AreAnswers, WasAnswered, answered_at};
-ghost use Rattle.mc_account.specs.Stands.{ProxyStands, changed, grown};
+ghost use Rattle.mc_account.specs.Holds.{ProxyHolds, changed, grown};
 
 /// A proxy that was just made is where nothing was taken.
 pub fn a_proxy_opens()
     ensures { (ring : RingState)
-        → ProxyStands (λ _. []) (λ _. []) [] (λ _. fresh_lane 0)
+        → ProxyHolds (λ _. []) (λ _. []) [] (λ _. fresh_lane 0)
         (record { ring = ring; sessions = []; admitted = 0; links = replicate (length ring.servers) (down_link 0) }) }
 {}
 
 /// `admit` keeps the account.
-pub fn admitted_sessions_stand()
+pub fn admitted_sessions_hold()
     ensures { (texts sent : ℕ → List ℕ) (order : Order) (lanes : ℕ → Lane) (old : ProxyState)
-        → ProxyStands texts sent order lanes old → session_at old old.admitted ≡ None → ProxyStands texts sent order lanes (with_fresh old) }
+        → ProxyHolds texts sent order lanes old → session_at old old.admitted ≡ None → ProxyHolds texts sent order lanes (with_fresh old) }
 {}
 
 /// `feed`: the session's text has the piece after it.
-pub fn pieces_stand()
+pub fn pieces_hold()
     ensures { (texts sent : ℕ → List ℕ) (order : Order) (lanes : ℕ → Lane) (number : ℕ) (piece : List ℕ) (old new : ProxyState)
-        → ProxyStands texts sent order lanes old → number < old.admitted → Steps number old new (Alone (IsFed piece))
-        → ProxyStands (grown number piece texts) sent order lanes new }
+        → ProxyHolds texts sent order lanes old → number < old.admitted → Steps number old new (Alone (IsFed piece))
+        → ProxyHolds (grown number piece texts) sent order lanes new }
 {}
 
 /// `turn`, where it took: the order has one request more, which was routed by the ring of that moment; a command whose link was
 /// down is lost.
-pub fn taken_requests_stand()
+pub fn taken_requests_hold()
     ensures { (texts sent : ℕ → List ℕ) (order : Order) (lanes : ℕ → Lane) (number : ℕ) (old new : ProxyState)
-        → ProxyStands texts sent order lanes old → (step : Steps number old new (IsTurn number Took old.ring))
-        → ProxyStands texts sent
+        → ProxyHolds texts sent order lanes old → (step : Steps number old new (IsTurn number Took old.ring))
+        → ProxyHolds texts sent
         (order ++ (record {
           session = number;
           request = step.before.taken;
@@ -62,43 +62,43 @@ pub fn taken_requests_stand()
 {}
 
 /// A `turn` that took nothing, and an `emit` that put nothing out.
-pub fn idle_calls_stand()
+pub fn idle_calls_hold()
     ensures turn { (texts sent : ℕ → List ℕ) (order : Order) (lanes : ℕ → Lane) (number : ℕ) (turn : Turn) (old new : ProxyState)
-        → ProxyStands texts sent order lanes old → turn ≢ Took → Steps number old new (IsTurn number turn old.ring)
-        → ProxyStands texts sent order lanes new }
+        → ProxyHolds texts sent order lanes old → turn ≢ Took → Steps number old new (IsTurn number turn old.ring)
+        → ProxyHolds texts sent order lanes new }
     ensures emit { (texts sent : ℕ → List ℕ) (order : Order) (lanes : ℕ → Lane) (number : ℕ) (old new : ProxyState)
-        → ProxyStands texts sent order lanes old → Steps number old new (Alone (IsEmit emits.Idle))
-        → ProxyStands texts sent order lanes new }
+        → ProxyHolds texts sent order lanes old → Steps number old new (Alone (IsEmit emits.Idle))
+        → ProxyHolds texts sent order lanes new }
 {}
 
 /// `emit`, where it answered.
-pub fn answers_put_out_stand()
+pub fn answers_put_out_hold()
     ensures { (texts sent : ℕ → List ℕ) (order : Order) (lanes : ℕ → Lane) (number : ℕ) (old new : ProxyState)
-        → ProxyStands texts sent order lanes old → Steps number old new (Alone (IsEmit emits.Done))
-        → ProxyStands texts sent order lanes new }
+        → ProxyHolds texts sent order lanes old → Steps number old new (Alone (IsEmit emits.Done))
+        → ProxyHolds texts sent order lanes new }
 {}
 
 /// `taken_out`: the client was sent the first bytes of its session's output.
-pub fn bytes_sent_to_clients_stand()
+pub fn bytes_sent_to_clients_hold()
     ensures { (texts sent : ℕ → List ℕ) (order : Order) (lanes : ℕ → Lane) (number count : ℕ) (old : ProxyState)
-        → ProxyStands texts sent order lanes old → count ≤ length (output_of (session_at old number))
-        → ProxyStands texts (grown number (take count (output_of (session_at old number))) sent) order lanes
+        → ProxyHolds texts sent order lanes old → count ≤ length (output_of (session_at old number))
+        → ProxyHolds texts (grown number (take count (output_of (session_at old number))) sent) order lanes
         (sent_by number count (session_at old number) old) }
 {}
 
 /// `gone`.
-pub fn sessions_gone_stand()
+pub fn sessions_gone_hold()
     ensures { (texts sent : ℕ → List ℕ) (order : Order) (lanes : ℕ → Lane) (number : ℕ) (old : ProxyState)
-        → ProxyStands texts sent order lanes old
+        → ProxyHolds texts sent order lanes old
         → session_at (record old { sessions = without number old.sessions }) number ≡ None
-        → ProxyStands texts sent order lanes (record old { sessions = without number old.sessions }) }
+        → ProxyHolds texts sent order lanes (record old { sessions = without number old.sessions }) }
 {}
 
 /// `link_taken_out`: the server was sent the first bytes of the link's output.
-pub fn bytes_sent_to_servers_stand()
+pub fn bytes_sent_to_servers_hold()
     ensures { (texts sent : ℕ → List ℕ) (order : Order) (lanes : ℕ → Lane) (place count : ℕ) (old : ProxyState)
-        → ProxyStands texts sent order lanes old → count ≤ length (link_at old.links place).output
-        → ProxyStands texts sent order
+        → ProxyHolds texts sent order lanes old → count ≤ length (link_at old.links place).output
+        → ProxyHolds texts sent order
         (changed place (record (lanes place) { out = (lanes place).out ++ take count (link_at old.links place).output }) lanes)
         (record old {
           links = with_link place
@@ -107,10 +107,10 @@ pub fn bytes_sent_to_servers_stand()
 {}
 
 /// `link_feed`: these bytes came from the server.
-pub fn server_bytes_stand()
+pub fn server_bytes_hold()
     ensures { (texts sent : ℕ → List ℕ) (order : Order) (lanes : ℕ → Lane) (place : ℕ) (piece : List ℕ) (old : ProxyState)
-        → ProxyStands texts sent order lanes old → (link_at old.links place).up ≡ true
-        → ProxyStands texts sent order (changed place (record (lanes place) { came = (lanes place).came ++ piece }) lanes)
+        → ProxyHolds texts sent order lanes old → (link_at old.links place).up ≡ true
+        → ProxyHolds texts sent order (changed place (record (lanes place) { came = (lanes place).came ++ piece }) lanes)
         (record old {
           links = with_link place
               (record (link_at old.links place) { unread = (link_at old.links place).unread ++ piece }) old.links;
@@ -118,54 +118,54 @@ pub fn server_bytes_stand()
 {}
 
 /// `link_turn`, where it took a reply: it is noted in the order, and is after the replies of the link.
-pub fn replies_stand()
+pub fn replies_hold()
     ensures { (texts sent : ℕ → List ℕ) (order : Order) (lanes : ℕ → Lane) (place : ℕ) (old new : ProxyState)
-        → ProxyStands texts sent order lanes old → (link_at old.links place).up ≡ true → (answers : Answers place old new)
-        → ProxyStands texts sent (note answers.tag (Reply answers.reply) order)
+        → ProxyHolds texts sent order lanes old → (link_at old.links place).up ≡ true → (answers : Answers place old new)
+        → ProxyHolds texts sent (note answers.tag (Reply answers.reply) order)
         (changed place (record (lanes place) { replies = (lanes place).replies ++ answers.reply ∷ [] }) lanes) new }
 {}
 
 /// `lost`, and a strange `link_turn`: what waits is lost, and nothing else.
-pub fn lost_links_stand()
+pub fn lost_links_hold()
     ensures { (texts sent : ℕ → List ℕ) (order : Order) (lanes : ℕ → Lane) (place : ℕ) (old : ProxyState)
-        → ProxyStands texts sent order lanes old → (link_at old.links place).up ≡ true
-        → ProxyStands texts sent (note_all (map (λ waiting. waiting.1) (link_at old.links place).waiting) Lost order) lanes (lost_at place old) }
+        → ProxyHolds texts sent order lanes old → (link_at old.links place).up ≡ true
+        → ProxyHolds texts sent (note_all (map (λ waiting. waiting.1) (link_at old.links place).waiting) Lost order) lanes (lost_at place old) }
 {}
 
 /// `back`: what is taken from now on goes over the link.
-pub fn returned_links_stand()
+pub fn returned_links_hold()
     ensures { (texts sent : ℕ → List ℕ) (order : Order) (lanes : ℕ → Lane) (place : ℕ) (old : ProxyState)
-        → ProxyStands texts sent order lanes old → can_come_back (link_at old.links place) ≡ true → place < length old.links
-        → ProxyStands texts sent order (changed place (fresh_lane (length order)) lanes)
+        → ProxyHolds texts sent order lanes old → can_come_back (link_at old.links place) ≡ true → place < length old.links
+        → ProxyHolds texts sent order (changed place (fresh_lane (length order)) lanes)
         (record old { links = with_link place (up_link ((link_at old.links place).generation + 1)) old.links }) }
 {}
 
 /// `join_server`: what was taken keeps its owners. Nothing was taken for the new place before.
-pub fn joined_servers_stand()
+pub fn joined_servers_hold()
     ensures { (texts sent : ℕ → List ℕ) (order : Order) (lanes : ℕ → Lane) (address : List ℕ) (up : Bool) (place : ℕ) (old new : ProxyState)
-        → ProxyStands texts sent order lanes old → length old.links ≡ length old.ring.servers → JoinsServer address up place old new
-        → ProxyStands texts sent order (changed place (fresh_lane (length order)) lanes) new }
+        → ProxyHolds texts sent order lanes old → length old.links ≡ length old.ring.servers → JoinsServer address up place old new
+        → ProxyHolds texts sent order (changed place (fresh_lane (length order)) lanes) new }
 {}
 
 /// What each client was sent is the answers to its first requests, in their order, each complete. Of an open session these are
 /// the requests that are answered, and its output is what of their answers was not taken out.
 pub fn clients_are_answered()
     ensures { (texts sent : ℕ → List ℕ) (order : Order) (lanes : ℕ → Lane) (now : ProxyState)
-        → ProxyStands texts sent order lanes now → (number : ℕ) → WasAnswered number order (sent number) (session_at now number) }
+        → ProxyHolds texts sent order lanes now → (number : ℕ) → WasAnswered number order (sent number) (session_at now number) }
 {}
 
 /// Where no command waits on any link, it is known of each what became of it: so each session can be answered to its last
 /// request.
 pub fn nothing_awaited_is_complete()
     ensures { (texts sent : ℕ → List ℕ) (order : Order) (lanes : ℕ → Lane) (now : ProxyState)
-        → ProxyStands texts sent order lanes now → ((place : ℕ) → (link_at now.links place).waiting ≡ [])
+        → ProxyHolds texts sent order lanes now → ((place : ℕ) → (link_at now.links place).waiting ≡ [])
         → list_all is_complete order ≡ true }
 {}
 
 /// Of an open session: the bytes that were taken out, and then its output, are the answers to the requests that are answered.
 pub fn open_sessions_are_answered()
     ensures { (texts sent : ℕ → List ℕ) (order : Order) (lanes : ℕ → Lane) (now : ProxyState)
-        → ProxyStands texts sent order lanes now → (number : ℕ) (session : SessionState) → session_at now number ≡ Some session
+        → ProxyHolds texts sent order lanes now → (number : ℕ) (session : SessionState) → session_at now number ≡ Some session
         → AreAnswers number order (answered session) (sent number) session.output }
 {}
 
@@ -173,7 +173,7 @@ pub fn open_sessions_are_answered()
 /// each session as before.
 pub fn answered_requests_are_counted()
     ensures emit { (texts sent : ℕ → List ℕ) (order : Order) (lanes : ℕ → Lane) (number : ℕ) (old new : ProxyState)
-        → ProxyStands texts sent order lanes old → (step : Steps number old new (Alone (IsEmit emits.Done)))
+        → ProxyHolds texts sent order lanes old → (step : Steps number old new (Alone (IsEmit emits.Done)))
         → answered step.after ≡ answered step.before + 1 }
     ensures idle { (number : ℕ) (old new : ProxyState) → Steps number old new (Alone (IsEmit emits.Idle))
         → (other : ℕ) → answered_at new other ≡ answered_at old other }
@@ -192,15 +192,15 @@ pub fn answered_requests_are_counted()
 /// after another, and of the command that gets its reply.
 pub fn waiting_commands_are_awaited()
     ensures each { (texts sent : ℕ → List ℕ) (order : Order) (lanes : ℕ → Lane) (now : ProxyState)
-        → ProxyStands texts sent order lanes now → (place : ℕ) → (link_at now.links place).up ≡ true
+        → ProxyHolds texts sent order lanes now → (place : ℕ) → (link_at now.links place).up ≡ true
         → (index : ℕ) (waiting : Waiting) → slice_get (link_at now.links place).waiting index ≡ Some waiting
         → IsAwaited place order waiting }
     ensures all { (texts sent : ℕ → List ℕ) (order : Order) (lanes : ℕ → Lane) (now : ProxyState)
-        → ProxyStands texts sent order lanes now → (place : ℕ) → (link_at now.links place).up ≡ true
+        → ProxyHolds texts sent order lanes now → (place : ℕ) → (link_at now.links place).up ≡ true
         → (outcome : Outcome) → is_told outcome ≡ true
         → AreAwaited (map (λ waiting. waiting.1) (link_at now.links place).waiting) outcome order }
     ensures replied { (texts sent : ℕ → List ℕ) (order : Order) (lanes : ℕ → Lane) (place : ℕ) (old new : ProxyState)
-        → ProxyStands texts sent order lanes old → (link_at old.links place).up ≡ true → (answers : Answers place old new)
+        → ProxyHolds texts sent order lanes old → (link_at old.links place).up ≡ true → (answers : Answers place old new)
         → outcome_at order answers.tag ≡ Some Awaited }
 {}
 
@@ -229,11 +229,11 @@ pub fn answers_stay()
 /// So it does after a `link_turn` that took a reply, and where a link is lost.
 pub fn answers_stay_at_links()
     ensures replied { (texts sent : ℕ → List ℕ) (order : Order) (lanes : ℕ → Lane) (place : ℕ) (old new : ProxyState)
-        → ProxyStands texts sent order lanes old → (link_at old.links place).up ≡ true → (answers : Answers place old new)
+        → ProxyHolds texts sent order lanes old → (link_at old.links place).up ≡ true → (answers : Answers place old new)
         → (number count : ℕ) (out unsent : List ℕ) → AreAnswers number order count out unsent
         → AreAnswers number (note answers.tag (Reply answers.reply) order) count out unsent }
     ensures lost { (texts sent : ℕ → List ℕ) (order : Order) (lanes : ℕ → Lane) (place : ℕ) (old : ProxyState)
-        → ProxyStands texts sent order lanes old → (link_at old.links place).up ≡ true
+        → ProxyHolds texts sent order lanes old → (link_at old.links place).up ≡ true
         → (number count : ℕ) (out unsent : List ℕ) → AreAnswers number order count out unsent
         → AreAnswers number (note_all (map (λ waiting. waiting.1) (link_at old.links place).waiting) Lost order) count out unsent }
 {}
@@ -271,19 +271,19 @@ pub fn commands_are_found()
 /// wait in the order in which they were asked.
 pub fn known_commands_come_first()
     ensures known { (texts sent : ℕ → List ℕ) (order : Order) (lanes : ℕ → Lane) (now : ProxyState)
-        → ProxyStands texts sent order lanes now → (place : ℕ) → (link_at now.links place).up ≡ true
+        → ProxyHolds texts sent order lanes now → (place : ℕ) → (link_at now.links place).up ≡ true
         → (i : ℕ) (command : Tagged) (outcome : Outcome) → slice_get (commands_to place order) i ≡ Some command
         → outcome_at order command.1 ≡ Some outcome → is_told outcome ≡ true
         → (k : ℕ) (waiting : Waiting) → slice_get (link_at now.links place).waiting k ≡ Some waiting
         → command.1.session ≡ waiting.1.session → IsBefore command.1 waiting.1 }
     ensures named { (texts sent : ℕ → List ℕ) (order : Order) (lanes : ℕ → Lane) (now : ProxyState)
-        → ProxyStands texts sent order lanes now → (place : ℕ) → (link_at now.links place).up ≡ true
+        → ProxyHolds texts sent order lanes now → (place : ℕ) → (link_at now.links place).up ≡ true
         → (tag : Tag) (atom : Atom (List ℕ)) (outcome : Outcome) → command_at order tag ≡ Some (to_place place atom)
         → outcome_at order tag ≡ Some outcome → is_told outcome ≡ true
         → (k : ℕ) (waiting : Waiting) → slice_get (link_at now.links place).waiting k ≡ Some waiting
         → tag.session ≡ waiting.1.session → IsBefore tag waiting.1 }
     ensures waiting { (texts sent : ℕ → List ℕ) (order : Order) (lanes : ℕ → Lane) (now : ProxyState)
-        → ProxyStands texts sent order lanes now → (place : ℕ) → (link_at now.links place).up ≡ true
+        → ProxyHolds texts sent order lanes now → (place : ℕ) → (link_at now.links place).up ≡ true
         → (k l : ℕ) (first second : Waiting) → slice_get (link_at now.links place).waiting k ≡ Some first
         → slice_get (link_at now.links place).waiting l ≡ Some second → k < l → first.1.session ≡ second.1.session
         → IsBefore first.1 second.1 }

@@ -8,14 +8,14 @@ pub fn with_value(
     alloc: Global,
     before: &[u8],
     sixteens: usize,
-    behind: &[u8],
+    after: &[u8],
 ) -> Result<Vec<u8>, AllocError> {
     let mut text = Vec::new(alloc);
     text.extend_from_slice(before)?;
     for _ in 0..sixteens {
         text.extend_from_slice(b"0123456789abcdef")?;
     }
-    text.extend_from_slice(behind)?;
+    text.extend_from_slice(after)?;
     Ok(text)
 }
 

@@ -8,7 +8,7 @@ use Rattle.mc_forms.proofs.FieldLemmas.{append_split}
 use Rattle.mc_forms.proofs.FormLaws.{IsClear, IsRead, Waits, is_read}
 
 -- a path of a form stands for a value that may be spelled, and spells it
-pub record Stands {R : Type 0} (f : Form R) (may : R → Bool) (spell : R → List ℕ) (p : Path f) : Type 0 where
+pub record Holds {R : Type 0} (f : Form R) (may : R → Bool) (spell : R → List ℕ) (p : Path f) : Type 0 where
   pub value : R
   pub means : meant f p ≡ value
   pub allowed : may value ≡ true
@@ -23,24 +23,24 @@ pub record Spells {R : Type 0} (f : Form R) (r : R) (s : List ℕ) : Type 0 wher
 -- a clear form spells what may be spelled, and nothing else
 pub record Covers {R : Type 0} (f : Form R) (may : R → Bool) (spell : R → List ℕ) : Type 0 where
   pub clear : IsClear f
-  pub of_path : (p : Path f) → Stands f may spell p
+  pub of_path : (p : Path f) → Holds f may spell p
   pub to_path : (r : R) → may r ≡ true → Spells f r (spell r)
 
 -- FROM PATHS, part by part
 
 pub of_line : {R : Type 0} (may : R → Bool) (spell : R → List ℕ) (text : List ℕ) (r : R) → may r ≡ true → spell r ≡ text
-    → (p : Path (Text text (Done r))) → Stands (Text text (Done r)) may spell p
+    → (p : Path (Text text (Done r))) → Holds (Text text (Done r)) may spell p
 of_line may spell text r can same p = record { value = r; means = refl; allowed = can; spelled = append-nil text ∙ sym same }
 
-pub of_or : {R : Type 0} (may : R → Bool) (spell : R → List ℕ) (f g : Form R) → ((p : Path f) → Stands f may spell p) → ((q : Path g) → Stands g may spell q)
-    → (p : Path (Or f g)) → Stands (Or f g) may spell p
+pub of_or : {R : Type 0} (may : R → Bool) (spell : R → List ℕ) (f g : Form R) → ((p : Path f) → Holds f may spell p) → ((q : Path g) → Holds g may spell q)
+    → (p : Path (Or f g)) → Holds (Or f g) may spell p
 of_or may spell f g hf hg (inl p) =
     let s = hf p in record { value = s.value; means = s.means; allowed = s.allowed; spelled = s.spelled }
 of_or may spell f g hf hg (inr p) =
     let s = hg p in record { value = s.value; means = s.means; allowed = s.allowed; spelled = s.spelled }
 
-pub of_or_if : {R : Type 0} (may : R → Bool) (spell : R → List ℕ) (there : Bool) (f g : Form R) → (there ≡ true → (p : Path f) → Stands f may spell p)
-    → ((q : Path g) → Stands g may spell q) → (p : Path (or_if there f g)) → Stands (or_if there f g) may spell p
+pub of_or_if : {R : Type 0} (may : R → Bool) (spell : R → List ℕ) (there : Bool) (f g : Form R) → (there ≡ true → (p : Path f) → Holds f may spell p)
+    → ((q : Path g) → Holds g may spell q) → (p : Path (or_if there f g)) → Holds (or_if there f g) may spell p
 of_or_if may spell true f g hf hg p = of_or may spell f g (hf refl) hg p
 of_or_if may spell false f g hf hg p = hg p
 
@@ -88,11 +88,11 @@ pub read_ok : {R : Type 0} (f : Form R) (may : R → Bool) (spell : R → List �
     → (u : List ℕ) (x : R × List ℕ) → read f u ≡ Ok x → Begins may spell u x
 read_ok {R} f may spell h u x e =
     let found = (covered f may spell h).found u x e in
-    let stands = h.of_path found.path in
-    let same : stands.value ≡ x.0 = sym stands.means ∙ found.means in
+    let holds = h.of_path found.path in
+    let same : holds.value ≡ x.0 = sym holds.means ∙ found.means in
     record {
-      allowed = ap may (sym same) ∙ stands.allowed;
-      spelled = found.spelled ∙ ap (λ (w : List ℕ). w ++ x.1) (stands.spelled ∙ ap spell same);
+      allowed = ap may (sym same) ∙ holds.allowed;
+      spelled = found.spelled ∙ ap (λ (w : List ℕ). w ++ x.1) (holds.spelled ∙ ap spell same);
     }
 
 pub read_more : {R : Type 0} (f : Form R) (may : R → Bool) (spell : R → List ℕ) → Covers f may spell
@@ -103,8 +103,8 @@ read_more f may spell h u n e =
       some = rests.some;
       begun = λ more few.
           let begun = rests.begun more few in
-          let stands = h.of_path begun.path in
-          record { value = stands.value; allowed = stands.allowed; more = begun.next ∷ begun.more; missing = omega arith; spelled = begun.spelled ∙ stands.spelled };
+          let holds = h.of_path begun.path in
+          record { value = holds.value; allowed = holds.allowed; more = begun.next ∷ begun.more; missing = omega arith; spelled = begun.spelled ∙ holds.spelled };
     }
 
 pub read_whole : {R : Type 0} (f : Form R) (may : R → Bool) (spell : R → List ℕ) → Covers f may spell
@@ -144,9 +144,9 @@ read_strange {R} f may spell h u e r more others can same = elim (append_split u
         strange_waits (read f u) waits.0 e waits.1
 
 -- no spelling begins another, and each is of one value
-pub stand_apart : {R : Type 0} (f : Form R) (may : R → Bool) (spell : R → List ℕ) → Covers f may spell
+pub are_apart : {R : Type 0} (f : Form R) (may : R → Bool) (spell : R → List ℕ) → Covers f may spell
     → (r q : R) (xs ys : List ℕ) → may r ≡ true → may q ≡ true → spell r ++ xs ≡ spell q ++ ys → (r ≡ q) × (xs ≡ ys)
-stand_apart {R} f may spell h r q xs ys cr cq e =
+are_apart {R} f may spell h r q xs ys cr cq e =
     let pair = ok_same (r, xs) (q, ys) (read f (spell r ++ xs)) (read_whole f may spell h r xs cr) (ap (read f) e ∙ read_whole f may spell h q ys cq) in
     (ap (λ (x : R × List ℕ). x.0) pair, ap (λ (x : R × List ℕ). x.1) pair)
 

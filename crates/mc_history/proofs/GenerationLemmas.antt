@@ -18,7 +18,7 @@ use Rattle.mc_spelling.proofs.SpelledTextLemmas.{requests-spelled}
 use Rattle.mc_link.specs.LinkState.{LinkState, Waiting}
 use Rattle.mc_link.specs.Turns.{HasStrange}
 use Rattle.mc_server.specs.ServerState.{ConnectionState}
-use Rattle.mc_server.specs.Stands.{Stands}
+use Rattle.mc_server.specs.Holds.{Holds}
 use Rattle.mc_cache.specs.CacheState.{CacheState}
 use Rattle.mc_account.specs.Lanes.{CanHave, Lane, as_waiting, spelled, told}
 use Rattle.mc_account.specs.Orders.{Order, Tagged}
@@ -40,13 +40,13 @@ read_spelled (c ∷ cs) more good =
 -- What a connection reads: where what came and what is on its way spell these commands, of which the first were taken, it reads the
 -- others, and after them what follows.
 pub reads_others : (opening : CacheState) (number : ℕ) (text going sent : List ℕ) (made : List Made) (connection : ConnectionState) (others : List Tagged)
-    → Stands opening number text (map taking_of made) sent connection
+    → Holds opening number text (map taking_of made) sent connection
     → text ++ going ≡ spelled (commands_on number made ++ others) → list_all is_good (commands_on number made ++ others) ≡ true
     → (more : List ℕ) → rest_of connection.reader (going ++ more) ≡ map read_as others ++ requests_of more
-reads_others opening number text going sent made connection others stands put good more =
+reads_others opening number text going sent made connection others holds put good more =
     append_cancel_left (map read_as (commands_on number made)) (rest_of connection.reader (going ++ more)) (map read_as others ++ requests_of more)
     (ap (λ (ts : List Taken). ts ++ rest_of connection.reader (going ++ more)) (sym (taken_on number made))
-    ∙ stands.rest (going ++ more)
+    ∙ holds.rest (going ++ more)
     ∙ ap requests_of (sym (append_assoc text going more) ∙ ap (λ (bytes : List ℕ). bytes ++ more) put)
     ∙ read_spelled (commands_on number made ++ others) more good
     ∙ ap (λ (ts : List Taken). ts ++ requests_of more) (map-append read_as (commands_on number made) others)
@@ -88,24 +88,24 @@ told_front (c ∷ cs) (r ∷ rs) (q ∷ qs) bytes good can can_all same =
     }
 
 -- what is told of some commands is not strange to those who wait for their replies
-pub not_strange : (commands : List Tagged) (later : List (AReply (List ℕ))) (unread behind : List ℕ) → list_all is_good commands ≡ true
-    → CanHave commands later → unread ++ behind ≡ told commands later → HasStrange (as_waiting commands) unread → ⊥
-not_strange [] [] unread behind good can is strange =
-    let size : length unread ≡ 0 = ap (λ (bytes : List ℕ). length bytes) (front_none unread behind is) in
+pub not_strange : (commands : List Tagged) (later : List (AReply (List ℕ))) (unread after : List ℕ) → list_all is_good commands ≡ true
+    → CanHave commands later → unread ++ after ≡ told commands later → HasStrange (as_waiting commands) unread → ⊥
+not_strange [] [] unread after good can is strange =
+    let size : length unread ≡ 0 = ap (λ (bytes : List ℕ). length bytes) (front_none unread after is) in
     omega (arith, strange, size)
-not_strange [] (r ∷ rs) unread behind good can is strange = absurd can
-not_strange (c ∷ cs) [] unread behind good can is strange =
+not_strange [] (r ∷ rs) unread after good can is strange = absurd can
+not_strange (c ∷ cs) [] unread after good can is strange =
     let parts = and_parts (is_good c) (list_all is_good cs) good in
     let begun = atom_begins c.0 parts.0 in
     strange begun.reply begun.more [] begun.can
-    (ap (λ (bytes : List ℕ). bytes ++ begun.more) (front_none unread behind is) ∙ begun.spelled ∙ sym (append-nil (spelling_of (head_of c.0) begun.reply)))
-not_strange (c ∷ cs) (r ∷ rs) unread behind good can is strange = strange r behind (told cs rs) can.0 is
+    (ap (λ (bytes : List ℕ). bytes ++ begun.more) (front_none unread after is) ∙ begun.spelled ∙ sym (append-nil (spelling_of (head_of c.0) begun.reply)))
+not_strange (c ∷ cs) (r ∷ rs) unread after good can is strange = strange r after (told cs rs) can.0 is
 
 -- goodness of the later commands
-good_behind : (count : ℕ) (commands : List Tagged) → list_all is_good commands ≡ true → list_all is_good (drop count commands) ≡ true
-good_behind zero commands good = good
-good_behind (suc count) [] good = refl
-good_behind (suc count) (c ∷ cs) good = good_behind count cs (and_parts (is_good c) (list_all is_good cs) good).1
+good_after : (count : ℕ) (commands : List Tagged) → list_all is_good commands ≡ true → list_all is_good (drop count commands) ≡ true
+good_after zero commands good = good
+good_after (suc count) [] good = refl
+good_after (suc count) (c ∷ cs) good = good_after count cs (and_parts (is_good c) (list_all is_good cs) good).1
 
 -- the heart: what a living generation carries
 pub carried : (place : ℕ) (order : Order) (lane : Lane) (link : LinkState) (opening : CacheState) (made : List Made) (number : ℕ) (connection : ConnectionState) (others : List Tagged)
@@ -129,6 +129,6 @@ carried place order lane link opening made number connection others h =
           (ap (λ (cs : List Tagged). list_all is_good cs) (sym h.commands) ∙ h.good);
       front = front;
       never_strange = λ strange. not_strange (drop (length lane.replies) (commands_of_lane place order lane)) front.later link.unread connection.output
-          (good_behind (length lane.replies) (commands_of_lane place order lane) h.good) front.can front.bytes_are
+          (good_after (length lane.replies) (commands_of_lane place order lane) h.good) front.can front.bytes_are
           (subst (λ (ws : List Waiting). HasStrange ws link.unread) h.lane.waiting strange);
     }

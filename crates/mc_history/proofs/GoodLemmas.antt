@@ -20,7 +20,7 @@ use Rattle.mc_route.specs.Routes.{route_of_gets, route_of_taken, to_each}
 use Rattle.mc_route.specs.declared.routes.Routed.{Routed}
 use Rattle.mc_session.specs.SessionState.{SessionState}
 use Rattle.mc_account.specs.Orders.{Entry as Asked, Order, commands_from, commands_in, taken_of}
-use Rattle.mc_account.specs.Stands.{SessionStands}
+use Rattle.mc_account.specs.Holds.{SessionHolds}
 use Rattle.mc_account.proofs.OrderLemmas.{passes_parts}
 use Rattle.mc_history.specs.Generations.{is_good}
 
@@ -70,10 +70,10 @@ good_in place e h = good_from place e.session e.request 0 (route_of_taken e.ring
 
 -- what a turn takes of a session can be spelled
 pub taken_is_good : (number : ℕ) (order : Order) (text sent : List ℕ) (before after : SessionState) (what : Taken) → All (λ b. b < 256) text
-    → SessionStands number order text sent before → IsFirst before.reader what after.reader → can_be_spelled what ≡ true
-taken_is_good number order text sent before after what bytes stands first =
+    → SessionHolds number order text sent before → IsFirst before.reader what after.reader → can_be_spelled what ≡ true
+taken_is_good number order text sent before after what bytes holds first =
     let all : list_all can_be_spelled (taken_of number order ++ (what ∷ rest_of after.reader [])) ≡ true =
     ap (λ (ts : List Taken). list_all can_be_spelled (taken_of number order ++ ts)) (sym (first.rest []))
-    ∙ ap (λ (ts : List Taken). list_all can_be_spelled ts) (stands.rest [] ∙ ap requests_of (append-nil text))
+    ∙ ap (λ (ts : List Taken). list_all can_be_spelled ts) (holds.rest [] ∙ ap requests_of (append-nil text))
     ∙ requests_can_be_spelled text bytes in
     (and_parts (can_be_spelled what) (list_all can_be_spelled (rest_of after.reader [])) (passes_parts can_be_spelled (taken_of number order) (what ∷ rest_of after.reader []) all).1).0

@@ -92,9 +92,9 @@ whole_from : (place session request at : ℕ) (whole front commands : List Route
     → Each (λ (c : Tagged). (c.1.session ≡ session) × (c.1.request ≡ request) × (slice_get whole c.1.atom ≡ Some (to_place place c.0))) (commands_from place session request at commands)
 whole_from place session request at whole front [] is size = tt
 whole_from place session request at whole front (c ∷ cs) is size =
-    let behind : whole ≡ (front ++ c ∷ []) ++ cs = is ∙ sym (append_assoc front (c ∷ []) cs) in
+    let after : whole ≡ (front ++ c ∷ []) ++ cs = is ∙ sym (append_assoc front (c ∷ []) cs) in
     let longer : suc at ≡ length (front ++ c ∷ []) = omega (arith, size, length_push front c) in
-    let again = whole_from place session request (suc at) whole (front ++ c ∷ []) cs behind longer in
+    let again = whole_from place session request (suc at) whole (front ++ c ∷ []) cs after longer in
     let here : slice_get whole at ≡ Some c = ap (λ (rs : List Routed). slice_get rs at) is ∙ routed_at front cs c at size in
     (elim (c.server == place) as (λ v. c.server == place ≡ v → Each (λ (x : Tagged). (x.1.session ≡ session) × (x.1.request ≡ request) × (slice_get whole x.1.atom ≡ Some (to_place place x.0)))
     (if v then (c.atom, record { session = session; request = request; atom = at }) ∷ commands_from place session request (suc at) cs else commands_from place session request (suc at) cs)) [

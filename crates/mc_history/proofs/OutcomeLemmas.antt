@@ -125,8 +125,8 @@ slot_back t outcome session (x ∷ xs) at zero a q numbered own e =
       | false ↦ λ is now. inl now
     ]) refl e
 slot_back t outcome session (x ∷ xs) at (suc k) a q numbered own e =
-    let behind : map (λ (y : Asked). y.request) xs ≡ numbers_from (suc at) xs = cc in
-    elim (slot_back t outcome session xs (suc at) k a q behind own.1 e) [
+    let after : map (λ (y : Asked). y.request) xs ≡ numbers_from (suc at) xs = cc in
+    elim (slot_back t outcome session xs (suc at) k a q after own.1 e) [
       | inl h ↦ inl h
       | inr h ↦ (let number : suc k + at ≡ t.request = omega (arith, h.1) in inr (h.0, number, h.2, h.3))
     ]

@@ -8,9 +8,9 @@ use Rattle.mc_spelling.specs.Spellings.{is_good_atom}
 use Rattle.mc_link.specs.LinkState.{LinkState}
 use Rattle.mc_link.specs.Turns.{HasStrange}
 use Rattle.mc_server.specs.ServerState.{ConnectionState}
-use Rattle.mc_server.specs.Stands.{Stands}
+use Rattle.mc_server.specs.Holds.{Holds}
 use Rattle.mc_cache.specs.CacheState.{CacheState}
-use Rattle.mc_account.specs.Lanes.{CanHave, Lane, LaneStands, told}
+use Rattle.mc_account.specs.Lanes.{CanHave, Lane, LaneHolds, told}
 use Rattle.mc_account.specs.Orders.{Order, Tagged, commands_to}
 use Rattle.mc_history.specs.Made.{AreMade, Made, commands_on, read_as, replies_on, taking_of}
 
@@ -32,8 +32,8 @@ pub record IsFront (commands : List Tagged) (replies all : List (AReply (List �
 -- A link that is up and the server's connection at its other end, by what the server made of the commands that came and which others
 -- were sent: the bytes that came are those that left, both ways.
 pub record AreJoined (place : ℕ) (order : Order) (passed : Lane) (link : LinkState) (opening : CacheState) (all : List Made) (number : ℕ) (end : ConnectionState) (others : List Tagged) : Type 0 where
-  pub lane : LaneStands place order passed link
-  pub connection : Stands opening number passed.out (map taking_of all) passed.came end
+  pub lane : LaneHolds place order passed link
+  pub connection : Holds opening number passed.out (map taking_of all) passed.came end
   pub made : AreMade opening all
   pub commands : commands_of_lane place order passed ≡ commands_on number all ++ others
   pub good : list_all is_good (commands_of_lane place order passed) ≡ true

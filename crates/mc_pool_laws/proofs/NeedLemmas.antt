@@ -521,7 +521,7 @@ abbrev misreplied : Entry
 misreplied = record { client = 0; request = 0; atom = 0; moment = 5; refused = false; reply = [] }
 
 legal_flush : (s : CacheState) (es : List Entry) → IsLegal awaited 0 (step_of s flush 5 false).0 es → IsLegal awaited 0 s (flushed ∷ es)
-legal_flush s es behind = (flush, refl, record { legal = λ h. absurd (false≢true h); refused = refl; reply = refl }, behind)
+legal_flush s es after = (flush, refl, record { legal = λ h. absurd (false≢true h); refused = refl; reply = refl }, after)
 
 abbrev served_log : Log
 served_log = takes_one ∷ serves_one ∷ []

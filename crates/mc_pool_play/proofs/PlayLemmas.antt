@@ -25,13 +25,13 @@ pub played_budget : {script : PoolSeen} {count : ℕ} {steps : List Step} {world
 played_budget h = h.keeps.budget ∙ ap (λ (w : WorldState). w.budget) h.opened.is
 
 -- one line after others
-plays_behind : (opening : CacheState) (lines : List PoolLine) (steps : List Step) (line : PoolLine) (step : Step) (old now new : CourseState)
+plays_after : (opening : CacheState) (lines : List PoolLine) (steps : List Step) (line : PoolLine) (step : Step) (old now new : CourseState)
     → PlaysAll opening lines steps old now → Plays opening line step now new → PlaysAll opening (lines ++ line ∷ []) (steps ++ step ∷ []) old new
-plays_behind opening [] [] line step old now new is plays = (new, subst (λ (c : CourseState). Plays opening line step c new) is plays, refl)
-plays_behind opening [] (s ∷ ss) line step old now new never plays = absurd never
-plays_behind opening (l ∷ ls) [] line step old now new never plays = absurd never
-plays_behind opening (l ∷ ls) (s ∷ ss) line step old now new h plays =
-    (h.0, h.1, plays_behind opening ls ss line step h.0 now new h.2 plays)
+plays_after opening [] [] line step old now new is plays = (new, subst (λ (c : CourseState). Plays opening line step c new) is plays, refl)
+plays_after opening [] (s ∷ ss) line step old now new never plays = absurd never
+plays_after opening (l ∷ ls) [] line step old now new never plays = absurd never
+plays_after opening (l ∷ ls) (s ∷ ss) line step old now new h plays =
+    (h.0, h.1, plays_after opening ls ss line step h.0 now new h.2 plays)
 
 keeps_both : (first old new : WorldState) → KeepsOpening first old → KeepsOpening old new → KeepsOpening first new
 keeps_both first old new a b = record { ring = b.ring ∙ a.ring; budget = b.budget ∙ a.budget; items = b.items ∙ a.items }
@@ -45,7 +45,7 @@ plays_one script i steps line step old new inside is h plays keeps account =
     let cache : opening_cache old.budget old.items 0 ≡ cache_of script =
     ap (λ (b : ℕ). opening_cache b old.items 0) (played_budget h) ∙ ap (λ (n : ℕ). opening_cache script.budget n 0) (played_items h) in
     let one : Plays (cache_of script) line step old.course new.course = subst (λ (c : CacheState). Plays c line step old.course new.course) cache plays in
-    let more = plays_behind (cache_of script) (take i script.lines) steps line step h.first.course old.course new.course h.played one in
+    let more = plays_after (cache_of script) (take i script.lines) steps line step h.first.course old.course new.course h.played one in
     record {
       first = h.first;
       opened = h.opened;

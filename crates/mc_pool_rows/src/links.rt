@@ -184,7 +184,7 @@ fn is_strange(alloc: Global, link: &mut Link) -> Result<bool, Stopped> {
 }
 
 /// How many commands and unsent bytes a link hands out that is lost in the middle of a reply, where all was sent.
-fn lost_behind(
+fn lost_after(
     alloc: Global,
     link: &mut Link,
     request: &Request,
@@ -198,7 +198,7 @@ fn lost_behind(
 
 fn are_losses_told(alloc: Global, link: &mut Link, request: &Request) -> Result<bool, Stopped> {
     let is_strange = is_strange(alloc, link)?;
-    Ok(is_strange && lost_behind(alloc, link, request)? == (2, 0) && !link.is_up())
+    Ok(is_strange && lost_after(alloc, link, request)? == (2, 0) && !link.is_up())
 }
 
 fn go_so(alloc: Global) -> Result<bool, Stopped> {

@@ -33,13 +33,13 @@ fn is_reply(proxy: &mut Proxy, reply: &[u8]) -> Result<bool, ProxyError> {
 }
 
 /// What the turn does that follows on so many bytes that were sent to the client.
-fn turn_behind(proxy: &mut Proxy, sent: usize) -> Result<Turn, ProxyError> {
+fn turn_after(proxy: &mut Proxy, sent: usize) -> Result<Turn, ProxyError> {
     proxy.taken_out(0, sent.min(proxy.output(0).len()));
     proxy.turn(0)
 }
 
 /// What the turn does that follows on so many bytes that were sent to the server.
-fn turn_behind_link(proxy: &mut Proxy, sent: usize) -> Result<Turn, ProxyError> {
+fn turn_after_link(proxy: &mut Proxy, sent: usize) -> Result<Turn, ProxyError> {
     proxy.link_taken_out(0, sent.min(proxy.link_output(0).len()));
     proxy.turn(0)
 }
@@ -58,8 +58,8 @@ fn unanswered(proxy: &mut Proxy) -> Result<bool, ProxyError> {
 fn unsent_on_a_link(proxy: &mut Proxy, set: &[u8]) -> Result<bool, ProxyError> {
     let are_taken = is_taken(proxy, set, 8)? && proxy.link_output(0).len() == LINK_MARK + 168;
     let waits = ask(proxy, GET)? == Turn::Waiting;
-    let still = turn_behind_link(proxy, 168)? == Turn::Waiting;
-    let then = turn_behind_link(proxy, 1)? == Turn::Took;
+    let still = turn_after_link(proxy, 168)? == Turn::Waiting;
+    let then = turn_after_link(proxy, 1)? == Turn::Took;
     Ok(are_taken && waits && still && then)
 }
 
@@ -72,8 +72,8 @@ fn unsent_to_a_client(proxy: &mut Proxy, answer: &[u8]) -> Result<bool, ProxyErr
     }
     let are_all = are_out && proxy.output(0).len() == UNSENT_MARK + 104;
     let waits = ask(proxy, GET)? == Turn::Waiting;
-    let still = turn_behind(proxy, 104)? == Turn::Waiting;
-    let then = turn_behind(proxy, 1)? == Turn::Took;
+    let still = turn_after(proxy, 104)? == Turn::Waiting;
+    let then = turn_after(proxy, 1)? == Turn::Took;
     Ok(are_all && waits && still && then)
 }
 

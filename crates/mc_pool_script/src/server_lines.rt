@@ -15,8 +15,8 @@ pub fn read_to_server(servers: usize, text: &[u8]) -> Option<PoolLine>
     ensures line { result ≡ to_server_line servers text.now }
     ensures moment { IfSome result (λ line. HasMoment line (2 ^ 63)) }
 {
-    let (server, behind) = cut_at_space(text)?;
-    let (generation, count) = cut_at_space(behind)?;
+    let (server, after) = cut_at_space(text)?;
+    let (generation, count) = cut_at_space(after)?;
     let server = read_server(servers, server)?;
     let generation = read_u64(generation)?;
     let count = read_count(count)?;
@@ -33,8 +33,8 @@ pub fn read_serve(servers: usize, text: &[u8]) -> Option<PoolLine>
     ensures line { result ≡ serve_line servers text.now }
     ensures moment { IfSome result (λ line. HasMoment line (2 ^ 63)) }
 {
-    let (server, behind) = cut_at_space(text)?;
-    let (generation, moment) = cut_at_space(behind)?;
+    let (server, after) = cut_at_space(text)?;
+    let (generation, moment) = cut_at_space(after)?;
     let server = read_server(servers, server)?;
     let generation = read_u64(generation)?;
     let moment = read_moment(moment)?;

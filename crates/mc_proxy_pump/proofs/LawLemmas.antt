@@ -12,24 +12,24 @@ use Rattle.mc_session.specs.declared.turns.Turn.TheVariants as turns
 use Rattle.mc_proxy.specs.ProxyState.{ProxyState, output_of, session_at}
 use Rattle.mc_account.specs.Lanes.{Lane}
 use Rattle.mc_account.specs.Orders.{Order, note, note_all}
-use Rattle.mc_account.specs.Stands.{ProxyStands, changed, grown}
-use Rattle.mc_account.proofs.StandsLemmas.{changed-other, changed-own, entry_taken, stands-emitted, stands-fed, stands-idle_emit, stands-idle_turn, stands-sent, stands-took}
-use Rattle.mc_account.proofs.LinkLemmas.{stands-lost, stands-replied}
+use Rattle.mc_account.specs.Holds.{ProxyHolds, changed, grown}
+use Rattle.mc_account.proofs.HoldsLemmas.{changed-other, changed-own, entry_taken, holds-emitted, holds-fed, holds-idle_emit, holds-idle_turn, holds-sent, holds-took}
+use Rattle.mc_account.proofs.LinkLemmas.{holds-lost, holds-replied}
 use Rattle.mc_proxy_pump.specs.Calls as sessions
 use Rattle.mc_proxy_pump.specs.LinkCalls as links
-use Rattle.mc_proxy_pump.specs.Laws.{AreOf, StandsBehindClient, StandsBehindLink, asked_in}
+use Rattle.mc_proxy_pump.specs.Laws.{AreOf, HoldsAfterClient, HoldsAfterLink, asked_in}
 
 -- a proxy holds by texts, bytes and lanes that are the same at each number or place
-stands_same : (texts texts' sent sent' : ℕ → List ℕ) (order : Order) (lanes lanes' : ℕ → Lane) (proxy : ProxyState)
+holds_same : (texts texts' sent sent' : ℕ → List ℕ) (order : Order) (lanes lanes' : ℕ → Lane) (proxy : ProxyState)
     → ((n : ℕ) → texts' n ≡ texts n) → ((n : ℕ) → sent' n ≡ sent n) → ((place : ℕ) → lanes' place ≡ lanes place)
-    → ProxyStands texts sent order lanes proxy → ProxyStands texts' sent' order lanes' proxy
-stands_same texts texts' sent sent' order lanes lanes' proxy text_is sent_is lane_is h =
+    → ProxyHolds texts sent order lanes proxy → ProxyHolds texts' sent' order lanes' proxy
+holds_same texts texts' sent sent' order lanes lanes' proxy text_is sent_is lane_is h =
     let text_same : texts ≡ texts' = λ i n. sym (text_is n) i in
     let sent_same : sent ≡ sent' = λ i n. sym (sent_is n) i in
     let lane_same : lanes ≡ lanes' = λ i place. sym (lane_is place) i in
-    subst (λ (f : ℕ → List ℕ). ProxyStands f sent' order lanes' proxy) text_same
-    (subst (λ (f : ℕ → List ℕ). ProxyStands texts f order lanes' proxy) sent_same
-    (subst (λ (f : ℕ → Lane). ProxyStands texts sent order f proxy) lane_same h))
+    subst (λ (f : ℕ → List ℕ). ProxyHolds f sent' order lanes' proxy) text_same
+    (subst (λ (f : ℕ → List ℕ). ProxyHolds texts f order lanes' proxy) sent_same
+    (subst (λ (f : ℕ → Lane). ProxyHolds texts sent order f proxy) lane_same h))
 
 -- bytes that grow by none, and that grow twice
 grown_none : (number n : ℕ) (bytes : ℕ → List ℕ) → grown number [] bytes n ≡ bytes n
@@ -70,49 +70,49 @@ changed_none place at lanes =
     (eqb_tells place at)
 
 -- nothing was taken
-behind_none : (number : ℕ) (came went : List ℕ) (texts texts' sent sent' : ℕ → List ℕ) (order : Order) (lanes : ℕ → Lane) (new : ProxyState)
-    → ((n : ℕ) → grown number came texts n ≡ texts' n) → ((n : ℕ) → grown number went sent n ≡ sent' n) → ProxyStands texts' sent' order lanes new
-    → StandsBehindClient number came went texts sent order lanes new
-behind_none number came went texts texts' sent sent' order lanes new text_is sent_is h = record {
+after_none : (number : ℕ) (came went : List ℕ) (texts texts' sent sent' : ℕ → List ℕ) (order : Order) (lanes : ℕ → Lane) (new : ProxyState)
+    → ((n : ℕ) → grown number came texts n ≡ texts' n) → ((n : ℕ) → grown number went sent n ≡ sent' n) → ProxyHolds texts' sent' order lanes new
+    → HoldsAfterClient number came went texts sent order lanes new
+after_none number came went texts texts' sent sent' order lanes new text_is sent_is h = record {
   more = [];
   own = tt;
-  stands = subst (λ (es : Order). ProxyStands (grown number came texts) (grown number went sent) es lanes new) (sym (append-nil order))
-      (stands_same texts' (grown number came texts) sent' (grown number went sent) order lanes lanes new text_is sent_is (λ _. refl) h);
+  holds = subst (λ (es : Order). ProxyHolds (grown number came texts) (grown number went sent) es lanes new) (sym (append-nil order))
+      (holds_same texts' (grown number came texts) sent' (grown number went sent) order lanes lanes new text_is sent_is (λ _. refl) h);
 }
 
 -- a proxy holds after a call for a session
-behind_call : (number : ℕ) (call : sessions.Call) (texts sent : ℕ → List ℕ) (order : Order) (lanes : ℕ → Lane) (old new : ProxyState)
-    → ProxyStands texts sent order lanes old → sessions.IsCall number call old new
-    → StandsBehindClient number (sessions.came_by call) (sessions.went_by call) texts sent order lanes new
-behind_call number (sessions.Fed came) texts sent order lanes old new h step =
-    behind_none number came [] texts (grown number came texts) sent sent order lanes new (λ _. refl) (λ n. grown_none number n sent)
-    (stands-fed texts sent order lanes number came old new h step.0)
-behind_call number (sessions.Turned turns.Took) texts sent order lanes old new h step = record {
+after_call : (number : ℕ) (call : sessions.Call) (texts sent : ℕ → List ℕ) (order : Order) (lanes : ℕ → Lane) (old new : ProxyState)
+    → ProxyHolds texts sent order lanes old → sessions.IsCall number call old new
+    → HoldsAfterClient number (sessions.came_by call) (sessions.went_by call) texts sent order lanes new
+after_call number (sessions.Fed came) texts sent order lanes old new h step =
+    after_none number came [] texts (grown number came texts) sent sent order lanes new (λ _. refl) (λ n. grown_none number n sent)
+    (holds-fed texts sent order lanes number came old new h step.0)
+after_call number (sessions.Turned turns.Took) texts sent order lanes old new h step = record {
   more = entry_taken step ∷ [];
   own = (refl, tt);
-  stands = stands_same texts (grown number [] texts) sent (grown number [] sent) (order ++ entry_taken step ∷ []) lanes lanes new
-      (λ n. grown_none number n texts) (λ n. grown_none number n sent) (λ _. refl) (stands-took texts sent order lanes number old new h step);
+  holds = holds_same texts (grown number [] texts) sent (grown number [] sent) (order ++ entry_taken step ∷ []) lanes lanes new
+      (λ n. grown_none number n texts) (λ n. grown_none number n sent) (λ _. refl) (holds-took texts sent order lanes number old new h step);
 }
-behind_call number (sessions.Turned turns.Idle) texts sent order lanes old new h step =
-    behind_none number [] [] texts texts sent sent order lanes new (λ n. grown_none number n texts) (λ n. grown_none number n sent)
-    (stands-idle_turn texts sent order lanes number turns.Idle old new h (λ e. absurd cc) step)
-behind_call number (sessions.Turned turns.Waiting) texts sent order lanes old new h step =
-    behind_none number [] [] texts texts sent sent order lanes new (λ n. grown_none number n texts) (λ n. grown_none number n sent)
-    (stands-idle_turn texts sent order lanes number turns.Waiting old new h (λ e. absurd cc) step)
-behind_call number (sessions.Turned turns.Closing) texts sent order lanes old new h step =
-    behind_none number [] [] texts texts sent sent order lanes new (λ n. grown_none number n texts) (λ n. grown_none number n sent)
-    (stands-idle_turn texts sent order lanes number turns.Closing old new h (λ e. absurd cc) step)
-behind_call number (sessions.Emitted emits.Done) texts sent order lanes old new h step =
-    behind_none number [] [] texts texts sent sent order lanes new (λ n. grown_none number n texts) (λ n. grown_none number n sent)
-    (stands-emitted texts sent order lanes number old new h step.0)
-behind_call number (sessions.Emitted emits.Idle) texts sent order lanes old new h step =
-    behind_none number [] [] texts texts sent sent order lanes new (λ n. grown_none number n texts) (λ n. grown_none number n sent)
-    (stands-idle_emit texts sent order lanes number old new h step.0)
-behind_call number (sessions.Sent count went) texts sent order lanes old new h step =
-    let stands = stands-sent texts sent order lanes number count old h in
-    let here = subst (λ (p : ProxyState). ProxyStands texts (grown number (take count (output_of (session_at old number))) sent) order lanes p) (sym step.2) stands in
-    let grown_by = subst (λ (bytes : List ℕ). ProxyStands texts (grown number bytes sent) order lanes new) (sym step.1) here in
-    behind_none number [] went texts texts sent (grown number went sent) order lanes new (λ n. grown_none number n texts) (λ _. refl) grown_by
+after_call number (sessions.Turned turns.Idle) texts sent order lanes old new h step =
+    after_none number [] [] texts texts sent sent order lanes new (λ n. grown_none number n texts) (λ n. grown_none number n sent)
+    (holds-idle_turn texts sent order lanes number turns.Idle old new h (λ e. absurd cc) step)
+after_call number (sessions.Turned turns.Waiting) texts sent order lanes old new h step =
+    after_none number [] [] texts texts sent sent order lanes new (λ n. grown_none number n texts) (λ n. grown_none number n sent)
+    (holds-idle_turn texts sent order lanes number turns.Waiting old new h (λ e. absurd cc) step)
+after_call number (sessions.Turned turns.Closing) texts sent order lanes old new h step =
+    after_none number [] [] texts texts sent sent order lanes new (λ n. grown_none number n texts) (λ n. grown_none number n sent)
+    (holds-idle_turn texts sent order lanes number turns.Closing old new h (λ e. absurd cc) step)
+after_call number (sessions.Emitted emits.Done) texts sent order lanes old new h step =
+    after_none number [] [] texts texts sent sent order lanes new (λ n. grown_none number n texts) (λ n. grown_none number n sent)
+    (holds-emitted texts sent order lanes number old new h step.0)
+after_call number (sessions.Emitted emits.Idle) texts sent order lanes old new h step =
+    after_none number [] [] texts texts sent sent order lanes new (λ n. grown_none number n texts) (λ n. grown_none number n sent)
+    (holds-idle_emit texts sent order lanes number old new h step.0)
+after_call number (sessions.Sent count went) texts sent order lanes old new h step =
+    let holds = holds-sent texts sent order lanes number count old h in
+    let here = subst (λ (p : ProxyState). ProxyHolds texts (grown number (take count (output_of (session_at old number))) sent) order lanes p) (sym step.2) holds in
+    let grown_by = subst (λ (bytes : List ℕ). ProxyHolds texts (grown number bytes sent) order lanes new) (sym step.1) here in
+    after_none number [] went texts texts sent (grown number went sent) order lanes new (λ n. grown_none number n texts) (λ _. refl) grown_by
 
 -- entries of one session after others of it
 own-append : (number : ℕ) (es fs : Order) → AreOf number es → AreOf number fs → AreOf number (es ++ fs)
@@ -120,26 +120,26 @@ own-append number [] fs h k = k
 own-append number (e ∷ es) fs h k = (h.0, own-append number es fs h.1 k)
 
 -- a proxy holds after calls for a session
-pub behind_calls : (texts sent : ℕ → List ℕ) (order : Order) (lanes : ℕ → Lane) (number : ℕ) (calls : List sessions.Call) (old new : ProxyState)
-    → ProxyStands texts sent order lanes old → sessions.Calls number calls old new
-    → StandsBehindClient number (sessions.came_of calls) (sessions.went_of calls) texts sent order lanes new
-behind_calls texts sent order lanes number [] old new h chain =
-    behind_none number [] [] texts texts sent sent order lanes new (λ n. grown_none number n texts) (λ n. grown_none number n sent)
-    (subst (λ (p : ProxyState). ProxyStands texts sent order lanes p) (sym chain) h)
-behind_calls texts sent order lanes number (call ∷ calls) old new h chain =
+pub after_calls : (texts sent : ℕ → List ℕ) (order : Order) (lanes : ℕ → Lane) (number : ℕ) (calls : List sessions.Call) (old new : ProxyState)
+    → ProxyHolds texts sent order lanes old → sessions.Calls number calls old new
+    → HoldsAfterClient number (sessions.came_of calls) (sessions.went_of calls) texts sent order lanes new
+after_calls texts sent order lanes number [] old new h chain =
+    after_none number [] [] texts texts sent sent order lanes new (λ n. grown_none number n texts) (λ n. grown_none number n sent)
+    (subst (λ (p : ProxyState). ProxyHolds texts sent order lanes p) (sym chain) h)
+after_calls texts sent order lanes number (call ∷ calls) old new h chain =
     let came = sessions.came_by call in
     let went = sessions.went_by call in
-    let first = behind_call number call texts sent order lanes old chain.0 h chain.1.0 in
-    let others = behind_calls (grown number came texts) (grown number went sent) (order ++ first.more) lanes number calls chain.0 new first.stands chain.1.1 in
+    let first = after_call number call texts sent order lanes old chain.0 h chain.1.0 in
+    let others = after_calls (grown number came texts) (grown number went sent) (order ++ first.more) lanes number calls chain.0 new first.holds chain.1.1 in
     record {
       more = first.more ++ others.more;
       own = own-append number first.more others.more first.own others.own;
-      stands = subst (λ (es : Order). ProxyStands (grown number (came ++ sessions.came_of calls) texts) (grown number (went ++ sessions.went_of calls) sent) es lanes new)
+      holds = subst (λ (es : Order). ProxyHolds (grown number (came ++ sessions.came_of calls) texts) (grown number (went ++ sessions.went_of calls) sent) es lanes new)
           (append_assoc order first.more others.more)
-          (stands_same (grown number (sessions.came_of calls) (grown number came texts)) (grown number (came ++ sessions.came_of calls) texts)
+          (holds_same (grown number (sessions.came_of calls) (grown number came texts)) (grown number (came ++ sessions.came_of calls) texts)
           (grown number (sessions.went_of calls) (grown number went sent)) (grown number (went ++ sessions.went_of calls) sent)
           ((order ++ first.more) ++ others.more) lanes lanes new
-          (λ n. grown_twice number n came (sessions.came_of calls) texts) (λ n. grown_twice number n went (sessions.went_of calls) sent) (λ _. refl) others.stands);
+          (λ n. grown_twice number n came (sessions.came_of calls) texts) (λ n. grown_twice number n went (sessions.went_of calls) sent) (λ _. refl) others.holds);
     }
 
 -- what was asked, where outcomes are noted
@@ -152,20 +152,20 @@ asked-note_all [] outcome order = refl
 asked-note_all (tag ∷ tags) outcome order = asked-note_all tags outcome (note tag outcome order) ∙ asked-note tag outcome order
 
 -- how bytes for a server, and bytes that came from one, keep the account
-abbrev pub SentStands : Type 0
-SentStands = (texts sent : ℕ → List ℕ) (order : Order) (lanes : ℕ → Lane) (place count : ℕ) (old : ProxyState)
-    → ProxyStands texts sent order lanes old → count ≤ length (link_at old.links place).output
-    → ProxyStands texts sent order
+abbrev pub SentHolds : Type 0
+SentHolds = (texts sent : ℕ → List ℕ) (order : Order) (lanes : ℕ → Lane) (place count : ℕ) (old : ProxyState)
+    → ProxyHolds texts sent order lanes old → count ≤ length (link_at old.links place).output
+    → ProxyHolds texts sent order
     (changed place (record (lanes place) { out = (lanes place).out ++ take count (link_at old.links place).output }) lanes)
     (record old {
       links = with_link place
           (record (link_at old.links place) { output = drop count (link_at old.links place).output }) old.links;
     })
 
-abbrev pub FedStands : Type 0
-FedStands = (texts sent : ℕ → List ℕ) (order : Order) (lanes : ℕ → Lane) (place : ℕ) (piece : List ℕ) (old : ProxyState)
-    → ProxyStands texts sent order lanes old → (link_at old.links place).up ≡ true
-    → ProxyStands texts sent order (changed place (record (lanes place) { came = (lanes place).came ++ piece }) lanes)
+abbrev pub FedHolds : Type 0
+FedHolds = (texts sent : ℕ → List ℕ) (order : Order) (lanes : ℕ → Lane) (place : ℕ) (piece : List ℕ) (old : ProxyState)
+    → ProxyHolds texts sent order lanes old → (link_at old.links place).up ≡ true
+    → ProxyHolds texts sent order (changed place (record (lanes place) { came = (lanes place).came ++ piece }) lanes)
     (record old {
       links = with_link place
           (record (link_at old.links place) { unread = (link_at old.links place).unread ++ piece }) old.links;
@@ -173,21 +173,21 @@ FedStands = (texts sent : ℕ → List ℕ) (order : Order) (lanes : ℕ → Lan
 
 -- nothing passed
 link_still : (place : ℕ) (texts sent : ℕ → List ℕ) (order order' : Order) (lanes : ℕ → Lane) (new : ProxyState) → asked_in order' ≡ asked_in order
-    → ProxyStands texts sent order' lanes new → StandsBehindLink place [] [] texts sent order lanes new
+    → ProxyHolds texts sent order' lanes new → HoldsAfterLink place [] [] texts sent order lanes new
 link_still place texts sent order order' lanes new same h = record {
   order' = order';
   same = same;
   lane = lanes place;
   came_is = sym (append-nil (lanes place).came);
   out_is = sym (append-nil (lanes place).out);
-  stands = stands_same texts texts sent sent order' lanes (changed place (lanes place) lanes) new (λ _. refl) (λ _. refl) (λ at. changed_none place at lanes) h;
+  holds = holds_same texts texts sent sent order' lanes (changed place (lanes place) lanes) new (λ _. refl) (λ _. refl) (λ at. changed_none place at lanes) h;
 }
 
 -- a proxy holds after a call for a link
-behind_link_call : SentStands → FedStands → (place : ℕ) (call : links.LinkCall) (texts sent : ℕ → List ℕ) (order : Order) (lanes : ℕ → Lane) (old new : ProxyState)
-    → ProxyStands texts sent order lanes old → links.IsLinkCall place call old new
-    → StandsBehindLink place (links.came_by call) (links.went_by call) texts sent order lanes new
-behind_link_call sends feeds place (links.Fed came) texts sent order lanes old new h step =
+after_link_call : SentHolds → FedHolds → (place : ℕ) (call : links.LinkCall) (texts sent : ℕ → List ℕ) (order : Order) (lanes : ℕ → Lane) (old new : ProxyState)
+    → ProxyHolds texts sent order lanes old → links.IsLinkCall place call old new
+    → HoldsAfterLink place (links.came_by call) (links.went_by call) texts sent order lanes new
+after_link_call sends feeds place (links.Fed came) texts sent order lanes old new h step =
     let lane : Lane = record (lanes place) { came = (lanes place).came ++ came } in
     record {
       order' = order;
@@ -195,9 +195,9 @@ behind_link_call sends feeds place (links.Fed came) texts sent order lanes old n
       lane = lane;
       came_is = refl;
       out_is = sym (append-nil (lanes place).out);
-      stands = subst (λ (p : ProxyState). ProxyStands texts sent order (changed place lane lanes) p) (sym step.1) (feeds texts sent order lanes place came old h step.0);
+      holds = subst (λ (p : ProxyState). ProxyHolds texts sent order (changed place lane lanes) p) (sym step.1) (feeds texts sent order lanes place came old h step.0);
     }
-behind_link_call sends feeds place (links.Sent count went) texts sent order lanes old new h step =
+after_link_call sends feeds place (links.Sent count went) texts sent order lanes old new h step =
     let lane : Lane = record (lanes place) { out = (lanes place).out ++ take count (link_at old.links place).output } in
     record {
       order' = order;
@@ -205,9 +205,9 @@ behind_link_call sends feeds place (links.Sent count went) texts sent order lane
       lane = lane;
       came_is = sym (append-nil (lanes place).came);
       out_is = ap (λ (bytes : List ℕ). (lanes place).out ++ bytes) (sym step.1.1);
-      stands = subst (λ (p : ProxyState). ProxyStands texts sent order (changed place lane lanes) p) (sym step.1.2) (sends texts sent order lanes place count old h step.1.0);
+      holds = subst (λ (p : ProxyState). ProxyHolds texts sent order (changed place lane lanes) p) (sym step.1.2) (sends texts sent order lanes place count old h step.1.0);
     }
-behind_link_call sends feeds place (links.Replied tag) texts sent order lanes old new h step =
+after_link_call sends feeds place (links.Replied tag) texts sent order lanes old new h step =
     let answers = step.1.0 in
     record {
       order' = note answers.tag (Reply answers.reply) order;
@@ -215,26 +215,26 @@ behind_link_call sends feeds place (links.Replied tag) texts sent order lanes ol
       lane = record (lanes place) { replies = (lanes place).replies ++ answers.reply ∷ [] };
       came_is = sym (append-nil (lanes place).came);
       out_is = sym (append-nil (lanes place).out);
-      stands = stands-replied texts sent order lanes place old new h step.0 answers;
+      holds = holds-replied texts sent order lanes place old new h step.0 answers;
     }
-behind_link_call sends feeds place links.Rested texts sent order lanes old new h step =
-    link_still place texts sent order order lanes new refl (subst (λ (p : ProxyState). ProxyStands texts sent order lanes p) (sym step.1.1) h)
-behind_link_call sends feeds place links.Lost texts sent order lanes old new h step =
+after_link_call sends feeds place links.Rested texts sent order lanes old new h step =
+    link_still place texts sent order order lanes new refl (subst (λ (p : ProxyState). ProxyHolds texts sent order lanes p) (sym step.1.1) h)
+after_link_call sends feeds place links.Lost texts sent order lanes old new h step =
     let tags : List Tag = map (λ (w : Waiting). w.1) (link_at old.links place).waiting in
     link_still place texts sent order (note_all tags Lost order) lanes new (asked-note_all tags Lost order)
-    (subst (λ (p : ProxyState). ProxyStands texts sent (note_all tags Lost order) lanes p) (sym step.1.1) (stands-lost texts sent order lanes place old h step.0))
+    (subst (λ (p : ProxyState). ProxyHolds texts sent (note_all tags Lost order) lanes p) (sym step.1.1) (holds-lost texts sent order lanes place old h step.0))
 
 -- a proxy holds after calls for a link
-pub behind_link_calls : SentStands → FedStands → (texts sent : ℕ → List ℕ) (order : Order) (lanes : ℕ → Lane) (place : ℕ) (calls : List links.LinkCall) (old new : ProxyState)
-    → ProxyStands texts sent order lanes old → links.LinkCalls place calls old new
-    → StandsBehindLink place (links.came_of calls) (links.went_of calls) texts sent order lanes new
-behind_link_calls sends feeds texts sent order lanes place [] old new h chain =
-    link_still place texts sent order order lanes new refl (subst (λ (p : ProxyState). ProxyStands texts sent order lanes p) (sym chain) h)
-behind_link_calls sends feeds texts sent order lanes place (call ∷ calls) old new h chain =
+pub after_link_calls : SentHolds → FedHolds → (texts sent : ℕ → List ℕ) (order : Order) (lanes : ℕ → Lane) (place : ℕ) (calls : List links.LinkCall) (old new : ProxyState)
+    → ProxyHolds texts sent order lanes old → links.LinkCalls place calls old new
+    → HoldsAfterLink place (links.came_of calls) (links.went_of calls) texts sent order lanes new
+after_link_calls sends feeds texts sent order lanes place [] old new h chain =
+    link_still place texts sent order order lanes new refl (subst (λ (p : ProxyState). ProxyHolds texts sent order lanes p) (sym chain) h)
+after_link_calls sends feeds texts sent order lanes place (call ∷ calls) old new h chain =
     let came = links.came_by call in
     let went = links.went_by call in
-    let first = behind_link_call sends feeds place call texts sent order lanes old chain.0 h chain.1.0 in
-    let others = behind_link_calls sends feeds texts sent first.order' (changed place first.lane lanes) place calls chain.0 new first.stands chain.1.1 in
+    let first = after_link_call sends feeds place call texts sent order lanes old chain.0 h chain.1.0 in
+    let others = after_link_calls sends feeds texts sent first.order' (changed place first.lane lanes) place calls chain.0 new first.holds chain.1.1 in
     let own : changed place first.lane lanes place ≡ first.lane = changed-own place first.lane lanes in
     record {
       order' = others.order';
@@ -248,6 +248,6 @@ behind_link_calls sends feeds texts sent order lanes place (call ∷ calls) old 
           ∙ ap (λ (lane : Lane). lane.out ++ links.went_of calls) own
           ∙ ap (λ (bytes : List ℕ). bytes ++ links.went_of calls) first.out_is
           ∙ append_assoc (lanes place).out went (links.went_of calls);
-      stands = stands_same texts texts sent sent others.order' (changed place others.lane (changed place first.lane lanes)) (changed place others.lane lanes) new
-          (λ _. refl) (λ _. refl) (λ at. changed_twice place at first.lane others.lane lanes) others.stands;
+      holds = holds_same texts texts sent sent others.order' (changed place others.lane (changed place first.lane lanes)) (changed place others.lane lanes) new
+          (λ _. refl) (λ _. refl) (λ at. changed_twice place at first.lane others.lane lanes) others.holds;
     }

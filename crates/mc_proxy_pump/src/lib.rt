@@ -8,8 +8,8 @@
 //!
 //! A pump does nothing to its proxy but calls for its own session, or for its own link, one after another:
 //! `specs/Calls.antt` and `specs/LinkCalls.antt` have them, with the bytes that came and went by each. `specs/Clients.antt` and
-//! `specs/Links.antt` say what a pump carries, and how it leaves its session or its link. [`proxies_stand_behind_a_client`] and
-//! [`proxies_stand_behind_a_link`] are laws, and do nothing: after such calls a proxy's account holds, grown by those bytes.
+//! `specs/Links.antt` say what a pump carries, and how it leaves its session or its link. [`proxies_hold_after_a_client`] and
+//! [`proxies_hold_after_a_link`] are laws, and do nothing: after such calls a proxy's account holds, grown by those bytes.
 #![tactic(auto)]
 
 mod clients;
@@ -17,7 +17,7 @@ mod laws;
 mod links;
 
 pub use clients::{is_owed, pump_answers, pump_client};
-pub use laws::{proxies_stand_behind_a_client, proxies_stand_behind_a_link};
+pub use laws::{proxies_hold_after_a_client, proxies_hold_after_a_link};
 pub use links::pump_link;
 pub use mc_proxy::UNSENT_MARK;
 pub use mc_stream::{MAX_ROUNDS, Pumped};

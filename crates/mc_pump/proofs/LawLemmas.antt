@@ -8,9 +8,9 @@ use Rattle.mc_cache.specs.CacheState.{CacheState}
 use Rattle.mc_server.specs.Served.{Entry, cache_after}
 use Rattle.mc_server.specs.Histories.{answers_to, taken_of, replayed, IsLegalHistory}
 use Rattle.mc_server.specs.ServerState.{ServerState}
-use Rattle.mc_server.specs.Stands.{IsReplayed, Stands, ServerStands, grown}
+use Rattle.mc_server.specs.Holds.{IsReplayed, Holds, ServerHolds, grown}
 use Rattle.mc_server.proofs.HistoryLemmas.{other_number, replayed-append, legal-append, answers-append, taken-append}
-use Rattle.mc_server.proofs.StandsLemmas.{SameFor, grown-own, grown-other, stepped, stood}
+use Rattle.mc_server.proofs.HoldsLemmas.{SameFor, grown-own, grown-other, stepped, stood}
 use Rattle.mc_pump.specs.Stretches.{AreOwn, Stretch}
 
 -- entries of one number say nothing of another
@@ -34,16 +34,16 @@ same_for_others opening number moment other history es differ own = (
 )
 
 -- the cache after a stretch
-replayed_behind : (opening middle now : CacheState) (history more : List Entry) → IsReplayed opening history middle → IsReplayed middle more now → IsReplayed opening (history ++ more) now
-replayed_behind opening middle now history more h k = record {
+replayed_after : (opening middle now : CacheState) (history more : List Entry) → IsReplayed opening history middle → IsReplayed middle more now → IsReplayed opening (history ++ more) now
+replayed_after opening middle now history more h k = record {
   legal = legal-append opening history more h.legal (subst (λ (s : CacheState). IsLegalHistory s more) h.cache k.legal);
   cache = k.cache ∙ ap (λ (s : CacheState). replayed s more) h.cache ∙ sym (replayed-append opening history more);
 }
 
 -- the connection of a stretch
-stands_behind : (opening : CacheState) (number moment : ℕ) (text : List ℕ) (history : List Entry) (sent : List ℕ) (old new : ServerState) (came went : List ℕ) (stretch : Stretch number moment old new came went)
-    → IsReplayed opening history old.cache → Stands opening number text history sent stretch.before → Stands opening number (text ++ came) (history ++ stretch.history) (sent ++ went) stretch.after
-stands_behind opening number moment text history sent old new came went stretch replay h =
+holds_after : (opening : CacheState) (number moment : ℕ) (text : List ℕ) (history : List Entry) (sent : List ℕ) (old new : ServerState) (came went : List ℕ) (stretch : Stretch number moment old new came went)
+    → IsReplayed opening history old.cache → Holds opening number text history sent stretch.before → Holds opening number (text ++ came) (history ++ stretch.history) (sent ++ went) stretch.after
+holds_after opening number moment text history sent old new came went stretch replay h =
     let more = stretch.history in
     record {
       rest = λ yet.
@@ -62,15 +62,15 @@ stands_behind opening number moment text history sent old new came went stretch 
     }
 
 -- the server
-pub stands_behind_stretch : (opening : CacheState) (texts sent : ℕ → List ℕ) (history : List Entry) (number moment : ℕ) (old new : ServerState) (came went : List ℕ)
-    → ServerStands opening texts sent history old → (stretch : Stretch number moment old new came went)
-    → ServerStands opening (grown number came texts) (grown number went sent) (history ++ stretch.history) new
-stands_behind_stretch opening texts sent history number moment old new came went h stretch =
-    let own = stands_behind opening number moment (texts number) history (sent number) old new came went stretch h.cache (stood opening texts sent history old number stretch.before h stretch.was) in
-    let P : List ℕ → Type 0 = λ text. Stands opening number text (history ++ stretch.history) (sent number ++ went) stretch.after in
-    let Q : List ℕ → Type 0 = λ bytes. Stands opening number (grown number came texts number) (history ++ stretch.history) bytes stretch.after in
+pub holds_after_stretch : (opening : CacheState) (texts sent : ℕ → List ℕ) (history : List Entry) (number moment : ℕ) (old new : ServerState) (came went : List ℕ)
+    → ServerHolds opening texts sent history old → (stretch : Stretch number moment old new came went)
+    → ServerHolds opening (grown number came texts) (grown number went sent) (history ++ stretch.history) new
+holds_after_stretch opening texts sent history number moment old new came went h stretch =
+    let own = holds_after opening number moment (texts number) history (sent number) old new came went stretch h.cache (stood opening texts sent history old number stretch.before h stretch.was) in
+    let P : List ℕ → Type 0 = λ text. Holds opening number text (history ++ stretch.history) (sent number ++ went) stretch.after in
+    let Q : List ℕ → Type 0 = λ bytes. Holds opening number (grown number came texts number) (history ++ stretch.history) bytes stretch.after in
     stepped opening texts (grown number came texts) sent (grown number went sent) history (history ++ stretch.history) number stretch.before stretch.after old new stretch.was stretch.is stretch.admitted
-    (replayed_behind opening old.cache new.cache history stretch.history h.cache stretch.cache)
+    (replayed_after opening old.cache new.cache history stretch.history h.cache stretch.cache)
     (subst Q (sym (grown-own number went sent)) (subst P (sym (grown-own number came texts)) own))
     (λ m differ. grown-other number m came texts differ) (λ m differ. grown-other number m went sent differ)
     (λ m differ. same_for_others opening number moment m history stretch.history differ stretch.own) h

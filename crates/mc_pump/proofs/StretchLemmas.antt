@@ -8,7 +8,7 @@ use Rattle.mc_server.specs.Served.{Entry, answer_after}
 use Rattle.mc_server.specs.Histories.{replayed, answers_to, taken_of, IsLegalHistory}
 use Rattle.mc_server.specs.ServerState.{ConnectionState, Connections, ServerState, connection_at, connection_in, output_of, updated, sent_by}
 use Rattle.mc_server.specs.Turns.{Feeds, IsTurn, Steps}
-use Rattle.mc_server.specs.Stands.{IsReplayed}
+use Rattle.mc_server.specs.Holds.{IsReplayed}
 use Rattle.mc_server.specs.declared.turns.Turn.TheVariants.{Took, Idle, Closing}
 use Rattle.mc_server.proofs.ConnectionLemmas.{updated_own}
 use Rattle.mc_server.proofs.HistoryLemmas.{own_number, replayed_none, replayed_takes, replayed-append, legal-append, answers-append, taken-append}
@@ -147,14 +147,14 @@ stretch_sent number moment count c old new was is =
     }
 
 -- what is after nothing
-nothing_behind : (xs ys : List ℕ) → xs ++ ys ≡ [] → (xs ≡ []) × (ys ≡ [])
-nothing_behind [] ys e = (refl, e)
-nothing_behind (x ∷ xs) ys e = absurd cc
+nothing_after : (xs ys : List ℕ) → xs ++ ys ≡ [] → (xs ≡ []) × (ys ≡ [])
+nothing_after [] ys e = (refl, e)
+nothing_after (x ∷ xs) ys e = absurd cc
 
 -- a stretch after another that left the connection that it began with
-behind : (number moment : ℕ) (a b c : ServerState) (came more went yet : List ℕ) (h : Stretch number moment a b came went) (k : Stretch number moment b c more yet)
+past : (number moment : ℕ) (a b c : ServerState) (came more went yet : List ℕ) (h : Stretch number moment a b came went) (k : Stretch number moment b c more yet)
     → h.after ≡ k.before → Stretch number moment a c (came ++ more) (went ++ yet)
-behind number moment a b c came more went yet h k same =
+past number moment a b c came more went yet h k same =
     let legal : IsLegalHistory (replayed a.cache h.history) k.history = subst (λ (s : CacheState). IsLegalHistory s k.history) h.cache.cache k.cache.legal in
     let cache : c.cache ≡ replayed (replayed a.cache h.history) k.history = k.cache.cache ∙ ap (λ (s : CacheState). replayed s k.history) h.cache.cache in
     let answers : answers_to number a.cache (h.history ++ k.history) ≡ answers_to number a.cache h.history ++ answers_to number b.cache k.history =
@@ -187,7 +187,7 @@ behind number moment a b c came more went yet h k same =
           ∙ append_assoc h.before.output (answers_to number a.cache h.history) (answers_to number b.cache k.history)
           ∙ ap (λ (bytes : List ℕ). h.before.output ++ bytes) (sym answers);
       marked = λ above none.
-          let parts = nothing_behind went yet none in
+          let parts = nothing_after went yet none in
           let first = h.marked above parts.0 in
           let unsent : h.after.output ≡ h.before.output =
           subst (λ (bytes : List ℕ). bytes ++ h.after.output ≡ h.before.output ++ answers_to number a.cache h.history) parts.0 h.answered
@@ -203,7 +203,7 @@ stretch_then number moment a b c came more went yet h k =
     let there : connection_at b number ≡ Some h.after = ap (λ (cs : Connections). connection_in cs number) h.is ∙ updated_own number h.before h.after a.connections h.was in
     let both : Some h.after ≡ Some k.before = sym there ∙ k.was in
     let same : h.after ≡ k.before = cc in
-    behind number moment a b c came more went yet h k same
+    past number moment a b c came more went yet h k same
 
 -- where a stretch leaves its connection
 pub stretch_open : (number moment : ℕ) (a b : ServerState) (came went : List ℕ) (h : Stretch number moment a b came went) → connection_at b number ≡ Some h.after

@@ -4,7 +4,7 @@ use Rattle.mc_request_reader.specs.Reader.{rest_of}
 use Rattle.mc_server.specs.Served.{Entry}
 use Rattle.mc_server.specs.Histories.{answers_to, taken_of}
 use Rattle.mc_server.specs.ServerState.{ConnectionState, ServerState, connection_at, updated}
-use Rattle.mc_server.specs.Stands.{IsReplayed}
+use Rattle.mc_server.specs.Holds.{IsReplayed}
 use Rattle.mc_pump.specs.declared.limits.TheConstants.{UNSENT_MARK}
 
 -- each entry is of this connection, at this moment

@@ -3,13 +3,13 @@ ghost use Rattle.std.specs.Prelude.{ℕ, List, ◌++◌};
 ghost use Rattle.mc_cache.specs.CacheState.{CacheState};
 ghost use Rattle.mc_server.specs.Served.{Entry};
 ghost use Rattle.mc_server.specs.ServerState.{ServerState};
-ghost use Rattle.mc_server.specs.Stands.{ServerStands, grown};
+ghost use Rattle.mc_server.specs.Holds.{ServerHolds, grown};
 ghost use Rattle.mc_pump.specs.Stretches.{Stretch};
 
 /// A server that is where a history leaves it, is after a stretch where that history and the stretch's leave it:
 /// its connection's text has grown by what came, and the bytes it was sent by what went.
-pub fn servers_stand_behind_a_stretch()
+pub fn servers_hold_after_a_stretch()
     ensures { (opening : CacheState) (texts sent : ℕ → List ℕ) (history : List Entry) (number moment : ℕ) (old new : ServerState) (came went : List ℕ)
-        → ServerStands opening texts sent history old → (stretch : Stretch number moment old new came went)
-        → ServerStands opening (grown number came texts) (grown number went sent) (history ++ stretch.history) new }
+        → ServerHolds opening texts sent history old → (stretch : Stretch number moment old new came went)
+        → ServerHolds opening (grown number came texts) (grown number went sent) (history ++ stretch.history) new }
 {}

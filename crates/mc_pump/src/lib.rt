@@ -7,7 +7,7 @@
 //! be, and what passed.
 //!
 //! `specs/Stretches.antt` has what a stretch of a connection does to a server, `mc_stream`'s `specs/Sides.antt` what the two
-//! sides of a stream carry, `specs/Pumps.antt` what a pump does between the two. [`servers_stand_behind_a_stretch`] is a law,
+//! sides of a stream carry, `specs/Pumps.antt` what a pump does between the two. [`servers_hold_after_a_stretch`] is a law,
 //! and does nothing: a server that is where a history leaves it is after a stretch where the longer history leaves it.
 #![tactic(auto)]
 
@@ -17,7 +17,7 @@ mod pumps;
 mod rounds;
 mod watches;
 
-pub use laws::servers_stand_behind_a_stretch;
+pub use laws::servers_hold_after_a_stretch;
 pub use limits::UNSENT_MARK;
 pub use mc_stream::{MAX_ROUNDS, Pumped};
 pub use pumps::pump;

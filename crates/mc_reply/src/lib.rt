@@ -30,7 +30,7 @@ pub use answers::{
 };
 pub use laws::{faults_are_shown, flags_of_requests_fit, one_reply_is_spelled, parts_in_order};
 pub use meta_rows::{
-    flags_as_asked, keys_as_asked, marks_stand_last, noop, quiet_answers, what_was_not_done,
+    flags_as_asked, keys_as_asked, marks_are_last, noop, quiet_answers, what_was_not_done,
 };
 pub use replies::{Marks, Reply, Shown};
 pub use rows::{

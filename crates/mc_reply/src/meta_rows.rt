@@ -36,7 +36,7 @@ pub fn what_was_not_done()
 {}
 
 /// Marks are after all that was asked for.
-pub fn marks_stand_last()
+pub fn marks_are_last()
     ensures stale { answer_to (codes "mg a c") (numbered 5 WonStale) ≡ codes "HD c5 W X\r\n" }
     ensures created { answer_to (codes "mg b N0 q k") (marked Won) ≡ codes "HD kb W\r\n" }
     ensures stale_sent { answer_to (codes "mg a v") (shows_x StaleSent) ≡ codes "VA 1 X Z\r\nx\r\n" }

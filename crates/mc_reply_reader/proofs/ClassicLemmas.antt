@@ -4,7 +4,7 @@ use Rattle.std.specs.Fmt.{decimal}
 use Rattle.std.specs.Option.{is_some}
 use Rattle.mc_forms.specs.Forms.{Or, Path, or_if}
 use Rattle.mc_forms.proofs.LeadLemmas.{clear_lines}
-use Rattle.mc_forms.proofs.CoverLaws.{Stands, Spells, Covers, of_line, of_or, of_or_if, to_line, to_left, to_right, to_if, to_after}
+use Rattle.mc_forms.proofs.CoverLaws.{Holds, Spells, Covers, of_line, of_or, of_or_if, to_line, to_left, to_right, to_if, to_after}
 use Rattle.mc_request.specs.WellFormed.{is_good_block, is_u64}
 use Rattle.mc_request.specs.declared.faults.Fault.{Fault}
 use Rattle.mc_request.specs.declared.faults.Fault.TheVariants.{NonNumeric, TooLarge, CasUsedUp, OutOfMemory}
@@ -31,7 +31,7 @@ Head = Atom (Unit {0})
 -- faults
 
 pub of_store_faults : (may : Answer → Bool) (spell : Answer → List ℕ) → ((fault : Fault) → is_store_fault fault ≡ true → may (replies.Fault fault) ≡ true)
-    → ((fault : Fault) → spell (replies.Fault fault) ≡ reply_line (replies.Fault fault)) → (p : Path store_faults) → Stands store_faults may spell p
+    → ((fault : Fault) → spell (replies.Fault fault) ≡ reply_line (replies.Fault fault)) → (p : Path store_faults) → Holds store_faults may spell p
 of_store_faults may spell can same p =
     of_or may spell (update_line (replies.Fault TooLarge)) (Or (update_line (replies.Fault CasUsedUp)) (update_line (replies.Fault OutOfMemory)))
     (of_line may spell (reply_line (replies.Fault TooLarge)) (replies.Fault TooLarge) (can TooLarge refl) (same TooLarge))
@@ -40,7 +40,7 @@ of_store_faults may spell can same p =
     (of_line may spell (reply_line (replies.Fault OutOfMemory)) (replies.Fault OutOfMemory) (can OutOfMemory refl) (same OutOfMemory))) p
 
 pub of_count_faults : (may : Answer → Bool) (spell : Answer → List ℕ) → ((fault : Fault) → is_count_fault fault ≡ true → may (replies.Fault fault) ≡ true)
-    → ((fault : Fault) → spell (replies.Fault fault) ≡ reply_line (replies.Fault fault)) → (p : Path count_faults) → Stands count_faults may spell p
+    → ((fault : Fault) → spell (replies.Fault fault) ≡ reply_line (replies.Fault fault)) → (p : Path count_faults) → Holds count_faults may spell p
 of_count_faults may spell can same p =
     of_or may spell (update_line (replies.Fault NonNumeric)) store_faults
     (of_line may spell (reply_line (replies.Fault NonNumeric)) (replies.Fault NonNumeric) (can NonNumeric refl) (same NonNumeric))
@@ -76,7 +76,7 @@ abbrev get_head : List ℕ → Option ℤ → Bool → Head
 get_head key exptime with_cas = atoms.Get key exptime with_cas
 
 of_hit : (key : List ℕ) (exptime : Option ℤ) (with_cas : Bool) (p : Path (hit key with_cas))
-    → Stands (hit key with_cas) (can_have (get_head key exptime with_cas)) (spelling_of (get_head key exptime with_cas)) p
+    → Holds (hit key with_cas) (can_have (get_head key exptime with_cas)) (spelling_of (get_head key exptime with_cas)) p
 of_hit key exptime with_cas p =
     let flags = p.0 in
     let size = p.2.0 in
@@ -203,7 +203,7 @@ to_flush delay other can = absurd (cc)
 -- one line, or that the key is not held
 of_lines : (head : Head) (r : Answer) → can_have head r ≡ true → can_have head replies.NotFound ≡ true → spelling_of head r ≡ reply_line r
     → spelling_of head replies.NotFound ≡ reply_line replies.NotFound → (p : Path (Or (update_line r) (update_line replies.NotFound)))
-    → Stands (Or (update_line r) (update_line replies.NotFound)) (can_have head) (spelling_of head) p
+    → Holds (Or (update_line r) (update_line replies.NotFound)) (can_have head) (spelling_of head) p
 of_lines head r can can_not same same_not =
     of_or (can_have head) (spelling_of head) (update_line r) (update_line replies.NotFound)
     (of_line (can_have head) (spelling_of head) (reply_line r) r can same)

@@ -4,7 +4,7 @@ use Rattle.std.proofs.lemmas.List.{length-append}
 use Rattle.std.specs.Option.{is_some}
 use Rattle.mc_forms.specs.Forms.{Form, Or, or_if, read, text_at, number_at}
 use Rattle.mc_forms.specs.declared.unready.Unready.TheVariants.{More, Strange}
-use Rattle.mc_forms.proofs.CoverLaws.{Covers, Begins, BegunFor, read_ok, read_more, read_strange, stand_apart}
+use Rattle.mc_forms.proofs.CoverLaws.{Covers, Begins, BegunFor, read_ok, read_more, read_strange, are_apart}
 use Rattle.mc_request.specs.Parts.{meta_map, update_map}
 use Rattle.mc_request.specs.Atoms.{head_of}
 use Rattle.mc_spelling.specs.Spellings.{is_askable, is_byte_key, is_good_atom}
@@ -77,7 +77,7 @@ reply_strange head u e r more others can = elim (covered head) [
 pub replies_apart : (head : Head) (r q : Answer) (xs ys : List ℕ) → can_have head r ≡ true → can_have head q ≡ true
     → spelling_of head r ++ xs ≡ spelling_of head q ++ ys → (r ≡ q) × (xs ≡ ys)
 replies_apart head r q xs ys cr cq e = elim (covered head) [
-  | inl s ↦ stand_apart s.0 (can_have head) (spelling_of head) s.2 r q xs ys cr cq e
+  | inl s ↦ are_apart s.0 (can_have head) (spelling_of head) s.2 r q xs ys cr cq e
   | inr s ↦ absurd (s.1 r cr)
 ]
 

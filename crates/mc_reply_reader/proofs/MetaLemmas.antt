@@ -2,7 +2,7 @@
 use Rattle.std.proofs.Common.{◌≡◌, ℕ, Bool, true, false, List, Option, ℤ, refl, sym, ◌∙◌}
 use Rattle.std.specs.Option.{is_some}
 use Rattle.mc_forms.specs.Forms.{Or, Path, or_if}
-use Rattle.mc_forms.proofs.CoverLaws.{Stands, Spells, Covers, of_line, of_or, of_or_if, to_line, to_left, to_right, to_if, to_after}
+use Rattle.mc_forms.proofs.CoverLaws.{Holds, Spells, Covers, of_line, of_or, of_or_if, to_line, to_left, to_right, to_if, to_after}
 use Rattle.mc_request.specs.WellFormed.{is_good_block}
 use Rattle.mc_request.specs.declared.faults.Fault.{Fault}
 use Rattle.mc_request.specs.declared.faults.Fault.TheVariants.{CasUsedUp}
@@ -34,7 +34,7 @@ meta_head command = atoms.Meta command
 of_shown : (head : Head) (marked : Bool) (show : Show)
     → ((shown : Shown) (value : Option (List ℕ)) → is_done show shown value ≡ true → may_mark marked shown.marks ≡ true → can_have head (replies.Meta shown value) ≡ true)
     → ((shown : Shown) (value : Option (List ℕ)) → spelling_of head (replies.Meta shown value) ≡ meta_spelling (replies.Meta shown value))
-    → (p : Path (shown_form marked show show.value)) → Stands (shown_form marked show show.value) (can_have head) (spelling_of head) p
+    → (p : Path (shown_form marked show show.value)) → Holds (shown_form marked show show.value) (can_have head) (spelling_of head) p
 of_shown head marked show can same p =
     let m = of_meta marked show show.value p in
     record {
@@ -62,7 +62,7 @@ to_unmarked show shown value can =
 
 of_unmet : (head : Head) → can_have head replies.Exists ≡ true → can_have head replies.NotFound ≡ true
     → spelling_of head replies.Exists ≡ meta_spelling replies.Exists → spelling_of head replies.NotFound ≡ meta_spelling replies.NotFound
-    → (p : Path unmet_form) → Stands unmet_form (can_have head) (spelling_of head) p
+    → (p : Path unmet_form) → Holds unmet_form (can_have head) (spelling_of head) p
 of_unmet head can can_not same same_not =
     of_or (can_have head) (spelling_of head) (code_line replies.Exists) (code_line replies.NotFound)
     (of_line (can_have head) (spelling_of head) (meta_spelling replies.Exists) replies.Exists can same)

@@ -14,7 +14,7 @@ ghost use Rattle.mc_reply_reader.specs.NextReply.{IsBegun};
 /// No spelling of a reply to a command begins that of another, and each is of one reply: what is at the front of some
 /// bytes is one reply or none.
 #[tactic(auto, using(crate::proofs::HeadLemmas::replies_apart))]
-pub fn replies_stand_apart()
+pub fn replies_are_apart()
     ensures { (head : Atom (Unit {0})) → (r q : Reply (List ℕ)) → (xs ys : List ℕ)
         → can_have head r ≡ true → can_have head q ≡ true
         → spelling_of head r ++ xs ≡ spelling_of head q ++ ys → (r ≡ q) × (xs ≡ ys) }

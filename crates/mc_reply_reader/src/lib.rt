@@ -10,7 +10,7 @@
 //! `specs/NextReply.antt` says what is given, by the spellings of replies (`mc_reply`'s `spelling_of`) and the replies that a
 //! command can have (`can_have`): no grammar is in it. What is strange is so at its first strange byte, since up to there
 //! it is the beginning of a reply. That a reply is never two at once, that at first any may begin, and that none is spelled
-//! by no bytes, are the laws [`replies_stand_apart`], [`nothing_is_a_beginning`] and [`spellings_are_not_empty`]. `specs/ReplyForms.antt` and `specs/MetaForms.antt` have the forms
+//! by no bytes, are the laws [`replies_are_apart`], [`nothing_is_a_beginning`] and [`spellings_are_not_empty`]. `specs/ReplyForms.antt` and `specs/MetaForms.antt` have the forms
 //! of replies by which they are read and the contract is proved.
 //!
 //! Of the calls, `feed` takes memory, and `next` for a value, which is copied once, when all of it has come; all others take
@@ -27,7 +27,7 @@ mod reader;
 mod replies;
 mod rows;
 
-pub use laws::{nothing_is_a_beginning, replies_stand_apart, spellings_are_not_empty};
+pub use laws::{nothing_is_a_beginning, replies_are_apart, spellings_are_not_empty};
 pub use limits::{FLAGS_LIMIT, NUMBER_LIMIT};
 pub use next_replies::NextReply;
 pub use reader::ReplyReader;

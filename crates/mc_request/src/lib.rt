@@ -45,7 +45,7 @@ pub use keys::Keys;
 pub use lines::{Asked, CommandLine, Storing};
 pub use meta::{Counting, Creation, FlagWords, MetaCommand, MetaForm, MetaGet, Show, key_bytes};
 pub use meta_rows::{
-    coded_keys, faults_in_order, flags_of_each_command, flags_stand_once, meta_commands, meta_sets,
+    coded_keys, faults_in_order, flags_are_once, flags_of_each_command, meta_commands, meta_sets,
     modes, opaques, tokens_of_each_flag,
 };
 pub use owned::keys_of;

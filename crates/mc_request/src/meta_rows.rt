@@ -46,7 +46,7 @@ pub fn tokens_of_each_flag()
 {}
 
 /// No flag is twice, whatever it says the second time.
-pub fn flags_stand_once()
+pub fn flags_are_once()
     ensures mg { once_each Name.MetaGet every_flag ≡ true }
     ensures ms { once_each Name.MetaSet every_flag ≡ true }
     ensures md { once_each Name.MetaDelete every_flag ≡ true }

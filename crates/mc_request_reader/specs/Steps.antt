@@ -9,8 +9,8 @@ use Rattle.mc_request.specs.declared.parts.Taken.TheVariants as takens
 use Rattle.mc_request_reader.specs.declared.peeks.TheConstants.{REQUEST_LIMIT}
 use Rattle.mc_request_reader.specs.declared.searched.Searched.{Searched}
 use Rattle.mc_request_reader.specs.declared.searched.Searched.TheVariants as searches
-use Rattle.mc_request_reader.specs.declared.steps.Stand.{Stand}
-use Rattle.mc_request_reader.specs.declared.steps.Stand.TheVariants.{Whole, Waits, Drops}
+use Rattle.mc_request_reader.specs.declared.steps.Arrival.{Arrival}
+use Rattle.mc_request_reader.specs.declared.steps.Arrival.TheVariants.{Whole, Waits, Drops}
 use Rattle.mc_request.specs.Faults.{closes}
 use Rattle.mc_request.specs.Meanings.{Meaning}
 use Rattle.mc_request.specs.Requests.{next_request, taken_by}
@@ -38,10 +38,10 @@ pub record IsWaiting (unread : List ℕ) (known : Searched) (wanted : ℕ) (sure
   pub whole : sure ≡ true → IsWholeFrom wanted unread
 
 -- what is at the front of bytes: it is whole, it waits, or its block is dropped while it comes
-abbrev pub StandIs : List ℕ → Stand → Type 0
-StandIs unread (Whole searched) = IsSearched searched unread × (is_some (next_request unread) ≡ true)
-StandIs unread (Waits searched wanted sure) = IsWaiting unread searched wanted sure
-StandIs unread (Drops fault size) = (closes fault ≡ false) × (length unread < size)
+abbrev pub ArrivalIs : List ℕ → Arrival → Type 0
+ArrivalIs unread (Whole searched) = IsSearched searched unread × (is_some (next_request unread) ≡ true)
+ArrivalIs unread (Waits searched wanted sure) = IsWaiting unread searched wanted sure
+ArrivalIs unread (Drops fault size) = (closes fault ≡ false) × (length unread < size)
     × ((more : List ℕ) → next_request (unread ++ more) ≡ (if nat_lt (length (unread ++ more)) size then None else Some (takens.Faulty fault, size)))
 
 -- a text that begins with a line of so many bytes, which asks for this, and is followed by whatever comes

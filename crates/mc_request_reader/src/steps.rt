@@ -5,7 +5,7 @@ ghost use Rattle.mc_text.specs.Words.{words};
 ghost use Rattle.mc_request.specs.Meanings.{meaning};
 ghost use Rattle.mc_request.specs.Requests.{with_block, next_request};
 ghost use Rattle.mc_request.specs.LinesSeen.{meaning_of, storing_of, asked_of};
-ghost use Rattle.mc_request_reader.specs.Steps.{IsSearched, StandIs, StartsBy, lent_seen};
+ghost use Rattle.mc_request_reader.specs.Steps.{IsSearched, ArrivalIs, StartsBy, lent_seen};
 ghost use Rattle.mc_request.specs.WellFormed.{is_good_meaning};
 
 use crate::searched::Searched;
@@ -16,7 +16,7 @@ use mc_text::{LINE_LIMIT, Line};
 const LINE_END: &[u8] = b"\r\n";
 
 /// What is at the front of the bytes that have come.
-pub enum Stand {
+pub enum Arrival {
     /// The first request or fault is whole. So far its line was searched.
     Whole(Searched),
     /// It is not whole: so far its line was searched, and nothing is whole before `wanted` bytes. Where `sure`, it is
@@ -31,40 +31,40 @@ pub enum Stand {
 }
 
 /// What is at the front of the bytes, of which so many were searched.
-pub fn stand_of(unread: &[u8], searched: Searched) -> Stand
+pub fn arrival_of(unread: &[u8], searched: Searched) -> Arrival
     requires { IsSearched searched unread.now }
-    ensures { StandIs unread.now result }
+    ensures { ArrivalIs unread.now result }
 {
     match searched.line(unread) {
-        Line::Partial => Stand::Waits {
+        Line::Partial => Arrival::Waits {
             searched: Searched::Without(unread.len()),
             wanted: unread.len() + 1,
             sure: false,
         },
-        Line::TooLong => Stand::Whole(Searched::TooLong),
+        Line::TooLong => Arrival::Whole(Searched::TooLong),
         Line::Whole { content, taken } => {
             if has_come(unread, content, taken) {
-                Stand::Whole(Searched::Ends(taken - 1))
+                Arrival::Whole(Searched::Ends(taken - 1))
             } else {
-                stand_after(unread, command_line(content), taken)
+                arrival_after(unread, command_line(content), taken)
             }
         }
     }
 }
 
 /// The same where the first line is whole, and takes so many bytes, and its data block is not.
-fn stand_after(unread: &[u8], line: CommandLine<'_>, taken: usize) -> Stand
+fn arrival_after(unread: &[u8], line: CommandLine<'_>, taken: usize) -> Arrival
     requires starts { StartsBy unread.now (meaning_of line) taken }
     requires line { line_end unread.now ≡ Some (taken - 1) }
     requires waits { next_request unread.now ≡ None }
     requires good { is_good_meaning (meaning_of line) ≡ true }
-    ensures { StandIs unread.now result }
+    ensures { ArrivalIs unread.now result }
 {
     let searched = Searched::Ends(taken - 1);
     match line {
-        CommandLine::Alone(_) => Stand::Whole(searched),
-        CommandLine::Refuses(fault, len) => Stand::Drops(fault, size_with_block(taken, len)),
-        CommandLine::Stores(_, len) => Stand::Waits {
+        CommandLine::Alone(_) => Arrival::Whole(searched),
+        CommandLine::Refuses(fault, len) => Arrival::Drops(fault, size_with_block(taken, len)),
+        CommandLine::Stores(_, len) => Arrival::Waits {
             searched,
             wanted: size_with_block(taken, len),
             sure: true,

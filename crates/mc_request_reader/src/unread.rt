@@ -3,7 +3,7 @@ ghost use Rattle.std.specs.Prelude.{◌≡◌, ◌<◌, ◌≤◌, ◌+◌, ◌�
 
 use crate::peeks::{Front, Peek, REQUEST_LIMIT};
 use crate::searched::Searched;
-use crate::steps::{Stand, first_asked, is_whole, stand_of};
+use crate::steps::{Arrival, arrival_of, first_asked, is_whole};
 use mc_request::{Asked, Fault, ReadError};
 use mc_text::{Line, drop_front, give_back, let_go};
 use std::alloc::Global;
@@ -107,12 +107,12 @@ impl Unread {
         if self.sure {
             return;
         }
-        match stand_of(unread, self.searched) {
-            Stand::Whole(searched) => {
+        match arrival_of(unread, self.searched) {
+            Arrival::Whole(searched) => {
                 self.searched = searched;
                 self.sure = true;
             }
-            Stand::Waits {
+            Arrival::Waits {
                 searched,
                 wanted,
                 sure,
@@ -122,7 +122,7 @@ impl Unread {
                 self.sure = sure;
                 self.move_to_front();
             }
-            Stand::Drops(fault, size) => {
+            Arrival::Drops(fault, size) => {
                 self.dropping = Some((fault, size - unread.len()));
                 self.buffer.clear();
                 self.start = 0;

@@ -13,10 +13,10 @@ use Rattle.mc_server.specs.Served.{Entry}
 use Rattle.mc_server.specs.Histories.{answers_to, taken_of, turns_of}
 use Rattle.mc_server.specs.ServerState.{ConnectionState, ServerState, connection_at, connection_in, fresh_connection, output_of, updated}
 use Rattle.mc_server.specs.Turns.{IsTurn, Steps}
-use Rattle.mc_server.specs.Stands.{Stands, StandsAt, ServerStands, grown}
+use Rattle.mc_server.specs.Holds.{Holds, ServerHoldsAt, ServerHolds, grown}
 use Rattle.mc_server.specs.declared.turns.Turn.{Turn as Turned}
 use Rattle.mc_server.specs.declared.turns.Turn.TheVariants.{Took, Idle, Closing}
-use Rattle.mc_server.proofs.StandsLemmas.{at_each, stood, entry_taken, taken_is_first, ServerStands-same, ServerStands-new, ServerStands-admitted, ServerStands-fed, ServerStands-took, ServerStands-idle, ServerStands-closing}
+use Rattle.mc_server.proofs.HoldsLemmas.{at_each, stood, entry_taken, taken_is_first, ServerHolds-same, ServerHolds-new, ServerHolds-admitted, ServerHolds-fed, ServerHolds-took, ServerHolds-idle, ServerHolds-closing}
 use Rattle.mc_script.specs.declared.events.Event.{Event}
 use Rattle.mc_script.specs.declared.events.Event.TheVariants.{Bytes, Turn}
 use Rattle.mc_script.specs.Answers.{bytes_fed, text_fed, turns_by, finds_one, served_with, turns_served, cache_of, Answers}
@@ -33,7 +33,7 @@ texts_fed events number = text_fed number events
 pub record Played (opening : CacheState) (connections : ℕ) (events : List Event) (i : ℕ) (server : ServerState) : Type 0 where
   pub history : List Entry
   pub are_open : (number : ℕ) → number < connections → IsSome (connection_at server number)
-  pub stands : ServerStands opening (texts_fed (take i events)) (λ _. []) history server
+  pub holds : ServerHolds opening (texts_fed (take i events)) (λ _. []) history server
   pub turns : turns_served (take i events) (turns_of history) (drop i events) ≡ turns_served [] [] events
 
 -- the connections of a server that was just opened
@@ -45,17 +45,17 @@ fresh_open from (suc count) number low high =
     (eqb_tells from number)
 
 -- such a server is where no history leaves it
-opened_stands : (opening : CacheState) (count : ℕ) → ServerStands opening (λ _. []) (λ _. []) [] (opened opening count)
-opened_stands opening zero = ServerStands-new opening
-opened_stands opening (suc count) =
-    subst (λ (s : ServerState). ServerStands opening (λ _. []) (λ _. []) [] s) (opened_more opening count ∙ ap (λ (n : ℕ). opened opening n) (add-one count))
-    (ServerStands-admitted opening (λ _. []) (λ _. []) [] (opened opening count) (opened_stands opening count))
+opened_holds : (opening : CacheState) (count : ℕ) → ServerHolds opening (λ _. []) (λ _. []) [] (opened opening count)
+opened_holds opening zero = ServerHolds-new opening
+opened_holds opening (suc count) =
+    subst (λ (s : ServerState). ServerHolds opening (λ _. []) (λ _. []) [] s) (opened_more opening count ∙ ap (λ (n : ℕ). opened opening n) (add-one count))
+    (ServerHolds-admitted opening (λ _. []) (λ _. []) [] (opened opening count) (opened_holds opening count))
 
 pub played_none : (opening : CacheState) (connections : ℕ) (events : List Event) → Played opening connections events 0 (opened opening connections)
 played_none opening connections events = record {
   history = [];
   are_open = λ number inside. fresh_open 0 connections number (omega arith) (omega arith);
-  stands = opened_stands opening connections;
+  holds = opened_holds opening connections;
   turns = refl;
 }
 
@@ -86,7 +86,7 @@ taken_by number (e ∷ es) =
 
 -- whether its text has one more, by what is left of it
 has_one : (opening : CacheState) (number : ℕ) (text : List ℕ) (history : List Entry) (c : ConnectionState) (what : Taken) (others : List Taken)
-    → Stands opening number text history [] c → rest_of c.reader [] ≡ what ∷ others → nat_lt (turns_by number (turns_of history)) (length (requests_of text)) ≡ true
+    → Holds opening number text history [] c → rest_of c.reader [] ≡ what ∷ others → nat_lt (turns_by number (turns_of history)) (length (requests_of text)) ≡ true
 has_one opening number text history c what others h e =
     let all : taken_of number history ++ (what ∷ others) ≡ requests_of text = rw (← e) (h.rest [] ∙ rw append-nil refl) in
     let len = ap (λ (ts : List Taken). length ts) all in
@@ -94,7 +94,7 @@ has_one opening number text history c what others h e =
     grind (arith, nat_tests, below)
 
 has_none : (opening : CacheState) (number : ℕ) (text : List ℕ) (history : List Entry) (c : ConnectionState)
-    → Stands opening number text history [] c → rest_of c.reader [] ≡ [] → nat_lt (turns_by number (turns_of history)) (length (requests_of text)) ≡ false
+    → Holds opening number text history [] c → rest_of c.reader [] ≡ [] → nat_lt (turns_by number (turns_of history)) (length (requests_of text)) ≡ false
 has_none opening number text history c h e =
     let all : taken_of number history ++ [] ≡ requests_of text = rw (← e) (h.rest [] ∙ rw append-nil refl) in
     let len = ap (λ (ts : List Taken). length ts) all in
@@ -113,16 +113,16 @@ served_none before served number moment h = rw h refl
 goes_on : (opening : CacheState) (connections : ℕ) (events : List Event) (i number : ℕ) (e : Event) (old new : ServerState) (before after : ConnectionState) (history : List Entry)
     → i < length events → get_or events i e ≡ e → (h : Played opening connections events i old)
     → connection_at old number ≡ Some before → new.connections ≡ updated number after old.connections
-    → ServerStands opening (texts_fed (take i events ++ e ∷ [])) (λ _. []) history new
+    → ServerHolds opening (texts_fed (take i events ++ e ∷ [])) (λ _. []) history new
     → served_with (take i events) (turns_of h.history) e ≡ turns_of history
     → Played opening connections events (i + 1) new
-goes_on opening connections events i number e old new before after history inside is h was updates stands served =
+goes_on opening connections events i number e old new before after history inside is h was updates holds served =
     let more = events_more events i e inside is in
     let left = events_left events i e inside is in
     record {
       history = history;
       are_open = at_each number before after old.connections new.connections was updates (λ m c. m < connections → IsSome c) (λ _. refl) (λ m differ. h.are_open m);
-      stands = subst (λ (es : List Event). ServerStands opening (texts_fed es) (λ _. []) history new) (sym more) stands;
+      holds = subst (λ (es : List Event). ServerHolds opening (texts_fed es) (λ _. []) history new) (sym more) holds;
       turns = ap (λ (es : List Event). turns_served es (turns_of history) (drop (i + 1) events)) more
           ∙ ap (λ (turns : List (ℕ × ℕ)). turns_served (take i events ++ e ∷ []) turns (drop (i + 1) events)) (sym served)
           ∙ ap (λ (es : List Event). turns_served (take i events) (turns_of h.history) es) (sym left)
@@ -133,13 +133,13 @@ goes_on opening connections events i number e old new before after history insid
 waits : (opening : CacheState) (connections : ℕ) (events : List Event) (i number moment : ℕ) (old new : ServerState) (before after : ConnectionState)
     → i < length events → get_or events i (Turn number moment) ≡ Turn number moment → (h : Played opening connections events i old)
     → connection_at old number ≡ Some before → new.connections ≡ updated number after old.connections
-    → rest_of before.reader [] ≡ [] → ServerStands opening (texts_fed (take i events)) (λ _. []) h.history new
+    → rest_of before.reader [] ≡ [] → ServerHolds opening (texts_fed (take i events)) (λ _. []) h.history new
     → Played opening connections events (i + 1) new
-waits opening connections events i number moment old new before after inside is h was updates none stands =
+waits opening connections events i number moment old new before after inside is h was updates none holds =
     let so_far = texts_fed (take i events) in
-    let finds = has_none opening number (so_far number) h.history before (stood opening so_far (λ _. []) h.history old number before h.stands was) none in
+    let finds = has_none opening number (so_far number) h.history before (stood opening so_far (λ _. []) h.history old number before h.holds was) none in
     goes_on opening connections events i number (Turn number moment) old new before after h.history inside is h was updates
-    (ServerStands-same opening so_far (texts_fed (take i events ++ Turn number moment ∷ [])) (λ _. []) (λ _. []) h.history new (λ m. text_turn m number moment (take i events)) (λ _. refl) stands)
+    (ServerHolds-same opening so_far (texts_fed (take i events ++ Turn number moment ∷ [])) (λ _. []) (λ _. []) h.history new (λ m. text_turn m number moment (take i events)) (λ _. refl) holds)
     (served_none (take i events) (turns_of h.history) number moment finds)
 
 -- a turn that takes one makes the history longer by it
@@ -149,12 +149,12 @@ takes : (opening : CacheState) (connections : ℕ) (events : List Event) (i numb
 takes opening connections events i number moment old new inside is h steps =
     let e : Entry = entry_taken steps in
     let so_far = texts_fed (take i events) in
-    let was = stood opening so_far (λ _. []) h.history old number steps.before h.stands steps.was in
+    let was = stood opening so_far (λ _. []) h.history old number steps.before h.holds steps.was in
     let finds = has_one opening number (so_far number) h.history steps.before e.what (rest_of steps.after.reader []) was (steps.step.1.first.rest []) in
     let turns : turns_of (h.history ++ e ∷ []) ≡ turns_of h.history ++ (number, moment) ∷ [] = map-append (λ (x : Entry). (x.connection, x.moment)) h.history (e ∷ []) in
     goes_on opening connections events i number (Turn number moment) old new steps.before steps.after (h.history ++ e ∷ []) inside is h steps.was steps.is
-    (ServerStands-same opening so_far (texts_fed (take i events ++ Turn number moment ∷ [])) (λ _. []) (λ _. []) (h.history ++ e ∷ []) new (λ m. text_turn m number moment (take i events)) (λ _. refl)
-    (ServerStands-took opening so_far (λ _. []) h.history number moment old new h.stands steps))
+    (ServerHolds-same opening so_far (texts_fed (take i events ++ Turn number moment ∷ [])) (λ _. []) (λ _. []) (h.history ++ e ∷ []) new (λ m. text_turn m number moment (take i events)) (λ _. refl)
+    (ServerHolds-took opening so_far (λ _. []) h.history number moment old new h.holds steps))
     (served_one (take i events) (turns_of h.history) number moment finds ∙ sym turns)
 
 closed_rest : (c : ConnectionState) → c.reader.closed ≡ true → rest_of c.reader [] ≡ []
@@ -166,10 +166,10 @@ turns : (opening : CacheState) (connections : ℕ) (events : List Event) (i numb
 turns opening connections events i number moment old new Took inside is h steps = takes opening connections events i number moment old new inside is h steps
 turns opening connections events i number moment old new Idle inside is h steps =
     waits opening connections events i number moment old new steps.before steps.after inside is h steps.was steps.is steps.step.none.none
-    (ServerStands-idle opening (texts_fed (take i events)) (λ _. []) h.history number moment old new h.stands steps)
+    (ServerHolds-idle opening (texts_fed (take i events)) (λ _. []) h.history number moment old new h.holds steps)
 turns opening connections events i number moment old new Closing inside is h steps =
     waits opening connections events i number moment old new steps.before steps.after inside is h steps.was steps.is (closed_rest steps.before steps.step.0)
-    (ServerStands-closing opening (texts_fed (take i events)) (λ _. []) h.history number moment old new h.stands steps)
+    (ServerHolds-closing opening (texts_fed (take i events)) (λ _. []) h.history number moment old new h.holds steps)
 
 -- an event
 pub plays : (opening : CacheState) (connections : ℕ) (events : List Event) (i : ℕ) (e : Event) (old new : ServerState)
@@ -177,8 +177,8 @@ pub plays : (opening : CacheState) (connections : ℕ) (events : List Event) (i 
 plays opening connections events i (Bytes number bytes) old new inside is h steps =
     let so_far = texts_fed (take i events) in
     goes_on opening connections events i number (Bytes number bytes) old new steps.before steps.after h.history inside is h steps.was steps.is
-    (ServerStands-same opening (grown number bytes so_far) (texts_fed (take i events ++ Bytes number bytes ∷ [])) (λ _. []) (λ _. []) h.history new
-    (λ m. text_more m (take i events) (Bytes number bytes)) (λ _. refl) (ServerStands-fed opening so_far (λ _. []) h.history number bytes old new h.stands steps))
+    (ServerHolds-same opening (grown number bytes so_far) (texts_fed (take i events ++ Bytes number bytes ∷ [])) (λ _. []) (λ _. []) h.history new
+    (λ m. text_more m (take i events) (Bytes number bytes)) (λ _. refl) (ServerHolds-fed opening so_far (λ _. []) h.history number bytes old new h.holds steps))
     refl
 plays opening connections events i (Turn number moment) old new inside is h steps = turns opening connections events i number moment old new steps.0 inside is h steps.1
 
@@ -190,7 +190,7 @@ same_map f g from (suc count) same =
     ∙ ap (λ (xs : List (List ℕ)). g from ∷ xs) (same_map f g (from + 1) count (λ n low high. same n (omega arith) (omega arith)))
 
 -- the output of a connection that is open is all that was answered to it
-output_at : (opening : CacheState) (number : ℕ) (text : List ℕ) (history : List Entry) (c : Option ConnectionState) → IsSome c → StandsAt opening number text history [] c → output_of c ≡ answers_to number opening history
+output_at : (opening : CacheState) (number : ℕ) (text : List ℕ) (history : List Entry) (c : Option ConnectionState) → IsSome c → ServerHoldsAt opening number text history [] c → output_of c ≡ answers_to number opening history
 output_at opening number text history None never h = absurd cc
 output_at opening number text history (Some c) is_open h = h.answered
 
@@ -201,13 +201,13 @@ all_played script i server past h =
     let opening = cache_of script in
     let all : take i script.events ≡ script.events = take_all i script.events past in
     let none : drop i script.events ≡ [] = drop_all i script.events past in
-    let stands : ServerStands opening (texts_fed script.events) (λ _. []) h.history server =
-    subst (λ (es : List Event). ServerStands opening (texts_fed es) (λ _. []) h.history server) all h.stands in
+    let holds : ServerHolds opening (texts_fed script.events) (λ _. []) h.history server =
+    subst (λ (es : List Event). ServerHolds opening (texts_fed es) (λ _. []) h.history server) all h.holds in
     record {
       history = h.history;
-      legal = stands.cache.legal;
-      taken = λ number. taken_is_first opening (texts_fed script.events) (λ _. []) h.history server number stands;
+      legal = holds.cache.legal;
+      taken = λ number. taken_is_first opening (texts_fed script.events) (λ _. []) h.history server number holds;
       turns = ap (λ (es : List Event). turns_served (take i script.events) (turns_of h.history) es) (sym none) ∙ h.turns;
       answered = same_map (λ number. output_of (connection_at server number)) (λ number. answers_to number opening h.history) 0 script.connections
-          (λ number low high. output_at opening number (text_fed number script.events) h.history (connection_at server number) (h.are_open number (omega arith)) (stands.each number));
+          (λ number low high. output_at opening number (text_fed number script.events) h.history (connection_at server number) (h.are_open number (omega arith)) (holds.each number));
     }

@@ -25,8 +25,8 @@ pub read_at : (links : List RoomyLink) (place : ℕ) (own : RoomyLink) → place
 read_at links place own inside = get_or_default links place own no_link inside
 
 -- and so is its state
-pub stands_at : (links : List RoomyLink) (place : ℕ) (own : RoomyLink) → place < length links → link_at (states links) place ≡ (get_or links place own).state
-stands_at links place own inside = link_at_is links place ∙ ap (λ (l : RoomyLink). l.state) (sym (read_at links place own inside))
+pub link_is_there : (links : List RoomyLink) (place : ℕ) (own : RoomyLink) → place < length links → link_at (states links) place ≡ (get_or links place own).state
+link_is_there links place own inside = link_at_is links place ∙ ap (λ (l : RoomyLink). l.state) (sym (read_at links place own inside))
 
 -- a link that is as it was changes no link
 pub states_same : (links : List RoomyLink) (place : ℕ) (own link : RoomyLink) → link.state ≡ (get_or links place own).state → states (set links place link) ≡ states links

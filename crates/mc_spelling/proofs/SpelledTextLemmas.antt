@@ -88,6 +88,6 @@ quit_alone : requests_of (codes "quit\r\n") ≡ Whole Quit ∷ []
 unfolding words line_end first_line name_of next_request requests_within requests_of
 quit_alone = refl
 
-pub quit_behind : (commands : List (Atom (List ℕ))) → list_all is_good_atom commands ≡ true
+pub quit_after : (commands : List (Atom (List ℕ))) → list_all is_good_atom commands ≡ true
     → requests_of (spellings_of commands ++ codes "quit\r\n") ≡ map taken_of commands ++ Whole Quit ∷ []
-quit_behind commands h = all_spelled commands (codes "quit\r\n") h ∙ rw quit_alone refl
+quit_after commands h = all_spelled commands (codes "quit\r\n") h ∙ rw quit_alone refl

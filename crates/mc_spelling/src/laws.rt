@@ -26,7 +26,7 @@ pub fn spelled_command_is_one()
 {}
 
 /// No spelling begins another: texts that are the same begin with the same command, and go on in the same way.
-pub fn spellings_stand_apart()
+pub fn spellings_are_apart()
     ensures { (a b : Atom (List ℕ)) (xs ys : List ℕ) → is_good_atom a ≡ true → is_good_atom b ≡ true
         → spelling_of_atom a ++ xs ≡ spelling_of_atom b ++ ys → (a ≡ b) × (xs ≡ ys) }
 {}

@@ -8,7 +8,7 @@
 //! which commands can be said so (`is_good_atom`): each that a client's request stands for
 //! ([`commands_of_texts_can_be_spelled`]). The laws say that it is read as that command and no other, whatever follows it
 //! ([`spelled_commands_are_read`], [`spelled_command_is_one`], [`quit_after_commands_is_read`]), that no spelling begins
-//! another ([`spellings_stand_apart`]), and that a server answers it by the canonical spelling of its reply
+//! another ([`spellings_are_apart`]), and that a server answers it by the canonical spelling of its reply
 //! ([`canonical_answers`]). Which replies a command can have, and how they are spelled, its head alone tells
 //! ([`heads_tell_of_replies`]).
 //!
@@ -24,6 +24,6 @@ mod spellings;
 pub use laws::{
     canonical_answers, commands_of_texts_can_be_spelled, heads_tell_of_replies,
     quit_after_commands_is_read, spelled_command_is_one, spelled_commands_are_read,
-    spellings_stand_apart,
+    spellings_are_apart,
 };
 pub use spellings::{spelled_len, write_atom};

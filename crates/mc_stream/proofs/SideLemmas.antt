@@ -34,10 +34,10 @@ all_before (Some a) (Some b) (Some c) xs ys h k l =
     let whole : xs ≡ (xs ++ ys) ++ c = h ∙ k ∙ ap (λ (bytes : List ℕ). xs ++ bytes) l ∙ sym (append_assoc xs ys c) in
     rw (nothing_left xs ys c whole) (append-nil xs ∙ h)
 
-all_behind : (a b : Option (List ℕ)) (xs ys : List ℕ) → Consumes a b xs → IsAll b ys → IsAll a (xs ++ ys)
-all_behind None b xs ys h k = tt
-all_behind (Some a) None xs ys h k = absurd h
-all_behind (Some a) (Some b) xs ys h k = rw k (sym h)
+all_after : (a b : Option (List ℕ)) (xs ys : List ℕ) → Consumes a b xs → IsAll b ys → IsAll a (xs ++ ys)
+all_after None b xs ys h k = tt
+all_after (Some a) None xs ys h k = absurd h
+all_after (Some a) (Some b) xs ys h k = rw k (sym h)
 
 -- what was carried, and then more
 carries_then : (unread middle unread' written between written' : Option (List ℕ)) (ended later ended' : Bool) (came more went yet : List ℕ)
@@ -52,7 +52,7 @@ carries_then unread middle unread' written between written' ended later ended' c
       | inl first ↦ inl first
       | inr all ↦ inr (all_before unread middle unread' came more all h.consumed k.consumed)
     ]
-    | inr all ↦ inr (all_behind unread middle came more h.consumed all)
+    | inr all ↦ inr (all_after unread middle came more h.consumed all)
   ];
 }
 

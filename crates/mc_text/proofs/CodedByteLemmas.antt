@@ -92,8 +92,8 @@ decoded_small e word said are h =
     let bytes = are_bytes word (bytes_all word are) in
     let q : ℕ = groups_before_last (length word) in
     let parts = outcome (decode_error e.decode_table e.padding.value e.config.decode_allow_trailing_bits e.config.decode_padding_mode word) (decoded_bytes e.decode_table e.padding.value word) said h in
-    let behind = neither (lone_error e.decode_table e.padding.value word) _ parts.0 in
-    let groups = neither (groups_error e.decode_table word q) _ behind.1 in
+    let after = neither (lone_error e.decode_table e.padding.value word) _ parts.0 in
+    let groups = neither (groups_error e.decode_table word q) _ after.1 in
     let last = scanned_small (scan_last e.decode_table e.padding.value (4 * q) word) (λ st scanned.
     leftover_small e.decode_table e.padding.value (4 * q) (drop (4 * q) word) no_leftover st 0 table (list_all-drop is_byte (4 * q) word are) (omega arith, omega arith, omega arith, zeros_below) scanned) in
     rw (← parts.1) (list_all-append is_byte (groups_bytes e.decode_table word q) (suffix_bytes e.decode_table e.padding.value (4 * q) word)

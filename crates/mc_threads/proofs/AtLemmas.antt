@@ -4,8 +4,8 @@ use Rattle.std.proofs.Math.Seq.{take-suc}
 use Rattle.std.proofs.lemmas.Bool.{cases_lt, le-ltb, lt-ltb}
 use Rattle.std.proofs.lemmas.Bool.Decides.{eqb_tells}
 use Rattle.std.proofs.lemmas.List.{get_or-map, get_or_append_left, get_or_at, get_or_past, length-map, map-append, map-set}
-use Rattle.mc_account.specs.Stands.{changed, grown}
-use Rattle.mc_account.proofs.StandsLemmas.{changed-other, changed-own}
+use Rattle.mc_account.specs.Holds.{changed, grown}
+use Rattle.mc_account.proofs.HoldsLemmas.{changed-other, changed-own}
 use Rattle.mc_threads.specs.Accounts.{Bytes, at, joined}
 
 pub at_map : {X : Type 0} (f : X → List ℕ) (xs : List X) (i : ℕ) (d : X) → i < length xs → at (map f xs) i ≡ f (get_or xs i d)

@@ -23,9 +23,9 @@ use Rattle.mc_server.specs.Served.{Entry as Taking}
 use Rattle.mc_session.specs.SessionState.{SessionState, link_at}
 use Rattle.mc_proxy.specs.ProxyState.{ProxyState, output_of, session_at, unanswered_of}
 use Rattle.mc_proxy.specs.Turns.{waiting_of}
-use Rattle.mc_account.specs.Lanes.{CanHave, Lane, LaneStands, as_waiting, spelled, told}
+use Rattle.mc_account.specs.Lanes.{CanHave, Lane, LaneHolds, as_waiting, spelled, told}
 use Rattle.mc_account.specs.Orders.{Entry, IsSized, Order, Tagged, answers_of, commands_to, entries_of, outcomes_from, outcomes_in, outcomes_to, taken_of, unanswered_of as as_unanswered}
-use Rattle.mc_account.specs.Stands.{ProxyStands, SessionStands, SessionStandsAt, IsUnused}
+use Rattle.mc_account.specs.Holds.{ProxyHolds, SessionHolds, SessionHoldsAt, IsUnused}
 use Rattle.mc_account.proofs.OpenSessions.{own_number}
 use Rattle.mc_account.proofs.OrderLemmas.{lengths_to, passes_parts}
 use Rattle.mc_history.specs.Generations.{is_good}
@@ -53,7 +53,7 @@ map_none : (es : Order) → map as_unanswered es ≡ [] → es ≡ []
 map_none [] h = refl
 map_none (e ∷ es) h = absurd cc
 
-over_answered : (client : ℕ) (order : Order) (text out : List ℕ) (s : SessionState) → SessionStands client order text out s → rest_of s.reader [] ≡ []
+over_answered : (client : ℕ) (order : Order) (text out : List ℕ) (s : SessionState) → SessionHolds client order text out s → rest_of s.reader [] ≡ []
     → length s.unanswered ≡ 0 → s.output ≡ [] → IsOver order text out client
 over_answered client order text out s h taken answered moved =
     let none : h.incomplete ≡ [] = map_none h.incomplete (sym h.unanswered ∙ none_of s.unanswered answered) in
@@ -63,7 +63,7 @@ over_answered client order text out s h taken answered moved =
       put = sym (append-nil out) ∙ ap (λ (bytes : List ℕ). out ++ bytes) (sym moved) ∙ h.answered ∙ ap answers_of (sym all);
     }
 
-over_at : (client : ℕ) (order : Order) (text out : List ℕ) (session : Option SessionState) (s : SessionState) → session ≡ Some s → SessionStandsAt client order text out session
+over_at : (client : ℕ) (order : Order) (text out : List ℕ) (session : Option SessionState) (s : SessionState) → session ≡ Some s → SessionHoldsAt client order text out session
     → waiting_of session ≡ [] → unanswered_of session ≡ 0 → output_of session ≡ [] → IsOver order text out client
 over_at client order text out None s is h taken answered moved = absurd cc
 over_at client order text out (Some t) s is h taken answered moved = over_answered client order text out t h taken answered moved
@@ -104,12 +104,12 @@ record IsMadeFor (ring : RingState) (opening : CacheState) (order : Order) (bega
 -- by a server whose link has nothing to send and nothing to wait for
 home_made : (ring : RingState) (opening : CacheState) (texts outs : ℕ → List ℕ) (order : Order) (lanes : ℕ → Lane) (proxy : ProxyState) (began ended : List ℕ) (server : ℕ)
     (sv : IsServed opening began ended (commands_to server order) (lanes server).came)
-    → ProxyStands texts outs order lanes proxy → (link_at proxy.links server).up ≡ true → (lanes server).since ≡ 0 → (link_at proxy.links server).waiting ≡ []
+    → ProxyHolds texts outs order lanes proxy → (link_at proxy.links server).up ≡ true → (lanes server).since ≡ 0 → (link_at proxy.links server).waiting ≡ []
     → list_all is_good (commands_to server order) ≡ true → IsMadeFor ring opening order began ended server
-home_made ring opening texts outs order lanes proxy began ended server sv stands up since none good =
+home_made ring opening texts outs order lanes proxy began ended server sv holds up since none good =
     let lane : Lane = lanes server in
     let link : LinkState = link_at proxy.links server in
-    let h : LaneStands server order (lanes server) (link_at proxy.links server) = (stands.links server).0 up in
+    let h : LaneHolds server order (lanes server) (link_at proxy.links server) = (holds.links server).0 up in
     let whole : drop lane.since order ≡ order = ap (λ n. drop n order) since in
     let can_all_of : CanHave (commands_to server order) (map (λ (m : Made). m.reply) sv.made) = can_all opening sv.made (commands_to server order) sv.commands_are sv.made_is in
     let can_lane : CanHave (commands_to server order) lane.replies = subst (λ (es : Order). CanHave (commands_to server es) lane.replies) whole h.can in
@@ -124,8 +124,8 @@ home_made ring opening texts outs order lanes proxy began ended server sv stands
     record {
       made = sv.made;
       of = record {
-        numbered = stands.numbered;
-        sized = stands.sized;
+        numbered = holds.numbered;
+        sized = holds.sized;
         commands = sv.commands_are;
         outcomes = outcomes ∙ ap (λ (ws : List Waiting). map (λ (r : AReply (List ℕ)). Reply r) lane.replies ++ map (λ (_ : Waiting). Awaited) ws) none
             ∙ append-nil (map (λ (r : AReply (List ℕ)). Reply r) lane.replies) ∙ ap (λ (rs : List (AReply (List ℕ))). map (λ (r : AReply (List ℕ)). Reply r) rs) (sym same) ∙ map-map sv.made;
@@ -187,16 +187,16 @@ none_left (c ∷ cs) size = absurd (omega (arith, size))
 
 -- so nothing is made there
 beyond_made : (ring : RingState) (opening : CacheState) (texts outs : ℕ → List ℕ) (order : Order) (lanes : ℕ → Lane) (proxy : ProxyState) (began ended : List ℕ) (server : ℕ) → IsRing ring
-    → ProxyStands texts outs order lanes proxy → All (λ (e : Entry). e.ring ≡ ring) order → length ring.servers ≤ server → IsMadeFor ring opening order began ended server
-beyond_made ring opening texts outs order lanes proxy began ended server is_ring stands rings above =
+    → ProxyHolds texts outs order lanes proxy → All (λ (e : Entry). e.ring ≡ ring) order → length ring.servers ≤ server → IsMadeFor ring opening order began ended server
+beyond_made ring opening texts outs order lanes proxy began ended server is_ring holds rings above =
     let none = none_to ring server order is_ring above rings in
     let size : length (outcomes_to server order) ≡ 0 = ap (λ (xs : List Outcome). length xs) none in
     record {
       made = [];
       of = record {
-        numbered = stands.numbered;
-        sized = stands.sized;
-        commands = none_left (commands_to server order) (lengths_to server order stands.sized ∙ size);
+        numbered = holds.numbered;
+        sized = holds.sized;
+        commands = none_left (commands_to server order) (lengths_to server order holds.sized ∙ size);
         outcomes = none;
         made_is = tt;
       };
@@ -217,8 +217,8 @@ completes ring opening clients texts outs went came began ended proxy good_cache
     let over : (client : ℕ) → IsOver h.order (texts client) (outs client) client = λ client. ⊎_elim
     (λ below. let q = quiet.answered client below in
     let o = h.is_open client below in
-    over_at client h.order (texts client) (outs client) (session_at proxy client) o.0 o.1 (h.stands.sessions client) q.taken q.answered q.moved)
-    (λ above. unused_answered client h.order (texts client) (outs client) (session_at proxy client) (h.stands.unused client (omega (arith, above, h.admitted))))
+    over_at client h.order (texts client) (outs client) (session_at proxy client) o.0 o.1 (h.holds.sessions client) q.taken q.answered q.moved)
+    (λ above. unused_answered client h.order (texts client) (outs client) (session_at proxy client) (h.holds.unused client (omega (arith, above, h.admitted))))
     (cases_lt client clients) in
     let asked : (client : ℕ) → taken_of client h.order ≡ requests_of (texts client) = λ client. (over client).asked in
     let all : (server : ℕ) → IsMadeFor ring opening h.order (began server) (ended server) server = λ server. ⊎_elim
@@ -228,22 +228,22 @@ completes ring opening clients texts outs went came began ended proxy good_cache
     let good : list_all is_good (commands_to server h.order) ≡ true = good_texts server h.order texts h.bytes asked in
     let put : went server ≡ spelled (commands_to server h.order) =
     sym (h.went_is server) ∙ sym (append-nil (h.lanes server).out) ∙ ap (λ (bytes : List ℕ). (h.lanes server).out ++ bytes) (sym silent.sent)
-    ∙ subst (λ (es : Order). (h.lanes server).out ++ (link_at proxy.links server).output ≡ spelled (commands_to server es)) (ap (λ n. drop n h.order) (h.since server)) ((h.stands.links server).0 up).put in
+    ∙ subst (λ (es : Order). (h.lanes server).out ++ (link_at proxy.links server).output ≡ spelled (commands_to server es)) (ap (λ n. drop n h.order) (h.since server)) ((h.holds.links server).0 up).put in
     let w = worked server low in
     let sv = subst (λ (bytes : List ℕ). IsServed opening (began server) (ended server) (commands_to server h.order) bytes) (sym (h.came_is server))
     (served opening (began server) (ended server) (went server ++ codes "quit\r\n") (came server) w.0 (commands_to server h.order) good_cache w.1
     (ap (λ (bytes : List ℕ). bytes ++ codes "quit\r\n") put) good) in
-    home_made ring opening texts outs h.order h.lanes proxy (began server) (ended server) server sv h.stands up (h.since server) silent.none_waits good)
-    (λ above. beyond_made ring opening texts outs h.order h.lanes proxy (began server) (ended server) server h.is_ring h.stands h.rings above)
+    home_made ring opening texts outs h.order h.lanes proxy (began server) (ended server) server sv h.holds up (h.since server) silent.none_waits good)
+    (λ above. beyond_made ring opening texts outs h.order h.lanes proxy (began server) (ended server) server h.is_ring h.holds h.rings above)
     (cases_lt server (length ring.servers)) in (
       h.order,
       λ server. map entry_of (all server).made,
       record {
         asked = asked;
-        numbered = h.stands.numbered;
+        numbered = h.holds.numbered;
         rings = h.rings;
-        sized = h.stands.sized;
-        all_replied = replied_order h.order h.stands.sized (λ place. ap (λ (xs : List Outcome). list_all is_reply xs) (all place).of.outcomes ∙ all_replies (all place).made);
+        sized = h.holds.sized;
+        all_replied = replied_order h.order h.holds.sized (λ place. ap (λ (xs : List Outcome). list_all is_reply xs) (all place).of.outcomes ∙ all_replies (all place).made);
         legal = λ server. legal_made opening h.order server (all server).made (all server).of;
         commands = λ server. tags_made_of opening h.order server (all server).made (all server).of;
         replied = λ server. replied_made opening h.order server (all server).made (all server).of;

@@ -9,7 +9,7 @@ use Rattle.mc_request.specs.declared.parts.Request.TheVariants.{Quit}
 use Rattle.mc_request.specs.declared.parts.Taken.{Taken}
 use Rattle.mc_request.specs.declared.parts.Taken.TheVariants.{Whole}
 use Rattle.mc_reply.specs.declared.replies.Reply.{Reply as AReply}
-use Rattle.mc_spelling.proofs.SpelledTextLemmas.{quit_behind}
+use Rattle.mc_spelling.proofs.SpelledTextLemmas.{quit_after}
 use Rattle.mc_cache.specs.CacheState.{CacheState}
 use Rattle.mc_cache.specs.Replay.{Command, IsLegal as AreAllowed}
 use Rattle.mc_cache.specs.Step.{step_of}
@@ -151,7 +151,7 @@ pub served : (opening : CacheState) (began ended received sent : List ℕ) (hist
 served opening began ended received sent history commands good_cache h came good =
     let read : map (λ (e : Entry). e.what) history ≡ map read_as commands ++ Whole Quit ∷ [] =
     sym (all_taken history h.only) ∙ h.taken ∙ ap requests_of came ∙ read_spelled commands (codes "quit\r\n") good
-    ∙ ap (λ (ts : List Taken). map read_as commands ++ ts) (quit_behind [] refl) in
+    ∙ ap (λ (ts : List Taken). map read_as commands ++ ts) (quit_after [] refl) in
     let t = tells opening commands history good_cache read h.only h.early h.legal good in
     record {
       made = t.made;

@@ -6,7 +6,7 @@ use Rattle.mc_request.specs.Requests.{requests_of, requests_within}
 use Rattle.mc_ring.specs.Rings.{IsRing, RingState}
 use Rattle.mc_link.specs.LinkState.{LinkState, down_link, up_link}
 use Rattle.mc_session.specs.SessionState.{link_at, with_link}
-use Rattle.mc_account.specs.Lanes.{LinkStands, fresh_lane}
+use Rattle.mc_account.specs.Lanes.{LinkHolds, fresh_lane}
 use Rattle.mc_account.specs.Orders.{Entry, IsSized}
 use Rattle.mc_account.proofs.LaneLemmas.{lane_fresh}
 use Rattle.mc_threads.specs.Talks.{Talks}
@@ -45,11 +45,11 @@ up_inside zero place inside = absurd (omega (arith, inside))
 up_inside (suc n) zero inside = refl
 up_inside (suc n) (suc place) inside = up_inside n place (omega (arith, inside))
 
-link_opens : (n place : ℕ) → LinkStands place [] (fresh_lane 0) (link_at (replicate n (up_link 1)) place)
+link_opens : (n place : ℕ) → LinkHolds place [] (fresh_lane 0) (link_at (replicate n (up_link 1)) place)
 link_opens n place =
     ⊎_elim
-    (λ up. subst (λ (l : LinkState). LinkStands place [] (fresh_lane 0) l) (sym up) (λ _. lane_fresh place 1 [] refl, λ down. absurd (down refl)))
-    (λ none. subst (λ (l : LinkState). LinkStands place [] (fresh_lane 0) l) (sym none) (λ up. absurd cc, λ _. record { nothing = refl; outcomes = refl }))
+    (λ up. subst (λ (l : LinkState). LinkHolds place [] (fresh_lane 0) l) (sym up) (λ _. lane_fresh place 1 [] refl, λ down. absurd (down refl)))
+    (λ none. subst (λ (l : LinkState). LinkHolds place [] (fresh_lane 0) l) (sym none) (λ up. absurd cc, λ _. record { nothing = refl; outcomes = refl }))
     (up_or_none n place)
 
 pub no_requests : requests_of [] ≡ []
@@ -61,7 +61,7 @@ pub talks_opens : (ring : RingState) → IsRing ring
 talks_opens ring is_ring = record {
   order = [];
   lanes = λ _. fresh_lane 0;
-  stands = record {
+  holds = record {
     sized = All-nil IsSized;
     numbered = λ number. refl;
     sessions = λ number. record { untaken = []; rest = sym no_requests; done = []; incomplete = []; split = refl; complete = refl; unsent = []; answered = refl };

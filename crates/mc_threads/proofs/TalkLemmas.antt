@@ -26,32 +26,32 @@ use Rattle.mc_proxy.specs.LinkTurns.{Answers}
 use Rattle.mc_proxy.specs.Noting.{noted}
 use Rattle.mc_proxy.specs.ProxyState.{ProxyState, Sessions, output_of, sent_by, session_at, session_in, updated, with_fresh}
 use Rattle.mc_proxy.specs.Turns.{Alone, Steps}
-use Rattle.mc_account.specs.Lanes.{Lane, LaneStands, LinkStands, told}
+use Rattle.mc_account.specs.Lanes.{Lane, LaneHolds, LinkHolds, told}
 use Rattle.mc_account.specs.Orders.{Entry, Order, commands_from, commands_to, note, note_in}
-use Rattle.mc_account.specs.Stands.{ProxyStands, changed, grown}
+use Rattle.mc_account.specs.Holds.{ProxyHolds, changed, grown}
 use Rattle.mc_account.proofs.HandingLemmas.{handed_at, received_up}
 use Rattle.mc_account.proofs.LaneLemmas.{link_other, link_own, up_is_there}
-use Rattle.mc_account.proofs.LinkLemmas.{stands-replied}
+use Rattle.mc_account.proofs.LinkLemmas.{holds-replied}
 use Rattle.mc_account.proofs.OpenSessions.{fresh_other, fresh_own, noted_other, noted_own, updated_other, updated_own}
-use Rattle.mc_account.proofs.StandsLemmas.{changed-other, changed-own, entry_taken, stands-admitted, stands-emitted, stands-fed, stands-idle_emit, stands-idle_turn, stands-sent, stands-took}
+use Rattle.mc_account.proofs.HoldsLemmas.{changed-other, changed-own, entry_taken, holds-admitted, holds-emitted, holds-fed, holds-idle_emit, holds-idle_turn, holds-sent, holds-took}
 use Rattle.mc_threads.specs.Links.{Carries, IsMoved, pulled_at, pushed_at}
 use Rattle.mc_threads.specs.Talks.{IsOpen, Talks}
 use Rattle.mc_threads.specs.declared.links.Ends.{Ends}
 
 -- by other functions that are the same at each number
-pub stands_as : (texts texts' sent sent' : ℕ → List ℕ) (order : Order) (lanes : ℕ → Lane) (proxy : ProxyState) → ((n : ℕ) → texts n ≡ texts' n) → ((n : ℕ) → sent n ≡ sent' n)
-    → ProxyStands texts sent order lanes proxy → ProxyStands texts' sent' order lanes proxy
-stands_as texts texts' sent sent' order lanes proxy text_is sent_is h =
+pub holds_as : (texts texts' sent sent' : ℕ → List ℕ) (order : Order) (lanes : ℕ → Lane) (proxy : ProxyState) → ((n : ℕ) → texts n ≡ texts' n) → ((n : ℕ) → sent n ≡ sent' n)
+    → ProxyHolds texts sent order lanes proxy → ProxyHolds texts' sent' order lanes proxy
+holds_as texts texts' sent sent' order lanes proxy text_is sent_is h =
     let text_same : texts ≡ texts' = λ i n. text_is n i in
     let sent_same : sent ≡ sent' = λ i n. sent_is n i in
-    subst (λ (f : ℕ → List ℕ). ProxyStands texts' f order lanes proxy) sent_same (subst (λ (f : ℕ → List ℕ). ProxyStands f sent order lanes proxy) text_same h)
+    subst (λ (f : ℕ → List ℕ). ProxyHolds texts' f order lanes proxy) sent_same (subst (λ (f : ℕ → List ℕ). ProxyHolds f sent order lanes proxy) text_same h)
 
 pub talks_as : (ring : RingState) (clients : ℕ) (texts texts' outs outs' went went' came came' : ℕ → List ℕ) (proxy : ProxyState) → ((n : ℕ) → texts n ≡ texts' n) → ((n : ℕ) → outs n ≡ outs' n)
     → ((n : ℕ) → went n ≡ went' n) → ((n : ℕ) → came n ≡ came' n) → Talks ring clients texts outs went came proxy → Talks ring clients texts' outs' went' came' proxy
 talks_as ring clients texts texts' outs outs' went went' came came' proxy text_is out_is went_same came_same h = record {
   order = h.order;
   lanes = h.lanes;
-  stands = stands_as texts texts' outs outs' h.order h.lanes proxy text_is out_is h.stands;
+  holds = holds_as texts texts' outs outs' h.order h.lanes proxy text_is out_is h.holds;
   is_ring = h.is_ring;
   rings = h.rings;
   ring_is = h.ring_is;
@@ -120,7 +120,7 @@ talks_took : (ring : RingState) (clients : ℕ) (texts outs went came : ℕ → 
 talks_took ring clients texts outs went came number old new h steps = record {
   order = h.order ++ entry_taken steps ∷ [];
   lanes = h.lanes;
-  stands = stands-took texts outs h.order h.lanes number old new h.stands steps;
+  holds = holds-took texts outs h.order h.lanes number old new h.holds steps;
   is_ring = h.is_ring;
   rings = All-push (λ (e : Entry). e.ring ≡ ring) h.order (entry_taken steps) h.rings h.ring_is;
   ring_is = steps.ring ∙ h.ring_is;
@@ -140,7 +140,7 @@ talks_idled ring clients texts outs went came number turn old new differ h steps
     record {
       order = h.order;
       lanes = h.lanes;
-      stands = stands-idle_turn texts outs h.order h.lanes number turn old new h.stands differ steps;
+      holds = holds-idle_turn texts outs h.order h.lanes number turn old new h.holds differ steps;
       is_ring = h.is_ring;
       rings = h.rings;
       ring_is = steps.ring ∙ h.ring_is;
@@ -162,11 +162,11 @@ talks_turned ring clients texts outs went came number turns.Closing old new h st
 
 -- `emit`, and what it put out is moved
 emitted_alone : (ring : RingState) (clients : ℕ) (texts outs went came : ℕ → List ℕ) (number : ℕ) (emit : Emit) (old new : ProxyState) (h : Talks ring clients texts outs went came old)
-    → Steps number old new (Alone (IsEmit emit)) → ProxyStands texts outs h.order h.lanes new → Talks ring clients texts outs went came new
-emitted_alone ring clients texts outs went came number emit old new h steps stands = record {
+    → Steps number old new (Alone (IsEmit emit)) → ProxyHolds texts outs h.order h.lanes new → Talks ring clients texts outs went came new
+emitted_alone ring clients texts outs went came number emit old new h steps holds = record {
   order = h.order;
   lanes = h.lanes;
-  stands = stands;
+  holds = holds;
   is_ring = h.is_ring;
   rings = h.rings;
   ring_is = steps.ring ∙ h.ring_is;
@@ -182,9 +182,9 @@ emitted_alone ring clients texts outs went came number emit old new h steps stan
 pub talks_emitted : (ring : RingState) (clients : ℕ) (texts outs went came : ℕ → List ℕ) (number : ℕ) (emit : Emit) (old new : ProxyState) → Talks ring clients texts outs went came old
     → Steps number old new (Alone (IsEmit emit)) → Talks ring clients texts outs went came new
 talks_emitted ring clients texts outs went came number emits.Done old new h steps =
-    emitted_alone ring clients texts outs went came number emits.Done old new h steps (stands-emitted texts outs h.order h.lanes number old new h.stands steps)
+    emitted_alone ring clients texts outs went came number emits.Done old new h steps (holds-emitted texts outs h.order h.lanes number old new h.holds steps)
 talks_emitted ring clients texts outs went came number emits.Idle old new h steps =
-    emitted_alone ring clients texts outs went came number emits.Idle old new h steps (stands-idle_emit texts outs h.order h.lanes number old new h.stands steps)
+    emitted_alone ring clients texts outs went came number emits.Idle old new h steps (holds-idle_emit texts outs h.order h.lanes number old new h.holds steps)
 
 -- of a session that was sent bytes
 open_sent : (number count : ℕ) (session : Option SessionState) (old : ProxyState) (client : ℕ) → session_at old number ≡ session → IsOpen old client → IsOpen (sent_by number count session old) client
@@ -209,7 +209,7 @@ talks_sent : (ring : RingState) (clients : ℕ) (texts outs went came : ℕ → 
 talks_sent ring clients texts outs went came number count old h = record {
   order = h.order;
   lanes = h.lanes;
-  stands = stands-sent texts outs h.order h.lanes number count old h.stands;
+  holds = holds-sent texts outs h.order h.lanes number count old h.holds;
   is_ring = h.is_ring;
   rings = h.rings;
   ring_is = ring_sent number count (session_at old number) old ∙ h.ring_is;
@@ -241,18 +241,18 @@ talks_moved ring clients texts outs went came number old new output grown_to h i
 
 -- the link of one place is another, and what passed over it
 relinked : (texts sent : ℕ → List ℕ) (order : Order) (lanes : ℕ → Lane) (place : ℕ) (lane : Lane) (link : LinkState) (old : ProxyState) → place < length old.links
-    → LinkStands place order lane link → ProxyStands texts sent order lanes old → ProxyStands texts sent order (changed place lane lanes) (record old { links = with_link place link old.links })
+    → LinkHolds place order lane link → ProxyHolds texts sent order lanes old → ProxyHolds texts sent order (changed place lane lanes) (record old { links = with_link place link old.links })
 relinked texts sent order lanes place lane link old inside own h = record {
   sized = h.sized;
   numbered = h.numbered;
   sessions = h.sessions;
   unused = h.unused;
   links = λ other. ⊎_elim
-      (λ e. subst (λ (p : ℕ). LinkStands p order (changed place lane lanes p) (link_at (with_link place link old.links) p)) e.1
-      (subst (λ (l : Lane). LinkStands place order l (link_at (with_link place link old.links) place)) (sym (changed-own place lane lanes))
-      (subst (λ (l : LinkState). LinkStands place order lane l) (sym (link_own place link old.links inside)) own)))
-      (λ e. subst (λ (l : Lane). LinkStands other order l (link_at (with_link place link old.links) other)) (sym (changed-other place other lane lanes e.1))
-      (subst (λ (l : LinkState). LinkStands other order (lanes other) l) (sym (link_other place other link old.links e.1)) (h.links other)))
+      (λ e. subst (λ (p : ℕ). LinkHolds p order (changed place lane lanes p) (link_at (with_link place link old.links) p)) e.1
+      (subst (λ (l : Lane). LinkHolds place order l (link_at (with_link place link old.links) place)) (sym (changed-own place lane lanes))
+      (subst (λ (l : LinkState). LinkHolds place order lane l) (sym (link_own place link old.links inside)) own)))
+      (λ e. subst (λ (l : Lane). LinkHolds other order l (link_at (with_link place link old.links) other)) (sym (changed-other place other lane lanes e.1))
+      (subst (λ (l : LinkState). LinkHolds other order (lanes other) l) (sym (link_other place other link old.links e.1)) (h.links other)))
       (eqb_tells place other);
 }
 
@@ -292,21 +292,21 @@ talks_pushed ring clients texts outs went came place count now old below is h =
     let lane : Lane = record (h.lanes place) { out = (h.lanes place).out ++ take count (link_at old.links place).output } in
     let up = h.up place below in
     let inside = up_is_there place old.links up in
-    let stands = (h.stands.links place).0 up in
-    let own : LaneStands place h.order lane after = record {
-      since = stands.since;
+    let holds = (h.holds.links place).0 up in
+    let own : LaneHolds place h.order lane after = record {
+      since = holds.since;
       put = append_assoc (h.lanes place).out piece (drop count (link_at old.links place).output)
-          ∙ ap (λ (bytes : List ℕ). (h.lanes place).out ++ bytes) (take-append-drop count (link_at old.links place).output) ∙ stands.put;
-      came = stands.came;
-      can = stands.can;
-      waiting = stands.waiting;
-      outcomes = stands.outcomes;
-      before = stands.before;
+          ∙ ap (λ (bytes : List ℕ). (h.lanes place).out ++ bytes) (take-append-drop count (link_at old.links place).output) ∙ holds.put;
+      came = holds.came;
+      can = holds.can;
+      waiting = holds.waiting;
+      outcomes = holds.outcomes;
+      before = holds.before;
     } in
     record {
       order = h.order;
       lanes = changed place lane h.lanes;
-      stands = relinked texts outs h.order h.lanes place lane after old inside (λ _. own, λ down. absurd (down up)) h.stands;
+      holds = relinked texts outs h.order h.lanes place lane after old inside (λ _. own, λ down. absurd (down up)) h.holds;
       is_ring = h.is_ring;
       rings = h.rings;
       ring_is = h.ring_is;
@@ -328,21 +328,21 @@ talks_pulled ring clients texts outs went came place piece now old below is h =
     let lane : Lane = record (h.lanes place) { came = (h.lanes place).came ++ piece } in
     let up = h.up place below in
     let inside = up_is_there place old.links up in
-    let stands = (h.stands.links place).0 up in
-    let own : LaneStands place h.order lane after = record {
-      since = stands.since;
-      put = stands.put;
-      came = ap (λ (bytes : List ℕ). bytes ++ piece) stands.came
+    let holds = (h.holds.links place).0 up in
+    let own : LaneHolds place h.order lane after = record {
+      since = holds.since;
+      put = holds.put;
+      came = ap (λ (bytes : List ℕ). bytes ++ piece) holds.came
           ∙ append_assoc (told (commands_to place (drop (h.lanes place).since h.order)) (h.lanes place).replies) (link_at old.links place).unread piece;
-      can = stands.can;
-      waiting = stands.waiting;
-      outcomes = stands.outcomes;
-      before = stands.before;
+      can = holds.can;
+      waiting = holds.waiting;
+      outcomes = holds.outcomes;
+      before = holds.before;
     } in
     record {
       order = h.order;
       lanes = changed place lane h.lanes;
-      stands = relinked texts outs h.order h.lanes place lane after old inside (λ _. own, λ down. absurd (down up)) h.stands;
+      holds = relinked texts outs h.order h.lanes place lane after old inside (λ _. own, λ down. absurd (down up)) h.holds;
       is_ring = h.is_ring;
       rings = h.rings;
       ring_is = h.ring_is;
@@ -364,7 +364,7 @@ talks_replied ring clients texts outs went came place old new below h answers =
     record {
       order = note answers.tag (Reply answers.reply) h.order;
       lanes = changed place lane h.lanes;
-      stands = stands-replied texts outs h.order h.lanes place old new h.stands up answers;
+      holds = holds-replied texts outs h.order h.lanes place old new h.holds up answers;
       is_ring = h.is_ring;
       rings = rings_noted ring answers.tag (Reply answers.reply) h.order h.rings;
       ring_is = answers.ring ∙ h.ring_is;
@@ -394,7 +394,7 @@ pub talks_admitted : (ring : RingState) (clients : ℕ) (texts outs went came : 
 talks_admitted ring clients texts outs went came old none h = record {
   order = h.order;
   lanes = h.lanes;
-  stands = stands-admitted texts outs h.order h.lanes old h.stands none;
+  holds = holds-admitted texts outs h.order h.lanes old h.holds none;
   is_ring = h.is_ring;
   rings = h.rings;
   ring_is = h.ring_is;
@@ -426,7 +426,7 @@ pub talks_fed : (ring : RingState) (clients : ℕ) (texts outs went came : ℕ �
 talks_fed ring clients texts outs went came number piece old new own h steps = record {
   order = h.order;
   lanes = h.lanes;
-  stands = stands-fed texts outs h.order h.lanes number piece old new h.stands steps;
+  holds = holds-fed texts outs h.order h.lanes number piece old new h.holds steps;
   is_ring = h.is_ring;
   rings = h.rings;
   ring_is = steps.ring ∙ h.ring_is;

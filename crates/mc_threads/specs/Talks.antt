@@ -7,7 +7,7 @@ use Rattle.mc_proxy.specs.ProxyState.{ProxyState, output_of, session_at, unanswe
 use Rattle.mc_proxy.specs.Turns.{waiting_of}
 use Rattle.mc_account.specs.Lanes.{Lane}
 use Rattle.mc_account.specs.Orders.{Entry, Order}
-use Rattle.mc_account.specs.Stands.{ProxyStands, grown}
+use Rattle.mc_account.specs.Holds.{ProxyHolds, grown}
 use Rattle.mc_threads.specs.Accounts.{Bytes, at, outs_of}
 use Rattle.mc_threads.specs.declared.links.Ends.{Ends}
 
@@ -20,7 +20,7 @@ IsOpen proxy client = (session : SessionState) × (session_at proxy client ≡ S
 pub record Talks (ring : RingState) (clients : ℕ) (texts outs went came : ℕ → List ℕ) (proxy : ProxyState) : Type 0 where
   pub order : Order
   pub lanes : ℕ → Lane
-  pub stands : ProxyStands texts outs order lanes proxy
+  pub holds : ProxyHolds texts outs order lanes proxy
   pub is_ring : IsRing ring
   pub rings : All (λ (e : Entry). e.ring ≡ ring) order
   pub ring_is : proxy.ring ≡ ring

@@ -16,7 +16,7 @@ use Rattle.mc_history.specs.declared.entries.Entry.{Entry}
 use Rattle.mc_world.specs.Accounts.{Accounts}
 use Rattle.mc_history.specs.Histories.{IsLegal}
 use Rattle.mc_history.specs.Made.{AreMade, Each, Made, entry_of}
-use Rattle.mc_world.specs.Sites.{SiteStands}
+use Rattle.mc_world.specs.Sites.{SiteHolds}
 use Rattle.mc_world.specs.WorldState.{SiteState}
 use Rattle.mc_history.specs.Named.{IsNamed}
 
@@ -35,7 +35,7 @@ legal_history place order s (m ∷ ms) h named = (
   legal_history place order (step_of s m.command.0 m.moment m.refused).0 ms h.1 named.1,
 )
 
-pub legal_site : (place : ℕ) (order : Order) (lane : Lane) (link : LinkState) (opening : CacheState) (site : SiteState) → SiteStands place order lane link opening site
+pub legal_site : (place : ℕ) (order : Order) (lane : Lane) (link : LinkState) (opening : CacheState) (site : SiteState) → SiteHolds place order lane link opening site
     → IsLegal order place opening site.history
 legal_site place order lane link opening site h =
     subst (λ (es : List Entry). IsLegal order place opening es) (sym h.history) (legal_history place order opening h.made h.answers h.named)

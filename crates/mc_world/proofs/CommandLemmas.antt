@@ -18,8 +18,8 @@ use Rattle.mc_history.specs.declared.entries.Entry.{Entry}
 use Rattle.mc_world.specs.Accounts.{AccountsForCommands}
 use Rattle.mc_history.specs.Histories.{IsLegal, tag_in}
 use Rattle.mc_history.specs.Made.{Each, Made, entry_of}
-use Rattle.mc_world.specs.Pools.{PoolStands}
-use Rattle.mc_world.specs.Sites.{SiteStands}
+use Rattle.mc_world.specs.Pools.{PoolHolds}
+use Rattle.mc_world.specs.Sites.{SiteHolds}
 use Rattle.mc_world.specs.WorldState.{PoolState, SiteState, histories_of}
 use Rattle.mc_world.proofs.AccountLemmas.{legal_site}
 use Rattle.mc_account.specs.Lookups.{command_at}
@@ -51,13 +51,13 @@ times-two tag (t ∷ ts) zero zero at also differ = absurd (differ refl)
 times-two tag (t ∷ ts) zero (suc k) at also differ =
     let same : t ≡ tag = same_Some t tag at in
     let own : is_tag tag t ≡ true = rw same (same_tag_self tag) in
-    let behind = times-one tag ts k also in
-    rw own (omega (arith, behind))
+    let after = times-one tag ts k also in
+    rw own (omega (arith, after))
 times-two tag (t ∷ ts) (suc j) zero at also differ =
     let same : t ≡ tag = same_Some t tag also in
     let own : is_tag tag t ≡ true = rw same (same_tag_self tag) in
-    let behind = times-one tag ts j at in
-    rw own (omega (arith, behind))
+    let after = times-one tag ts j at in
+    rw own (omega (arith, after))
 times-two tag (t ∷ ts) (suc j) (suc k) at also differ = omega (arith, times-two tag ts j k at also (λ same. differ (ap suc same)))
 
 -- what is after an entry of a history
@@ -83,7 +83,7 @@ named_at place order (m ∷ ms) (suc j) d h at = named_at place order ms j d h.1
 
 -- in one history no command is twice
 pub site_once : (place : ℕ) (order : Order) (lane : Lane) (link : LinkState) (opening : CacheState) (site : SiteState) (j k : ℕ) (d e : Entry) → ((number : ℕ) → AreInOrder (entries_of number order))
-    → SiteStands place order lane link opening site → slice_get site.history j ≡ Some d → slice_get site.history k ≡ Some e → tag_in d ≡ tag_in e → j ≡ k
+    → SiteHolds place order lane link opening site → slice_get site.history j ≡ Some d → slice_get site.history k ≡ Some e → tag_in d ≡ tag_in e → j ≡ k
 site_once place order lane link opening site j k d e numbered h at also same =
     let first = stems h.made j d (ap (λ (es : List Entry). slice_get es j) (sym h.history) ∙ at) in
     let second = stems h.made k e (ap (λ (es : List Entry). slice_get es k) (sym h.history) ∙ also) in
@@ -103,11 +103,11 @@ record HasSite (sites : List SiteState) (place : ℕ) : Type 0 where
   pub at : slice_get sites place ≡ Some site
   pub history : histories_of sites place ≡ site.history
 
-site_behind : (sites : List SiteState) (place j : ℕ) (d : Entry) → slice_get (histories_of sites place) j ≡ Some d → HasSite sites place
-site_behind [] place zero d at = absurd (none-some d at)
-site_behind [] place (suc j) d at = absurd (none-some d at)
-site_behind (s ∷ ss) zero j d at = record { site = s; at = refl; history = refl }
-site_behind (s ∷ ss) (suc place) j d at = let b = site_behind ss place j d at in record { site = b.site; at = b.at; history = b.history }
+site_after : (sites : List SiteState) (place j : ℕ) (d : Entry) → slice_get (histories_of sites place) j ≡ Some d → HasSite sites place
+site_after [] place zero d at = absurd (none-some d at)
+site_after [] place (suc j) d at = absurd (none-some d at)
+site_after (s ∷ ss) zero j d at = record { site = s; at = refl; history = refl }
+site_after (s ∷ ss) (suc place) j d at = let b = site_after ss place j d at in record { site = b.site; at = b.at; history = b.history }
 
 legal_at : (order : Order) (opening : CacheState) (sites : List SiteState) (front : ℕ) (P : ℕ → SiteState → Type 0)
     → ((place : ℕ) (site : SiteState) → P place site → IsLegal order place opening site.history)
@@ -120,28 +120,28 @@ legal_at order opening (s ∷ ss) front P legal h (suc place) =
     subst (λ (p : ℕ). IsLegal order p opening (histories_of ss place)) same
     (legal_at order opening ss (suc front) P legal (λ q site at. let next : suc q + front ≡ q + suc front = omega arith in subst (λ (p : ℕ). P p site) next (h (suc q) site at)) place)
 
-pub commands_accounted : (opening : CacheState) (texts sent : ℕ → List ℕ) (order : Order) (lanes : ℕ → Lane) (pool : PoolState) → PoolStands opening texts sent order lanes pool
+pub commands_accounted : (opening : CacheState) (texts sent : ℕ → List ℕ) (order : Order) (lanes : ℕ → Lane) (pool : PoolState) → PoolHolds opening texts sent order lanes pool
     → AccountsForCommands opening order texts (histories_of pool.sites)
 commands_accounted opening texts sent order lanes pool h = record {
   asked = λ client. let left = session_left client order (texts client) (sent client) (session_at pool.proxy client) (h.proxy.sessions client) in (left.untaken, left.rest);
   sized = h.proxy.sized;
   legal = λ place. let same : place + 0 ≡ place = omega arith in
       subst (λ (p : ℕ). IsLegal order p opening (histories_of pool.sites place)) same
-      (legal_at order opening pool.sites 0 (λ q site. SiteStands q order (lanes q) (link_at pool.proxy.links q) opening site)
+      (legal_at order opening pool.sites 0 (λ q site. SiteHolds q order (lanes q) (link_at pool.proxy.links q) opening site)
       (λ q site s. legal_site q order (lanes q) (link_at pool.proxy.links q) opening site s)
-      (λ q site at. let here : q ≡ q + 0 = omega arith in subst (λ (p : ℕ). SiteStands p order (lanes p) (link_at pool.proxy.links p) opening site) here (h.sites q site at)) place);
+      (λ q site at. let here : q ≡ q + 0 = omega arith in subst (λ (p : ℕ). SiteHolds p order (lanes p) (link_at pool.proxy.links p) opening site) here (h.sites q site at)) place);
   once = λ r s j k d e at also same.
-      let first = site_behind pool.sites r j d at in
-      let second = site_behind pool.sites s k e also in
-      let first_stands = h.sites r first.site first.at in
-      let second_stands = h.sites s second.site second.at in
+      let first = site_after pool.sites r j d at in
+      let second = site_after pool.sites s k e also in
+      let first_holds = h.sites r first.site first.at in
+      let second_holds = h.sites s second.site second.at in
       let at_first : slice_get first.site.history j ≡ Some d = ap (λ (es : List Entry). slice_get es j) (sym first.history) ∙ at in
       let at_second : slice_get second.site.history k ≡ Some e = ap (λ (es : List Entry). slice_get es k) (sym second.history) ∙ also in
-      let named = named_at r order first_stands.made j d first_stands.named (ap (λ (es : List Entry). slice_get es j) (sym first_stands.history) ∙ at_first) in
-      let also_named = named_at s order second_stands.made k e second_stands.named (ap (λ (es : List Entry). slice_get es k) (sym second_stands.history) ∙ at_second) in
+      let named = named_at r order first_holds.made j d first_holds.named (ap (λ (es : List Entry). slice_get es j) (sym first_holds.history) ∙ at_first) in
+      let also_named = named_at s order second_holds.made k e second_holds.named (ap (λ (es : List Entry). slice_get es k) (sym second_holds.history) ∙ at_second) in
       let both : Some (to_place r named.0) ≡ Some (to_place s also_named.0) = sym named.1 ∙ ap (λ (t : Tag). command_at order t) same ∙ also_named.1 in
       let places : r ≡ s = ap (λ (routed : Routed). routed.server) (same_Some (to_place r named.0) (to_place s also_named.0) both) in
       let moved : slice_get (histories_of pool.sites r) k ≡ Some e = ap (λ (p : ℕ). slice_get (histories_of pool.sites p) k) places ∙ also in
       let there : slice_get first.site.history k ≡ Some e = ap (λ (es : List Entry). slice_get es k) (sym first.history) ∙ moved in
-      (places, site_once r order (lanes r) (link_at pool.proxy.links r) opening first.site j k d e h.proxy.numbered first_stands at_first there same);
+      (places, site_once r order (lanes r) (link_at pool.proxy.links r) opening first.site j k d e h.proxy.numbered first_holds at_first there same);
 }

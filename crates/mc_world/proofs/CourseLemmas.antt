@@ -1,8 +1,8 @@
 -- The clients of a world, where one of them has changed.
 use Rattle.std.proofs.Common.{◌≡◌, ◌≢◌, ◌∙◌, ⊎_elim, ℕ, zero, suc, ◌<◌, List, [], ◌∷◌, ◌++◌, length, refl, sym, ap, subst, arith}
 use Rattle.std.proofs.lemmas.Bool.Decides.{eqb_tells}
-use Rattle.mc_account.specs.Stands.{changed}
-use Rattle.mc_account.proofs.StandsLemmas.{changed-other, changed-own}
+use Rattle.mc_account.specs.Holds.{changed}
+use Rattle.mc_account.proofs.HoldsLemmas.{changed-other, changed-own}
 use Rattle.mc_world.specs.Worlds.{ClientState, client_at, with_client}
 
 -- the client of the number, and any other

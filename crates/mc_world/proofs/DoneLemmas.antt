@@ -20,13 +20,13 @@ use Rattle.mc_proxy.specs.ProxyState.{ProxyState, Sessions, output_of, sent_by, 
 use Rattle.mc_proxy.specs.Turns.{Alone}
 use Rattle.mc_account.specs.Lanes.{Lane, fresh_lane}
 use Rattle.mc_account.specs.Orders.{Order, note, note_all}
-use Rattle.mc_account.specs.Stands.{changed, grown}
-use Rattle.mc_account.proofs.StandsLemmas.{changed-other, changed-own}
-use Rattle.mc_world.specs.CourseStands.{CourseStands, HaveOneGeneration}
-use Rattle.mc_world.specs.LogStands.{LogStands}
+use Rattle.mc_account.specs.Holds.{changed, grown}
+use Rattle.mc_account.proofs.HoldsLemmas.{changed-other, changed-own}
+use Rattle.mc_world.specs.CourseHolds.{CourseHolds, HaveOneGeneration}
+use Rattle.mc_world.specs.LogHolds.{LogHolds}
 use Rattle.mc_world.specs.Logs.{Log}
 use Rattle.mc_world.specs.Courses.{IsDone}
-use Rattle.mc_world.specs.Pools.{ClientGoes, PoolStands, asked_by}
+use Rattle.mc_world.specs.Pools.{ClientGoes, PoolHolds, asked_by}
 use Rattle.mc_world.specs.WorldState.{PoolState}
 use Rattle.mc_world.specs.declared.events.Event.{Event}
 use Rattle.mc_world.specs.declared.events.Event.TheVariants.{ClientBytes, ClientGone, ClientTakes, Emit, LinkBack, LinkLost, ProxyTurn, ReplyTurn, ServerSeesEnd, ServerTurn, ToProxy, ToServer}
@@ -34,7 +34,7 @@ use Rattle.mc_world.specs.declared.events.Logged.TheVariants.{Happened}
 use Rattle.mc_world.specs.Worlds.{ClientState, CourseState, client_at, put_out_of, taken_by, text_of, with_client}
 use Rattle.mc_world.proofs.CourseLemmas.{read_changed, with_client-length}
 use Rattle.mc_world.proofs.GenerationStayLemmas.{generations_stay}
-use Rattle.mc_world.proofs.LogStandsLemmas.{log_client_goes, log_client_takes, log_end_seen, log_hears, log_late_bytes, log_loses, log_reaches_proxy, log_reaches_server, log_returns, log_takes_reply}
+use Rattle.mc_world.proofs.LogHoldsLemmas.{log_client_goes, log_client_takes, log_end_seen, log_hears, log_late_bytes, log_loses, log_reaches_proxy, log_reaches_server, log_returns, log_takes_reply}
 use Rattle.mc_world.proofs.LogTurnLemmas.{log_late_turn, log_puts, log_server_takes, log_takes}
 use Rattle.mc_world.proofs.OutputLemmas.{sent_admitted, unsent, unsent_gone, unsent_kept, unsent_lost, unsent_noted, unsent_other, unsent_own, unsent_sent, unsent_sent_other, without_updated}
 use Rattle.mc_world.proofs.PoolLemmas.{pool_client_goes, pool_client_takes, pool_end_seen, pool_hears, pool_late_bytes, pool_late_turn, pool_loses, pool_puts, pool_reaches_proxy, pool_reaches_server, pool_returns, pool_server_takes, pool_takes, pool_takes_reply}
@@ -42,8 +42,8 @@ use Rattle.mc_world.proofs.PoolLemmas.{pool_client_goes, pool_client_takes, pool
 -- a course holds by functions that are the same at each number
 pub stood_as : (ring : RingState) (opening : CacheState) (order : Order) (lanes : ℕ → Lane) (new : CourseState) (texts sent outs : ℕ → List ℕ)
     → ((n : ℕ) → texts n ≡ text_of new n) → ((n : ℕ) → sent n ≡ taken_by new n) → ((n : ℕ) → outs n ≡ put_out_of new n)
-    → PoolStands opening texts sent order lanes new.pool → LogStands ring order outs new.log new.pool → new.pool.proxy.admitted ≡ length new.clients
-    → HaveOneGeneration new.pool → CourseStands ring opening new
+    → PoolHolds opening texts sent order lanes new.pool → LogHolds ring order outs new.log new.pool → new.pool.proxy.admitted ≡ length new.clients
+    → HaveOneGeneration new.pool → CourseHolds ring opening new
 stood_as ring opening order lanes new texts sent outs text_is sent_is out_is pool log numbered generations =
     let text_same : texts ≡ text_of new = λ i n. text_is n i in
     let sent_same : sent ≡ taken_by new = λ i n. sent_is n i in
@@ -51,9 +51,9 @@ stood_as ring opening order lanes new texts sent outs text_is sent_is out_is poo
     record {
       order = order;
       lanes = lanes;
-      pool = subst (λ (f : ℕ → List ℕ). PoolStands opening f (taken_by new) order lanes new.pool) text_same
-          (subst (λ (f : ℕ → List ℕ). PoolStands opening texts f order lanes new.pool) sent_same pool);
-      log = subst (λ (f : ℕ → List ℕ). LogStands ring order f new.log new.pool) out_same log;
+      pool = subst (λ (f : ℕ → List ℕ). PoolHolds opening f (taken_by new) order lanes new.pool) text_same
+          (subst (λ (f : ℕ → List ℕ). PoolHolds opening texts f order lanes new.pool) sent_same pool);
+      log = subst (λ (f : ℕ → List ℕ). LogHolds ring order f new.log new.pool) out_same log;
       numbered = numbered;
       generations = generations;
     }
@@ -62,8 +62,8 @@ stood_as ring opening order lanes new texts sent outs text_is sent_is out_is poo
 pub same_clients : (ring : RingState) (opening : CacheState) (order : Order) (lanes : ℕ → Lane) (old new : CourseState)
     → new.clients ≡ old.clients → ((n : ℕ) → unsent new.pool.proxy.sessions n ≡ unsent old.pool.proxy.sessions n) → new.pool.proxy.admitted ≡ old.pool.proxy.admitted
     → old.pool.proxy.admitted ≡ length old.clients
-    → PoolStands opening (text_of old) (taken_by old) order lanes new.pool → LogStands ring order (put_out_of old) new.log new.pool
-    → HaveOneGeneration new.pool → CourseStands ring opening new
+    → PoolHolds opening (text_of old) (taken_by old) order lanes new.pool → LogHolds ring order (put_out_of old) new.log new.pool
+    → HaveOneGeneration new.pool → CourseHolds ring opening new
 same_clients ring opening order lanes old new same outputs admitted numbered pool log generations =
     stood_as ring opening order lanes new (text_of old) (taken_by old) (put_out_of old)
     (λ n. ap (λ (cs : List ClientState). (client_at cs n).text) (sym same))
@@ -73,7 +73,7 @@ same_clients ring opening order lanes old new same outputs admitted numbered poo
     pool log (admitted ∙ numbered ∙ ap (λ (cs : List ClientState). length cs) (sym same)) generations
 
 -- a client whose session is open is there
-pub is_there : (ring : RingState) (opening : CacheState) (c : CourseState) (client : ℕ) (session : SessionState) → CourseStands ring opening c
+pub is_there : (ring : RingState) (opening : CacheState) (c : CourseState) (client : ℕ) (session : SessionState) → CourseHolds ring opening c
     → session_at c.pool.proxy client ≡ Some session → client < length c.clients
 is_there ring opening c client session h at =
     ⊎_elim
@@ -96,8 +96,8 @@ pub heard : (ring : RingState) (opening : CacheState) (order : Order) (lanes : �
     → new.clients ≡ with_client client (record (client_at old.clients client) { text = (client_at old.clients client).text ++ bytes }) old.clients
     → ((n : ℕ) → unsent new.pool.proxy.sessions n ≡ unsent old.pool.proxy.sessions n) → new.pool.proxy.admitted ≡ old.pool.proxy.admitted
     → old.pool.proxy.admitted ≡ length old.clients
-    → PoolStands opening (grown client bytes (text_of old)) (taken_by old) order lanes new.pool → LogStands ring order (put_out_of old) new.log new.pool
-    → HaveOneGeneration new.pool → CourseStands ring opening new
+    → PoolHolds opening (grown client bytes (text_of old)) (taken_by old) order lanes new.pool → LogHolds ring order (put_out_of old) new.log new.pool
+    → HaveOneGeneration new.pool → CourseHolds ring opening new
 heard ring opening order lanes old new client bytes inside is outputs admitted numbered pool log generations =
     let now : ClientState = record (client_at old.clients client) { text = (client_at old.clients client).text ++ bytes } in
     let taken_is : (n : ℕ) → taken_by old n ≡ taken_by new n = λ n.
@@ -119,8 +119,8 @@ pub took : (ring : RingState) (opening : CacheState) (order : Order) (lanes : �
     → bytes ++ unsent new.pool.proxy.sessions client ≡ unsent old.pool.proxy.sessions client
     → ((n : ℕ) → client ≢ n → unsent new.pool.proxy.sessions n ≡ unsent old.pool.proxy.sessions n) → new.pool.proxy.admitted ≡ old.pool.proxy.admitted
     → old.pool.proxy.admitted ≡ length old.clients
-    → PoolStands opening (text_of old) (grown client bytes (taken_by old)) order lanes new.pool → LogStands ring order (put_out_of old) new.log new.pool
-    → HaveOneGeneration new.pool → CourseStands ring opening new
+    → PoolHolds opening (text_of old) (grown client bytes (taken_by old)) order lanes new.pool → LogHolds ring order (put_out_of old) new.log new.pool
+    → HaveOneGeneration new.pool → CourseHolds ring opening new
 took ring opening order lanes old new client bytes inside is own others admitted numbered pool log generations =
     let text_is : (n : ℕ) → text_of old n ≡ text_of new n = λ n.
     sym (ap (λ (cs : List ClientState). (client_at cs n).text) is
@@ -142,8 +142,8 @@ took ring opening order lanes old new client bytes inside is own others admitted
     ∙ with_client-length client (record (client_at old.clients client) { taken = (client_at old.clients client).taken ++ bytes }) old.clients)) generations
 
 -- the log has the event
-logged : (ring : RingState) (order : Order) (outs : ℕ → List ℕ) (pool : PoolState) (log log' : Log) → log' ≡ log → LogStands ring order outs log pool → LogStands ring order outs log' pool
-logged ring order outs pool log log' is h = subst (λ (l : Log). LogStands ring order outs l pool) (sym is) h
+logged : (ring : RingState) (order : Order) (outs : ℕ → List ℕ) (pool : PoolState) (log log' : Log) → log' ≡ log → LogHolds ring order outs log pool → LogHolds ring order outs log' pool
+logged ring order outs pool log log' is h = subst (λ (l : Log). LogHolds ring order outs l pool) (sym is) h
 
 -- a client that goes takes all that was put out first, and then goes
 gone_as : (client : ℕ) (old new : PoolState) → (e : ClientGoes client old new)
@@ -161,7 +161,7 @@ gone_as client old new e = record {
 }
 
 -- each event that is done
-pub course_done : (ring : RingState) (opening : CacheState) (event : Event (List ℕ)) (old new : CourseState) → CourseStands ring opening old → IsDone event old new → CourseStands ring opening new
+pub course_done : (ring : RingState) (opening : CacheState) (event : Event (List ℕ)) (old new : CourseState) → CourseHolds ring opening old → IsDone event old new → CourseHolds ring opening new
 course_done ring opening (ClientBytes client bytes) old new h e =
     let hears = e.pool.1 in
     let inside = is_there ring opening old client hears.steps.before h hears.steps.was in
@@ -197,7 +197,7 @@ course_done ring opening (ClientGone client) old new h e =
     (ap (λ (o : Option SessionState). output_of (session_at old.pool.proxy client) ++ output_of o) goes.not_open ∙ append-nil (output_of (session_at old.pool.proxy client)))
     (λ n differ. ap (λ (p : ProxyState). unsent p.sessions n) goes.proxy ∙ unsent_gone client old.pool.proxy.sessions n differ)
     (ap (λ (p : ProxyState). p.admitted) goes.proxy) h.numbered
-    (subst (λ (bytes : List ℕ). PoolStands opening (text_of old) (grown client bytes (taken_by old)) h.order h.lanes new.pool) whole left)
+    (subst (λ (bytes : List ℕ). PoolHolds opening (text_of old) (grown client bytes (taken_by old)) h.order h.lanes new.pool) whole left)
     (logged ring h.order (put_out_of old) new.pool (old.log ++ Happened (ClientGone client) ∷ []) new.log e.log
     (log_client_goes ring h.order (put_out_of old) old.log client old.pool new.pool goes h.log))
     (generations_stay (ClientGone client) old.pool new.pool e.pool h.generations)
@@ -262,13 +262,13 @@ course_done ring opening (ReplyTurn server) old new h e =
     (log_takes_reply ring (text_of old) (taken_by old) h.order h.lanes (put_out_of old) old.log server old.pool new.pool e.pool h.pool.proxy h.log))
     (generations_stay (ReplyTurn server) old.pool new.pool e.pool h.generations)
 course_done ring opening (Emit client) old new h e =
-    let stands = pool_puts opening (text_of old) (taken_by old) h.order h.lanes client old.pool new.pool e.pool h.pool in
+    let holds = pool_puts opening (text_of old) (taken_by old) h.order h.lanes client old.pool new.pool e.pool h.pool in
     stood_as ring opening h.order h.lanes new (text_of old) (taken_by old) (put_out_of new)
     (λ n. ap (λ (cs : List ClientState). (client_at cs n).text) (sym e.clients))
     (λ n. ap (λ (cs : List ClientState). (client_at cs n).taken) (sym e.clients))
-    (λ n. refl) stands
+    (λ n. refl) holds
     (logged ring h.order (put_out_of new) new.pool (old.log ++ Happened (Emit client) ∷ []) new.log e.log
-    (log_puts ring (text_of old) (taken_by old) h.order h.lanes (put_out_of old) (put_out_of new) old.log client old.pool new.pool e.pool h.pool.proxy stands.proxy
+    (log_puts ring (text_of old) (taken_by old) h.order h.lanes (put_out_of old) (put_out_of new) old.log client old.pool new.pool e.pool h.pool.proxy holds.proxy
     (λ other differ. ap (λ (cs : List ClientState). (client_at cs other).taken ++ unsent new.pool.proxy.sessions other) e.clients
     ∙ ap (λ (bytes : List ℕ). taken_by old other ++ bytes) (unsent_other client old.pool.proxy new.pool.proxy (Alone (IsEmit emits.Done)) e.pool.steps other differ))
     (ap (λ (cs : List ClientState). (client_at cs client).taken ++ unsent new.pool.proxy.sessions client) e.clients

@@ -9,7 +9,7 @@ use Rattle.mc_session.specs.SessionState.{link_at}
 use Rattle.mc_proxy.specs.ProxyState.{output_of as output_at, session_at}
 use Rattle.mc_world.specs.Acts.{GoesOn, HasDrained, IsIdle, IsOver, coming_of, event_of, generation_of}
 use Rattle.mc_world.specs.Courses.{Applies, IsDone}
-use Rattle.mc_world.specs.CourseStands.{CourseStands, WorldStands}
+use Rattle.mc_world.specs.CourseHolds.{CourseHolds, WorldHolds}
 use Rattle.mc_world.specs.Drains.{AreDone, is_of_drain}
 use Rattle.mc_world.specs.Steps.{StepsTo}
 use Rattle.mc_world.specs.WorkLeft.{work_left}
@@ -25,7 +25,7 @@ use Rattle.mc_world.proofs.LogEntryLemmas.{got_inside}
 use Rattle.mc_world.proofs.ServingLemmas.{pool_serves}
 
 -- each server has a link
-linked : (ring : RingState) (opening : CacheState) (c : CourseState) → CourseStands ring opening c → (place : ℕ) (site : SiteState) → slice_get c.pool.sites place ≡ Some site
+linked : (ring : RingState) (opening : CacheState) (c : CourseState) → CourseHolds ring opening c → (place : ℕ) (site : SiteState) → slice_get c.pool.sites place ≡ Some site
     → place < length c.pool.proxy.links
 linked ring opening c h place site at =
     let inside = got_inside c.pool.sites place site at in
@@ -34,13 +34,13 @@ linked ring opening c h place site at =
     omega (arith, inside, linked, sited)
 
 -- a link that is down has nothing for its server
-down_none : (ring : RingState) (opening : CacheState) (c : CourseState) → CourseStands ring opening c → (place : ℕ) → (link_at c.pool.proxy.links place).up ≡ false
+down_none : (ring : RingState) (opening : CacheState) (c : CourseState) → CourseHolds ring opening c → (place : ℕ) → (link_at c.pool.proxy.links place).up ≡ false
     → (link_at c.pool.proxy.links place).output ≡ []
 down_none ring opening c h place down =
     ap (λ (l : LinkState). l.output) ((h.pool.proxy.links place).1 (λ up. let clash : false ≡ true = sym down ∙ up in absurd cc)).nothing
 
 -- each act that is done leaves less to do
-pub done_less : (ring : RingState) (opening : CacheState) (act : Act) (moment : ℕ) (old new : CourseState) → CourseStands ring opening old → Applies (event_of act moment old.pool) old.pool
+pub done_less : (ring : RingState) (opening : CacheState) (act : Act) (moment : ℕ) (old new : CourseState) → CourseHolds ring opening old → Applies (event_of act moment old.pool) old.pool
     → IsDone (event_of act moment old.pool) old new → work_left new.pool < work_left old.pool
 done_less ring opening (SeeEnd place) moment old new h applies done =
     let ended = done.pool in
@@ -151,7 +151,7 @@ same_world old new course opened =
     ∙ ap (λ (n : ℕ). record { course = old.course; opening = old.opening; budget = old.budget; items = n }) opened.2
 
 -- an act that was done, and one that did not apply
-pub act_done : (act : Act) (moment : ℕ) (old new : WorldState) → WorldStands old → StepsTo (event_of act moment old.course.pool) Done old.course new.course → IsOpenedSo old new
+pub act_done : (act : Act) (moment : ℕ) (old new : WorldState) → WorldHolds old → StepsTo (event_of act moment old.course.pool) Done old.course new.course → IsOpenedSo old new
     → IsOver moment (λ c. IsIdle moment c.pool act) true old new
 act_done act moment old new h steps opened = record {
   goes = (

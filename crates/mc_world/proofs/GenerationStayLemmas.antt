@@ -14,7 +14,7 @@ use Rattle.mc_account.specs.Orders.{Tagged, commands_from}
 use Rattle.mc_account.proofs.HandingLemmas.{handed_at, received}
 use Rattle.mc_account.proofs.LaneLemmas.{link_other, link_own, up_is_there}
 use Rattle.mc_world.specs.Courses.{Happens}
-use Rattle.mc_world.specs.CourseStands.{HaveOneGeneration}
+use Rattle.mc_world.specs.CourseHolds.{HaveOneGeneration}
 use Rattle.mc_world.specs.Pools.{AtSite, LinkReturns}
 use Rattle.mc_world.specs.WorldState.{PoolState, SiteState}
 use Rattle.mc_world.specs.declared.events.Event.{Event}

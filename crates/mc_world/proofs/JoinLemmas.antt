@@ -21,18 +21,18 @@ use Rattle.mc_proxy.specs.ProxyState.{Sessions, session_in}
 use Rattle.mc_account.specs.Lanes.{Lane, fresh_lane}
 use Rattle.mc_account.specs.Lookups.{IsRoutedWithin}
 use Rattle.mc_account.specs.Orders.{Order, Tagged, commands_from, commands_to}
-use Rattle.mc_account.specs.Stands.{changed}
-use Rattle.mc_account.proofs.LinkLemmas.{stands-joined}
+use Rattle.mc_account.specs.Holds.{changed}
+use Rattle.mc_account.proofs.LinkLemmas.{holds-joined}
 use Rattle.mc_account.proofs.OpenSessions.{other_number}
-use Rattle.mc_account.proofs.StandsLemmas.{changed-other, changed-own}
+use Rattle.mc_account.proofs.HoldsLemmas.{changed-other, changed-own}
 use Rattle.mc_account.proofs.WithinLemmas.{commands_within, within-more}
 use Rattle.mc_history.specs.Named.{AreReplied}
-use Rattle.mc_world.specs.CourseStands.{CourseStands, HaveOneGeneration}
+use Rattle.mc_world.specs.CourseHolds.{CourseHolds, HaveOneGeneration}
 use Rattle.mc_world.specs.Joins.{HasServerJoined, ServerJoins}
-use Rattle.mc_world.specs.LogStands.{LogStands, ServersStand}
+use Rattle.mc_world.specs.LogHolds.{LogHolds, ServersHold}
 use Rattle.mc_world.specs.Logs.{HasJoined, IsRingAfter, Log}
-use Rattle.mc_world.specs.Pools.{PoolStands}
-use Rattle.mc_world.specs.Sites.{SiteStands}
+use Rattle.mc_world.specs.Pools.{PoolHolds}
+use Rattle.mc_world.specs.Sites.{SiteHolds}
 use Rattle.mc_world.specs.WorldState.{PoolState, SiteState, WayState, histories_of}
 use Rattle.mc_world.specs.Worlds.{CourseState, first_site, put_out_of, taken_by, text_of}
 use Rattle.mc_world.specs.declared.events.Logged.TheVariants.{Happened, Joined}
@@ -44,7 +44,7 @@ use Rattle.mc_world.proofs.LogLemmas.{up-push}
 use Rattle.mc_world.proofs.LogOutcomeLemmas.{goes_same}
 use Rattle.mc_world.proofs.LogRequestLemmas.{answers_go, requests_go}
 use Rattle.mc_world.proofs.OutputLemmas.{unsent}
-use Rattle.mc_world.proofs.WorldOpeningLemmas.{first_site_stands}
+use Rattle.mc_world.proofs.WorldOpeningLemmas.{first_site_holds}
 
 -- of commands that go to the first servers none goes to a later one
 none_from : (few place session request at : ℕ) (commands : List Routed) → few ≤ place → All (λ (routed : Routed). routed.server < few) commands
@@ -79,13 +79,13 @@ link_there links link other inside = get_or_append_left links (link ∷ []) (dow
 -- the pool holds
 pub pool_joins : (opening : CacheState) (texts sent : ℕ → List ℕ) (order : Order) (lanes : ℕ → Lane) (address : List ℕ) (old new : PoolState)
     → IsGoodCache opening → ServerJoins address opening old new → length old.proxy.links ≡ length old.proxy.ring.servers → length old.sites ≡ length old.proxy.ring.servers
-    → All (IsRoutedWithin (length old.sites)) order → PoolStands opening texts sent order lanes old
-    → PoolStands opening texts sent order (changed (length old.proxy.ring.servers) (fresh_lane (length order)) lanes) new
+    → All (IsRoutedWithin (length old.sites)) order → PoolHolds opening texts sent order lanes old
+    → PoolHolds opening texts sent order (changed (length old.proxy.ring.servers) (fresh_lane (length order)) lanes) new
 pool_joins opening texts sent order lanes address old new good e linked sited inside h =
     let place : ℕ = length old.proxy.ring.servers in
     let lane : Lane = fresh_lane (length order) in
     record {
-      proxy = stands-joined texts sent order lanes address true (length old.proxy.ring.servers) old.proxy new.proxy h.proxy linked e.proxy;
+      proxy = holds-joined texts sent order lanes address true (length old.proxy.ring.servers) old.proxy new.proxy h.proxy linked e.proxy;
       sites = λ other site at. elim (got_pushed old.sites (first_site opening) other site (ap (λ (ss : List SiteState). slice_get ss other) (sym e.sites) ∙ at)) [
         | inl there ↦ (
             let below = got_inside old.sites other site there in
@@ -93,16 +93,16 @@ pool_joins opening texts sent order lanes address old new good e linked sited in
             ap (λ (ls : List LinkState). link_at ls other) e.proxy.links ∙ link_there old.proxy.links (up_link 1) other (omega (arith, below, linked, sited)) in
             let lane_is : changed (length old.proxy.ring.servers) (fresh_lane (length order)) lanes other ≡ lanes other =
             changed-other (length old.proxy.ring.servers) other (fresh_lane (length order)) lanes (λ same. omega (arith, below, sited, same)) in
-            subst (λ (l : LinkState). SiteStands other order (changed place lane lanes other) l opening site) (sym link_is)
-            (subst (λ (l : Lane). SiteStands other order l (link_at old.proxy.links other) opening site) (sym lane_is) (h.sites other site there)))
+            subst (λ (l : LinkState). SiteHolds other order (changed place lane lanes other) l opening site) (sym link_is)
+            (subst (λ (l : Lane). SiteHolds other order l (link_at old.proxy.links other) opening site) (sym lane_is) (h.sites other site there)))
         | inr last ↦ (
             let within : All (IsRoutedWithin other) order = subst (λ (n : ℕ). All (IsRoutedWithin n) order) (sym last.0) inside in
             let is : other ≡ length old.proxy.ring.servers = last.0 ∙ sited in
             let lane_is : changed (length old.proxy.ring.servers) (fresh_lane (length order)) lanes other ≡ fresh_lane (length order) =
             ap (λ (n : ℕ). changed (length old.proxy.ring.servers) (fresh_lane (length order)) lanes n) is ∙ changed-own (length old.proxy.ring.servers) (fresh_lane (length order)) lanes in
-            subst (λ (s : SiteState). SiteStands other order (changed place lane lanes other) (link_at new.proxy.links other) opening s) (sym last.1)
-            (subst (λ (l : Lane). SiteStands other order l (link_at new.proxy.links other) opening (first_site opening)) (sym lane_is)
-            (first_site_stands other order (link_at new.proxy.links other) opening good (none_to other order within) (none_replied other order within))))
+            subst (λ (s : SiteState). SiteHolds other order (changed place lane lanes other) (link_at new.proxy.links other) opening s) (sym last.1)
+            (subst (λ (l : Lane). SiteHolds other order l (link_at new.proxy.links other) opening (first_site opening)) (sym lane_is)
+            (first_site_holds other order (link_at new.proxy.links other) opening good (none_to other order within) (none_replied other order within))))
       ];
       bytes = h.bytes;
     }
@@ -132,8 +132,8 @@ untaken_joined opening sites place tag h = elim (got_pushed sites (first_site op
 ]
 
 -- the ring and the links
-servers_join : (ring : RingState) (log : Log) (address : List ℕ) (opening : CacheState) (old new : PoolState) → ServerJoins address opening old new → ServersStand ring log old
-    → ServersStand ring (log ++ Joined (length old.proxy.ring.servers) address ∷ []) new
+servers_join : (ring : RingState) (log : Log) (address : List ℕ) (opening : CacheState) (old new : PoolState) → ServerJoins address opening old new → ServersHold ring log old
+    → ServersHold ring (log ++ Joined (length old.proxy.ring.servers) address ∷ []) new
 servers_join ring log address opening old new e h =
     let servers : length new.proxy.ring.servers ≡ length (old.proxy.ring.servers ++ address ∷ []) = ap (λ (ss : List (List ℕ)). length ss) e.proxy.servers in
     let links : length new.proxy.links ≡ length (old.proxy.links ++ up_link 1 ∷ []) = ap (λ (ls : List LinkState). length ls) e.proxy.links in
@@ -160,7 +160,7 @@ servers_join ring log address opening old new e h =
 
 -- the log leaves the pool so
 pub log_joins : (ring : RingState) (order : Order) (outs : ℕ → List ℕ) (log : Log) (address : List ℕ) (opening : CacheState) (old new : PoolState)
-    → ServerJoins address opening old new → LogStands ring order outs log old → LogStands ring order outs (log ++ Joined (length old.proxy.ring.servers) address ∷ []) new
+    → ServerJoins address opening old new → LogHolds ring order outs log old → LogHolds ring order outs (log ++ Joined (length old.proxy.ring.servers) address ∷ []) new
 log_joins ring order outs log address opening old new e h =
     let place : ℕ = length old.proxy.ring.servers in
     let same : (p : ℕ) → histories_of new.sites p ≡ histories_of old.sites p = λ p. ap (λ (ss : List SiteState). histories_of ss p) e.sites ∙ histories_joined opening old.sites p in
@@ -203,12 +203,12 @@ join_generations address opening old new e same h other site at =
     ]
 
 -- the course holds
-pub course_joins : (ring : RingState) (opening : CacheState) (address : List ℕ) (old new : CourseState) → IsGoodCache opening → CourseStands ring opening old
-    → HasServerJoined address opening old new → CourseStands ring opening new
+pub course_joins : (ring : RingState) (opening : CacheState) (address : List ℕ) (old new : CourseState) → IsGoodCache opening → CourseHolds ring opening old
+    → HasServerJoined address opening old new → CourseHolds ring opening new
 course_joins ring opening address old new good h e =
     same_clients ring opening h.order (changed (length old.pool.proxy.ring.servers) (fresh_lane (length h.order)) h.lanes) old new e.clients
     (λ n. ap (λ (ss : Sessions). unsent ss n) e.pool.proxy.sessions) e.pool.proxy.admitted h.numbered
     (pool_joins opening (text_of old) (taken_by old) h.order h.lanes address old.pool new.pool good e.pool h.log.servers.linked h.log.servers.sited h.log.requests.inside h.pool)
-    (subst (λ (log : Log). LogStands ring h.order (put_out_of old) log new.pool) (sym e.log)
+    (subst (λ (log : Log). LogHolds ring h.order (put_out_of old) log new.pool) (sym e.log)
     (log_joins ring h.order (put_out_of old) old.log address opening old.pool new.pool e.pool h.log))
     (join_generations address opening old.pool new.pool e.pool (h.log.servers.linked ∙ sym h.log.servers.sited) h.generations)

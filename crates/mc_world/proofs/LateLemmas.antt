@@ -17,18 +17,18 @@ use Rattle.mc_cache_laws.specs.GoodCaches.{IsGoodCache}
 use Rattle.mc_cache_laws.proofs.GoodStepLemmas.{answers_as_it_can}
 use Rattle.mc_server.specs.Served.{Entry as Taking}
 use Rattle.mc_server.specs.ServerState.{closed, ConnectionState, ServerState, connection_at}
-use Rattle.mc_server.specs.Stands.{ServerStands, grown}
+use Rattle.mc_server.specs.Holds.{ServerHolds, grown}
 use Rattle.mc_server.specs.Turns.{Feeds, IsTurn, Steps}
 use Rattle.mc_server.specs.declared.turns.Turn.TheVariants.{Took}
 use Rattle.mc_server.proofs.ConnectionLemmas.{closed_other, updated_own}
-use Rattle.mc_server.proofs.StandsLemmas.{ServerStands-closed, ServerStands-fed, ServerStands-took, entry_taken, grown-other, grown-own, stood}
+use Rattle.mc_server.proofs.HoldsLemmas.{ServerHolds-closed, ServerHolds-fed, ServerHolds-took, entry_taken, grown-other, grown-own, stood}
 use Rattle.mc_account.specs.Lanes.{Lane, spelled}
 use Rattle.mc_account.specs.Orders.{Order, Tagged}
 use Rattle.mc_account.proofs.OrderLemmas.{passes_parts}
 use Rattle.mc_history.specs.Generations.{is_good}
 use Rattle.mc_history.specs.Made.{Each, Made, commands_on, entry_of, read_as, taking_of}
 use Rattle.mc_history.specs.declared.entries.Entry.{Entry}
-use Rattle.mc_world.specs.Sites.{IsLiving, IsLostWay, SiteStands, untaken_times}
+use Rattle.mc_world.specs.Sites.{IsLiving, IsLostWay, SiteHolds, untaken_times}
 use Rattle.mc_world.specs.WorldState.{SiteState, WayState}
 use Rattle.mc_history.proofs.OutcomeLemmas.{replied_push}
 use Rattle.mc_world.proofs.CountLemmas.{times-made, untaken-set}
@@ -84,8 +84,8 @@ living_elsewhere place order lane made made' texts texts' sent site server histo
 
 -- bytes of a lost generation arrive
 pub site_late_fed : (place : ℕ) (order : Order) (lane : Lane) (link : LinkState) (opening : CacheState) (site : SiteState) (server : ServerState) (i : ℕ) (way : WayState) (piece rest : List ℕ)
-    → slice_get site.lost i ≡ Some way → way.going ≡ piece ++ rest → Steps way.connection site.server server (Feeds piece) → SiteStands place order lane link opening site
-    → SiteStands place order lane link opening (record site { server = server; lost = slice_set site.lost i (record way { going = rest }) })
+    → slice_get site.lost i ≡ Some way → way.going ≡ piece ++ rest → Steps way.connection site.server server (Feeds piece) → SiteHolds place order lane link opening site
+    → SiteHolds place order lane link opening (record site { server = server; lost = slice_set site.lost i (record way { going = rest }) })
 site_late_fed place order lane link opening site server i way piece rest at going steps h =
     let own = h.lost i way at in
     let now_open : connection_at server way.connection ≡ Some steps.after =
@@ -106,7 +106,7 @@ site_late_fed place order lane link opening site server i way piece rest at goin
       made = h.made;
       texts = grown way.connection piece h.texts;
       sent = h.sent;
-      server = ServerStands-fed opening h.texts h.sent (map taking_of h.made) way.connection piece site.server server h.server steps;
+      server = ServerHolds-fed opening h.texts h.sent (map taking_of h.made) way.connection piece site.server server h.server steps;
       good_cache = subst IsGoodCache (sym steps.step.0) h.good_cache;
       answers = h.answers;
       history = h.history;
@@ -134,8 +134,8 @@ site_late_fed place order lane link opening site server i way piece rest at goin
 -- a server takes a request of a lost generation: whose it is was kept
 pub site_late_turned : (place : ℕ) (order : Order) (lane : Lane) (link : LinkState) (opening : CacheState) (site : SiteState) (server : ServerState) (moment : ℕ) (i : ℕ) (way : WayState) (tag : Tag) (tags : List Tag) (reply : List ℕ)
     → slice_get site.lost i ≡ Some way → way.untaken ≡ tag ∷ tags → (steps : Steps way.connection site.server server (IsTurn way.connection moment Took))
-    → steps.after.output ≡ steps.before.output ++ reply → moment < 2 ^ 63 → SiteStands place order lane link opening site
-    → SiteStands place order lane link opening (record site {
+    → steps.after.output ≡ steps.before.output ++ reply → moment < 2 ^ 63 → SiteHolds place order lane link opening site
+    → SiteHolds place order lane link opening (record site {
       server = server;
       history = site.history ++ (record { client = tag.session; request = tag.request; atom = tag.atom; moment = moment; refused = steps.step.1.served.0; reply = reply }) ∷ [];
       lost = slice_set site.lost i (record way { untaken = tags });
@@ -150,30 +150,30 @@ site_late_turned place order lane link opening site server moment i way tag tags
     sym reads ∙ ap (λ (c : ConnectionState). rest_of c.reader (way.going ++ [])) same ∙ steps.step.1.first.rest (way.going ++ []) in
     let next = next_is own.others steps.step.0 (rest_of steps.after.reader (way.going ++ [])) first in
     let cache_is : site.server.cache ≡ cache_of opening h.made = h.server.cache.cache ∙ replayed_made opening h.made in
-    let good_all : list_all is_good (commands_on way.connection h.made ++ next.command ∷ next.behind) ≡ true =
+    let good_all : list_all is_good (commands_on way.connection h.made ++ next.command ∷ next.past) ≡ true =
     ap (λ (cs : List Tagged). list_all is_good (commands_on way.connection h.made ++ cs)) (sym next.is) ∙ own.good in
-    let good = (and_parts (is_good next.command) (list_all is_good next.behind) (passes_parts is_good (commands_on way.connection h.made) (next.command ∷ next.behind) good_all).1).0 in
-    let next_named : Each (IsNamed place order) (next.command ∷ next.behind) = subst (λ (cs : List Tagged). Each (IsNamed place order) cs) next.is own.named in
+    let good = (and_parts (is_good next.command) (list_all is_good next.past) (passes_parts is_good (commands_on way.connection h.made) (next.command ∷ next.past) good_all).1).0 in
+    let next_named : Each (IsNamed place order) (next.command ∷ next.past) = subst (λ (cs : List Tagged). Each (IsNamed place order) cs) next.is own.named in
     let m : Made = made_of there h.made opening next.command moment steps.step.1.served.0 in
     let can_here = subst (λ (s : CacheState). can_have next.command.0 (step_of s next.command.0 moment steps.step.1.served.0).1 ≡ true) cache_is
     (answers_as_it_can site.server.cache h.good_cache next.command.0 good moment below steps.step.1.served.0) in
     let made = is_made there server moment opening h.made next.command steps next.what_is cache_is good can_here in
     let reply_is = appended there server moment opening h.made next.command reply steps next.what_is cache_is made more in
-    let kept : tag ∷ tags ≡ next.command.1 ∷ map (λ (c : Tagged). c.1) next.behind = sym named ∙ own.untaken ∙ ap (λ (cs : List Tagged). map (λ (c : Tagged). c.1) cs) next.is in
+    let kept : tag ∷ tags ≡ next.command.1 ∷ map (λ (c : Tagged). c.1) next.past = sym named ∙ own.untaken ∙ ap (λ (cs : List Tagged). map (λ (c : Tagged). c.1) cs) next.is in
     let tag_is : tag ≡ next.command.1 = cc in
-    let tags_are : tags ≡ map (λ (c : Tagged). c.1) next.behind = cc in
+    let tags_are : tags ≡ map (λ (c : Tagged). c.1) next.past = cc in
     let entry_is : entry_by tag moment steps.step.1.served.0 reply ≡ entry_of m = ap₂ (λ (t : Tag) (bytes : List ℕ). entry_by t moment steps.step.1.served.0 bytes) tag_is reply_is in
     let taking : map taking_of h.made ++ entry_taken steps ∷ [] ≡ map taking_of (h.made ++ m ∷ []) =
     ap (λ (what : Taken). map taking_of h.made ++ (taking_by way.connection what moment steps.step.1.served.0) ∷ []) next.what_is ∙ sym (map-append taking_of h.made (m ∷ [])) in
     let now_open : connection_at server way.connection ≡ Some steps.after =
     ap (λ (cs : List (ℕ × ConnectionState)). connection_at (record server { connections = cs }) way.connection) steps.is ∙ updated_own way.connection steps.before steps.after site.server.connections steps.was in
-    let whole : commands_on way.connection h.made ++ own.others ≡ commands_on way.connection (h.made ++ m ∷ []) ++ next.behind =
-    ap (λ (cs : List Tagged). commands_on way.connection h.made ++ cs) next.is ∙ sym (append_assoc (commands_on way.connection h.made) (next.command ∷ []) next.behind)
-    ∙ ap (λ (cs : List Tagged). cs ++ next.behind) (sym (commands_push_own h.made m)) in
+    let whole : commands_on way.connection h.made ++ own.others ≡ commands_on way.connection (h.made ++ m ∷ []) ++ next.past =
+    ap (λ (cs : List Tagged). commands_on way.connection h.made ++ cs) next.is ∙ sym (append_assoc (commands_on way.connection h.made) (next.command ∷ []) next.past)
+    ∙ ap (λ (cs : List Tagged). cs ++ next.past) (sym (commands_push_own h.made m)) in
     let now : IsLostWay place order (h.made ++ m ∷ []) h.texts server (record way { untaken = tags }) = record {
       end = steps.after;
       is_open = now_open;
-      others = next.behind;
+      others = next.past;
       put = own.put ∙ ap (λ (cs : List Tagged). spelled cs) whole;
       good = ap (λ (cs : List Tagged). list_all is_good cs) (sym whole) ∙ own.good;
       untaken = tags_are;
@@ -187,8 +187,8 @@ site_late_turned place order lane link opening site server moment i way tag tags
       made = h.made ++ m ∷ [];
       texts = h.texts;
       sent = h.sent;
-      server = subst (λ (es : List Taking). ServerStands opening h.texts h.sent es server) taking
-          (ServerStands-took opening h.texts h.sent (map taking_of h.made) way.connection moment site.server server h.server steps);
+      server = subst (λ (es : List Taking). ServerHolds opening h.texts h.sent es server) taking
+          (ServerHolds-took opening h.texts h.sent (map taking_of h.made) way.connection moment site.server server h.server steps);
       good_cache = still_good site.server.cache server.cache m steps.step.0 next.what_is steps.step.1.served.1.cache good below h.good_cache;
       answers = made_push opening h.made m h.answers made;
       history = ap₂ (λ (es : List Entry) (e : Entry). es ++ e ∷ []) h.history entry_is ∙ sym (map-append entry_of h.made (m ∷ []));
@@ -251,7 +251,7 @@ untaken-removed tag (w ∷ ws) (suc i) = omega (arith, untaken-removed tag ws i)
 -- a server sees the end of a lost generation
 pub site_ended : (place : ℕ) (order : Order) (lane : Lane) (link : LinkState) (opening : CacheState) (site : SiteState) (server : ServerState) (i : ℕ) (way : WayState)
     → slice_get site.lost i ≡ Some way → server ≡ record site.server { connections = closed way.connection site.server.connections } → connection_at server way.connection ≡ None
-    → SiteStands place order lane link opening site → SiteStands place order lane link opening (record site { server = server; lost = remove site.lost i })
+    → SiteHolds place order lane link opening site → SiteHolds place order lane link opening (record site { server = server; lost = remove site.lost i })
 site_ended place order lane link opening site server i way at closes not_open h =
     let still : (number : ℕ) → way.connection ≢ number → connection_at server number ≡ connection_at site.server number =
     λ number differ. ap (λ (s : ServerState). connection_at s number) closes ∙ closed_other way.connection number site.server.connections differ in
@@ -262,7 +262,7 @@ site_ended place order lane link opening site server i way at closes not_open h 
       made = h.made;
       texts = h.texts;
       sent = h.sent;
-      server = ServerStands-closed opening h.texts h.sent (map taking_of h.made) way.connection site.server server h.server closes not_open;
+      server = ServerHolds-closed opening h.texts h.sent (map taking_of h.made) way.connection site.server server h.server closes not_open;
       good_cache = subst (λ (s : ServerState). IsGoodCache s.cache) (sym closes) h.good_cache;
       answers = h.answers;
       history = h.history;

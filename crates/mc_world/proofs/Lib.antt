@@ -21,7 +21,7 @@ pub mod LogTakenLemmas
 pub mod LogWaitingLemmas
 pub mod LogStillLemmas
 pub mod LogLivingLemmas
-pub mod LogStandsLemmas
+pub mod LogHoldsLemmas
 pub mod LogTurnLemmas
 pub mod LogAccountLemmas
 pub mod WorldOpeningLemmas

@@ -19,9 +19,9 @@ use Rattle.mc_account.proofs.WithinLemmas.{commands_within}
 use Rattle.mc_history.specs.Histories.{HasReply, IsBefore, tag_in}
 use Rattle.mc_history.specs.declared.entries.Entry.{Entry}
 use Rattle.mc_world.specs.Accounts.{Accounts, NotAnswered}
-use Rattle.mc_world.specs.LogStands.{AreOrdered, IsFresh, IsPlaced, LogStands}
+use Rattle.mc_world.specs.LogHolds.{AreOrdered, IsFresh, IsPlaced, LogHolds}
 use Rattle.mc_world.specs.Logs.{Log, before, serves}
-use Rattle.mc_world.specs.Pools.{PoolStands}
+use Rattle.mc_world.specs.Pools.{PoolHolds}
 use Rattle.mc_world.specs.WorldState.{PoolState, WayState, histories_of}
 use Rattle.mc_world.proofs.CommandLemmas.{commands_accounted}
 use Rattle.mc_world.proofs.LogEntryLemmas.{got_some, history_at}
@@ -34,7 +34,7 @@ none_at (suc k) = refl
 no_command : (tag : Tag) → ◌≡◌ {A = Option Routed} (command_at [] tag) None
 no_command tag = ap (λ (o : Option Asked). command_in o tag.atom) (none_at tag.request)
 
-pub log_begins : (opening : RingState) (pool : PoolState) → IsFresh opening pool → LogStands opening [] (λ client. []) [] pool
+pub log_begins : (opening : RingState) (pool : PoolState) → IsFresh opening pool → LogHolds opening [] (λ client. []) [] pool
 log_begins opening pool h =
     let no_entry : (place k : ℕ) (e : Entry) → slice_get (histories_of pool.sites place) k ≡ Some e → ⊥ = λ place k e at.
     none-some e (sym (none_at k) ∙ ap (λ (es : List Entry). slice_get es k) (sym (h.histories place)) ∙ at) in
@@ -91,7 +91,7 @@ placed_reply order log e reply h known = elim h.answered [
 
 -- a reply is that of its server's history
 replied_at : (opening : CacheState) (texts sent : ℕ → List ℕ) (order : Order) (lanes : ℕ → Lane) (pool : PoolState) (place : ℕ) (tag : Tag) (atom : Atom (List ℕ)) (reply : AReply (List ℕ))
-    → PoolStands opening texts sent order lanes pool → place < length pool.sites → command_at order tag ≡ Some (to_place place atom) → outcome_at order tag ≡ Some (Reply reply)
+    → PoolHolds opening texts sent order lanes pool → place < length pool.sites → command_at order tag ≡ Some (to_place place atom) → outcome_at order tag ≡ Some (Reply reply)
     → HasReply (histories_of pool.sites place) tag (spelling_of atom reply)
 replied_at opening texts sent order lanes pool place tag atom reply h inside command known =
     let site = got_some pool.sites place inside in
@@ -100,9 +100,9 @@ replied_at opening texts sent order lanes pool place tag atom reply h inside com
 
 -- the whole account
 pub log_accounts : (ring : RingState) (opening : CacheState) (texts sent : ℕ → List ℕ) (order : Order) (lanes : ℕ → Lane) (outs : ℕ → List ℕ) (log : Log) (pool : PoolState)
-    → PoolStands opening texts sent order lanes pool → LogStands ring order outs log pool → Accounts ring opening order texts outs (histories_of pool.sites) log
-log_accounts ring opening texts sent order lanes outs log pool stands h =
-    let commands = commands_accounted opening texts sent order lanes pool stands in
+    → PoolHolds opening texts sent order lanes pool → LogHolds ring order outs log pool → Accounts ring opening order texts outs (histories_of pool.sites) log
+log_accounts ring opening texts sent order lanes outs log pool holds h =
+    let commands = commands_accounted opening texts sent order lanes pool holds in
     record {
       asked = commands.asked;
       turns = h.requests.taken;
@@ -111,7 +111,7 @@ log_accounts ring opening texts sent order lanes outs log pool stands h =
       legal = commands.legal;
       once = commands.once;
       replied = λ tag place atom reply command known.
-          replied_at opening texts sent order lanes pool place tag atom reply stands (commands_within (length pool.sites) order h.requests.inside tag (to_place place atom) command) command known;
+          replied_at opening texts sent order lanes pool place tag atom reply holds (commands_within (length pool.sites) order h.requests.inside tag (to_place place atom) command) command known;
       lost = λ tag place atom command lost. h.commands.told tag place atom Lost command lost;
       ordered = λ place j k d e r q first second lt same replied also. ordered_replies order d e r q (h.histories.ordered place j k d e first second lt) same replied also;
       answered = λ client. (h.answers.put client).complete;

@@ -16,7 +16,7 @@ use Rattle.mc_history.specs.Histories.{HasNone, tag_in}
 use Rattle.mc_history.specs.declared.entries.Entry.{Entry}
 use Rattle.mc_history.proofs.OutcomeLemmas.{command_note, note_back}
 use Rattle.mc_world.specs.Accounts.{NotAnswered, WasLost, WasTaken, down_when_taken, up_when_taken}
-use Rattle.mc_world.specs.LogStands.{CommandsStand, IsTold, IsUntaken, RequestsStand}
+use Rattle.mc_world.specs.LogHolds.{CommandsHold, IsTold, IsUntaken, RequestsHold}
 use Rattle.mc_world.specs.Logs.{Log, is_up, loses, takes}
 use Rattle.mc_world.specs.WorldState.{SiteState, histories_of}
 use Rattle.mc_world.specs.declared.events.Logged.{Logged}
@@ -33,13 +33,13 @@ pub request_known : (o : Option Asked) (atom : ℕ) (outcome : Outcome) → outc
 request_known None atom outcome at = absurd (none-some outcome at)
 request_known (Some e) atom outcome at = (e, refl)
 
-pub command_taken : (opening : RingState) (places : ℕ) (order : Order) (log : Log) (tag : Tag) (routed : Routed) → RequestsStand opening places order log → command_at order tag ≡ Some routed
+pub command_taken : (opening : RingState) (places : ℕ) (order : Order) (log : Log) (tag : Tag) (routed : Routed) → RequestsHold opening places order log → command_at order tag ≡ Some routed
     → WasTaken tag log
 command_taken opening places order log tag routed h at =
     let e = request_of (asked_at order tag.session tag.request) tag.atom routed at in
     omega (arith, got_inside (entries_of tag.session order) tag.request e.0 e.1, h.taken tag.session)
 
-pub outcome_taken : (opening : RingState) (places : ℕ) (order : Order) (log : Log) (tag : Tag) (outcome : Outcome) → RequestsStand opening places order log → outcome_at order tag ≡ Some outcome
+pub outcome_taken : (opening : RingState) (places : ℕ) (order : Order) (log : Log) (tag : Tag) (outcome : Outcome) → RequestsHold opening places order log → outcome_at order tag ≡ Some outcome
     → WasTaken tag log
 outcome_taken opening places order log tag outcome h at =
     let e = request_known (asked_at order tag.session tag.request) tag.atom outcome at in
@@ -77,10 +77,10 @@ News order order' histories log =
 abbrev pub KeepsNone : Log → (ℕ → List Entry) → (ℕ → List Entry) → Type 0
 KeepsNone log old new = (tag : Tag) (place : ℕ) → down_when_taken place tag log → HasNone (old place) tag → HasNone (new place) tag
 
-pub commands_go : (opening : RingState) (places : ℕ) (order order' : Order) (log : Log) (x : Logged) (sites now : List SiteState) → RequestsStand opening places order log
+pub commands_go : (opening : RingState) (places : ℕ) (order order' : Order) (log : Log) (x : Logged) (sites now : List SiteState) → RequestsHold opening places order log
     → KeepsLost order order' → News order order' (histories_of now) (log ++ x ∷ []) → KeepsNone log (histories_of sites) (histories_of now)
     → ((place : ℕ) (tag : Tag) → HasUntakenAt now place tag → (HasUntakenAt sites place tag) ⊎ (IsUntaken place order' (log ++ x ∷ []) tag))
-    → CommandsStand order log sites → CommandsStand order' (log ++ x ∷ []) now
+    → CommandsHold order log sites → CommandsHold order' (log ++ x ∷ []) now
 commands_go opening places order order' log x sites now requests lost news none untaken h = record {
   told = λ tag place atom outcome command known. elim (news tag place atom outcome command known) [
     | inl k ↦ told_stays place tag (histories_of sites place) (histories_of now place) log x outcome (command_taken opening places order log tag (to_place place atom) requests k.0)
@@ -101,9 +101,9 @@ pub none_still : (log : Log) (old new : ℕ → List Entry) → ((place : ℕ) �
 none_still log old new same tag place down none = subst (λ (es : List Entry). HasNone es tag) (sym (same place)) none
 
 -- where nothing becomes of any command
-pub commands_still : (opening : RingState) (places : ℕ) (order : Order) (log : Log) (x : Logged) (sites now : List SiteState) → RequestsStand opening places order log
+pub commands_still : (opening : RingState) (places : ℕ) (order : Order) (log : Log) (x : Logged) (sites now : List SiteState) → RequestsHold opening places order log
     → ((place : ℕ) → histories_of now place ≡ histories_of sites place) → ((place : ℕ) (tag : Tag) → HasUntakenAt now place tag → HasUntakenAt sites place tag)
-    → CommandsStand order log sites → CommandsStand order (log ++ x ∷ []) now
+    → CommandsHold order log sites → CommandsHold order (log ++ x ∷ []) now
 commands_still opening places order log x sites now requests same untaken h =
     commands_go opening places order order log x sites now requests (λ tag lost. lost) (λ tag place atom outcome command known. inl (command, known))
     (none_still log (histories_of sites) (histories_of now) same) (λ place tag has. inl (untaken place tag has)) h
@@ -119,10 +119,10 @@ none_pushed log place history e tag up down none k d at = elim (got_pushed histo
   | inr h ↦ λ same. up_not_down place tag log (subst (λ (t : Tag). up_when_taken place t log) (ap (λ (x : Entry). tag_in x) (sym h.1) ∙ same) up) down
 ]
 
-pub commands_serve : (opening : RingState) (places : ℕ) (order : Order) (log : Log) (x : Logged) (place : ℕ) (e : Entry) (sites now : List SiteState) → RequestsStand opening places order log
+pub commands_serve : (opening : RingState) (places : ℕ) (order : Order) (log : Log) (x : Logged) (place : ℕ) (e : Entry) (sites now : List SiteState) → RequestsHold opening places order log
     → histories_of now place ≡ histories_of sites place ++ e ∷ [] → ((other : ℕ) → place ≢ other → histories_of now other ≡ histories_of sites other)
     → up_when_taken place (tag_in e) log → ((other : ℕ) (tag : Tag) → HasUntakenAt now other tag → HasUntakenAt sites other tag)
-    → CommandsStand order log sites → CommandsStand order (log ++ x ∷ []) now
+    → CommandsHold order log sites → CommandsHold order (log ++ x ∷ []) now
 commands_serve opening places order log x place e sites now requests is others up untaken h =
     commands_go opening places order order log x sites now requests (λ tag lost. lost) (λ tag p atom outcome command known. inl (command, known))
     (λ tag p down none. ⊎_elim
@@ -134,9 +134,9 @@ commands_serve opening places order log x place e sites now requests is others u
     (λ p tag has. inl (untaken p tag has)) h
 
 -- where a command gets its reply
-pub commands_reply : (opening : RingState) (places : ℕ) (order : Order) (log : Log) (x : Logged) (t : Tag) (reply : AReply (List ℕ)) (sites now : List SiteState) → RequestsStand opening places order log
+pub commands_reply : (opening : RingState) (places : ℕ) (order : Order) (log : Log) (x : Logged) (t : Tag) (reply : AReply (List ℕ)) (sites now : List SiteState) → RequestsHold opening places order log
     → ((number : ℕ) → AreInOrder (entries_of number order)) → KeepsLost order (note t (Reply reply) order) → ((place : ℕ) → histories_of now place ≡ histories_of sites place)
-    → ((place : ℕ) (tag : Tag) → HasUntakenAt now place tag → HasUntakenAt sites place tag) → CommandsStand order log sites → CommandsStand (note t (Reply reply) order) (log ++ x ∷ []) now
+    → ((place : ℕ) (tag : Tag) → HasUntakenAt now place tag → HasUntakenAt sites place tag) → CommandsHold order log sites → CommandsHold (note t (Reply reply) order) (log ++ x ∷ []) now
 commands_reply opening places order log x t reply sites now requests numbered lost same untaken h =
     commands_go opening places order (note t (Reply reply) order) log x sites now requests lost
     (λ tag place atom outcome command known. elim (note_back t (Reply reply) order tag outcome (numbered tag.session) known) [

@@ -9,7 +9,7 @@ use Rattle.mc_account.specs.Orders.{Order}
 use Rattle.mc_account.proofs.OpenSessions.{other_number, own_number}
 use Rattle.mc_history.specs.Histories.{tag_in}
 use Rattle.mc_history.specs.declared.entries.Entry.{Entry}
-use Rattle.mc_world.specs.LogStands.{AreOrdered, HistoriesStand, IsPlaced}
+use Rattle.mc_world.specs.LogHolds.{AreOrdered, HistoriesHold, IsPlaced}
 use Rattle.mc_world.specs.Logs.{Log, before, moment_of, moments_of, number_of, serves}
 use Rattle.mc_world.specs.declared.events.Event.TheVariants.{ServerTurn}
 use Rattle.mc_world.specs.declared.events.Logged.{Logged}
@@ -18,7 +18,7 @@ use Rattle.mc_world.proofs.LogEntryLemmas.{got_inside, got_pushed}
 use Rattle.mc_world.proofs.LogLemmas.{before-last, before-stays, moments-count, moments-push}
 
 -- a history has an entry for each turn of its server
-pub as_many : (order : Order) (log : Log) (histories : ℕ → List Entry) (place : ℕ) → HistoriesStand order log histories → length (histories place) ≡ number_of (serves place) log
+pub as_many : (order : Order) (log : Log) (histories : ℕ → List Entry) (place : ℕ) → HistoriesHold order log histories → length (histories place) ≡ number_of (serves place) log
 as_many order log histories place h =
     sym (length-map (histories place) (λ (e : Entry). e.moment)) ∙ ap (λ (ms : List ℕ). length ms) (h.moments place) ∙ moments-count place log
 
@@ -45,7 +45,7 @@ ordered_kept order order' d e lost h same = elim (h same) [
 ]
 
 -- an entry that was there
-placed_stays : (order order' : Order) (log : Log) (x : Logged) (histories : ℕ → List Entry) (place k : ℕ) (e : Entry) → KeepsLost order order' → HistoriesStand order log histories
+placed_stays : (order order' : Order) (log : Log) (x : Logged) (histories : ℕ → List Entry) (place k : ℕ) (e : Entry) → KeepsLost order order' → HistoriesHold order log histories
     → slice_get (histories place) k ≡ Some e → IsPlaced order' (before (serves place) k (log ++ x ∷ [])) e
 placed_stays order order' log x histories place k e lost h at =
     let early : k < number_of (serves place) log = omega (arith, got_inside (histories place) k e at, as_many order log histories place h) in
@@ -54,7 +54,7 @@ placed_stays order order' log x histories place k e lost h at =
 
 -- where no server takes a request
 pub histories_go : (order order' : Order) (log : Log) (x : Logged) (histories now : ℕ → List Entry) → ((place : ℕ) → moment_of place x ≡ []) → KeepsLost order order'
-    → ((place : ℕ) → now place ≡ histories place) → HistoriesStand order log histories → HistoriesStand order' (log ++ x ∷ []) now
+    → ((place : ℕ) → now place ≡ histories place) → HistoriesHold order log histories → HistoriesHold order' (log ++ x ∷ []) now
 histories_go order order' log x histories now none lost same h = record {
   moments = λ place.
       ap (λ (es : List Entry). map (λ (e : Entry). e.moment) es) (same place) ∙ h.moments place
@@ -67,7 +67,7 @@ histories_go order order' log x histories now none lost same h = record {
 
 -- where the server of a place takes one
 histories_serve_own : (order : Order) (log : Log) (place generation : ℕ) (e : Entry) (histories now : ℕ → List Entry) → now place ≡ histories place ++ e ∷ []
-    → IsPlaced order log e → HistoriesStand order log histories → (k : ℕ) (d : Entry) → slice_get (now place) k ≡ Some d
+    → IsPlaced order log e → HistoriesHold order log histories → (k : ℕ) (d : Entry) → slice_get (now place) k ≡ Some d
     → IsPlaced order (before (serves place) k (log ++ Happened (ServerTurn place generation e.moment) ∷ [])) d
 histories_serve_own order log place generation e histories now is placed h k d at =
     elim (got_pushed (histories place) e k d (ap (λ (es : List Entry). slice_get es k) (sym is) ∙ at)) [
@@ -81,7 +81,7 @@ histories_serve_own order log place generation e histories now is placed h k d a
     ]
 
 histories_serve_ordered : (order : Order) (place : ℕ) (e : Entry) (histories : ℕ → List Entry) (log : Log) → ((j : ℕ) (d : Entry) → slice_get (histories place) j ≡ Some d → AreOrdered order d e)
-    → HistoriesStand order log histories → (j k : ℕ) (d f : Entry) → slice_get (histories place ++ e ∷ []) j ≡ Some d → slice_get (histories place ++ e ∷ []) k ≡ Some f → j < k
+    → HistoriesHold order log histories → (j k : ℕ) (d f : Entry) → slice_get (histories place ++ e ∷ []) j ≡ Some d → slice_get (histories place ++ e ∷ []) k ≡ Some f → j < k
     → AreOrdered order d f
 histories_serve_ordered order place e histories log ordered h j k d f first second lt =
     elim (got_pushed (histories place) e j d first) [
@@ -97,7 +97,7 @@ histories_serve_ordered order place e histories log ordered h j k d f first seco
 
 pub histories_serve : (order : Order) (log : Log) (place generation : ℕ) (e : Entry) (histories now : ℕ → List Entry) → now place ≡ histories place ++ e ∷ []
     → ((other : ℕ) → place ≢ other → now other ≡ histories other) → IsPlaced order log e → ((j : ℕ) (d : Entry) → slice_get (histories place) j ≡ Some d → AreOrdered order d e)
-    → HistoriesStand order log histories → HistoriesStand order (log ++ Happened (ServerTurn place generation e.moment) ∷ []) now
+    → HistoriesHold order log histories → HistoriesHold order (log ++ Happened (ServerTurn place generation e.moment) ∷ []) now
 histories_serve order log place generation e histories now is others placed ordered h =
     let own : map (λ (d : Entry). d.moment) (now place) ≡ moments_of place (log ++ Happened (ServerTurn place generation e.moment) ∷ []) =
     ap (λ (es : List Entry). map (λ (d : Entry). d.moment) es) is ∙ map-append (λ (d : Entry). d.moment) (histories place) (e ∷ [])

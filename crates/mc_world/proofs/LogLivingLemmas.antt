@@ -19,7 +19,7 @@ use Rattle.mc_history.specs.Made.{Made, commands_on, entry_of}
 use Rattle.mc_history.specs.Named.{tags_made, tags_of}
 use Rattle.mc_history.specs.declared.entries.Entry.{Entry}
 use Rattle.mc_history.proofs.OutcomeLemmas.{named_made}
-use Rattle.mc_world.specs.Sites.{SiteStands}
+use Rattle.mc_world.specs.Sites.{SiteHolds}
 use Rattle.mc_world.specs.WorldState.{SiteState}
 use Rattle.mc_world.proofs.CommandLemmas.{times-one, times_is_count}
 use Rattle.mc_world.proofs.LogEntryLemmas.{got_map, got_mapped}
@@ -32,7 +32,7 @@ pub record IsMadeOf (place : ℕ) (order : Order) (made : List Made) (j : ℕ) (
   pub tag : m.command.1 ≡ tag_in d
   pub named : command_at order m.command.1 ≡ Some (to_place place m.command.0)
 
-pub made_of_entry : (place : ℕ) (order : Order) (lane : Lane) (link : LinkState) (opening : CacheState) (site : SiteState) (h : SiteStands place order lane link opening site) (j : ℕ) (d : Entry)
+pub made_of_entry : (place : ℕ) (order : Order) (lane : Lane) (link : LinkState) (opening : CacheState) (site : SiteState) (h : SiteHolds place order lane link opening site) (j : ℕ) (d : Entry)
     → slice_get site.history j ≡ Some d → IsMadeOf place order h.made j d
 made_of_entry place order lane link opening site h j d at =
     let m = got_mapped entry_of h.made j d (ap (λ (es : List Entry). slice_get es j) (sym h.history) ∙ at) in
@@ -52,7 +52,7 @@ commands_split place order lane made others is =
     ∙ sym (append_assoc (commands_to place (take lane.since order)) made others)
 
 -- a command that was made is not among those that the server has not taken
-made_or_not : (place : ℕ) (order : Order) (lane : Lane) (link : LinkState) (opening : CacheState) (site : SiteState) (up : link.up ≡ true) (h : SiteStands place order lane link opening site)
+made_or_not : (place : ℕ) (order : Order) (lane : Lane) (link : LinkState) (opening : CacheState) (site : SiteState) (up : link.up ≡ true) (h : SiteHolds place order lane link opening site)
     → ((number : ℕ) → AreInOrder (entries_of number order)) → (j k : ℕ) (m : Made) → slice_get h.made j ≡ Some m → slice_get (h.living up).others k ≡ Some m.command → ⊥
 made_or_not place order lane link opening site up h numbered j k m made other =
     let living = h.living up in
@@ -65,10 +65,10 @@ made_or_not place order lane link opening site up h numbered j k m made other =
     omega (arith, first, second, few, one, counted, once)
 
 -- what the server took of a client came before what it takes next
-pub made_before : (place : ℕ) (order : Order) (lane : Lane) (link : LinkState) (opening : CacheState) (site : SiteState) (up : link.up ≡ true) (h : SiteStands place order lane link opening site)
-    → ((number : ℕ) → AreInOrder (entries_of number order)) → (command : Tagged) (behind : List Tagged) → (h.living up).others ≡ command ∷ behind
+pub made_before : (place : ℕ) (order : Order) (lane : Lane) (link : LinkState) (opening : CacheState) (site : SiteState) (up : link.up ≡ true) (h : SiteHolds place order lane link opening site)
+    → ((number : ℕ) → AreInOrder (entries_of number order)) → (command : Tagged) (after : List Tagged) → (h.living up).others ≡ command ∷ after
     → (j : ℕ) (d : Entry) → slice_get site.history j ≡ Some d → d.client ≡ command.1.session → IsBefore (tag_in d) command.1
-made_before place order lane link opening site up h numbered command behind is j d at same =
+made_before place order lane link opening site up h numbered command after is j d at same =
     let living = h.living up in
     let front : List Tagged = commands_to place (take lane.since order) ++ commands_on site.connection h.made in
     let whole : commands_to place order ≡ (commands_to place (take lane.since order) ++ commands_on site.connection h.made) ++ living.others =
@@ -77,7 +77,7 @@ made_before place order lane link opening site up h numbered command behind is j
     let there = command_is_there place order numbered from.m.command.1 from.m.command.0 from.named in
     let next : slice_get (commands_to place order) (length front) ≡ Some command =
     ap (λ (cs : List Tagged). slice_get cs (length front)) (whole ∙ ap (λ (cs : List Tagged). (commands_to place (take lane.since order) ++ commands_on site.connection h.made) ++ cs) is)
-    ∙ at_place (commands_to place (take lane.since order) ++ commands_on site.connection h.made) behind command (length front) (omega arith) in
+    ∙ at_place (commands_to place (take lane.since order) ++ commands_on site.connection h.made) after command (length front) (omega arith) in
     ⊎_elim
     (λ early.
     let whose : from.m.command.1.session ≡ command.1.session = ap (λ (t : Tag). t.session) from.tag ∙ same in

@@ -91,8 +91,8 @@ own_in t outcome (x ∷ xs) at zero q numbered own number e =
     let owned : owns t x ≡ true = and_from (x.session == t.session) (x.request == t.request) (eq-eqb x.session t.session own.0) (eq-eqb x.request t.request its) in
     ap (λ (v : Bool). slice_get (if v then with_outcome t.atom outcome x.outcomes else x.outcomes) t.atom) owned ∙ with_own t.atom outcome x.outcomes q e
 own_in t outcome (x ∷ xs) at (suc k) q numbered own number e =
-    let behind : map (λ (y : Asked). y.request) xs ≡ numbers_from (suc at) xs = cc in
-    own_in t outcome xs (suc at) k q behind own.1 (omega (arith, number)) e
+    let after : map (λ (y : Asked). y.request) xs ≡ numbers_from (suc at) xs = cc in
+    own_in t outcome xs (suc at) k q after own.1 (omega (arith, number)) e
 
 note_own : (t : Tag) (outcome : Outcome) (order : Order) (q : Outcome) → AreInOrder (entries_of t.session order) → outcome_at order t ≡ Some q → outcome_at (note t outcome order) t ≡ Some outcome
 note_own t outcome order q numbered e =

@@ -15,11 +15,11 @@ use Rattle.mc_account.specs.Answered.{AreAnswers}
 use Rattle.mc_account.specs.Lanes.{Lane}
 use Rattle.mc_account.specs.Lookups.{IsRoutedWithin, asked_at}
 use Rattle.mc_account.specs.Orders.{Entry as Asked, Order, entries_of}
-use Rattle.mc_account.specs.Stands.{ProxyStands}
+use Rattle.mc_account.specs.Holds.{ProxyHolds}
 use Rattle.mc_account.proofs.AnsweredLemmas.{open_answered}
 use Rattle.mc_account.proofs.CountLemmas.{answered-emitted, steps_other, steps_own}
 use Rattle.mc_account.proofs.OrderLemmas.{entries_push_other, entries_push_own}
-use Rattle.mc_world.specs.LogStands.{AnswersStand, RequestsStand}
+use Rattle.mc_world.specs.LogHolds.{AnswersHold, RequestsHold}
 use Rattle.mc_world.specs.Logs.{IsRingAfter, Log, before, number_of, puts, takes}
 use Rattle.mc_world.specs.declared.events.Logged.{Logged}
 use Rattle.mc_world.proofs.LogEntryLemmas.{asked_pushed, got_inside}
@@ -27,7 +27,7 @@ use Rattle.mc_world.proofs.LogLemmas.{before-last, before-stays, number-none, nu
 use Rattle.mc_world.proofs.LogOutcomeLemmas.{Goes}
 
 -- the ring of a request that was taken is that of then
-ring_stays : (opening : RingState) (places : ℕ) (order : Order) (log : Log) (e : Logged) (client request : ℕ) (d : Asked) → RequestsStand opening places order log
+ring_stays : (opening : RingState) (places : ℕ) (order : Order) (log : Log) (e : Logged) (client request : ℕ) (d : Asked) → RequestsHold opening places order log
     → asked_at order client request ≡ Some d → IsRingAfter opening (before (takes client) request (log ++ e ∷ [])) d.ring
 ring_stays opening places order log e client request d h at =
     let early : request < number_of (takes client) log = omega (arith, got_inside (entries_of client order) request d at, h.taken client) in
@@ -35,7 +35,7 @@ ring_stays opening places order log e client request d h at =
 
 -- where no request is taken
 pub requests_go : (opening : RingState) (places now : ℕ) (order order' : Order) (log : Log) (e : Logged) → now ≡ places → ((client : ℕ) → takes client e ≡ false) → Goes order order'
-    → RequestsStand opening places order log → RequestsStand opening now order' (log ++ e ∷ [])
+    → RequestsHold opening places order log → RequestsHold opening now order' (log ++ e ∷ [])
 requests_go opening places now order order' log e as_many none goes h = record {
   taken = λ client. goes.sizes client ∙ h.taken client ∙ sym (number-none (takes client) log e (none client));
   rings = λ client request d at.
@@ -48,7 +48,7 @@ requests_go opening places now order order' log e as_many none goes h = record {
 -- where one is
 pub requests_take : (opening : RingState) (places now : ℕ) (order : Order) (asked : Asked) (log : Log) (e : Logged) → now ≡ places
     → takes asked.session e ≡ true → ((other : ℕ) → asked.session ≢ other → takes other e ≡ false) → IsRingAfter opening log asked.ring → IsRoutedWithin places asked
-    → RequestsStand opening places order log → RequestsStand opening now (order ++ asked ∷ []) (log ++ e ∷ [])
+    → RequestsHold opening places order log → RequestsHold opening now (order ++ asked ∷ []) (log ++ e ∷ [])
 requests_take opening places now order asked log e as_many own none ring routed h = record {
   taken = λ client. ⊎_elim
       (λ same.
@@ -77,7 +77,7 @@ WasOpen old new =
 -- where no answer is put out
 pub answers_go : (order order' : Order) (outs : ℕ → List ℕ) (log : Log) (e : Logged) (old new : ProxyState) → ((client : ℕ) → puts client e ≡ false)
     → ((client count : ℕ) (out : List ℕ) → AreAnswers client order count out [] → AreAnswers client order' count out []) → WasOpen old new
-    → AnswersStand order outs log old → AnswersStand order' outs (log ++ e ∷ []) new
+    → AnswersHold order outs log old → AnswersHold order' outs (log ++ e ∷ []) new
 answers_go order order' outs log e old new none kept open_ones h = record {
   put = λ client.
       subst (λ (n : ℕ). AreAnswers client order' n (outs client) []) (sym (number-none (puts client) log e (none client)))
@@ -89,9 +89,9 @@ answers_go order order' outs log e old new none kept open_ones h = record {
 
 -- where one is
 pub answers_put : (texts sent : ℕ → List ℕ) (order : Order) (lanes : ℕ → Lane) (client : ℕ) (outs outs' : ℕ → List ℕ) (log : Log) (e : Logged) (old new : ProxyState)
-    → puts client e ≡ true → ((other : ℕ) → client ≢ other → puts other e ≡ false) → ProxyStands texts sent order lanes old → ProxyStands texts sent order lanes new
+    → puts client e ≡ true → ((other : ℕ) → client ≢ other → puts other e ≡ false) → ProxyHolds texts sent order lanes old → ProxyHolds texts sent order lanes new
     → (steps : Steps client old new (Alone (IsEmit emits.Done))) → ((other : ℕ) → client ≢ other → outs' other ≡ outs other) → outs' client ≡ sent client ++ steps.after.output
-    → AnswersStand order outs log old → AnswersStand order outs' (log ++ e ∷ []) new
+    → AnswersHold order outs log old → AnswersHold order outs' (log ++ e ∷ []) new
 answers_put texts sent order lanes client outs outs' log e old new own none was is steps others out h =
     let now_at = steps_own client old new steps.before steps.after steps.was steps.is in
     let one = number-one (puts client) log e own in

@@ -2,7 +2,7 @@
 use Rattle.std.proofs.Common.{◌≡◌, ◌∙◌, ℕ, ◌<◌, ◌≤◌, Bool, true, [], ◌∷◌, ◌++◌, length, sym, ap, subst, arith}
 use Rattle.mc_ring.specs.Rings.{IsRing, RingState}
 use Rattle.mc_session.specs.SessionState.{link_at}
-use Rattle.mc_world.specs.LogStands.{ServersStand}
+use Rattle.mc_world.specs.LogHolds.{ServersHold}
 use Rattle.mc_world.specs.Logs.{IsRingAfter, Log, up_by}
 use Rattle.mc_world.specs.WorldState.{PoolState}
 use Rattle.mc_world.specs.declared.events.Logged.{Logged}
@@ -17,7 +17,7 @@ pub record AreAlike (old new : PoolState) : Type 0 where
 pub servers_go : (opening : RingState) (log : Log) (e : Logged) (old new : PoolState) → IsEvent e → AreAlike old new
     → ((place : ℕ) → place < length old.sites → (link_at new.proxy.links place).up ≡ up_by place e (link_at old.proxy.links place).up)
     → ((place : ℕ) → length old.sites ≤ place → up_by place e true ≡ true)
-    → ServersStand opening log old → ServersStand opening (log ++ e ∷ []) new
+    → ServersHold opening log old → ServersHold opening (log ++ e ∷ []) new
 servers_go opening log e old new event alike ups none h = record {
   ring = subst (λ (r : RingState). IsRingAfter opening (log ++ e ∷ []) r) (sym alike.ring) (ring-push opening old.proxy.ring log e event h.ring);
   is_ring = subst (λ (r : RingState). IsRing r) (sym alike.ring) h.is_ring;
@@ -34,6 +34,6 @@ servers_go opening log e old new event alike ups none h = record {
 -- an event by which no link is lost or comes back
 pub servers_stay : (opening : RingState) (log : Log) (e : Logged) (old new : PoolState) → IsEvent e → ((place : ℕ) (up : Bool) → up_by place e up ≡ up) → AreAlike old new
     → ((place : ℕ) → (link_at new.proxy.links place).up ≡ (link_at old.proxy.links place).up)
-    → ServersStand opening log old → ServersStand opening (log ++ e ∷ []) new
+    → ServersHold opening log old → ServersHold opening (log ++ e ∷ []) new
 servers_stay opening log e old new event quiet alike ups h =
     servers_go opening log e old new event alike (λ place inside. ups place ∙ sym (quiet place (link_at old.proxy.links place).up)) (λ place past. quiet place true) h

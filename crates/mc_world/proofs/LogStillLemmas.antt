@@ -14,7 +14,7 @@ use Rattle.mc_account.specs.Orders.{Order}
 use Rattle.mc_account.proofs.CountLemmas.{answered_there}
 use Rattle.mc_account.proofs.LaneLemmas.{link_other, link_own}
 use Rattle.mc_account.proofs.OpenSessions.{without_other}
-use Rattle.mc_world.specs.LogStands.{LogStands, ServersStand}
+use Rattle.mc_world.specs.LogHolds.{LogHolds, ServersHold}
 use Rattle.mc_world.specs.Logs.{Log, moment_of, puts, takes, up_by}
 use Rattle.mc_world.specs.WorldState.{PoolState, SiteState, WayState, histories_of}
 use Rattle.mc_world.specs.declared.events.Logged.{Logged}
@@ -42,7 +42,7 @@ pub record IsStill (old new : PoolState) : Type 0 where
 
 -- whatever becomes of its links
 pub log_links : (opening : RingState) (order : Order) (outs : ℕ → List ℕ) (log : Log) (x : Logged) (old new : PoolState) → IsQuiet x → IsStill old new
-    → ServersStand opening (log ++ x ∷ []) new → LogStands opening order outs log old → LogStands opening order outs (log ++ x ∷ []) new
+    → ServersHold opening (log ++ x ∷ []) new → LogHolds opening order outs log old → LogHolds opening order outs (log ++ x ∷ []) new
 log_links opening order outs log x old new quiet still servers h = record {
   servers = servers;
   requests = requests_go opening (length old.sites) (length new.sites) order order log x still.alike.sites quiet.takes (goes_same order) h.requests;
@@ -57,7 +57,7 @@ AreUpAs old new = (place : ℕ) → (link_at new.proxy.links place).up ≡ (link
 
 -- where no link is lost or comes back
 pub log_quiet : (opening : RingState) (order : Order) (outs : ℕ → List ℕ) (log : Log) (x : Logged) (old new : PoolState) → IsQuiet x → ((place : ℕ) (up : Bool) → up_by place x up ≡ up)
-    → IsStill old new → AreUpAs old new → LogStands opening order outs log old → LogStands opening order outs (log ++ x ∷ []) new
+    → IsStill old new → AreUpAs old new → LogHolds opening order outs log old → LogHolds opening order outs (log ++ x ∷ []) new
 log_quiet opening order outs log x old new quiet no_link still ups h =
     log_links opening order outs log x old new quiet still (servers_stay opening log x old new quiet.event no_link still.alike ups h.servers) h
 

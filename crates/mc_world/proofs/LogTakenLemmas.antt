@@ -16,7 +16,7 @@ use Rattle.mc_account.proofs.OrderLemmas.{entries-append}
 use Rattle.mc_account.proofs.WithinLemmas.{commands_within, within-push}
 use Rattle.mc_history.specs.Histories.{HasNone}
 use Rattle.mc_history.specs.declared.entries.Entry.{Entry}
-use Rattle.mc_world.specs.LogStands.{CommandsStand, HistoriesStand, IsTold, RequestsStand}
+use Rattle.mc_world.specs.LogHolds.{CommandsHold, HistoriesHold, IsTold, RequestsHold}
 use Rattle.mc_world.specs.Logs.{Log, before, is_up, number_of, serves, takes}
 use Rattle.mc_world.specs.WorldState.{SiteState, histories_of}
 use Rattle.mc_world.specs.declared.events.Logged.{Logged}
@@ -35,8 +35,8 @@ at_once_of links (r ∷ rs) zero routed outcome at known =
 at_once_of links (r ∷ rs) (suc k) routed outcome at known = at_once_of links rs k routed outcome at known
 
 -- no server has taken a command of the request that is taken next
-none_yet : (opening : RingState) (places : ℕ) (order : Order) (log : Log) (histories : ℕ → List Entry) (place : ℕ) (tag : Tag) → RequestsStand opening places order log
-    → HistoriesStand order log histories → tag.request ≡ length (entries_of tag.session order) → HasNone (histories place) tag
+none_yet : (opening : RingState) (places : ℕ) (order : Order) (log : Log) (histories : ℕ → List Entry) (place : ℕ) (tag : Tag) → RequestsHold opening places order log
+    → HistoriesHold order log histories → tag.request ≡ length (entries_of tag.session order) → HasNone (histories place) tag
 none_yet opening places order log histories place tag requests h next k d at same =
     let placed = (h.placed place k d at).taken in
     let few = number-before (takes d.client) (serves place) k log in
@@ -64,8 +64,8 @@ lost_pushed order asked tag lost =
     ∙ got_there (entries_of tag.session order) (entries_of tag.session (asked ∷ [])) tag.request e.0 e.1 in
     ap (λ (o : Option Asked). outcome_in o tag.atom) now ∙ sym (ap (λ (o : Option Asked). outcome_in o tag.atom) e.1) ∙ lost
 
-news_taken : (opening : RingState) (places : ℕ) (order : Order) (asked : Asked) (log : Log) (x : Logged) (links : List LinkState) (histories : ℕ → List Entry) → RequestsStand opening places order log
-    → HistoriesStand order log histories → takes asked.session x ≡ true → asked.outcomes ≡ map (at_once links) (route_of_taken asked.ring asked.what) → IsRoutedWithin places asked
+news_taken : (opening : RingState) (places : ℕ) (order : Order) (asked : Asked) (log : Log) (x : Logged) (links : List LinkState) (histories : ℕ → List Entry) → RequestsHold opening places order log
+    → HistoriesHold order log histories → takes asked.session x ≡ true → asked.outcomes ≡ map (at_once links) (route_of_taken asked.ring asked.what) → IsRoutedWithin places asked
     → ((place : ℕ) → place < places → is_up place log ≡ (link_at links place).up) → News order (order ++ asked ∷ []) histories (log ++ x ∷ [])
 news_taken opening places order asked log x links histories requests h own outcomes routed ups tag place atom outcome command known =
     let d = request_of (asked_at (order ++ asked ∷ []) tag.session tag.request) tag.atom (to_place place atom) command in
@@ -85,12 +85,12 @@ news_taken opening places order asked log x links histories requests h own outco
           (none_yet opening places order log histories place tag requests h k.1))))
     ]
 
-pub commands_take : (opening : RingState) (places : ℕ) (order : Order) (asked : Asked) (log : Log) (x : Logged) (links : List LinkState) (sites now : List SiteState) → RequestsStand opening places order log
-    → HistoriesStand order log (histories_of sites) → takes asked.session x ≡ true → asked.outcomes ≡ map (at_once links) (route_of_taken asked.ring asked.what) → IsRoutedWithin places asked
+pub commands_take : (opening : RingState) (places : ℕ) (order : Order) (asked : Asked) (log : Log) (x : Logged) (links : List LinkState) (sites now : List SiteState) → RequestsHold opening places order log
+    → HistoriesHold order log (histories_of sites) → takes asked.session x ≡ true → asked.outcomes ≡ map (at_once links) (route_of_taken asked.ring asked.what) → IsRoutedWithin places asked
     → ((place : ℕ) → place < places → is_up place log ≡ (link_at links place).up) → now ≡ sites
-    → CommandsStand order log sites → CommandsStand (order ++ asked ∷ []) (log ++ x ∷ []) now
+    → CommandsHold order log sites → CommandsHold (order ++ asked ∷ []) (log ++ x ∷ []) now
 commands_take opening places order asked log x links sites now requests h own outcomes routed ups same was =
-    subst (λ (ss : List SiteState). CommandsStand (order ++ asked ∷ []) (log ++ x ∷ []) ss) (sym same)
+    subst (λ (ss : List SiteState). CommandsHold (order ++ asked ∷ []) (log ++ x ∷ []) ss) (sym same)
     (commands_go opening places order (order ++ asked ∷ []) log x sites sites requests (lost_pushed order asked)
     (news_taken opening places order asked log x links (histories_of sites) requests h own outcomes routed ups)
     (none_still log (histories_of sites) (histories_of sites) (λ place. refl)) (λ place tag has. inl has) was)

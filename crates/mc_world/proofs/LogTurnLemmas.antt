@@ -17,7 +17,7 @@ use Rattle.mc_account.specs.Answered.{answered_at}
 use Rattle.mc_account.specs.Lanes.{Lane}
 use Rattle.mc_account.specs.Lookups.{IsRoutedWithin}
 use Rattle.mc_account.specs.Orders.{Order, Tagged, commands_from}
-use Rattle.mc_account.specs.Stands.{ProxyStands}
+use Rattle.mc_account.specs.Holds.{ProxyHolds}
 use Rattle.mc_account.proofs.CountLemmas.{answered-turn}
 use Rattle.mc_account.proofs.HandingLemmas.{handed_at, received, received_down, received_up}
 use Rattle.mc_account.proofs.OpenSessions.{other_number, own_number}
@@ -26,10 +26,10 @@ use Rattle.mc_history.specs.declared.entries.Entry.{Entry}
 use Rattle.mc_history.specs.Histories.{IsBefore, tag_in}
 use Rattle.mc_world.specs.Accounts.{up_when_taken}
 use Rattle.mc_world.specs.Happens.{entry_of_tag}
-use Rattle.mc_world.specs.LogStands.{AreOrdered, IsPlaced, LogStands}
+use Rattle.mc_world.specs.LogHolds.{AreOrdered, IsPlaced, LogHolds}
 use Rattle.mc_world.specs.Logs.{Log}
-use Rattle.mc_world.specs.Pools.{LateTurn, PoolStands, PutsAnswer, ServerTakes, TakesRequest, asked_by}
-use Rattle.mc_world.specs.Sites.{SiteStands}
+use Rattle.mc_world.specs.Pools.{LateTurn, PoolHolds, PutsAnswer, ServerTakes, TakesRequest, asked_by}
+use Rattle.mc_world.specs.Sites.{SiteHolds}
 use Rattle.mc_world.specs.WorldState.{PoolState, SiteState, WayState, histories_of}
 use Rattle.mc_world.specs.declared.events.Event.TheVariants.{Emit, ProxyTurn, ServerTurn}
 use Rattle.mc_world.specs.declared.events.Logged.TheVariants.{Happened}
@@ -47,9 +47,9 @@ use Rattle.mc_world.proofs.SiteLemmas.{same_tag, takes_next, waits_next}
 
 -- Emit
 pub log_puts : (opening : RingState) (texts sent : ℕ → List ℕ) (order : Order) (lanes : ℕ → Lane) (outs outs' : ℕ → List ℕ) (log : Log) (client : ℕ) (old new : PoolState)
-    → (e : PutsAnswer client old new) → ProxyStands texts sent order lanes old.proxy → ProxyStands texts sent order lanes new.proxy
-    → ((other : ℕ) → client ≢ other → outs' other ≡ outs other) → outs' client ≡ sent client ++ e.steps.after.output → LogStands opening order outs log old
-    → LogStands opening order outs' (log ++ Happened (Emit client) ∷ []) new
+    → (e : PutsAnswer client old new) → ProxyHolds texts sent order lanes old.proxy → ProxyHolds texts sent order lanes new.proxy
+    → ((other : ℕ) → client ≢ other → outs' other ≡ outs other) → outs' client ≡ sent client ++ e.steps.after.output → LogHolds opening order outs log old
+    → LogHolds opening order outs' (log ++ Happened (Emit client) ∷ []) new
 log_puts opening texts sent order lanes outs outs' log client old new e was is others out h =
     let alike : AreAlike old new = record {
       ring = e.steps.ring;
@@ -80,8 +80,8 @@ as_many_links session request at (c ∷ cs) links =
 
 -- ProxyTurn
 pub log_takes : (opening : RingState) (order : Order) (outs : ℕ → List ℕ) (log : Log) (client : ℕ) (old new : PoolState)
-    → (e : TakesRequest client old new) → LogStands opening order outs log old
-    → LogStands opening (order ++ asked_by e ∷ []) outs (log ++ Happened (ProxyTurn client) ∷ []) new
+    → (e : TakesRequest client old new) → LogHolds opening order outs log old
+    → LogHolds opening (order ++ asked_by e ∷ []) outs (log ++ Happened (ProxyTurn client) ∷ []) new
 log_takes opening order outs log client old new e h =
     let alike : AreAlike old new = record {
       ring = e.steps.ring;
@@ -125,8 +125,8 @@ served old new place site now entry at is history = record {
 log_serves : (opening : RingState) (order : Order) (outs : ℕ → List ℕ) (log : Log) (place generation : ℕ) (entry : Entry) (old new : PoolState) → new.proxy ≡ old.proxy
     → HasServed old new place entry → ((other : ℕ) (tag : Tag) → HasUntakenAt new.sites other tag → HasUntakenAt old.sites other tag)
     → IsPlaced order log entry → ((j : ℕ) (d : Entry) → slice_get (histories_of old.sites place) j ≡ Some d → AreOrdered order d entry)
-    → up_when_taken place (tag_in entry) log → LogStands opening order outs log old
-    → LogStands opening order outs (log ++ Happened (ServerTurn place generation entry.moment) ∷ []) new
+    → up_when_taken place (tag_in entry) log → LogHolds opening order outs log old
+    → LogHolds opening order outs (log ++ Happened (ServerTurn place generation entry.moment) ∷ []) new
 log_serves opening order outs log place generation entry old new is has untaken placed ordered up h =
     let alike : AreAlike old new = record {
       ring = ap (λ (p : ProxyState). p.ring) is;
@@ -144,14 +144,14 @@ log_serves opening order outs log place generation entry old new is has untaken 
 
 -- ServerTurn, of the living generation
 pub log_server_takes : (ring : RingState) (opening : CacheState) (texts sent : ℕ → List ℕ) (order : Order) (lanes : ℕ → Lane) (outs : ℕ → List ℕ) (log : Log) (place generation moment : ℕ) (old new : PoolState)
-    → (e : ServerTakes place moment old new) → PoolStands opening texts sent order lanes old → LogStands ring order outs log old
-    → LogStands ring order outs (log ++ Happened (ServerTurn place generation moment) ∷ []) new
+    → (e : ServerTakes place moment old new) → PoolHolds opening texts sent order lanes old → LogHolds ring order outs log old
+    → LogHolds ring order outs (log ++ Happened (ServerTurn place generation moment) ∷ []) new
 log_server_takes ring opening texts sent order lanes outs log place generation moment old new e pool h =
-    let stands : SiteStands place order (lanes place) (link_at old.proxy.links place) opening e.there.site = pool.sites place e.there.site e.there.at in
+    let holds : SiteHolds place order (lanes place) (link_at old.proxy.links place) opening e.there.site = pool.sites place e.there.site e.there.at in
     let lane = (pool.proxy.links place).0 e.there.up in
-    let next = takes_next place order (lanes place) (link_at old.proxy.links place) opening e.there.site e.there.now.server moment e.there.up e.enters.steps stands lane in
+    let next = takes_next place order (lanes place) (link_at old.proxy.links place) opening e.there.site e.there.now.server moment e.there.up e.enters.steps holds lane in
     let tag_is : e.tag ≡ next.next.command.1 = same_tag (slice_get (map (λ (w : Waiting). w.1) (link_at old.proxy.links place).waiting) e.there.site.ahead) e.tag next.next.command.1 e.next
-    (waits_next place order (lanes place) (link_at old.proxy.links place) opening e.there.site e.there.up stands next.next.command next.next.behind lane next.next.is) in
+    (waits_next place order (lanes place) (link_at old.proxy.links place) opening e.there.site e.there.up holds next.next.command next.next.past lane next.next.is) in
     let waits = waits_at ring (length old.sites) texts sent order lanes outs log old place e.there.site.ahead e.tag pool.proxy h.requests h.answers h.commands e.there.up e.next in
     log_serves ring order outs log place generation (entry_of_tag e.tag moment e.enters.steps.step.1.served.0 e.enters.reply) old new e.proxy
     (served old new place e.there.site e.there.now (entry_of_tag e.tag moment e.enters.steps.step.1.served.0 e.enters.reply) e.there.at e.there.sites (ap (λ (s : SiteState). s.history) e.enters.all_else))
@@ -160,14 +160,14 @@ log_server_takes ring opening texts sent order lanes outs log place generation m
     (subst (λ (ss : List SiteState). HasUntakenAt ss other tag) e.there.sites has))
     (record { taken = waits.taken; answered = inr waits.unanswered })
     (λ j d at same. inr (inr (subst (λ (t : Tag). IsBefore (tag_in d) t) (sym tag_is)
-    (made_before place order (lanes place) (link_at old.proxy.links place) opening e.there.site e.there.up stands pool.proxy.numbered next.next.command next.next.behind next.next.is j d
+    (made_before place order (lanes place) (link_at old.proxy.links place) opening e.there.site e.there.up holds pool.proxy.numbered next.next.command next.next.past next.next.is j d
     (ap (λ (es : List Entry). slice_get es j) (sym (history_at old.sites place e.there.site e.there.at)) ∙ at)
     (same ∙ ap (λ (t : Tag). t.session) tag_is)))))
     waits.sent h
 
 -- ServerTurn, of a lost generation
 pub log_late_turn : (opening : RingState) (order : Order) (outs : ℕ → List ℕ) (log : Log) (place generation i moment : ℕ) (old new : PoolState)
-    → (e : LateTurn place i moment old new) → LogStands opening order outs log old → LogStands opening order outs (log ++ Happened (ServerTurn place generation moment) ∷ []) new
+    → (e : LateTurn place i moment old new) → LogHolds opening order outs log old → LogHolds opening order outs (log ++ Happened (ServerTurn place generation moment) ∷ []) new
 log_late_turn opening order outs log place generation i moment old new e h =
     let first : slice_get e.way.untaken 0 ≡ Some e.tag = ap (λ (ts : List Tag). slice_get ts 0) e.untaken in
     let untaken = h.commands.untaken place i 0 e.site e.way e.tag e.at e.way_at first in

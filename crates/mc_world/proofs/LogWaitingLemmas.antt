@@ -14,13 +14,13 @@ use Rattle.mc_proxy.specs.ProxyState.{ProxyState}
 use Rattle.mc_account.specs.Lanes.{Lane}
 use Rattle.mc_account.specs.Lookups.{command_at, outcome_at}
 use Rattle.mc_account.specs.Orders.{Order, note_all}
-use Rattle.mc_account.specs.Stands.{ProxyStands}
+use Rattle.mc_account.specs.Holds.{ProxyHolds}
 use Rattle.mc_account.proofs.LookupLemmas.{all_waiting_are_awaited, waiting_is_awaited}
 use Rattle.mc_account.proofs.OpenSessions.{own_number}
 use Rattle.mc_account.proofs.StayingLemmas.{awaited_not_answered}
 use Rattle.mc_history.specs.declared.entries.Entry.{Entry}
 use Rattle.mc_world.specs.Accounts.{NotAnswered, WasLost, WasTaken, up_when_taken}
-use Rattle.mc_world.specs.LogStands.{AnswersStand, CommandsStand, IsTold, IsUntaken, RequestsStand}
+use Rattle.mc_world.specs.LogHolds.{AnswersHold, CommandsHold, IsTold, IsUntaken, RequestsHold}
 use Rattle.mc_world.specs.Logs.{Log, loses, number_of, puts}
 use Rattle.mc_world.specs.Pools.{LosesLink, cut_off}
 use Rattle.mc_world.specs.WorldState.{PoolState, SiteState, WayState, histories_of}
@@ -30,7 +30,7 @@ use Rattle.mc_world.proofs.LogCommandLemmas.{News, command_taken, commands_go, n
 use Rattle.mc_world.proofs.LogEntryLemmas.{HasUntaken, HasUntakenAt, got_mapped, got_pushed, history_still, untaken_set}
 use Rattle.mc_world.proofs.LogLemmas.{before-last, number-one}
 use Rattle.mc_world.proofs.LogOutcomeLemmas.{all_back, all_lost, goes_note_all}
-use Rattle.mc_world.proofs.SiteLemmas.{get_behind}
+use Rattle.mc_world.proofs.SiteLemmas.{get_past}
 
 -- the tags of what waits on the link of a place
 abbrev pub tags_waiting : ProxyState → ℕ → List Tag
@@ -46,7 +46,7 @@ pub record Waits (place : ℕ) (order : Order) (log : Log) (tag : Tag) : Type 0 
   pub unanswered : NotAnswered tag log
 
 pub waits_at : (opening : RingState) (places : ℕ) (texts sent : ℕ → List ℕ) (order : Order) (lanes : ℕ → Lane) (outs : ℕ → List ℕ) (log : Log) (old : PoolState) (place index : ℕ) (tag : Tag)
-    → ProxyStands texts sent order lanes old.proxy → RequestsStand opening places order log → AnswersStand order outs log old.proxy → CommandsStand order log old.sites
+    → ProxyHolds texts sent order lanes old.proxy → RequestsHold opening places order log → AnswersHold order outs log old.proxy → CommandsHold order log old.sites
     → (link_at old.proxy.links place).up ≡ true → slice_get (tags_waiting old.proxy place) index ≡ Some tag → Waits place order log tag
 waits_at opening places texts sent order lanes outs log old place index tag proxy requests answers commands up at =
     let w = got_mapped (λ (x : Waiting). x.1) (link_at old.proxy.links place).waiting index tag at in
@@ -73,13 +73,13 @@ lost_now place order log tag w =
     )
 
 -- what is known of each command
-news_lost : (texts sent : ℕ → List ℕ) (order : Order) (lanes : ℕ → Lane) (log : Log) (proxy : ProxyState) (place : ℕ) (histories : ℕ → List Entry) → ProxyStands texts sent order lanes proxy
+news_lost : (texts sent : ℕ → List ℕ) (order : Order) (lanes : ℕ → Lane) (log : Log) (proxy : ProxyState) (place : ℕ) (histories : ℕ → List Entry) → ProxyHolds texts sent order lanes proxy
     → (link_at proxy.links place).up ≡ true → ((index : ℕ) (tag : Tag) → slice_get (tags_waiting proxy place) index ≡ Some tag → Waits place order log tag)
     → News order (note_all (tags_waiting proxy place) Lost order) histories (log ++ Happened (LinkLost place) ∷ [])
-news_lost texts sent order lanes log proxy place histories stands up waits tag p atom outcome command known =
-    let all = all_waiting_are_awaited texts sent order lanes proxy stands place up Lost refl in
-    let was : command_at order tag ≡ Some (to_place p atom) = sym ((goes_note_all (tags_waiting proxy place) Lost order stands.numbered all).commands tag) ∙ command in
-    elim (all_back (tags_waiting proxy place) order tag outcome stands.numbered all known) [
+news_lost texts sent order lanes log proxy place histories holds up waits tag p atom outcome command known =
+    let all = all_waiting_are_awaited texts sent order lanes proxy holds place up Lost refl in
+    let was : command_at order tag ≡ Some (to_place p atom) = sym ((goes_note_all (tags_waiting proxy place) Lost order holds.numbered all).commands tag) ∙ command in
+    elim (all_back (tags_waiting proxy place) order tag outcome holds.numbered all known) [
       | inl k ↦ inl (was, k)
       | inr k ↦ (
           let w = waits k.index tag k.at in
@@ -101,12 +101,12 @@ untaken_lost place order log link site tag waits h =
       | inl k ↦ inl (record { i = h.i; j = h.j; way = h.way; way_at = k; tag_at = h.tag_at })
       | inr k ↦ (
           let there : slice_get (drop site.ahead (map (λ (w : Waiting). w.1) link.waiting)) h.j ≡ Some tag = ap (λ (x : WayState). slice_get x.untaken h.j) (sym k.1) ∙ h.tag_at in
-          inr (waits (h.j + site.ahead) (sym (get_behind (map (λ (w : Waiting). w.1) link.waiting) site.ahead h.j) ∙ there)))
+          inr (waits (h.j + site.ahead) (sym (get_past (map (λ (w : Waiting). w.1) link.waiting) site.ahead h.j) ∙ there)))
     ]
 
 pub commands_lose : (opening : RingState) (places : ℕ) (texts sent : ℕ → List ℕ) (order : Order) (lanes : ℕ → Lane) (outs : ℕ → List ℕ) (log : Log) (place : ℕ) (old new : PoolState)
-    → (e : LosesLink place old new) → ProxyStands texts sent order lanes old.proxy → RequestsStand opening places order log → AnswersStand order outs log old.proxy → CommandsStand order log old.sites
-    → CommandsStand (note_all (tags_waiting old.proxy place) Lost order) (log ++ Happened (LinkLost place) ∷ []) new.sites
+    → (e : LosesLink place old new) → ProxyHolds texts sent order lanes old.proxy → RequestsHold opening places order log → AnswersHold order outs log old.proxy → CommandsHold order log old.sites
+    → CommandsHold (note_all (tags_waiting old.proxy place) Lost order) (log ++ Happened (LinkLost place) ∷ []) new.sites
 commands_lose opening places texts sent order lanes outs log place old new e proxy requests answers commands =
     let up = e.there.up in
     let all = all_waiting_are_awaited texts sent order lanes old.proxy proxy place up Lost refl in
@@ -118,7 +118,7 @@ commands_lose opening places texts sent order lanes outs log place old new e pro
     → IsUntaken place (note_all (tags_waiting old.proxy place) Lost order) (log ++ Happened (LinkLost place) ∷ []) tag = λ index tag at.
     let w = waits index tag at in
     record { lost = all_lost (tags_waiting old.proxy place) order index tag proxy.numbered all at; sent = up_stays place tag log (Happened (LinkLost place)) w.taken w.sent } in
-    subst (λ (ss : List SiteState). CommandsStand (note_all (tags_waiting old.proxy place) Lost order) (log ++ Happened (LinkLost place) ∷ []) ss) (sym e.there.sites)
+    subst (λ (ss : List SiteState). CommandsHold (note_all (tags_waiting old.proxy place) Lost order) (log ++ Happened (LinkLost place) ∷ []) ss) (sym e.there.sites)
     (commands_go opening places order (note_all (tags_waiting old.proxy place) Lost order) log (Happened (LinkLost place)) old.sites (slice_set old.sites place e.there.now) requests
     (goes_note_all (tags_waiting old.proxy place) Lost order proxy.numbered all).lost
     (news_lost texts sent order lanes log old.proxy place (histories_of (slice_set old.sites place e.there.now)) proxy up waits)

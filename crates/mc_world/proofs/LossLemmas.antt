@@ -8,14 +8,14 @@ use Rattle.mc_link.specs.LinkState.{LinkState, Waiting}
 use Rattle.mc_link.specs.declared.turns.Tag.{Tag}
 use Rattle.mc_cache.specs.CacheState.{CacheState}
 use Rattle.mc_server.specs.ServerState.{ServerState, connection_at, fresh_connection, with_fresh}
-use Rattle.mc_server.specs.Stands.{ServerStands}
+use Rattle.mc_server.specs.Holds.{ServerHolds}
 use Rattle.mc_server.proofs.ConnectionLemmas.{fresh_other, fresh_own}
-use Rattle.mc_server.proofs.StandsLemmas.{ServerStands-admitted, given}
-use Rattle.mc_account.specs.Lanes.{Lane, LaneStands, fresh_lane, spelled}
+use Rattle.mc_server.proofs.HoldsLemmas.{ServerHolds-admitted, given}
+use Rattle.mc_account.specs.Lanes.{Lane, LaneHolds, fresh_lane, spelled}
 use Rattle.mc_account.specs.Orders.{Order, Tagged, commands_to}
 use Rattle.mc_history.specs.Generations.{commands_of_lane, is_good}
 use Rattle.mc_history.specs.Made.{Each, Made, commands_on, read_as, taking_of}
-use Rattle.mc_world.specs.Sites.{IsLostWay, SiteStands}
+use Rattle.mc_world.specs.Sites.{IsLostWay, SiteHolds}
 use Rattle.mc_world.specs.WorldState.{SiteState, WayState}
 use Rattle.mc_history.proofs.MadeLemmas.{taken_on}
 use Rattle.mc_history.proofs.OutcomeLemmas.{NoNews, replied_kept}
@@ -47,9 +47,9 @@ drop_front front back count ahead h =
 
 -- the link is lost: its bytes go on their way, and whose the commands are that the server has not taken is kept with them
 pub site_lost : (place : ℕ) (order order' : Order) (lane : Lane) (link link' : LinkState) (opening : CacheState) (site : SiteState) (generation : ℕ)
-    → link.up ≡ true → link'.up ≢ true → Keeps order order' → NoNews place order order' → commands_to place order' ≡ commands_to place order → LaneStands place order lane link
-    → SiteStands place order lane link opening site
-    → SiteStands place order' lane link' opening (record site {
+    → link.up ≡ true → link'.up ≢ true → Keeps order order' → NoNews place order order' → commands_to place order' ≡ commands_to place order → LaneHolds place order lane link
+    → SiteHolds place order lane link opening site
+    → SiteHolds place order' lane link' opening (record site {
       lost = site.lost ++ (record {
         generation = generation;
         connection = site.connection;
@@ -57,7 +57,7 @@ pub site_lost : (place : ℕ) (order order' : Order) (lane : Lane) (link link' :
         untaken = drop site.ahead (map (λ (w : Waiting). w.1) link.waiting);
       }) ∷ [];
     })
-site_lost place order order' lane link link' opening site generation up down keeps news commands stands h =
+site_lost place order order' lane link link' opening site generation up down keeps news commands holds h =
     let living = h.living up in
     let same_times : (t : Tag) → times t (tags_of (commands_to place order')) ≡ times t (tags_of (commands_to place order)) = λ t. ap (λ (cs : List Tagged). times t (tags_of cs)) commands in
     let way : WayState = record { generation = generation; connection = site.connection; going = link.output; untaken = drop site.ahead (map (λ (w : Waiting). w.1) link.waiting) } in
@@ -66,10 +66,10 @@ site_lost place order order' lane link link' opening site generation up down kee
       end = living.end;
       is_open = living.is_open;
       others = living.others;
-      put = ap (λ (bytes : List ℕ). bytes ++ link.output) living.out ∙ stands.put ∙ ap (λ (cs : List Tagged). spelled cs) living.commands;
+      put = ap (λ (bytes : List ℕ). bytes ++ link.output) living.out ∙ holds.put ∙ ap (λ (cs : List Tagged). spelled cs) living.commands;
       good = ap (λ (cs : List Tagged). list_all is_good cs) (sym living.commands) ∙ good_since place lane.since order h.good;
       untaken =
-          ap (λ (ws : List Waiting). drop site.ahead (map (λ (w : Waiting). w.1) ws)) stands.waiting
+          ap (λ (ws : List Waiting). drop site.ahead (map (λ (w : Waiting). w.1) ws)) holds.waiting
           ∙ ap (λ (ts : List Tag). drop site.ahead ts) (tags_wait (drop (length lane.replies) (commands_of_lane place order lane)) ∙ sym (drop-map (λ (c : Tagged). c.1) (length lane.replies) (commands_of_lane place order lane)))
           ∙ ap (λ (cs : List Tagged). drop site.ahead (drop (length lane.replies) (map (λ (c : Tagged). c.1) cs))) living.commands
           ∙ drop_front (commands_on site.connection h.made) living.others (length lane.replies) site.ahead living.ahead;
@@ -113,7 +113,7 @@ no_commands [] e = refl
 no_commands (c ∷ cs) e = absurd cc
 
 -- of a number that was not given yet nothing was made
-none_made : (opening : CacheState) (made : List Made) (texts sent : ℕ → List ℕ) (server : ServerState) → ServerStands opening texts sent (map taking_of made) server
+none_made : (opening : CacheState) (made : List Made) (texts sent : ℕ → List ℕ) (server : ServerState) → ServerHolds opening texts sent (map taking_of made) server
     → commands_on server.admitted made ≡ []
 none_made opening made texts sent server h =
     let none : map read_as (commands_on server.admitted made) ≡ [] = sym (taken_on server.admitted made) ∙ (h.unused server.admitted (omega arith)).nothing_taken in
@@ -122,8 +122,8 @@ none_made opening made texts sent server h =
 -- the link is back: the server has admitted a connection for it
 pub site_back : (place : ℕ) (order : Order) (lane : Lane) (link link' : LinkState) (opening : CacheState) (site : SiteState) (generation : ℕ)
     → connection_at site.server site.server.admitted ≡ None
-    → SiteStands place order lane link opening site
-    → SiteStands place order (fresh_lane (length order)) link' opening (record site { server = with_fresh site.server; generation = generation; connection = site.server.admitted; ahead = 0 })
+    → SiteHolds place order lane link opening site
+    → SiteHolds place order (fresh_lane (length order)) link' opening (record site { server = with_fresh site.server; generation = generation; connection = site.server.admitted; ahead = 0 })
 site_back place order lane link link' opening site generation closed h =
     let unused = h.server.unused site.server.admitted (omega arith) in
     let none = none_made opening h.made h.texts h.sent site.server h.server in
@@ -133,7 +133,7 @@ site_back place order lane link link' opening site generation closed h =
       made = h.made;
       texts = h.texts;
       sent = h.sent;
-      server = ServerStands-admitted opening h.texts h.sent (map taking_of h.made) site.server h.server;
+      server = ServerHolds-admitted opening h.texts h.sent (map taking_of h.made) site.server h.server;
       good_cache = h.good_cache;
       answers = h.answers;
       history = h.history;

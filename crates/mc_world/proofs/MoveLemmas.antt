@@ -8,10 +8,10 @@ use Rattle.mc_link.specs.declared.turns.Tag.{Tag}
 use Rattle.mc_cache.specs.CacheState.{CacheState}
 use Rattle.mc_cache_laws.specs.GoodCaches.{IsGoodCache}
 use Rattle.mc_server.specs.ServerState.{ConnectionState, ServerState, connection_at, output_of, sent_by}
-use Rattle.mc_server.specs.Stands.{grown}
+use Rattle.mc_server.specs.Holds.{grown}
 use Rattle.mc_server.proofs.ConnectionLemmas.{updated_other, updated_own}
-use Rattle.mc_server.proofs.StandsLemmas.{ServerStands-sent, grown-own}
-use Rattle.mc_account.specs.Lanes.{Lane, LaneStands}
+use Rattle.mc_server.proofs.HoldsLemmas.{ServerHolds-sent, grown-own}
+use Rattle.mc_account.specs.Lanes.{Lane, LaneHolds}
 use Rattle.mc_account.specs.Orders.{Entry as Asked, Order, Tagged, commands_in, commands_to, entries_of}
 use Rattle.mc_account.proofs.OrderLemmas.{commands-push, passes_joined}
 use Rattle.mc_history.specs.Generations.{AreJoined, commands_of_lane, is_good}
@@ -24,13 +24,13 @@ use Rattle.mc_route.specs.declared.routes.Routed.{Routed}
 use Rattle.std.proofs.lemmas.Option.{none-some, same_Some}
 use Rattle.mc_history.specs.declared.entries.Entry.{Entry}
 use Rattle.mc_history.proofs.OutcomeLemmas.{NoNews, entry_made, in_made, named_made, news_push, replied_kept}
-use Rattle.mc_world.specs.Sites.{IsLostWay, SiteStands}
+use Rattle.mc_world.specs.Sites.{IsLostWay, SiteHolds}
 use Rattle.mc_world.specs.WorldState.{SiteState, WayState}
 use Rattle.mc_route.specs.Routes.{to_place}
 use Rattle.mc_world.proofs.CountLemmas.{times-tags}
 use Rattle.mc_history.proofs.GenerationLemmas.{carried}
 use Rattle.mc_history.proofs.NamedLemmas.{Keeps, each_append, each_weaker, kept_named, keeps_push, named_in}
-use Rattle.mc_world.proofs.SiteLemmas.{at_place, get_behind, good_since, stood_at, tags_wait}
+use Rattle.mc_world.proofs.SiteLemmas.{at_place, get_past, good_since, stood_at, tags_wait}
 use Rattle.mc_account.specs.Lookups.{command_at, outcome_at}
 use Rattle.mc_history.specs.Named.{IsNamed, tags_of, times}
 
@@ -58,7 +58,7 @@ pub site_kept : (place : ℕ) (order order' : Order) (lane lane' : Lane) (link l
     → Keeps order order' → NoNews place order order' → commands_to place order' ≡ commands_to place order
     → (link'.up ≡ true → link.up ≡ true)
     → (link'.up ≡ true → (commands_of_lane place order' lane' ≡ commands_of_lane place order lane) × (lane'.out ≡ lane.out) × (lane'.came ≡ lane.came) × (lane'.replies ≡ lane.replies))
-    → SiteStands place order lane link opening site → SiteStands place order' lane' link' opening site
+    → SiteHolds place order lane link opening site → SiteHolds place order' lane' link' opening site
 site_kept place order order' lane lane' link link' opening site keeps news commands still same h =
     let same_times : (t : Tag) → times t (tags_of (commands_to place order')) ≡ times t (tags_of (commands_to place order)) = λ t. ap (λ (cs : List Tagged). times t (tags_of cs)) commands in
     record {
@@ -93,7 +93,7 @@ site_kept place order order' lane lane' link link' opening site keeps news comma
 pub site_asked : (place : ℕ) (order : Order) (e : Asked) (lane : Lane) (link link' : LinkState) (opening : CacheState) (site : SiteState)
     → (link'.up ≡ true → link.up ≡ true) → (link.up ≡ true → lane.since ≤ length order) → list_all is_good (commands_in place e) ≡ true → e.request ≡ length (entries_of e.session order)
     → ((atom : ℕ) (reply : AReply (List ℕ)) → slice_get e.outcomes atom ≢ Some (Reply reply))
-    → SiteStands place order lane link opening site → SiteStands place (order ++ e ∷ []) lane link' opening site
+    → SiteHolds place order lane link opening site → SiteHolds place (order ++ e ∷ []) lane link' opening site
 site_asked place order e lane link link' opening site still since good number fresh h =
     let longer : (t : Tag) → times t (tags_of (commands_to place (order ++ e ∷ []))) ≡ times t (tags_of (commands_to place order)) + times t (tags_of (commands_in place e)) =
     λ t. ap (λ (cs : List Tagged). times t (tags_of cs)) (commands-push place order e) ∙ times-tags t (commands_to place order) (commands_in place e) in
@@ -148,8 +148,8 @@ cache_sent number count (Some end) server = refl
 
 -- bytes come back from the living connection
 pub site_returned : (place : ℕ) (order : Order) (lane : Lane) (link link' : LinkState) (opening : CacheState) (site : SiteState) (count : ℕ)
-    → link.up ≡ true → SiteStands place order lane link opening site
-    → SiteStands place order (record lane { came = lane.came ++ take count (output_of (connection_at site.server site.connection)) }) link' opening
+    → link.up ≡ true → SiteHolds place order lane link opening site
+    → SiteHolds place order (record lane { came = lane.came ++ take count (output_of (connection_at site.server site.connection)) }) link' opening
     (record site { server = sent_by site.connection count (connection_at site.server site.connection) site.server })
 site_returned place order lane link link' opening site count up h =
     let living = h.living up in
@@ -158,7 +158,7 @@ site_returned place order lane link link' opening site count up h =
       made = h.made;
       texts = h.texts;
       sent = grown site.connection piece h.sent;
-      server = ServerStands-sent opening h.texts h.sent (map taking_of h.made) site.connection count site.server
+      server = ServerHolds-sent opening h.texts h.sent (map taking_of h.made) site.connection count site.server
           (sent_by site.connection count (connection_at site.server site.connection) site.server) h.server refl;
       good_cache = subst IsGoodCache (sym (cache_sent site.connection count (connection_at site.server site.connection) site.server)) h.good_cache;
       answers = h.answers;
@@ -209,18 +209,18 @@ get_mapped f (y ∷ ys) zero x e = ap (λ (z : _). Some (f z)) (same_Some y x e)
 get_mapped f (y ∷ ys) (suc n) x e = get_mapped f ys n x e
 
 -- the command after a reply that was taken
-record IsBehind (made : List Made) (tag : Tag) (reply : AReply (List ℕ)) : Type 0 where
+record IsLater (made : List Made) (tag : Tag) (reply : AReply (List ℕ)) : Type 0 where
   pub m : Made
   pub k : ℕ
   pub at : slice_get made k ≡ Some m
   pub tag_is : m.command.1 ≡ tag
   pub reply_is : m.reply ≡ reply
 
-entry_behind : (number : ℕ) (made : List Made) (n : ℕ) (tag : Tag) (reply : AReply (List ℕ)) (others : List Tagged) → slice_get (map (λ (c : Tagged). c.1) (commands_on number made ++ others)) n ≡ Some tag
-    → n < length (made_on number made) → slice_get (replies_on number made) n ≡ Some reply → IsBehind made tag reply
-entry_behind number made n tag reply others tag_at inside told_at =
+entry_after : (number : ℕ) (made : List Made) (n : ℕ) (tag : Tag) (reply : AReply (List ℕ)) (others : List Tagged) → slice_get (map (λ (c : Tagged). c.1) (commands_on number made ++ others)) n ≡ Some tag
+    → n < length (made_on number made) → slice_get (replies_on number made) n ≡ Some reply → IsLater made tag reply
+entry_after number made n tag reply others tag_at inside told_at =
     let there = get_some (made_on number made) n inside in
-    let stands = in_made number made n there.0 there.1 in
+    let holds = in_made number made n there.0 there.1 in
     let own_tag : slice_get (map (λ (c : Tagged). c.1) (commands_on number made)) n ≡ Some there.0.command.1 =
     get_mapped (λ (c : Tagged). c.1) (commands_on number made) n there.0.command (get_mapped (λ (m : Made). m.command) (made_on number made) n there.0 there.1) in
     let size : n < length (map (λ (c : Tagged). c.1) (commands_on number made)) =
@@ -230,8 +230,8 @@ entry_behind number made n tag reply others tag_at inside told_at =
     ∙ get_front (map (λ (c : Tagged). c.1) (commands_on number made)) (map (λ (c : Tagged). c.1) others) n size ∙ own_tag in
     record {
       m = there.0;
-      k = stands.0;
-      at = stands.1;
+      k = holds.0;
+      at = holds.1;
       tag_is = same_Some there.0.command.1 tag (sym front_tag ∙ tag_at);
       reply_is = same_Some there.0.reply reply (sym (get_mapped (λ (m : Made). m.reply) (made_on number made) n there.0 there.1) ∙ told_at);
     }
@@ -243,21 +243,21 @@ told_same q reply e = cc
 pub record IsReplied (place : ℕ) (order : Order) (lane : Lane) (link : LinkState) (opening : CacheState) (site : SiteState) (tag : Tag) : Type 0 where
   pub some : 1 ≤ site.ahead
   pub named : (atom : Atom (List ℕ)) × (command_at order tag ≡ Some (to_place place atom))
-  pub stands : SiteStands place order lane link opening (record site { ahead = site.ahead - 1 })
+  pub holds : SiteHolds place order lane link opening (record site { ahead = site.ahead - 1 })
 
 pub site_replied : (place : ℕ) (order order' : Order) (lane lane' : Lane) (link link' : LinkState) (opening : CacheState) (site : SiteState) (tag : Tag) (reply : AReply (List ℕ))
     → link.up ≡ true → Keeps order order' → commands_to place order' ≡ commands_to place order → commands_of_lane place order' lane' ≡ commands_of_lane place order lane
     → lane'.out ≡ lane.out → lane'.came ≡ lane.came → lane'.replies ≡ lane.replies ++ reply ∷ []
-    → LaneStands place order lane link → slice_get (map (λ (w : Waiting). w.1) link.waiting) 0 ≡ Some tag
+    → LaneHolds place order lane link → slice_get (map (λ (w : Waiting). w.1) link.waiting) 0 ≡ Some tag
     → ((u : Tag) (q : Outcome) → outcome_at order' u ≡ Some q → (outcome_at order u ≡ Some q) ⊎ ((u ≡ tag) × (q ≡ Reply reply))) → ((u : Tag) → command_at order' u ≡ command_at order u)
-    → LaneStands place order' lane' link'
-    → SiteStands place order lane link opening site → IsReplied place order' lane' link' opening site tag
-site_replied place order order' lane lane' link link' opening site tag reply up keeps commands sent_same out came replies before oldest news same_commands stands h =
+    → LaneHolds place order' lane' link'
+    → SiteHolds place order lane link opening site → IsReplied place order' lane' link' opening site tag
+site_replied place order order' lane lane' link link' opening site tag reply up keeps commands sent_same out came replies before oldest news same_commands holds h =
     let living = h.living up in
     let same_times : (t : Tag) → times t (tags_of (commands_to place order')) ≡ times t (tags_of (commands_to place order)) = λ t. ap (λ (cs : List Tagged). times t (tags_of cs)) commands in
     let good' : list_all is_good (commands_to place order') ≡ true = ap (λ (cs : List Tagged). list_all is_good cs) commands ∙ h.good in
     let is_joined : AreJoined place order' lane' link' opening h.made site.connection living.end living.others = record {
-      lane = stands;
+      lane = holds;
       connection = stood_at opening h.made h.texts h.sent lane' site living.end h.server living.is_open (living.out ∙ sym out) (living.came ∙ sym came);
       made = h.answers;
       commands = sent_same ∙ living.commands;
@@ -279,19 +279,19 @@ site_replied place order order' lane lane' link link' opening site tag reply up 
     let tag_at : slice_get (map (λ (c : Tagged). c.1) (commands_on site.connection h.made ++ living.others)) (length lane.replies) ≡ Some tag =
     (let first : 0 + length lane.replies ≡ length lane.replies = omega arith in
     ap (λ (n : ℕ). slice_get (map (λ (c : Tagged). c.1) (commands_on site.connection h.made ++ living.others)) n) (sym first)
-    ∙ sym (get_behind (map (λ (c : Tagged). c.1) (commands_on site.connection h.made ++ living.others)) (length lane.replies) 0)
+    ∙ sym (get_past (map (λ (c : Tagged). c.1) (commands_on site.connection h.made ++ living.others)) (length lane.replies) 0)
     ∙ ap (λ (cs : List Tagged). slice_get (drop (length lane.replies) (map (λ (c : Tagged). c.1) cs)) 0) (sym living.commands)
     ∙ ap (λ (ts : List Tag). slice_get ts 0) (drop-map (λ (c : Tagged). c.1) (length lane.replies) (commands_of_lane place order lane) ∙ sym (tags_wait (drop (length lane.replies) (commands_of_lane place order lane)))
     ∙ ap (λ (ws : List Waiting). map (λ (w : Waiting). w.1) ws) (sym before.waiting))
     ∙ oldest) in
-    let behind = entry_behind site.connection h.made (length lane.replies) tag reply living.others tag_at inside told_at in
-    let name : command_at order tag ≡ Some (to_place place behind.m.command.0) =
-    ap (λ (u : Tag). command_at order u) (sym behind.tag_is) ∙ named_made place order h.made behind.k behind.m h.named behind.at in
+    let after = entry_after site.connection h.made (length lane.replies) tag reply living.others tag_at inside told_at in
+    let name : command_at order tag ≡ Some (to_place place after.m.command.0) =
+    ap (λ (u : Tag). command_at order u) (sym after.tag_is) ∙ named_made place order h.made after.k after.m h.named after.at in
     let longer : length lane'.replies ≡ length (lane.replies ++ reply ∷ []) = ap (λ (rs : List (AReply (List ℕ))). length rs) replies in
     record {
       some = some;
-      named = (behind.m.command.0, same_commands tag ∙ name);
-      stands = record {
+      named = (after.m.command.0, same_commands tag ∙ name);
+      holds = record {
         made = h.made;
         texts = h.texts;
         sent = h.sent;
@@ -307,13 +307,13 @@ site_replied place order order' lane lane' link link' opening site tag reply up 
           | inl k ↦ h.replied u atom q (sym (same_commands u) ∙ is) k
           | inr k ↦
               let same_reply : q ≡ reply = told_same q reply k.1 in
-              let both : Some (to_place place behind.m.command.0) ≡ Some (to_place place atom) = sym name ∙ ap (λ (v : Tag). command_at order v) (sym k.0) ∙ sym (same_commands u) ∙ is in
-              let atom_is : behind.m.command.0 ≡ atom = ap (λ (r : Routed). r.atom) (same_Some (to_place place behind.m.command.0) (to_place place atom) both) in (
-                behind.k,
-                entry_of behind.m,
-                ap (λ (es : List Entry). slice_get es behind.k) h.history ∙ entry_made h.made behind.k behind.m behind.at,
-                behind.tag_is ∙ sym k.0,
-                ap₂ (λ (a : Atom (List ℕ)) (r : AReply (List ℕ)). spelling_of a r) atom_is (behind.reply_is ∙ sym same_reply),
+              let both : Some (to_place place after.m.command.0) ≡ Some (to_place place atom) = sym name ∙ ap (λ (v : Tag). command_at order v) (sym k.0) ∙ sym (same_commands u) ∙ is in
+              let atom_is : after.m.command.0 ≡ atom = ap (λ (r : Routed). r.atom) (same_Some (to_place place after.m.command.0) (to_place place atom) both) in (
+                after.k,
+                entry_of after.m,
+                ap (λ (es : List Entry). slice_get es after.k) h.history ∙ entry_made h.made after.k after.m after.at,
+                after.tag_is ∙ sym k.0,
+                ap₂ (λ (a : Atom (List ℕ)) (r : AReply (List ℕ)). spelling_of a r) atom_is (after.reply_is ∙ sym same_reply),
               )
         ];
         living = λ _. record {

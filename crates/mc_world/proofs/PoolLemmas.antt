@@ -16,17 +16,17 @@ use Rattle.mc_server.specs.ServerState.{connection_at, output_of, with_fresh}
 use Rattle.mc_session.specs.Sending.{handed}
 use Rattle.mc_session.specs.SessionState.{SessionState, link_at, with_link}
 use Rattle.mc_proxy.specs.ProxyState.{ProxyState, output_of as output_at, sent_by, session_at}
-use Rattle.mc_account.specs.Lanes.{Lane, LaneStands, LinkStands, told, fresh_lane}
+use Rattle.mc_account.specs.Lanes.{Lane, LaneHolds, LinkHolds, told, fresh_lane}
 use Rattle.mc_account.specs.Orders.{Entry as Asked, Order, commands_from, commands_to, note, note_all, note_in}
-use Rattle.mc_account.specs.Stands.{ProxyStands, SessionStands, SessionStandsAt, changed, grown}
+use Rattle.mc_account.specs.Holds.{ProxyHolds, SessionHolds, SessionHoldsAt, changed, grown}
 use Rattle.mc_account.proofs.HandingLemmas.{handed_at, received_down}
 use Rattle.mc_account.proofs.LaneLemmas.{lane_fresh, link_other, link_own, up_is_there}
-use Rattle.mc_account.proofs.LinkLemmas.{stands-lost, stands-replied}
+use Rattle.mc_account.proofs.LinkLemmas.{holds-lost, holds-replied}
 use Rattle.mc_account.proofs.OrderLemmas.{commands-note}
-use Rattle.mc_account.proofs.StandsLemmas.{stands-gone, stands-sent, changed-other, changed-own, entry_taken, stands-emitted, stands-fed, stands-took}
+use Rattle.mc_account.proofs.HoldsLemmas.{holds-gone, holds-sent, changed-other, changed-own, entry_taken, holds-emitted, holds-fed, holds-took}
 use Rattle.mc_history.specs.Generations.{commands_of_lane}
-use Rattle.mc_world.specs.Pools.{ClientGoes, TakesBytes, EndSeen, LateBytes, LateTurn, LinkReturns, HearsClient, LosesLink, PoolStands, PutsAnswer, ReachesProxy, ReachesServer, ServerTakes, TakesReply, TakesRequest}
-use Rattle.mc_world.specs.Sites.{SiteStands}
+use Rattle.mc_world.specs.Pools.{ClientGoes, TakesBytes, EndSeen, LateBytes, LateTurn, LinkReturns, HearsClient, LosesLink, PoolHolds, PutsAnswer, ReachesProxy, ReachesServer, ServerTakes, TakesReply, TakesRequest}
+use Rattle.mc_world.specs.Sites.{SiteHolds}
 use Rattle.mc_world.specs.WorldState.{PoolState, SiteState}
 use Rattle.mc_history.proofs.GoodLemmas.{good_in, taken_is_good}
 use Rattle.mc_world.proofs.LateLemmas.{site_ended, site_late_fed, site_late_turned}
@@ -55,56 +55,56 @@ set_site (x ∷ xs) (suc i) now (suc j) s e = elim (set_site xs i now j s e) [
 
 -- the sites hold, where the one of a place does and the others do
 sites_with : (opening : CacheState) (order : Order) (lanes : ℕ → Lane) (old new : PoolState) (place : ℕ) (now : SiteState) → new.sites ≡ slice_set old.sites place now
-    → SiteStands place order (lanes place) (link_at new.proxy.links place) opening now
-    → ((other : ℕ) (site : SiteState) → place ≢ other → slice_get old.sites other ≡ Some site → SiteStands other order (lanes other) (link_at new.proxy.links other) opening site)
-    → (other : ℕ) (site : SiteState) → slice_get new.sites other ≡ Some site → SiteStands other order (lanes other) (link_at new.proxy.links other) opening site
+    → SiteHolds place order (lanes place) (link_at new.proxy.links place) opening now
+    → ((other : ℕ) (site : SiteState) → place ≢ other → slice_get old.sites other ≡ Some site → SiteHolds other order (lanes other) (link_at new.proxy.links other) opening site)
+    → (other : ℕ) (site : SiteState) → slice_get new.sites other ≡ Some site → SiteHolds other order (lanes other) (link_at new.proxy.links other) opening site
 sites_with opening order lanes old new place now is own others other site at =
     elim (set_site old.sites place now other site (ap (λ (sites : List SiteState). slice_get sites other) (sym is) ∙ at)) [
-      | inl h ↦ subst (λ (p : ℕ). SiteStands p order (lanes p) (link_at new.proxy.links p) opening site) h.0
-          (subst (λ (s : SiteState). SiteStands place order (lanes place) (link_at new.proxy.links place) opening s) (sym h.1) own)
+      | inl h ↦ subst (λ (p : ℕ). SiteHolds p order (lanes p) (link_at new.proxy.links p) opening site) h.0
+          (subst (λ (s : SiteState). SiteHolds place order (lanes place) (link_at new.proxy.links place) opening s) (sym h.1) own)
       | inr h ↦ others other site h.0 h.1
     ]
 
 -- a proxy is where the link of one place, and what passed over it, are others
 relinked : (texts sent : ℕ → List ℕ) (order : Order) (lanes : ℕ → Lane) (place : ℕ) (lane : Lane) (link : LinkState) (old : ProxyState) → place < length old.links
-    → LinkStands place order lane link → ProxyStands texts sent order lanes old → ProxyStands texts sent order (changed place lane lanes) (record old { links = with_link place link old.links })
+    → LinkHolds place order lane link → ProxyHolds texts sent order lanes old → ProxyHolds texts sent order (changed place lane lanes) (record old { links = with_link place link old.links })
 relinked texts sent order lanes place lane link old inside own h = record {
   sized = h.sized;
   numbered = h.numbered;
   sessions = h.sessions;
   unused = h.unused;
   links = λ other. ⊎_elim
-      (λ e. subst (λ (p : ℕ). LinkStands p order (changed place lane lanes p) (link_at (with_link place link old.links) p)) e.1
-      (subst (λ (l : Lane). LinkStands place order l (link_at (with_link place link old.links) place)) (sym (changed-own place lane lanes))
-      (subst (λ (l : LinkState). LinkStands place order lane l) (sym (link_own place link old.links inside)) own)))
-      (λ e. subst (λ (l : Lane). LinkStands other order l (link_at (with_link place link old.links) other)) (sym (changed-other place other lane lanes e.1))
-      (subst (λ (l : LinkState). LinkStands other order (lanes other) l) (sym (link_other place other link old.links e.1)) (h.links other)))
+      (λ e. subst (λ (p : ℕ). LinkHolds p order (changed place lane lanes p) (link_at (with_link place link old.links) p)) e.1
+      (subst (λ (l : Lane). LinkHolds place order l (link_at (with_link place link old.links) place)) (sym (changed-own place lane lanes))
+      (subst (λ (l : LinkState). LinkHolds place order lane l) (sym (link_own place link old.links inside)) own)))
+      (λ e. subst (λ (l : Lane). LinkHolds other order l (link_at (with_link place link old.links) other)) (sym (changed-other place other lane lanes e.1))
+      (subst (λ (l : LinkState). LinkHolds other order (lanes other) l) (sym (link_other place other link old.links e.1)) (h.links other)))
       (eqb_tells place other);
 }
 
 -- all sites, where the links are the same
 same_sites : (opening : CacheState) (order : Order) (lanes : ℕ → Lane) (old new : PoolState) → new.sites ≡ old.sites → new.proxy.links ≡ old.proxy.links
-    → ((place : ℕ) (site : SiteState) → slice_get old.sites place ≡ Some site → SiteStands place order (lanes place) (link_at old.proxy.links place) opening site)
-    → (place : ℕ) (site : SiteState) → slice_get new.sites place ≡ Some site → SiteStands place order (lanes place) (link_at new.proxy.links place) opening site
+    → ((place : ℕ) (site : SiteState) → slice_get old.sites place ≡ Some site → SiteHolds place order (lanes place) (link_at old.proxy.links place) opening site)
+    → (place : ℕ) (site : SiteState) → slice_get new.sites place ≡ Some site → SiteHolds place order (lanes place) (link_at new.proxy.links place) opening site
 same_sites opening order lanes old new sites links h place site at =
-    subst (λ (ls : List LinkState). SiteStands place order (lanes place) (link_at ls place) opening site) (sym links)
+    subst (λ (ls : List LinkState). SiteHolds place order (lanes place) (link_at ls place) opening site) (sym links)
     (h place site (ap (λ (ss : List SiteState). slice_get ss place) (sym sites) ∙ at))
 
 -- ClientBytes
 pub pool_hears : (opening : CacheState) (texts sent : ℕ → List ℕ) (order : Order) (lanes : ℕ → Lane) (client : ℕ) (piece : List ℕ) (old new : PoolState)
-    → ((number : ℕ) → All (λ b. b < 256) (grown client piece texts number)) → HearsClient client piece old new → PoolStands opening texts sent order lanes old
-    → PoolStands opening (grown client piece texts) sent order lanes new
+    → ((number : ℕ) → All (λ b. b < 256) (grown client piece texts number)) → HearsClient client piece old new → PoolHolds opening texts sent order lanes old
+    → PoolHolds opening (grown client piece texts) sent order lanes new
 pool_hears opening texts sent order lanes client piece old new bytes e h = record {
-  proxy = stands-fed texts sent order lanes client piece old.proxy new.proxy h.proxy e.steps;
+  proxy = holds-fed texts sent order lanes client piece old.proxy new.proxy h.proxy e.steps;
   sites = same_sites opening order lanes old new e.sites e.steps.step.0 h.sites;
   bytes = bytes;
 }
 
 -- Emit
 pub pool_puts : (opening : CacheState) (texts sent : ℕ → List ℕ) (order : Order) (lanes : ℕ → Lane) (client : ℕ) (old new : PoolState)
-    → PutsAnswer client old new → PoolStands opening texts sent order lanes old → PoolStands opening texts sent order lanes new
+    → PutsAnswer client old new → PoolHolds opening texts sent order lanes old → PoolHolds opening texts sent order lanes new
 pool_puts opening texts sent order lanes client old new e h = record {
-  proxy = stands-emitted texts sent order lanes client old.proxy new.proxy h.proxy e.steps;
+  proxy = holds-emitted texts sent order lanes client old.proxy new.proxy h.proxy e.steps;
   sites = same_sites opening order lanes old new e.sites e.steps.step.0 h.sites;
   bytes = h.bytes;
 }
@@ -122,14 +122,14 @@ still_up place session request e links now is up =
     (cases_Bool (link_at links place).up)
 
 pub pool_takes : (opening : CacheState) (texts sent : ℕ → List ℕ) (order : Order) (lanes : ℕ → Lane) (client : ℕ) (old new : PoolState)
-    → (e : TakesRequest client old new) → PoolStands opening texts sent order lanes old → PoolStands opening texts sent (order ++ entry_taken e.steps ∷ []) lanes new
+    → (e : TakesRequest client old new) → PoolHolds opening texts sent order lanes old → PoolHolds opening texts sent (order ++ entry_taken e.steps ∷ []) lanes new
 pool_takes opening texts sent order lanes client old new e h =
     let asked : Asked = entry_taken e.steps in
-    let stood : SessionStands client order (texts client) (sent client) e.steps.before =
-    subst (λ (s : Option SessionState). SessionStandsAt client order (texts client) (sent client) s) e.steps.was (h.proxy.sessions client) in
+    let stood : SessionHolds client order (texts client) (sent client) e.steps.before =
+    subst (λ (s : Option SessionState). SessionHoldsAt client order (texts client) (sent client) s) e.steps.was (h.proxy.sessions client) in
     let good = taken_is_good client order (texts client) (sent client) e.steps.before e.steps.after e.steps.step.0 (h.bytes client) stood e.steps.step.1.first in
     record {
-      proxy = stands-took texts sent order lanes client old.proxy new.proxy h.proxy e.steps;
+      proxy = holds-took texts sent order lanes client old.proxy new.proxy h.proxy e.steps;
       sites = λ place site at.
           site_asked place order (entry_taken e.steps) (lanes place) (link_at old.proxy.links place) (link_at new.proxy.links place) opening site
           (still_up place client e.steps.before.taken (entry_taken e.steps) old.proxy.links new.proxy.links e.steps.step.1.sent)
@@ -143,42 +143,42 @@ pool_takes opening texts sent order lanes client old new e h =
 other_link : (opening : CacheState) (order order' : Order) (lanes lanes' : ℕ → Lane) (place other : ℕ) (links links' : List LinkState) (site : SiteState)
     → link_at links' other ≡ link_at links other → lanes' other ≡ lanes other
     → Keeps order order' → NoNews other order order' → commands_to other order' ≡ commands_to other order → commands_of_lane other order' (lanes other) ≡ commands_of_lane other order (lanes other)
-    → SiteStands other order (lanes other) (link_at links other) opening site → SiteStands other order' (lanes' other) (link_at links' other) opening site
+    → SiteHolds other order (lanes other) (link_at links other) opening site → SiteHolds other order' (lanes' other) (link_at links' other) opening site
 other_link opening order order' lanes lanes' place other links links' site link_is lane_is keeps news commands sent h =
-    subst (λ (l : LinkState). SiteStands other order' (lanes' other) l opening site) (sym link_is)
-    (subst (λ (l : Lane). SiteStands other order' l (link_at links other) opening site) (sym lane_is)
+    subst (λ (l : LinkState). SiteHolds other order' (lanes' other) l opening site) (sym link_is)
+    (subst (λ (l : Lane). SiteHolds other order' l (link_at links other) opening site) (sym lane_is)
     (site_kept other order order' (lanes other) (lanes other) (link_at links other) (link_at links other) opening site keeps news commands (λ up. up) (λ _. (sent, refl, refl, refl)) h))
 
 -- ToServer, of the living generation
 pub pool_reaches_server : (opening : CacheState) (texts sent : ℕ → List ℕ) (order : Order) (lanes : ℕ → Lane) (place count : ℕ) (old new : PoolState)
-    → ReachesServer place count old new → PoolStands opening texts sent order lanes old
-    → PoolStands opening texts sent order (changed place (record (lanes place) { out = (lanes place).out ++ take count (link_at old.proxy.links place).output }) lanes) new
+    → ReachesServer place count old new → PoolHolds opening texts sent order lanes old
+    → PoolHolds opening texts sent order (changed place (record (lanes place) { out = (lanes place).out ++ take count (link_at old.proxy.links place).output }) lanes) new
 pool_reaches_server opening texts sent order lanes place count old new e h =
     let link : LinkState = link_at old.proxy.links place in
     let piece : List ℕ = take count (link_at old.proxy.links place).output in
     let after : LinkState = record (link_at old.proxy.links place) { output = drop count (link_at old.proxy.links place).output } in
     let lane : Lane = record (lanes place) { out = (lanes place).out ++ take count (link_at old.proxy.links place).output } in
     let inside = up_is_there place old.proxy.links e.there.up in
-    let stands = (h.proxy.links place).0 e.there.up in
-    let own : LaneStands place order lane after = record {
-      since = stands.since;
+    let holds = (h.proxy.links place).0 e.there.up in
+    let own : LaneHolds place order lane after = record {
+      since = holds.since;
       put = append_assoc (lanes place).out piece (drop count (link_at old.proxy.links place).output)
-          ∙ ap (λ (bytes : List ℕ). (lanes place).out ++ bytes) (take-append-drop count (link_at old.proxy.links place).output) ∙ stands.put;
-      came = stands.came;
-      can = stands.can;
-      waiting = stands.waiting;
-      outcomes = stands.outcomes;
-      before = stands.before;
+          ∙ ap (λ (bytes : List ℕ). (lanes place).out ++ bytes) (take-append-drop count (link_at old.proxy.links place).output) ∙ holds.put;
+      came = holds.came;
+      can = holds.can;
+      waiting = holds.waiting;
+      outcomes = holds.outcomes;
+      before = holds.before;
     } in
     let proxy = relinked texts sent order lanes place lane after old.proxy inside (λ _. own, λ down. absurd (down e.there.up)) h.proxy in
     let links_are : new.proxy.links ≡ with_link place after old.proxy.links = ap (λ (p : ProxyState). p.links) e.proxy in
     let site = site_fed place order (lanes place) (link_at old.proxy.links place) after opening e.there.site e.there.now.server piece e.there.up e.there.up e.arrives.steps (h.sites place e.there.site e.there.at) in
     record {
-      proxy = subst (λ (p : ProxyState). ProxyStands texts sent order (changed place lane lanes) p) (sym e.proxy) proxy;
+      proxy = subst (λ (p : ProxyState). ProxyHolds texts sent order (changed place lane lanes) p) (sym e.proxy) proxy;
       sites = sites_with opening order (changed place lane lanes) old new place e.there.now e.there.sites
-          (subst (λ (l : LinkState). SiteStands place order (changed place lane lanes place) l opening e.there.now) (sym (ap (λ (ls : List LinkState). link_at ls place) links_are ∙ link_own place after old.proxy.links inside))
-          (subst (λ (l : Lane). SiteStands place order l after opening e.there.now) (sym (changed-own place lane lanes))
-          (subst (λ (s : SiteState). SiteStands place order lane after opening s) (sym e.arrives.all_else) site)))
+          (subst (λ (l : LinkState). SiteHolds place order (changed place lane lanes place) l opening e.there.now) (sym (ap (λ (ls : List LinkState). link_at ls place) links_are ∙ link_own place after old.proxy.links inside))
+          (subst (λ (l : Lane). SiteHolds place order l after opening e.there.now) (sym (changed-own place lane lanes))
+          (subst (λ (s : SiteState). SiteHolds place order lane after opening s) (sym e.arrives.all_else) site)))
           (λ other s differ at. other_link opening order order lanes (changed place lane lanes) place other old.proxy.links new.proxy.links s
           (ap (λ (ls : List LinkState). link_at ls other) links_are ∙ link_other place other after old.proxy.links differ) (changed-other place other lane lanes differ) (λ _ _ k. k) (λ _ _ _ is known. (is, known)) refl refl (h.sites other s at));
       bytes = h.bytes;
@@ -186,18 +186,18 @@ pool_reaches_server opening texts sent order lanes place count old new e h =
 
 -- ServerTurn, of the living generation
 pub pool_server_takes : (opening : CacheState) (texts sent : ℕ → List ℕ) (order : Order) (lanes : ℕ → Lane) (place moment : ℕ) (old new : PoolState)
-    → (e : ServerTakes place moment old new) → moment < 2 ^ 63 → PoolStands opening texts sent order lanes old
-    → PoolStands opening texts sent order lanes new
+    → (e : ServerTakes place moment old new) → moment < 2 ^ 63 → PoolHolds opening texts sent order lanes old
+    → PoolHolds opening texts sent order lanes new
 pool_server_takes opening texts sent order lanes place moment old new e below h =
-    let stands = (h.proxy.links place).0 e.there.up in
-    let site = site_turned place order (lanes place) (link_at old.proxy.links place) opening e.there.site e.there.now.server moment e.tag e.enters.reply e.there.up e.enters.steps e.next e.enters.appended below stands
+    let holds = (h.proxy.links place).0 e.there.up in
+    let site = site_turned place order (lanes place) (link_at old.proxy.links place) opening e.there.site e.there.now.server moment e.tag e.enters.reply e.there.up e.enters.steps e.next e.enters.appended below holds
     (h.sites place e.there.site e.there.at) in
     let links_are : new.proxy.links ≡ old.proxy.links = ap (λ (p : ProxyState). p.links) e.proxy in
     record {
-      proxy = subst (λ (p : ProxyState). ProxyStands texts sent order lanes p) (sym e.proxy) h.proxy;
+      proxy = subst (λ (p : ProxyState). ProxyHolds texts sent order lanes p) (sym e.proxy) h.proxy;
       sites = sites_with opening order lanes old new place e.there.now e.there.sites
-          (subst (λ (l : LinkState). SiteStands place order (lanes place) l opening e.there.now) (sym (ap (λ (ls : List LinkState). link_at ls place) links_are))
-          (subst (λ (s : SiteState). SiteStands place order (lanes place) (link_at old.proxy.links place) opening s) (sym e.enters.all_else) site))
+          (subst (λ (l : LinkState). SiteHolds place order (lanes place) l opening e.there.now) (sym (ap (λ (ls : List LinkState). link_at ls place) links_are))
+          (subst (λ (s : SiteState). SiteHolds place order (lanes place) (link_at old.proxy.links place) opening s) (sym e.enters.all_else) site))
           (λ other s differ at. other_link opening order order lanes lanes place other old.proxy.links new.proxy.links s
           (ap (λ (ls : List LinkState). link_at ls other) links_are) refl (λ _ _ k. k) (λ _ _ _ is known. (is, known)) refl refl (h.sites other s at));
       bytes = h.bytes;
@@ -205,33 +205,33 @@ pool_server_takes opening texts sent order lanes place moment old new e below h 
 
 -- ToProxy
 pub pool_reaches_proxy : (opening : CacheState) (texts sent : ℕ → List ℕ) (order : Order) (lanes : ℕ → Lane) (place count : ℕ) (old new : PoolState)
-    → (e : ReachesProxy place count old new) → PoolStands opening texts sent order lanes old
-    → PoolStands opening texts sent order
+    → (e : ReachesProxy place count old new) → PoolHolds opening texts sent order lanes old
+    → PoolHolds opening texts sent order
     (changed place (record (lanes place) { came = (lanes place).came ++ take count (output_of (connection_at e.there.site.server e.there.site.connection)) }) lanes) new
 pool_reaches_proxy opening texts sent order lanes place count old new e h =
     let piece : List ℕ = take count (output_of (connection_at e.there.site.server e.there.site.connection)) in
     let after : LinkState = record (link_at old.proxy.links place) { unread = (link_at old.proxy.links place).unread ++ piece } in
     let lane : Lane = record (lanes place) { came = (lanes place).came ++ piece } in
     let inside = up_is_there place old.proxy.links e.there.up in
-    let stands = (h.proxy.links place).0 e.there.up in
-    let own : LaneStands place order lane after = record {
-      since = stands.since;
-      put = stands.put;
-      came = ap (λ (bytes : List ℕ). bytes ++ piece) stands.came ∙ append_assoc (told (commands_to place (drop (lanes place).since order)) (lanes place).replies) (link_at old.proxy.links place).unread piece;
-      can = stands.can;
-      waiting = stands.waiting;
-      outcomes = stands.outcomes;
-      before = stands.before;
+    let holds = (h.proxy.links place).0 e.there.up in
+    let own : LaneHolds place order lane after = record {
+      since = holds.since;
+      put = holds.put;
+      came = ap (λ (bytes : List ℕ). bytes ++ piece) holds.came ∙ append_assoc (told (commands_to place (drop (lanes place).since order)) (lanes place).replies) (link_at old.proxy.links place).unread piece;
+      can = holds.can;
+      waiting = holds.waiting;
+      outcomes = holds.outcomes;
+      before = holds.before;
     } in
     let proxy = relinked texts sent order lanes place lane after old.proxy inside (λ _. own, λ down. absurd (down e.there.up)) h.proxy in
     let links_are : new.proxy.links ≡ with_link place after old.proxy.links = ap (λ (p : ProxyState). p.links) e.proxy in
     let site = site_returned place order (lanes place) (link_at old.proxy.links place) after opening e.there.site count e.there.up (h.sites place e.there.site e.there.at) in
     record {
-      proxy = subst (λ (p : ProxyState). ProxyStands texts sent order (changed place lane lanes) p) (sym e.proxy) proxy;
+      proxy = subst (λ (p : ProxyState). ProxyHolds texts sent order (changed place lane lanes) p) (sym e.proxy) proxy;
       sites = sites_with opening order (changed place lane lanes) old new place e.there.now e.there.sites
-          (subst (λ (l : LinkState). SiteStands place order (changed place lane lanes place) l opening e.there.now) (sym (ap (λ (ls : List LinkState). link_at ls place) links_are ∙ link_own place after old.proxy.links inside))
-          (subst (λ (l : Lane). SiteStands place order l after opening e.there.now) (sym (changed-own place lane lanes))
-          (subst (λ (s : SiteState). SiteStands place order lane after opening s) (sym e.leaves) site)))
+          (subst (λ (l : LinkState). SiteHolds place order (changed place lane lanes place) l opening e.there.now) (sym (ap (λ (ls : List LinkState). link_at ls place) links_are ∙ link_own place after old.proxy.links inside))
+          (subst (λ (l : Lane). SiteHolds place order l after opening e.there.now) (sym (changed-own place lane lanes))
+          (subst (λ (s : SiteState). SiteHolds place order lane after opening s) (sym e.leaves) site)))
           (λ other s differ at. other_link opening order order lanes (changed place lane lanes) place other old.proxy.links new.proxy.links s
           (ap (λ (ls : List LinkState). link_at ls other) links_are ∙ link_other place other after old.proxy.links differ) (changed-other place other lane lanes differ) (λ _ _ k. k) (λ _ _ _ is known. (is, known)) refl refl (h.sites other s at));
       bytes = h.bytes;
@@ -252,30 +252,30 @@ sent-note_all place (tag ∷ tags) outcome order lane = sent-note_all place tags
 
 -- ReplyTurn
 pub pool_takes_reply : (opening : CacheState) (texts sent : ℕ → List ℕ) (order : Order) (lanes : ℕ → Lane) (place : ℕ) (old new : PoolState)
-    → (e : TakesReply place old new) → PoolStands opening texts sent order lanes old
-    → PoolStands opening texts sent (note e.answers.tag (Reply e.answers.reply) order)
+    → (e : TakesReply place old new) → PoolHolds opening texts sent order lanes old
+    → PoolHolds opening texts sent (note e.answers.tag (Reply e.answers.reply) order)
     (changed place (record (lanes place) { replies = (lanes place).replies ++ e.answers.reply ∷ [] }) lanes) new
 pool_takes_reply opening texts sent order lanes place old new e h =
     let order' : Order = note e.answers.tag (Reply e.answers.reply) order in
     let lane : Lane = record (lanes place) { replies = (lanes place).replies ++ e.answers.reply ∷ [] } in
-    let proxy = stands-replied texts sent order lanes place old.proxy new.proxy h.proxy e.there.up e.answers in
+    let proxy = holds-replied texts sent order lanes place old.proxy new.proxy h.proxy e.there.up e.answers in
     let inside = up_is_there place old.proxy.links e.there.up in
     let link_is : link_at new.proxy.links place ≡ e.answers.link = ap (λ (ls : List LinkState). link_at ls place) e.answers.links ∙ link_own place e.answers.link old.proxy.links inside in
     let up' : (link_at new.proxy.links place).up ≡ true = ap (λ (l : LinkState). l.up) link_is ∙ ap (λ (l : LinkState). l.up) e.answers.takes.others ∙ e.there.up in
-    let stands : LaneStands place order' lane (link_at new.proxy.links place) =
-    subst (λ (l : Lane). LaneStands place order' l (link_at new.proxy.links place)) (changed-own place lane lanes) ((proxy.links place).0 up') in
+    let holds : LaneHolds place order' lane (link_at new.proxy.links place) =
+    subst (λ (l : Lane). LaneHolds place order' l (link_at new.proxy.links place)) (changed-own place lane lanes) ((proxy.links place).0 up') in
     let site = site_replied place order order' (lanes place) lane (link_at old.proxy.links place) (link_at new.proxy.links place) opening e.there.site e.answers.tag e.answers.reply e.there.up (keeps_note e.answers.tag (Reply e.answers.reply) order)
     (commands-note place e.answers.tag (Reply e.answers.reply) order) (sent-note place e.answers.tag (Reply e.answers.reply) order (lanes place)) refl refl refl ((h.proxy.links place).0 e.there.up)
     (ap (λ (ws : List Waiting). slice_get (map (λ (w : Waiting). w.1) ws) 0) e.answers.takes.oldest)
-    (λ u q known. note_back e.answers.tag (Reply e.answers.reply) order u q (h.proxy.numbered u.session) known) (command_note e.answers.tag (Reply e.answers.reply) order) stands
+    (λ u q known. note_back e.answers.tag (Reply e.answers.reply) order u q (h.proxy.numbered u.session) known) (command_note e.answers.tag (Reply e.answers.reply) order) holds
     (h.sites place e.there.site e.there.at) in
     let named : (atom : Atom (List ℕ)) × (command_at order e.answers.tag ≡ Some (to_place place atom)) =
     (site.named.0, sym (command_note e.answers.tag (Reply e.answers.reply) order e.answers.tag) ∙ site.named.1) in
     record {
       proxy = proxy;
       sites = sites_with opening order' (changed place lane lanes) old new place e.there.now e.there.sites
-          (subst (λ (l : Lane). SiteStands place order' l (link_at new.proxy.links place) opening e.there.now) (sym (changed-own place lane lanes))
-          (subst (λ (s : SiteState). SiteStands place order' lane (link_at new.proxy.links place) opening s) (sym e.counts) site.stands))
+          (subst (λ (l : Lane). SiteHolds place order' l (link_at new.proxy.links place) opening e.there.now) (sym (changed-own place lane lanes))
+          (subst (λ (s : SiteState). SiteHolds place order' lane (link_at new.proxy.links place) opening s) (sym e.counts) site.holds))
           (λ other s differ at. other_link opening order order' lanes (changed place lane lanes) place other old.proxy.links new.proxy.links s
           (ap (λ (ls : List LinkState). link_at ls other) e.answers.links ∙ link_other place other e.answers.link old.proxy.links differ) (changed-other place other lane lanes differ) (keeps_note e.answers.tag (Reply e.answers.reply) order)
           (news_elsewhere place other e.answers.tag named.0 (Reply e.answers.reply) order h.proxy.numbered differ named.1)
@@ -285,23 +285,23 @@ pool_takes_reply opening texts sent order lanes place old new e h =
 
 -- LinkLost
 pub pool_loses : (opening : CacheState) (texts sent : ℕ → List ℕ) (order : Order) (lanes : ℕ → Lane) (place : ℕ) (old new : PoolState)
-    → LosesLink place old new → PoolStands opening texts sent order lanes old
-    → PoolStands opening texts sent (note_all (map (λ (w : Waiting). w.1) (link_at old.proxy.links place).waiting) Lost order) lanes new
+    → LosesLink place old new → PoolHolds opening texts sent order lanes old
+    → PoolHolds opening texts sent (note_all (map (λ (w : Waiting). w.1) (link_at old.proxy.links place).waiting) Lost order) lanes new
 pool_loses opening texts sent order lanes place old new e h =
     let tags : List Tag = map (λ (w : Waiting). w.1) (link_at old.proxy.links place).waiting in
     let order' : Order = note_all tags Lost order in
     let down : LinkState = down_link (link_at old.proxy.links place).generation in
     let inside = up_is_there place old.proxy.links e.there.up in
-    let proxy = stands-lost texts sent order lanes place old.proxy h.proxy e.there.up in
+    let proxy = holds-lost texts sent order lanes place old.proxy h.proxy e.there.up in
     let links_are : new.proxy.links ≡ with_link place down old.proxy.links = ap (λ (p : ProxyState). p.links) e.proxy in
     let off : down.up ≢ true = λ up. absurd cc in
     let site = site_lost place order order' (lanes place) (link_at old.proxy.links place) down opening e.there.site e.there.site.generation e.there.up off (keeps_note_all tags Lost order) (news_all_lost place tags order h.proxy.numbered)
     (commands-note_all place tags Lost order) ((h.proxy.links place).0 e.there.up) (h.sites place e.there.site e.there.at) in
     record {
-      proxy = subst (λ (p : ProxyState). ProxyStands texts sent order' lanes p) (sym e.proxy) proxy;
+      proxy = subst (λ (p : ProxyState). ProxyHolds texts sent order' lanes p) (sym e.proxy) proxy;
       sites = sites_with opening order' lanes old new place e.there.now e.there.sites
-          (subst (λ (l : LinkState). SiteStands place order' (lanes place) l opening e.there.now) (sym (ap (λ (ls : List LinkState). link_at ls place) links_are ∙ link_own place down old.proxy.links inside))
-          (subst (λ (s : SiteState). SiteStands place order' (lanes place) down opening s) (sym e.cut) site))
+          (subst (λ (l : LinkState). SiteHolds place order' (lanes place) l opening e.there.now) (sym (ap (λ (ls : List LinkState). link_at ls place) links_are ∙ link_own place down old.proxy.links inside))
+          (subst (λ (s : SiteState). SiteHolds place order' (lanes place) down opening s) (sym e.cut) site))
           (λ other s differ at. other_link opening order order' lanes lanes place other old.proxy.links new.proxy.links s
           (ap (λ (ls : List LinkState). link_at ls other) links_are ∙ link_other place other down old.proxy.links differ) refl (keeps_note_all tags Lost order) (news_all_lost other tags order h.proxy.numbered)
           (commands-note_all other tags Lost order) (sent-note_all other tags Lost order (lanes other)) (h.sites other s at));
@@ -310,16 +310,16 @@ pool_loses opening texts sent order lanes place old new e h =
 
 -- late bytes
 pub pool_late_bytes : (opening : CacheState) (texts sent : ℕ → List ℕ) (order : Order) (lanes : ℕ → Lane) (place i count : ℕ) (old new : PoolState)
-    → LateBytes place i count old new → PoolStands opening texts sent order lanes old → PoolStands opening texts sent order lanes new
+    → LateBytes place i count old new → PoolHolds opening texts sent order lanes old → PoolHolds opening texts sent order lanes new
 pool_late_bytes opening texts sent order lanes place i count old new e h =
     let site = site_late_fed place order (lanes place) (link_at old.proxy.links place) opening e.site e.now.server i e.way (take count e.way.going) (drop count e.way.going) e.way_at
     (sym (take-append-drop count e.way.going)) e.steps (h.sites place e.site e.at) in
     let links_are : new.proxy.links ≡ old.proxy.links = ap (λ (p : ProxyState). p.links) e.proxy in
     record {
-      proxy = subst (λ (p : ProxyState). ProxyStands texts sent order lanes p) (sym e.proxy) h.proxy;
+      proxy = subst (λ (p : ProxyState). ProxyHolds texts sent order lanes p) (sym e.proxy) h.proxy;
       sites = sites_with opening order lanes old new place e.now e.sites
-          (subst (λ (l : LinkState). SiteStands place order (lanes place) l opening e.now) (sym (ap (λ (ls : List LinkState). link_at ls place) links_are))
-          (subst (λ (s : SiteState). SiteStands place order (lanes place) (link_at old.proxy.links place) opening s) (sym e.now_is) site))
+          (subst (λ (l : LinkState). SiteHolds place order (lanes place) l opening e.now) (sym (ap (λ (ls : List LinkState). link_at ls place) links_are))
+          (subst (λ (s : SiteState). SiteHolds place order (lanes place) (link_at old.proxy.links place) opening s) (sym e.now_is) site))
           (λ other s differ at. other_link opening order order lanes lanes place other old.proxy.links new.proxy.links s
           (ap (λ (ls : List LinkState). link_at ls other) links_are) refl (λ _ _ k. k) (λ _ _ _ is known. (is, known)) refl refl (h.sites other s at));
       bytes = h.bytes;
@@ -327,16 +327,16 @@ pool_late_bytes opening texts sent order lanes place i count old new e h =
 
 -- a late turn
 pub pool_late_turn : (opening : CacheState) (texts sent : ℕ → List ℕ) (order : Order) (lanes : ℕ → Lane) (place i moment : ℕ) (old new : PoolState)
-    → (e : LateTurn place i moment old new) → moment < 2 ^ 63 → PoolStands opening texts sent order lanes old → PoolStands opening texts sent order lanes new
+    → (e : LateTurn place i moment old new) → moment < 2 ^ 63 → PoolHolds opening texts sent order lanes old → PoolHolds opening texts sent order lanes new
 pool_late_turn opening texts sent order lanes place i moment old new e below h =
     let site = site_late_turned place order (lanes place) (link_at old.proxy.links place) opening e.site e.now.server moment i e.way e.tag e.tags e.reply e.way_at
     e.untaken e.steps e.appended below (h.sites place e.site e.at) in
     let links_are : new.proxy.links ≡ old.proxy.links = ap (λ (p : ProxyState). p.links) e.proxy in
     record {
-      proxy = subst (λ (p : ProxyState). ProxyStands texts sent order lanes p) (sym e.proxy) h.proxy;
+      proxy = subst (λ (p : ProxyState). ProxyHolds texts sent order lanes p) (sym e.proxy) h.proxy;
       sites = sites_with opening order lanes old new place e.now e.sites
-          (subst (λ (l : LinkState). SiteStands place order (lanes place) l opening e.now) (sym (ap (λ (ls : List LinkState). link_at ls place) links_are))
-          (subst (λ (s : SiteState). SiteStands place order (lanes place) (link_at old.proxy.links place) opening s) (sym e.now_is) site))
+          (subst (λ (l : LinkState). SiteHolds place order (lanes place) l opening e.now) (sym (ap (λ (ls : List LinkState). link_at ls place) links_are))
+          (subst (λ (s : SiteState). SiteHolds place order (lanes place) (link_at old.proxy.links place) opening s) (sym e.now_is) site))
           (λ other s differ at. other_link opening order order lanes lanes place other old.proxy.links new.proxy.links s
           (ap (λ (ls : List LinkState). link_at ls other) links_are) refl (λ _ _ k. k) (λ _ _ _ is known. (is, known)) refl refl (h.sites other s at));
       bytes = h.bytes;
@@ -344,7 +344,7 @@ pool_late_turn opening texts sent order lanes place i moment old new e below h =
 
 -- LinkBack
 pub pool_returns : (opening : CacheState) (texts sent : ℕ → List ℕ) (order : Order) (lanes : ℕ → Lane) (place : ℕ) (old new : PoolState)
-    → LinkReturns place old new → PoolStands opening texts sent order lanes old → PoolStands opening texts sent order (changed place (fresh_lane (length order)) lanes) new
+    → LinkReturns place old new → PoolHolds opening texts sent order lanes old → PoolHolds opening texts sent order (changed place (fresh_lane (length order)) lanes) new
 pool_returns opening texts sent order lanes place old new e h =
     let lane : Lane = fresh_lane (length order) in
     let after : LinkState = up_link ((link_at old.proxy.links place).generation + 1) in
@@ -357,10 +357,10 @@ pool_returns opening texts sent order lanes place old new e h =
     let site = site_back place order (lanes place) (link_at old.proxy.links place) after opening e.site ((link_at old.proxy.links place).generation + 1) e.closed (h.sites place e.site e.at) in
     let now : SiteState = record e.site { server = with_fresh e.site.server; generation = (link_at old.proxy.links place).generation + 1; connection = e.site.server.admitted; ahead = 0 } in
     record {
-      proxy = subst (λ (p : ProxyState). ProxyStands texts sent order (changed place lane lanes) p) (sym e.proxy) proxy;
+      proxy = subst (λ (p : ProxyState). ProxyHolds texts sent order (changed place lane lanes) p) (sym e.proxy) proxy;
       sites = sites_with opening order (changed place lane lanes) old new place now e.sites
-          (subst (λ (l : LinkState). SiteStands place order (changed place lane lanes place) l opening now) (sym (ap (λ (ls : List LinkState). link_at ls place) links_are ∙ link_own place after old.proxy.links e.inside))
-          (subst (λ (l : Lane). SiteStands place order l after opening now) (sym (changed-own place lane lanes)) site))
+          (subst (λ (l : LinkState). SiteHolds place order (changed place lane lanes place) l opening now) (sym (ap (λ (ls : List LinkState). link_at ls place) links_are ∙ link_own place after old.proxy.links e.inside))
+          (subst (λ (l : Lane). SiteHolds place order l after opening now) (sym (changed-own place lane lanes)) site))
           (λ other s differ at. other_link opening order order lanes (changed place lane lanes) place other old.proxy.links new.proxy.links s
           (ap (λ (ls : List LinkState). link_at ls other) links_are ∙ link_other place other after old.proxy.links differ) (changed-other place other lane lanes differ)
           (λ _ _ k. k) (λ _ _ _ is known_now. (is, known_now)) refl refl (h.sites other s at));
@@ -369,15 +369,15 @@ pool_returns opening texts sent order lanes place old new e h =
 
 -- ServerSeesEnd
 pub pool_end_seen : (opening : CacheState) (texts sent : ℕ → List ℕ) (order : Order) (lanes : ℕ → Lane) (place i : ℕ) (old new : PoolState)
-    → EndSeen place i old new → PoolStands opening texts sent order lanes old → PoolStands opening texts sent order lanes new
+    → EndSeen place i old new → PoolHolds opening texts sent order lanes old → PoolHolds opening texts sent order lanes new
 pool_end_seen opening texts sent order lanes place i old new e h =
     let site = site_ended place order (lanes place) (link_at old.proxy.links place) opening e.site e.server i e.way e.way_at e.closes e.not_open (h.sites place e.site e.at) in
     let now : SiteState = record e.site { server = e.server; lost = remove e.site.lost i } in
     let links_are : new.proxy.links ≡ old.proxy.links = ap (λ (p : ProxyState). p.links) e.proxy in
     record {
-      proxy = subst (λ (p : ProxyState). ProxyStands texts sent order lanes p) (sym e.proxy) h.proxy;
+      proxy = subst (λ (p : ProxyState). ProxyHolds texts sent order lanes p) (sym e.proxy) h.proxy;
       sites = sites_with opening order lanes old new place now e.sites
-          (subst (λ (l : LinkState). SiteStands place order (lanes place) l opening now) (sym (ap (λ (ls : List LinkState). link_at ls place) links_are)) site)
+          (subst (λ (l : LinkState). SiteHolds place order (lanes place) l opening now) (sym (ap (λ (ls : List LinkState). link_at ls place) links_are)) site)
           (λ other s differ at. other_link opening order order lanes lanes place other old.proxy.links new.proxy.links s
           (ap (λ (ls : List LinkState). link_at ls other) links_are) refl (λ _ _ k. k) (λ _ _ _ is known. (is, known)) refl refl (h.sites other s at));
       bytes = h.bytes;
@@ -389,21 +389,21 @@ links_sent client count None p = refl
 links_sent client count (Some session) p = refl
 
 pub pool_client_takes : (opening : CacheState) (texts sent : ℕ → List ℕ) (order : Order) (lanes : ℕ → Lane) (client count : ℕ) (old new : PoolState)
-    → TakesBytes client count old new → PoolStands opening texts sent order lanes old
-    → PoolStands opening texts (grown client (take count (output_at (session_at old.proxy client))) sent) order lanes new
+    → TakesBytes client count old new → PoolHolds opening texts sent order lanes old
+    → PoolHolds opening texts (grown client (take count (output_at (session_at old.proxy client))) sent) order lanes new
 pool_client_takes opening texts sent order lanes client count old new e h = record {
-  proxy = subst (λ (p : ProxyState). ProxyStands texts (grown client (take count (output_at (session_at old.proxy client))) sent) order lanes p) (sym e.proxy)
-      (stands-sent texts sent order lanes client count old.proxy h.proxy);
+  proxy = subst (λ (p : ProxyState). ProxyHolds texts (grown client (take count (output_at (session_at old.proxy client))) sent) order lanes p) (sym e.proxy)
+      (holds-sent texts sent order lanes client count old.proxy h.proxy);
   sites = same_sites opening order lanes old new e.sites (ap (λ (p : ProxyState). p.links) e.proxy ∙ links_sent client count (session_at old.proxy client) old.proxy) h.sites;
   bytes = h.bytes;
 }
 
 -- ClientGone
 pub pool_client_goes : (opening : CacheState) (texts sent : ℕ → List ℕ) (order : Order) (lanes : ℕ → Lane) (client : ℕ) (old new : PoolState)
-    → ClientGoes client old new → PoolStands opening texts sent order lanes old → PoolStands opening texts sent order lanes new
+    → ClientGoes client old new → PoolHolds opening texts sent order lanes old → PoolHolds opening texts sent order lanes new
 pool_client_goes opening texts sent order lanes client old new e h = record {
-  proxy = subst (λ (p : ProxyState). ProxyStands texts sent order lanes p) (sym e.proxy)
-      (stands-gone texts sent order lanes client old.proxy h.proxy (ap (λ (p : ProxyState). session_at p client) (sym e.proxy) ∙ e.not_open));
+  proxy = subst (λ (p : ProxyState). ProxyHolds texts sent order lanes p) (sym e.proxy)
+      (holds-gone texts sent order lanes client old.proxy h.proxy (ap (λ (p : ProxyState). session_at p client) (sym e.proxy) ∙ e.not_open));
   sites = same_sites opening order lanes old new e.sites (ap (λ (p : ProxyState). p.links) e.proxy) h.sites;
   bytes = h.bytes;
 }

@@ -20,13 +20,13 @@ use Rattle.mc_session.specs.Emits.{is_told}
 use Rattle.mc_session.specs.SessionState.{SessionState, Unanswered, link_at}
 use Rattle.mc_proxy.specs.ProxyState.{output_of as output_at, session_at}
 use Rattle.mc_account.specs.Orders.{Entry as Asked, Order, entries_of, is_complete, outcomes_to, taken_of, unanswered_of}
-use Rattle.mc_account.specs.Stands.{SessionStands, SessionStandsAt}
+use Rattle.mc_account.specs.Holds.{SessionHolds, SessionHoldsAt}
 use Rattle.mc_account.proofs.LaneLemmas.{complete_order, up_is_there}
 use Rattle.mc_account.proofs.OpenSessions.{own_number}
 use Rattle.mc_account.proofs.OrderLemmas.{passes_parts, told_whole}
 use Rattle.mc_world.specs.Applies.{IsUp, way_of}
 use Rattle.mc_world.specs.Courses.{Applies}
-use Rattle.mc_world.specs.CourseStands.{CourseStands}
+use Rattle.mc_world.specs.CourseHolds.{CourseHolds}
 use Rattle.mc_world.specs.Logs.{number_of, puts, takes}
 use Rattle.mc_world.specs.Runs.{Call, Calls}
 use Rattle.mc_world.specs.WorldState.{PoolState, SiteState, WayState}
@@ -70,7 +70,7 @@ record LinkIsQuiet (link : LinkState) : Type 0 where
   pub waiting : link.waiting ≡ []
   pub output : link.output ≡ []
 
-link_quiet : (ring : RingState) (opening : CacheState) (c : CourseState) → CourseStands ring opening c → IsStuck c.pool → (place : ℕ) → LinkIsQuiet (link_at c.pool.proxy.links place)
+link_quiet : (ring : RingState) (opening : CacheState) (c : CourseState) → CourseHolds ring opening c → IsStuck c.pool → (place : ℕ) → LinkIsQuiet (link_at c.pool.proxy.links place)
 link_quiet ring opening c h stuck place =
     (elim (link_at c.pool.proxy.links place).up as (λ v. (link_at c.pool.proxy.links place).up ≡ v → LinkIsQuiet (link_at c.pool.proxy.links place)) [
       | true ↦ λ up.
@@ -95,16 +95,16 @@ replied_told : (replies : List (AReply (List ℕ))) → list_all is_told (map (�
 replied_told [] = refl
 replied_told (r ∷ rs) = replied_told rs
 
-told_at : (ring : RingState) (opening : CacheState) (c : CourseState) → (h : CourseStands ring opening c) → IsStuck c.pool → (place : ℕ) → list_all is_told (outcomes_to place h.order) ≡ true
+told_at : (ring : RingState) (opening : CacheState) (c : CourseState) → (h : CourseHolds ring opening c) → IsStuck c.pool → (place : ℕ) → list_all is_told (outcomes_to place h.order) ≡ true
 told_at ring opening c h stuck place =
     (elim (link_at c.pool.proxy.links place).up as (λ v. (link_at c.pool.proxy.links place).up ≡ v → list_all is_told (outcomes_to place h.order) ≡ true) [
       | true ↦ λ up.
-          let stands = (h.pool.proxy.links place).0 up in
+          let holds = (h.pool.proxy.links place).0 up in
           let waiting = (link_quiet ring opening c h stuck place).waiting in
           let since : outcomes_to place (drop (h.lanes place).since h.order) ≡ map (λ reply. Reply reply) (h.lanes place).replies =
-          stands.outcomes ∙ ap (λ (ws : List Waiting). map (λ reply. Reply reply) (h.lanes place).replies ++ map (λ _. Awaited) ws) waiting
+          holds.outcomes ∙ ap (λ (ws : List Waiting). map (λ reply. Reply reply) (h.lanes place).replies ++ map (λ _. Awaited) ws) waiting
           ∙ append-nil (map (λ reply. Reply reply) (h.lanes place).replies) in
-          told_whole place (h.lanes place).since h.order stands.before (ap (λ (xs : List Outcome). list_all is_told xs) since ∙ replied_told (h.lanes place).replies)
+          told_whole place (h.lanes place).since h.order holds.before (ap (λ (xs : List Outcome). list_all is_told xs) since ∙ replied_told (h.lanes place).replies)
       | false ↦ λ down. ((h.pool.proxy.links place).1 (λ up. let clash : false ≡ true = sym down ∙ up in absurd cc)).outcomes
     ]) refl
 
@@ -113,11 +113,11 @@ record SessionIsQuiet (c : CourseState) (client : ℕ) (session : SessionState) 
   pub output : session.output ≡ []
   pub answered : number_of (puts client) c.log ≡ length (requests_of (text_of c client))
 
-session_quiet : (ring : RingState) (opening : CacheState) (c : CourseState) → CourseStands ring opening c → IsStuck c.pool → IsFew c
+session_quiet : (ring : RingState) (opening : CacheState) (c : CourseState) → CourseHolds ring opening c → IsStuck c.pool → IsFew c
     → (client : ℕ) (session : SessionState) → session_at c.pool.proxy client ≡ Some session → SessionIsQuiet c client session
 session_quiet ring opening c h stuck few client session at =
-    let s : SessionStands client h.order (text_of c client) (taken_by c client) session =
-    subst (λ (o : Option SessionState). SessionStandsAt client h.order (text_of c client) (taken_by c client) o) at (h.pool.proxy.sessions client) in
+    let s : SessionHolds client h.order (text_of c client) (taken_by c client) session =
+    subst (λ (o : Option SessionState). SessionHoldsAt client h.order (text_of c client) (taken_by c client) o) at (h.pool.proxy.sessions client) in
     let complete = complete_order h.order h.pool.proxy.sized (told_at ring opening c h stuck) in
     let own = complete_of client h.order complete in
     let later = (passes_parts is_complete s.done s.incomplete (ap (λ (es : Order). list_all is_complete es) (sym s.split) ∙ own)).1 in
@@ -159,7 +159,7 @@ lost_none pool place site stuck at =
           }))
     ]) refl
 
-pub course_quiet : (ring : RingState) (opening : CacheState) (c : CourseState) → CourseStands ring opening c → IsFew c → IsStuck c.pool → IsQuiet c
+pub course_quiet : (ring : RingState) (opening : CacheState) (c : CourseState) → CourseHolds ring opening c → IsFew c → IsStuck c.pool → IsQuiet c
 course_quiet ring opening c h few stuck = record {
   answered = λ client there.
       (elim (session_at c.pool.proxy client) as (λ o. session_at c.pool.proxy client ≡ o → number_of (puts client) c.log ≡ length (requests_of (text_of c client))) [

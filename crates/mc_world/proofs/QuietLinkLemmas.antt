@@ -12,12 +12,12 @@ use Rattle.mc_link.specs.declared.turns.Tag.{Tag}
 use Rattle.mc_cache.specs.CacheState.{CacheState}
 use Rattle.mc_server.specs.ServerState.{connection_at, output_of}
 use Rattle.mc_server.specs.Turns.{waiting_of}
-use Rattle.mc_account.specs.Lanes.{CanHave, Lane, LaneStands, as_waiting, told}
+use Rattle.mc_account.specs.Lanes.{CanHave, Lane, LaneHolds, as_waiting, told}
 use Rattle.mc_account.specs.Orders.{Order, Tagged}
 use Rattle.mc_history.specs.Generations.{commands_of_lane}
 use Rattle.mc_history.specs.Made.{Made, commands_on, made_on, read_as, replies_on}
 use Rattle.mc_history.proofs.GenerationLemmas.{carried}
-use Rattle.mc_world.specs.Sites.{SiteStands}
+use Rattle.mc_world.specs.Sites.{SiteHolds}
 use Rattle.mc_world.specs.WorldState.{SiteState}
 use Rattle.mc_world.proofs.SiteLemmas.{joined}
 
@@ -48,12 +48,12 @@ waiting_none (c ∷ cs) (r ∷ rs) link waits unread can sizes never =
 
 -- A living generation on which no byte moves, its server takes nothing and its proxy takes no reply: nothing waits on its link.
 pub living_none : (place : ℕ) (order : Order) (lane : Lane) (link : LinkState) (opening : CacheState) (site : SiteState) → link.up ≡ true
-    → SiteStands place order lane link opening site → LaneStands place order lane link → link.output ≡ [] → output_of (connection_at site.server site.connection) ≡ []
+    → SiteHolds place order lane link opening site → LaneHolds place order lane link → link.output ≡ [] → output_of (connection_at site.server site.connection) ≡ []
     → (0 < length (waiting_of (connection_at site.server site.connection)) → ⊥)
     → ((tag : Tag) (reply : AReply (List ℕ)) (after : LinkState) → Takes link tag reply after → ⊥) → link.waiting ≡ []
-living_none place order lane link opening site up h stands no_output no_coming unserved never =
+living_none place order lane link opening site up h holds no_output no_coming unserved never =
     let living = h.living up in
-    let is_joined = joined place order lane link opening site up h stands in
+    let is_joined = joined place order lane link opening site up h holds in
     let carries = carried place order lane link opening h.made site.connection living.end living.others is_joined in
     let sizes : length (commands_of_lane place order lane) ≡ length (commands_on site.connection h.made ++ living.others) = ap (λ (cs : List Tagged). length cs) living.commands in
     let given : length (replies_on site.connection h.made) ≡ length lane.replies + length carries.front.later =
@@ -71,5 +71,5 @@ living_none place order lane link opening site up h stands no_output no_coming u
     let end_output : living.end.output ≡ [] = subst (λ (o : _). output_of o ≡ []) living.is_open no_coming in
     let unread : link.unread ≡ told (drop (length lane.replies) (commands_of_lane place order lane)) carries.front.later =
     sym (append-nil link.unread) ∙ ap (λ (bytes : List ℕ). link.unread ++ bytes) (sym end_output) ∙ carries.front.bytes_are in
-    waiting_none (drop (length lane.replies) (commands_of_lane place order lane)) carries.front.later link stands.waiting unread carries.front.can
+    waiting_none (drop (length lane.replies) (commands_of_lane place order lane)) carries.front.later link holds.waiting unread carries.front.can
     (omega (arith, sizes, given, both, no_others, dropped, length-append (commands_on site.connection h.made) living.others)) never

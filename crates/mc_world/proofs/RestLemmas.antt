@@ -14,7 +14,7 @@ use Rattle.mc_account.proofs.OpenSessions.{own_number}
 use Rattle.mc_world.specs.Acts.{IsRested, NoServer, coming_of, generation_of, lost_of}
 use Rattle.mc_world.specs.Applies.{HasLost, IsUp, Lives, way_of}
 use Rattle.mc_world.specs.Courses.{Applies}
-use Rattle.mc_world.specs.CourseStands.{CourseStands}
+use Rattle.mc_world.specs.CourseHolds.{CourseHolds}
 use Rattle.mc_world.specs.Logs.{Log, number_of, puts, takes}
 use Rattle.mc_world.specs.Quiet.{IsQuiet, is_inner}
 use Rattle.mc_world.specs.WorldState.{PoolState, SiteState, WayState}
@@ -69,7 +69,7 @@ taker c client some =
       | Some session ↦ λ at. (session, at)
     ]) refl
 
-rested_stuck : (ring : RingState) (opening : CacheState) (moment : ℕ) (c : CourseState) → moment < 2 ^ 63 → CourseStands ring opening c → IsRested moment c
+rested_stuck : (ring : RingState) (opening : CacheState) (moment : ℕ) (c : CourseState) → moment < 2 ^ 63 → CourseHolds ring opening c → IsRested moment c
     → (event : Event (List ℕ)) → is_inner event ≡ true → Applies event c.pool → ⊥
 rested_stuck ring opening moment c fits h rested (ClientBytes client bytes) inner applies = absurd cc
 rested_stuck ring opening moment c fits h rested (ClientGone client) inner applies = absurd cc
@@ -124,6 +124,6 @@ takes_and_puts client (e ∷ es) =
       ])
     ]) refl
 
-pub rested_quiet : (ring : RingState) (opening : CacheState) (moment : ℕ) (c : CourseState) → moment < 2 ^ 63 → length c.log < 2 ^ 64 → CourseStands ring opening c → IsRested moment c → IsQuiet c
+pub rested_quiet : (ring : RingState) (opening : CacheState) (moment : ℕ) (c : CourseState) → moment < 2 ^ 63 → length c.log < 2 ^ 64 → CourseHolds ring opening c → IsRested moment c → IsQuiet c
 rested_quiet ring opening moment c fits short h rested =
     course_quiet ring opening c h (λ client same. let counted = takes_and_puts client c.log in omega (arith, same, counted, short)) (rested_stuck ring opening moment c fits h rested)

@@ -5,7 +5,7 @@ use Rattle.mc_cache.specs.CacheState.{CacheState, IsWithinBounds, opening_cache}
 use Rattle.mc_cache_laws.specs.GoodCaches.{IsGoodCache}
 use Rattle.mc_cache_laws.proofs.GoodStepLemmas.{opening_is_good}
 use Rattle.mc_world.specs.Accounts.{Account}
-use Rattle.mc_world.specs.CourseStands.{CourseStands}
+use Rattle.mc_world.specs.CourseHolds.{CourseHolds}
 use Rattle.mc_world.specs.Runs.{Call, Calls, Join, Step}
 use Rattle.mc_world.specs.Worlds.{CourseState, history_of, opening_world, put_out_of, taken_by, text_of}
 use Rattle.mc_world.proofs.DoneLemmas.{course_done}
@@ -14,26 +14,26 @@ use Rattle.mc_world.proofs.LogAccountLemmas.{log_accounts}
 use Rattle.mc_world.proofs.WorldOpeningLemmas.{course_opens}
 
 -- a course that holds gives account
-pub course_accounts : (ring : RingState) (opening : CacheState) (c : CourseState) → CourseStands ring opening c
+pub course_accounts : (ring : RingState) (opening : CacheState) (c : CourseState) → CourseHolds ring opening c
     → Account ring opening (text_of c) (put_out_of c) (history_of c) c.log
 course_accounts ring opening c h =
     (h.order, log_accounts ring opening (text_of c) (taken_by c) h.order h.lanes (put_out_of c) c.log c.pool h.pool h.log)
 
 -- and so it does after every list of calls
-pub course_called : (ring : RingState) (opening : CacheState) (calls : List Call) (old new : CourseState) → IsGoodCache opening → CourseStands ring opening old
-    → Calls opening calls old new → CourseStands ring opening new
-course_called ring opening [] old new good h run = subst (λ (c : CourseState). CourseStands ring opening c) (sym run) h
+pub course_called : (ring : RingState) (opening : CacheState) (calls : List Call) (old new : CourseState) → IsGoodCache opening → CourseHolds ring opening old
+    → Calls opening calls old new → CourseHolds ring opening new
+course_called ring opening [] old new good h run = subst (λ (c : CourseState). CourseHolds ring opening c) (sym run) h
 course_called ring opening (Step event ∷ calls) old new good h run =
     course_called ring opening calls run.0 new good
     (elim run.1 [
       | inl done ↦ course_done ring opening event old run.0 h done
-      | inr same ↦ subst (λ (c : CourseState). CourseStands ring opening c) (sym same) h
+      | inr same ↦ subst (λ (c : CourseState). CourseHolds ring opening c) (sym same) h
     ]) run.2
 course_called ring opening (Join address ∷ calls) old new good h run =
     course_called ring opening calls run.0 new good
     (elim run.1 [
       | inl joined ↦ course_joins ring opening address old run.0 good h joined
-      | inr same ↦ subst (λ (c : CourseState). CourseStands ring opening c) (sym same) h
+      | inr same ↦ subst (λ (c : CourseState). CourseHolds ring opening c) (sym same) h
     ]) run.2
 
 -- every list of calls

@@ -23,17 +23,17 @@ use Rattle.mc_cache.specs.CacheState.{CacheState}
 use Rattle.mc_cache_laws.specs.GoodCaches.{IsGoodCache}
 use Rattle.mc_server.specs.ServerState.{ConnectionState, ServerState, connection_at}
 use Rattle.mc_server.specs.Turns.{waiting_of}
-use Rattle.mc_server.proofs.StandsLemmas.{stood}
+use Rattle.mc_server.proofs.HoldsLemmas.{stood}
 use Rattle.mc_session.specs.SessionState.{link_at}
-use Rattle.mc_account.specs.Lanes.{Lane, LaneStands, LinkStands, as_waiting, told}
+use Rattle.mc_account.specs.Lanes.{Lane, LaneHolds, LinkHolds, as_waiting, told}
 use Rattle.mc_account.specs.Orders.{Order, Tagged}
 use Rattle.mc_account.proofs.OrderLemmas.{passes_parts}
 use Rattle.mc_history.specs.Generations.{commands_of_lane, is_good}
 use Rattle.mc_history.specs.Made.{Made, commands_on, made_on, read_as, replies_on, taking_of}
 use Rattle.mc_history.proofs.GenerationLemmas.{carried, not_nothing, reads_others}
-use Rattle.mc_world.specs.CourseStands.{CourseStands}
+use Rattle.mc_world.specs.CourseHolds.{CourseHolds}
 use Rattle.mc_world.specs.Serving.{PoolServes, ServesProxy, SiteServes}
-use Rattle.mc_world.specs.Sites.{SiteStands}
+use Rattle.mc_world.specs.Sites.{SiteHolds}
 use Rattle.mc_world.specs.WorldState.{SiteState, WayState}
 use Rattle.mc_world.specs.Worlds.{CourseState}
 use Rattle.mc_world.proofs.SiteLemmas.{joined, next_is}
@@ -88,8 +88,8 @@ serves_on server number end going others is_open reads good good_cache = record 
   is_open = is_open;
   spelled = λ what after first.
       let next = next_is others what (rest_of after (going ++ [])) (sym (reads []) ∙ first.rest (going ++ [])) in
-      let good_all : list_all is_good (next.command ∷ next.behind) ≡ true = ap (λ (cs : List Tagged). list_all is_good cs) (sym next.is) ∙ good in
-      (next.command.0, next.what_is, (and_parts (is_good next.command) (list_all is_good next.behind) good_all).0);
+      let good_all : list_all is_good (next.command ∷ next.past) ≡ true = ap (λ (cs : List Tagged). list_all is_good cs) (sym next.is) ∙ good in
+      (next.command.0, next.what_is, (and_parts (is_good next.command) (list_all is_good next.past) good_all).0);
   good_cache = good_cache;
 }
 
@@ -109,18 +109,18 @@ good_later (suc count) [] good = refl
 good_later (suc count) (c ∷ cs) good = good_later count cs (and_parts (is_good c) (list_all is_good cs) good).1
 
 -- where a reply can be taken, one was given that was not taken
-some_later : (commands : List Tagged) (later : List (AReply (List ℕ))) (link after : LinkState) (tag : Tag) (reply : AReply (List ℕ)) (behind : List ℕ) → Takes link tag reply after
-    → list_all is_good commands ≡ true → link.waiting ≡ as_waiting commands → link.unread ++ behind ≡ told commands later → 1 ≤ length later
-some_later commands (r ∷ rs) link after tag reply behind takes good waits is = omega arith
-some_later [] [] link after tag reply behind takes good waits is =
+some_later : (commands : List Tagged) (later : List (AReply (List ℕ))) (link after : LinkState) (tag : Tag) (reply : AReply (List ℕ)) (past : List ℕ) → Takes link tag reply after
+    → list_all is_good commands ≡ true → link.waiting ≡ as_waiting commands → link.unread ++ past ≡ told commands later → 1 ≤ length later
+some_later commands (r ∷ rs) link after tag reply past takes good waits is = omega arith
+some_later [] [] link after tag reply past takes good waits is =
     let clash : [] ≡ (takes.head, tag) ∷ after.waiting = sym waits ∙ takes.oldest in absurd cc
-some_later (c ∷ cs) [] link after tag reply behind takes good waits is =
+some_later (c ∷ cs) [] link after tag reply past takes good waits is =
     let head_is : head_of c.0 ≡ takes.head = same_head (head_of c.0, c.1) (takes.head, tag) (as_waiting cs) after.waiting (sym waits ∙ takes.oldest) in
     let begun : IsBegun takes.head [] =
     subst (λ (head : Atom (Unit {0})). IsBegun head []) head_is (atom_begins c.0 (and_parts (is_good c) (list_all is_good cs) good).0) in
     let nothing : spelling_of takes.head reply ≡ [] =
-    front_none (spelling_of takes.head reply) (after.unread ++ behind)
-    (sym (append_assoc (spelling_of takes.head reply) after.unread behind) ∙ ap (λ (bytes : List ℕ). bytes ++ behind) (sym takes.spelled) ∙ is) in
+    front_none (spelling_of takes.head reply) (after.unread ++ past)
+    (sym (append_assoc (spelling_of takes.head reply) after.unread past) ∙ ap (λ (bytes : List ℕ). bytes ++ past) (sym takes.spelled) ∙ is) in
     absurd (not_nothing takes.head reply takes.can begun nothing)
 
 -- what is said of the living generation
@@ -131,15 +131,15 @@ record LivingServes (link : LinkState) (site : SiteState) : Type 0 where
   pub replied : (tag : Tag) (reply : AReply (List ℕ)) (after : LinkState) → Takes link tag reply after → 1 ≤ site.ahead
 
 living_serves : (place : ℕ) (order : Order) (lane : Lane) (link : LinkState) (opening : CacheState) (site : SiteState) → link.up ≡ true
-    → SiteStands place order lane link opening site → LaneStands place order lane link → LivingServes link site
-living_serves place order lane link opening site up h stands =
+    → SiteHolds place order lane link opening site → LaneHolds place order lane link → LivingServes link site
+living_serves place order lane link opening site up h holds =
     let living = h.living up in
-    let is_joined = joined place order lane link opening site up h stands in
+    let is_joined = joined place order lane link opening site up h holds in
     let carries = carried place order lane link opening h.made site.connection living.end living.others is_joined in
     let parts = passes_parts is_good (commands_on site.connection h.made) living.others (ap (λ (cs : List Tagged). list_all is_good cs) (sym living.commands) ∙ is_joined.good) in
     let sizes : length (commands_of_lane place order lane) ≡ length (commands_on site.connection h.made ++ living.others) = ap (λ (cs : List Tagged). length cs) living.commands in
     let waiting : length link.waiting ≡ length (drop (length lane.replies) (commands_of_lane place order lane)) =
-    ap (λ (ws : List Waiting). length ws) stands.waiting ∙ length-map (drop (length lane.replies) (commands_of_lane place order lane)) (λ (c : Tagged). (head_of c.0, c.1)) in
+    ap (λ (ws : List Waiting). length ws) holds.waiting ∙ length-map (drop (length lane.replies) (commands_of_lane place order lane)) (λ (c : Tagged). (head_of c.0, c.1)) in
     let given : length (replies_on site.connection h.made) ≡ length lane.replies + length carries.front.later =
     ap (λ (rs : List (AReply (List ℕ))). length rs) carries.front.all_is ∙ length-append lane.replies carries.front.later in
     let both : length (replies_on site.connection h.made) ≡ length (commands_on site.connection h.made) =
@@ -160,7 +160,7 @@ living_serves place order lane link opening site up h stands =
       never_strange = carries.never_strange;
       replied = λ tag reply after takes.
           let more = some_later (drop (length lane.replies) (commands_of_lane place order lane)) carries.front.later link after tag reply living.end.output takes
-          (good_later (length lane.replies) (commands_of_lane place order lane) is_joined.good) stands.waiting carries.front.bytes_are in
+          (good_later (length lane.replies) (commands_of_lane place order lane) is_joined.good) holds.waiting carries.front.bytes_are in
           omega (arith, more, given, both, living.ahead);
     }
 
@@ -170,7 +170,7 @@ record LostServes (site : SiteState) (way : WayState) : Type 0 where
   pub untaken : 0 < length (waiting_of (connection_at site.server way.connection)) → 0 < length way.untaken
 
 lost_serves : (place : ℕ) (order : Order) (lane : Lane) (link : LinkState) (opening : CacheState) (site : SiteState) (i : ℕ) (way : WayState) → slice_get site.lost i ≡ Some way
-    → SiteStands place order lane link opening site → LostServes site way
+    → SiteHolds place order lane link opening site → LostServes site way
 lost_serves place order lane link opening site i way at h =
     let own = h.lost i way at in
     let reads = reads_others opening way.connection (h.texts way.connection) way.going (h.sent way.connection) h.made own.end own.others
@@ -186,19 +186,19 @@ lost_serves place order lane link opening site i way at h =
 
 -- a site serves, where it holds
 pub site_serves : (place : ℕ) (order : Order) (lane : Lane) (link : LinkState) (opening : CacheState) (site : SiteState) → site.generation ≡ link.generation
-    → SiteStands place order lane link opening site → LinkStands place order lane link → SiteServes link site
-site_serves place order lane link opening site generation h stands = record {
+    → SiteHolds place order lane link opening site → LinkHolds place order lane link → SiteServes link site
+site_serves place order lane link opening site generation h holds = record {
   generation = generation;
-  living = λ up. (living_serves place order lane link opening site up h (stands.0 up)).serves;
-  waits = λ up. (living_serves place order lane link opening site up h (stands.0 up)).waits;
-  never_strange = λ up. (living_serves place order lane link opening site up h (stands.0 up)).never_strange;
-  replied = λ tag reply after up. (living_serves place order lane link opening site up h (stands.0 up)).replied tag reply after;
+  living = λ up. (living_serves place order lane link opening site up h (holds.0 up)).serves;
+  waits = λ up. (living_serves place order lane link opening site up h (holds.0 up)).waits;
+  never_strange = λ up. (living_serves place order lane link opening site up h (holds.0 up)).never_strange;
+  replied = λ tag reply after up. (living_serves place order lane link opening site up h (holds.0 up)).replied tag reply after;
   lost = λ i way at. (lost_serves place order lane link opening site i way at h).serves;
   untaken = λ i way at. (lost_serves place order lane link opening site i way at h).untaken;
 }
 
 -- and the pool of a course that holds does
-pub pool_serves : (ring : RingState) (opening : CacheState) (c : CourseState) → CourseStands ring opening c → PoolServes c.pool
+pub pool_serves : (ring : RingState) (opening : CacheState) (c : CourseState) → CourseHolds ring opening c → PoolServes c.pool
 pool_serves ring opening c h = record {
   sited = h.log.servers.sited ∙ sym h.log.servers.linked;
   sites = λ place site at. site_serves place h.order (h.lanes place) (link_at c.pool.proxy.links place) opening site (h.generations place site at)

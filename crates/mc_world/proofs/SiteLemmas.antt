@@ -18,19 +18,19 @@ use Rattle.mc_cache_laws.specs.GoodCaches.{IsGoodCache}
 use Rattle.mc_cache_laws.proofs.GoodStepLemmas.{answers_as_it_can, stays_good}
 use Rattle.mc_server.specs.Served.{Entry as Taking, answer_after, cache_after, commands_of, tells_refusal}
 use Rattle.mc_server.specs.ServerState.{ConnectionState, ServerState, connection_at}
-use Rattle.mc_server.specs.Stands.{ServerStands, Stands, grown}
+use Rattle.mc_server.specs.Holds.{ServerHolds, Holds, grown}
 use Rattle.mc_server.specs.Turns.{Feeds, IsTurn, Steps}
 use Rattle.mc_server.specs.declared.turns.Turn.TheVariants.{Took}
 use Rattle.mc_server.proofs.ConnectionLemmas.{updated_other, updated_own}
-use Rattle.mc_server.proofs.StandsLemmas.{ServerStands-fed, ServerStands-took, entry_taken, grown-other, grown-own, stood}
-use Rattle.mc_account.specs.Lanes.{Lane, LaneStands, as_waiting, spelled}
+use Rattle.mc_server.proofs.HoldsLemmas.{ServerHolds-fed, ServerHolds-took, entry_taken, grown-other, grown-own, stood}
+use Rattle.mc_account.specs.Lanes.{Lane, LaneHolds, as_waiting, spelled}
 use Rattle.mc_account.specs.Orders.{Order, Tagged, commands_to}
 use Rattle.mc_account.proofs.OpenSessions.{other_number, own_number}
 use Rattle.mc_account.proofs.OrderLemmas.{commands-append, passes_parts}
 use Rattle.mc_history.specs.Generations.{AreJoined, commands_of_lane, is_good}
 use Rattle.mc_history.specs.Made.{Each, IsMade, Made, commands_on, entry_of, made_on, read_as, taking_of}
 use Rattle.mc_history.specs.declared.entries.Entry.{Entry}
-use Rattle.mc_world.specs.Sites.{IsLostWay, SiteStands}
+use Rattle.mc_world.specs.Sites.{IsLostWay, SiteHolds}
 use Rattle.mc_world.specs.WorldState.{SiteState, WayState}
 use Rattle.mc_world.proofs.CountLemmas.{times-made}
 use Rattle.mc_history.proofs.GenerationLemmas.{carried}
@@ -61,14 +61,14 @@ lost_elsewhere place order made texts texts' old new way same is h = record {
 
 -- bytes arrive at the living connection
 pub site_fed : (place : ℕ) (order : Order) (lane : Lane) (link link' : LinkState) (opening : CacheState) (site : SiteState) (server : ServerState) (piece : List ℕ)
-    → link.up ≡ true → link'.up ≡ true → Steps site.connection site.server server (Feeds piece) → SiteStands place order lane link opening site
-    → SiteStands place order (record lane { out = lane.out ++ piece }) link' opening (record site { server = server })
+    → link.up ≡ true → link'.up ≡ true → Steps site.connection site.server server (Feeds piece) → SiteHolds place order lane link opening site
+    → SiteHolds place order (record lane { out = lane.out ++ piece }) link' opening (record site { server = server })
 site_fed place order lane link link' opening site server piece up up' steps h =
     let living = h.living up in record {
       made = h.made;
       texts = grown site.connection piece h.texts;
       sent = h.sent;
-      server = ServerStands-fed opening h.texts h.sent (map taking_of h.made) site.connection piece site.server server h.server steps;
+      server = ServerHolds-fed opening h.texts h.sent (map taking_of h.made) site.connection piece site.server server h.server steps;
       good_cache = subst IsGoodCache (sym steps.step.0) h.good_cache;
       answers = h.answers;
       history = h.history;
@@ -135,8 +135,8 @@ lost_untouched place order made m texts old new way differ is h =
 -- what a connection takes that reads these commands is the first of them
 pub record IsNext (others : List Tagged) (what : Taken) : Type 0 where
   pub command : Tagged
-  pub behind : List Tagged
-  pub is : others ≡ command ∷ behind
+  pub past : List Tagged
+  pub is : others ≡ command ∷ past
   pub what_is : what ≡ read_as command
 
 no_requests : requests_of [] ≡ []
@@ -145,7 +145,7 @@ no_requests = refl
 
 pub next_is : (others : List Tagged) (what : Taken) (more : List Taken) → map read_as others ++ requests_of [] ≡ what ∷ more → IsNext others what
 next_is [] what more e = let clash : [] ≡ what ∷ more = sym no_requests ∙ e in absurd cc
-next_is (c ∷ cs) what more e = let first : read_as c ≡ what = cc in record { command = c; behind = cs; is = refl; what_is = sym first }
+next_is (c ∷ cs) what more e = let first : read_as c ≡ what = cc in record { command = c; past = cs; is = refl; what_is = sym first }
 
 -- the same connection
 pub same_end : (a b : ConnectionState) (at : Option ConnectionState) → at ≡ Some a → at ≡ Some b → a ≡ b
@@ -158,21 +158,21 @@ good_since place since order good =
     (passes_parts is_good (commands_to place (take since order)) (commands_to place (drop since order)) (ap (λ (cs : List Tagged). list_all is_good cs) (sym whole) ∙ good)).1
 
 -- where the living connection holds
-pub stood_at : (opening : CacheState) (made : List Made) (texts sent : ℕ → List ℕ) (lane : Lane) (site : SiteState) (end : ConnectionState) → ServerStands opening texts sent (map taking_of made) site.server
+pub stood_at : (opening : CacheState) (made : List Made) (texts sent : ℕ → List ℕ) (lane : Lane) (site : SiteState) (end : ConnectionState) → ServerHolds opening texts sent (map taking_of made) site.server
     → connection_at site.server site.connection ≡ Some end → texts site.connection ≡ lane.out → sent site.connection ≡ lane.came
-    → Stands opening site.connection lane.out (map taking_of made) lane.came end
+    → Holds opening site.connection lane.out (map taking_of made) lane.came end
 stood_at opening made texts sent lane site end h is_open out came =
-    subst (λ (text : List ℕ). Stands opening site.connection text (map taking_of made) lane.came end) out
-    (subst (λ (bytes : List ℕ). Stands opening site.connection (texts site.connection) (map taking_of made) bytes end) came
+    subst (λ (text : List ℕ). Holds opening site.connection text (map taking_of made) lane.came end) out
+    (subst (λ (bytes : List ℕ). Holds opening site.connection (texts site.connection) (map taking_of made) bytes end) came
     (stood opening texts sent (map taking_of made) site.server site.connection end h is_open))
 
 -- a living generation is joined
-pub joined : (place : ℕ) (order : Order) (lane : Lane) (link : LinkState) (opening : CacheState) (site : SiteState) (up : link.up ≡ true) (h : SiteStands place order lane link opening site)
-    → LaneStands place order lane link → AreJoined place order lane link opening h.made site.connection (h.living up).end (h.living up).others
-joined place order lane link opening site up h stands =
+pub joined : (place : ℕ) (order : Order) (lane : Lane) (link : LinkState) (opening : CacheState) (site : SiteState) (up : link.up ≡ true) (h : SiteHolds place order lane link opening site)
+    → LaneHolds place order lane link → AreJoined place order lane link opening h.made site.connection (h.living up).end (h.living up).others
+joined place order lane link opening site up h holds =
     let living = h.living up in
     record {
-      lane = stands;
+      lane = holds;
       connection = stood_at opening h.made h.texts h.sent lane site living.end h.server living.is_open living.out living.came;
       made = h.answers;
       commands = living.commands;
@@ -192,22 +192,22 @@ at_place (f ∷ fs) back x (suc place) h = at_place fs back x place (omega (arit
 
 -- a turn of the living connection takes the next command
 pub takes_next : (place : ℕ) (order : Order) (lane : Lane) (link : LinkState) (opening : CacheState) (site : SiteState) (server : ServerState) (moment : ℕ) (up : link.up ≡ true)
-    → (steps : Steps site.connection site.server server (IsTurn site.connection moment Took)) → (h : SiteStands place order lane link opening site)
-    → LaneStands place order lane link → TakesNext place order lane site h.made (h.living up).others steps.step.0
-takes_next place order lane link opening site server moment up steps h stands =
+    → (steps : Steps site.connection site.server server (IsTurn site.connection moment Took)) → (h : SiteHolds place order lane link opening site)
+    → LaneHolds place order lane link → TakesNext place order lane site h.made (h.living up).others steps.step.0
+takes_next place order lane link opening site server moment up steps h holds =
     let living = h.living up in
-    let is_joined = joined place order lane link opening site up h stands in
+    let is_joined = joined place order lane link opening site up h holds in
     let reads = (carried place order lane link opening h.made site.connection living.end living.others is_joined).reads [] in
     let same = same_end living.end steps.before (connection_at site.server site.connection) living.is_open steps.was in
     let first : map read_as living.others ++ requests_of [] ≡ steps.step.0 ∷ rest_of steps.after.reader (link.output ++ []) =
     sym reads ∙ ap (λ (c : ConnectionState). rest_of c.reader (link.output ++ [])) same ∙ steps.step.1.first.rest (link.output ++ []) in
     let next = next_is living.others steps.step.0 (rest_of steps.after.reader (link.output ++ [])) first in
-    let good_all : list_all is_good (commands_on site.connection h.made ++ next.command ∷ next.behind) ≡ true =
+    let good_all : list_all is_good (commands_on site.connection h.made ++ next.command ∷ next.past) ≡ true =
     ap (λ (cs : List Tagged). list_all is_good (commands_on site.connection h.made ++ cs)) (sym next.is)
     ∙ ap (λ (cs : List Tagged). list_all is_good cs) (sym living.commands) ∙ is_joined.good in
     record {
       next = next;
-      good = (and_parts (is_good next.command) (list_all is_good next.behind) (passes_parts is_good (commands_on site.connection h.made) (next.command ∷ next.behind) good_all).1).0;
+      good = (and_parts (is_good next.command) (list_all is_good next.past) (passes_parts is_good (commands_on site.connection h.made) (next.command ∷ next.past) good_all).1).0;
     }
 
 -- what it makes of it
@@ -276,25 +276,25 @@ pub get_none : {X : Type 0} (k : ℕ) → ◌≡◌ {A = Option X} (slice_get []
 get_none zero = refl
 get_none (suc k) = refl
 
-pub get_behind : {X : Type 0} (xs : List X) (n k : ℕ) → slice_get (drop n xs) k ≡ slice_get xs (k + n)
-get_behind xs zero k = let same : k + 0 ≡ k = omega arith in ap (λ (i : ℕ). slice_get xs i) (sym same)
-get_behind {X = X} [] (suc n) k = get_none {X = X} k ∙ sym (get_none {X = X} (k + suc n))
-get_behind (x ∷ xs) (suc n) k = let same : k + suc n ≡ suc (k + n) = omega arith in get_behind xs n k ∙ ap (λ (i : ℕ). slice_get (x ∷ xs) i) (sym same)
+pub get_past : {X : Type 0} (xs : List X) (n k : ℕ) → slice_get (drop n xs) k ≡ slice_get xs (k + n)
+get_past xs zero k = let same : k + 0 ≡ k = omega arith in ap (λ (i : ℕ). slice_get xs i) (sym same)
+get_past {X = X} [] (suc n) k = get_none {X = X} k ∙ sym (get_none {X = X} (k + suc n))
+get_past (x ∷ xs) (suc n) k = let same : k + suc n ≡ suc (k + n) = omega arith in get_past xs n k ∙ ap (λ (i : ℕ). slice_get (x ∷ xs) i) (sym same)
 
 -- the command that the server takes next is the one that waits after those whose replies were not taken
-pub waits_next : (place : ℕ) (order : Order) (lane : Lane) (link : LinkState) (opening : CacheState) (site : SiteState) (up : link.up ≡ true) (h : SiteStands place order lane link opening site) (command : Tagged) (behind : List Tagged)
-    → LaneStands place order lane link → (h.living up).others ≡ command ∷ behind → slice_get (map (λ (w : Waiting). w.1) link.waiting) site.ahead ≡ Some command.1
-waits_next place order lane link opening site up h command behind stands is =
+pub waits_next : (place : ℕ) (order : Order) (lane : Lane) (link : LinkState) (opening : CacheState) (site : SiteState) (up : link.up ≡ true) (h : SiteHolds place order lane link opening site) (command : Tagged) (past : List Tagged)
+    → LaneHolds place order lane link → (h.living up).others ≡ command ∷ past → slice_get (map (λ (w : Waiting). w.1) link.waiting) site.ahead ≡ Some command.1
+waits_next place order lane link opening site up h command past holds is =
     let living = h.living up in
-    let tags : map (λ (w : Waiting). w.1) link.waiting ≡ drop (length lane.replies) (map (λ (c : Tagged). c.1) (commands_on site.connection h.made) ++ command.1 ∷ map (λ (c : Tagged). c.1) behind) =
-    ap (λ (ws : List Waiting). map (λ (w : Waiting). w.1) ws) stands.waiting
+    let tags : map (λ (w : Waiting). w.1) link.waiting ≡ drop (length lane.replies) (map (λ (c : Tagged). c.1) (commands_on site.connection h.made) ++ command.1 ∷ map (λ (c : Tagged). c.1) past) =
+    ap (λ (ws : List Waiting). map (λ (w : Waiting). w.1) ws) holds.waiting
     ∙ tags_wait (drop (length lane.replies) (commands_of_lane place order lane))
     ∙ sym (drop-map (λ (c : Tagged). c.1) (length lane.replies) (commands_of_lane place order lane))
     ∙ ap (λ (cs : List Tagged). drop (length lane.replies) (map (λ (c : Tagged). c.1) cs)) (living.commands ∙ ap (λ (cs : List Tagged). commands_on site.connection h.made ++ cs) is)
-    ∙ ap (λ (ts : List Tag). drop (length lane.replies) ts) (map-append (λ (c : Tagged). c.1) (commands_on site.connection h.made) (command ∷ behind)) in
+    ∙ ap (λ (ts : List Tag). drop (length lane.replies) ts) (map-append (λ (c : Tagged). c.1) (commands_on site.connection h.made) (command ∷ past)) in
     ap (λ (ts : List Tag). slice_get ts site.ahead) tags
-    ∙ get_behind (map (λ (c : Tagged). c.1) (commands_on site.connection h.made) ++ command.1 ∷ map (λ (c : Tagged). c.1) behind) (length lane.replies) site.ahead
-    ∙ at_place (map (λ (c : Tagged). c.1) (commands_on site.connection h.made)) (map (λ (c : Tagged). c.1) behind) command.1 (site.ahead + length lane.replies)
+    ∙ get_past (map (λ (c : Tagged). c.1) (commands_on site.connection h.made) ++ command.1 ∷ map (λ (c : Tagged). c.1) past) (length lane.replies) site.ahead
+    ∙ at_place (map (λ (c : Tagged). c.1) (commands_on site.connection h.made)) (map (λ (c : Tagged). c.1) past) command.1 (site.ahead + length lane.replies)
     (living.ahead ∙ sym (length-map (commands_on site.connection h.made) (λ (c : Tagged). c.1)))
 
 pub same_tag : (at : Option Tag) (a b : Tag) → at ≡ Some a → at ≡ Some b → a ≡ b
@@ -304,25 +304,25 @@ abbrev pub entry_by : Tag → ℕ → Bool → List ℕ → Entry
 entry_by tag moment refused reply = record { client = tag.session; request = tag.request; atom = tag.atom; moment = moment; refused = refused; reply = reply }
 
 -- how often a tag is among the commands that were not taken
-pub others_of : (others : List Tagged) (command : Tagged) (behind : List Tagged) → others ≡ command ∷ behind
-    → (tag : Tag) → times tag (tags_of others) ≡ times tag (command.1 ∷ []) + times tag (tags_of behind)
-others_of others command behind is tag =
-    let whole : times tag (tags_of others) ≡ times tag (tags_of (command ∷ behind)) = ap (λ (cs : List Tagged). times tag (tags_of cs)) is in
+pub others_of : (others : List Tagged) (command : Tagged) (past : List Tagged) → others ≡ command ∷ past
+    → (tag : Tag) → times tag (tags_of others) ≡ times tag (command.1 ∷ []) + times tag (tags_of past)
+others_of others command past is tag =
+    let whole : times tag (tags_of others) ≡ times tag (tags_of (command ∷ past)) = ap (λ (cs : List Tagged). times tag (tags_of cs)) is in
     omega (arith, whole)
 
 -- a turn of the living connection: the history has the command that waits next, at that moment, with the bytes that the server appended
 pub site_turned : (place : ℕ) (order : Order) (lane : Lane) (link : LinkState) (opening : CacheState) (site : SiteState) (server : ServerState) (moment : ℕ) (tag : Tag) (reply : List ℕ)
     → (up : link.up ≡ true) → (steps : Steps site.connection site.server server (IsTurn site.connection moment Took))
     → slice_get (map (λ (w : Waiting). w.1) link.waiting) site.ahead ≡ Some tag → steps.after.output ≡ steps.before.output ++ reply
-    → moment < 2 ^ 63 → LaneStands place order lane link → SiteStands place order lane link opening site
-    → SiteStands place order lane link opening (record site {
+    → moment < 2 ^ 63 → LaneHolds place order lane link → SiteHolds place order lane link opening site
+    → SiteHolds place order lane link opening (record site {
       server = server;
       history = site.history ++ (record { client = tag.session; request = tag.request; atom = tag.atom; moment = moment; refused = steps.step.1.served.0; reply = reply }) ∷ [];
       ahead = site.ahead + 1;
     })
-site_turned place order lane link opening site server moment tag reply up steps named more below stands h =
+site_turned place order lane link opening site server moment tag reply up steps named more below holds h =
     let living = h.living up in
-    let takes = takes_next place order lane link opening site server moment up steps h stands in
+    let takes = takes_next place order lane link opening site server moment up steps h holds in
     let command : Tagged = takes.next.command in
     let cache_is : site.server.cache ≡ cache_of opening h.made = h.server.cache.cache ∙ replayed_made opening h.made in
     let m : Made = made_of site h.made opening takes.next.command moment steps.step.1.served.0 in
@@ -333,9 +333,9 @@ site_turned place order lane link opening site server moment tag reply up steps 
     (answers_as_it_can site.server.cache h.good_cache takes.next.command.0 takes.good moment below steps.step.1.served.0) in
     let made = is_made site server moment opening h.made takes.next.command steps takes.next.what_is cache_is takes.good can_here in
     let reply_is = appended site server moment opening h.made takes.next.command reply steps takes.next.what_is cache_is made more in
-    let others_times = others_of living.others takes.next.command takes.next.behind takes.next.is in
+    let others_times = others_of living.others takes.next.command takes.next.past takes.next.is in
     let tag_is : tag ≡ takes.next.command.1 = same_tag (slice_get (map (λ (w : Waiting). w.1) link.waiting) site.ahead) tag takes.next.command.1 named
-    (waits_next place order lane link opening site up h takes.next.command takes.next.behind stands takes.next.is) in
+    (waits_next place order lane link opening site up h takes.next.command takes.next.past holds takes.next.is) in
     let entry_is : record { client = tag.session; request = tag.request; atom = tag.atom; moment = moment; refused = steps.step.1.served.0; reply = reply } ≡ entry_of m =
     ap₂ (λ (t : Tag) (bytes : List ℕ). entry_by t moment steps.step.1.served.0 bytes) tag_is reply_is in
     let taking : map taking_of h.made ++ entry_taken steps ∷ [] ≡ map taking_of (h.made ++ m ∷ []) =
@@ -344,8 +344,8 @@ site_turned place order lane link opening site server moment tag reply up steps 
       made = h.made ++ m ∷ [];
       texts = h.texts;
       sent = h.sent;
-      server = subst (λ (es : List Taking). ServerStands opening h.texts h.sent es server) taking
-          (ServerStands-took opening h.texts h.sent (map taking_of h.made) site.connection moment site.server server h.server steps);
+      server = subst (λ (es : List Taking). ServerHolds opening h.texts h.sent es server) taking
+          (ServerHolds-took opening h.texts h.sent (map taking_of h.made) site.connection moment site.server server h.server steps);
       good_cache = still_good site.server.cache server.cache m steps.step.0 takes.next.what_is steps.step.1.served.1.cache takes.good below h.good_cache;
       answers = made_push opening h.made m h.answers made;
       history = ap₂ (λ (es : List Entry) (e : Entry). es ++ e ∷ []) h.history entry_is ∙ sym (map-append entry_of h.made (m ∷ []));
@@ -360,10 +360,10 @@ site_turned place order lane link opening site server moment tag reply up steps 
             ∙ updated_own site.connection steps.before steps.after site.server.connections steps.was;
         out = living.out;
         came = living.came;
-        others = takes.next.behind;
+        others = takes.next.past;
         commands = living.commands ∙ ap (λ (cs : List Tagged). commands_on site.connection h.made ++ cs) takes.next.is
-            ∙ sym (append_assoc (commands_on site.connection h.made) (takes.next.command ∷ []) takes.next.behind)
-            ∙ ap (λ (cs : List Tagged). cs ++ takes.next.behind) (sym (commands_push_own h.made m));
+            ∙ sym (append_assoc (commands_on site.connection h.made) (takes.next.command ∷ []) takes.next.past)
+            ∙ ap (λ (cs : List Tagged). cs ++ takes.next.past) (sym (commands_push_own h.made m));
         ahead =
             let longer : length (commands_on site.connection (h.made ++ m ∷ [])) ≡ length (commands_on site.connection h.made ++ takes.next.command ∷ []) = ap (λ (cs : List Tagged). length cs) (commands_push_own h.made m) in
             omega (arith, living.ahead, longer, length-append (commands_on site.connection h.made) (takes.next.command ∷ []));

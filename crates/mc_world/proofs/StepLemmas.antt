@@ -5,7 +5,7 @@ use Rattle.mc_ring.specs.Rings.{IsRing, RingState}
 use Rattle.mc_cache.specs.CacheState.{CacheState, IsWithinBounds, opening_cache}
 use Rattle.mc_cache_laws.proofs.GoodStepLemmas.{opening_is_good}
 use Rattle.mc_world.specs.Courses.{Applies, CourseServes, IsDone}
-use Rattle.mc_world.specs.CourseStands.{CourseStands, WorldStands}
+use Rattle.mc_world.specs.CourseHolds.{CourseHolds, WorldHolds}
 use Rattle.mc_world.specs.Happens.{Does}
 use Rattle.mc_world.specs.Joins.{HasServerJoined}
 use Rattle.mc_world.specs.Steps.{GivesAccount, IsTried, RunsTo, StepsTo}
@@ -31,34 +31,34 @@ runs-more (e ∷ es) event old mid new n m runs tried =
     (runs.0, runs.1, runs.2 + m, runs.3, runs-more es event runs.0 mid new runs.2 m runs.4 tried, omega (arith, sum))
 
 -- what a course rests on where it holds
-pub course_serves : (ring : RingState) (opening : CacheState) (c : CourseState) → CourseStands ring opening c → CourseServes c
+pub course_serves : (ring : RingState) (opening : CacheState) (c : CourseState) → CourseHolds ring opening c → CourseServes c
 course_serves ring opening c h = record {
   pool = pool_serves ring opening c h;
   clients = λ client session at. is_there ring opening c client session h at;
 }
 
 -- a step that was done, or changed nothing, leaves a course where one is
-pub course_steps : (ring : RingState) (opening : CacheState) (event : Event (List ℕ)) (step : Step) (old new : CourseState) → CourseStands ring opening old
-    → Does step (IsDone event old new) (new ≡ old) → CourseStands ring opening new
+pub course_steps : (ring : RingState) (opening : CacheState) (event : Event (List ℕ)) (step : Step) (old new : CourseState) → CourseHolds ring opening old
+    → Does step (IsDone event old new) (new ≡ old) → CourseHolds ring opening new
 course_steps ring opening event Done old new h does = course_done ring opening event old new h does
-course_steps ring opening event Nothing old new h does = subst (λ (c : CourseState). CourseStands ring opening c) (sym does) h
+course_steps ring opening event Nothing old new h does = subst (λ (c : CourseState). CourseHolds ring opening c) (sym does) h
 
 -- a world that was just opened holds, and each that holds gives account
-pub world_opens : (ring : RingState) (clients budget items : ℕ) → IsRing ring → IsWithinBounds budget items → WorldStands (opening_world ring clients budget items)
+pub world_opens : (ring : RingState) (clients budget items : ℕ) → IsRing ring → IsWithinBounds budget items → WorldHolds (opening_world ring clients budget items)
 world_opens ring clients budget items is_ring bounds = record { bounds = bounds; course = course_opens ring clients budget items is_ring bounds.some_items }
 
-pub world_accounts : (w : WorldState) → WorldStands w → GivesAccount w
+pub world_accounts : (w : WorldState) → WorldHolds w → GivesAccount w
 world_accounts w h = course_accounts w.opening (cache_of w) w.course h.course
 
 -- so does one whose course has gone on
-pub world_goes_on : (course : CourseState) (w : WorldState) → WorldStands w → CourseStands w.opening (cache_of w) course → WorldStands (record w { course = course })
-world_goes_on course w h stands = record { bounds = h.bounds; course = stands }
+pub world_goes_on : (course : CourseState) (w : WorldState) → WorldHolds w → CourseHolds w.opening (cache_of w) course → WorldHolds (record w { course = course })
+world_goes_on course w h holds = record { bounds = h.bounds; course = holds }
 
 -- after a step that may have been refused
-pub course_stepped : (ring : RingState) (opening : CacheState) (event : Event (List ℕ)) (r : Result Step WorldError) (old new : CourseState) → CourseStands ring opening old
-    → IfOk r (λ step. Does step (IsDone event old new) (new ≡ old)) → OnErr r (new ≡ old) → CourseStands ring opening new
+pub course_stepped : (ring : RingState) (opening : CacheState) (event : Event (List ℕ)) (r : Result Step WorldError) (old new : CourseState) → CourseHolds ring opening old
+    → IfOk r (λ step. Does step (IsDone event old new) (new ≡ old)) → OnErr r (new ≡ old) → CourseHolds ring opening new
 course_stepped ring opening event (Ok step) old new h done refused = course_steps ring opening event step old new h done
-course_stepped ring opening event (Err e) old new h done refused = subst (λ (c : CourseState). CourseStands ring opening c) (sym refused) h
+course_stepped ring opening event (Err e) old new h done refused = subst (λ (c : CourseState). CourseHolds ring opening c) (sym refused) h
 
 pub stepped : (event : Event (List ℕ)) (r : Result Step WorldError) (old new : CourseState) → IfOk r (λ step. Does step (IsDone event old new) (new ≡ old))
     → IfOk r (λ step. (step ≡ Done) ↔ Applies event old.pool) → IfOk r (λ step. StepsTo event step old new)
@@ -74,13 +74,13 @@ answer_mapped P Bad (Err e) (Err other) cases same told = tt
 
 -- and after a join that may have been
 pub course_joined : {T E : Type 0} (ring : RingState) (budget items : ℕ) (address : List ℕ) (cache : CacheState) (r : Result T E) (old new : CourseState) → IsWithinBounds budget items
-    → cache ≡ opening_cache budget items 0 → CourseStands ring (opening_cache budget items 0) old → OnOk r (HasServerJoined address cache old new) → OnErr r (new ≡ old)
-    → CourseStands ring (opening_cache budget items 0) new
+    → cache ≡ opening_cache budget items 0 → CourseHolds ring (opening_cache budget items 0) old → OnOk r (HasServerJoined address cache old new) → OnErr r (new ≡ old)
+    → CourseHolds ring (opening_cache budget items 0) new
 course_joined ring budget items address cache (Ok value) old new bounds opens h joined refused =
     course_joins ring (opening_cache budget items 0) address old new (opening_is_good budget items 0 bounds.some_items (omega arith)) h
     (subst (λ (s : CacheState). HasServerJoined address s old new) opens joined)
 course_joined ring budget items address cache (Err e) old new bounds opens h joined refused =
-    subst (λ (c : CourseState). CourseStands ring (opening_cache budget items 0) c) (sym refused) h
+    subst (λ (c : CourseState). CourseHolds ring (opening_cache budget items 0) c) (sym refused) h
 
 -- what a step that was refused, and one that was not, count for
 pub tried_in_vain : (event : Event (List ℕ)) (r : Result Step WorldError) (old new : WorldState) → is_err r ≡ true → OnErr r (new ≡ old) → IsTried event old.course new.course 1

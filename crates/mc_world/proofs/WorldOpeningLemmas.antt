@@ -12,22 +12,22 @@ use Rattle.mc_cache.specs.CacheState.{CacheState, opening_cache}
 use Rattle.mc_cache_laws.specs.GoodCaches.{IsGoodCache}
 use Rattle.mc_cache_laws.proofs.GoodStepLemmas.{opening_is_good}
 use Rattle.mc_server.specs.ServerState.{fresh_connection}
-use Rattle.mc_server.proofs.StandsLemmas.{ServerStands-admitted, ServerStands-new}
+use Rattle.mc_server.proofs.HoldsLemmas.{ServerHolds-admitted, ServerHolds-new}
 use Rattle.mc_session.specs.SessionState.{SessionState, answered, fresh_session, link_at}
 use Rattle.mc_proxy.specs.ProxyState.{ProxyState, Sessions, output_of, session_in, with_fresh}
-use Rattle.mc_account.specs.Lanes.{LinkStands, fresh_lane}
+use Rattle.mc_account.specs.Lanes.{LinkHolds, fresh_lane}
 use Rattle.mc_account.specs.Orders.{IsSized, Order, Tagged, commands_to}
-use Rattle.mc_account.specs.Stands.{ProxyStands}
+use Rattle.mc_account.specs.Holds.{ProxyHolds}
 use Rattle.mc_account.proofs.LaneLemmas.{lane_fresh}
 use Rattle.mc_account.proofs.OpenSessions.{other_number}
-use Rattle.mc_account.proofs.StandsLemmas.{stands-admitted}
+use Rattle.mc_account.proofs.HoldsLemmas.{holds-admitted}
 use Rattle.mc_history.specs.Generations.{is_good}
 use Rattle.mc_history.specs.Made.{Each}
 use Rattle.mc_history.specs.Named.{AreReplied, IsNamed}
-use Rattle.mc_world.specs.CourseStands.{CourseStands}
-use Rattle.mc_world.specs.LogStands.{IsFresh, LogStands}
-use Rattle.mc_world.specs.Pools.{PoolStands}
-use Rattle.mc_world.specs.Sites.{SiteStands}
+use Rattle.mc_world.specs.CourseHolds.{CourseHolds}
+use Rattle.mc_world.specs.LogHolds.{IsFresh, LogHolds}
+use Rattle.mc_world.specs.Pools.{PoolHolds}
+use Rattle.mc_world.specs.Sites.{SiteHolds}
 use Rattle.mc_world.specs.WorldState.{SiteState, histories_of}
 use Rattle.mc_world.specs.Worlds.{ClientState, client_at, first_site, fresh_sessions, nobody, opening_pool, opening_proxy, opening_world}
 use Rattle.mc_world.proofs.DoneLemmas.{stood_as}
@@ -58,11 +58,11 @@ up_or_none zero (suc place) = inr refl
 up_or_none (suc n) zero = inl refl
 up_or_none (suc n) (suc place) = up_or_none n place
 
-link_opens : (n place : ℕ) → LinkStands place [] (fresh_lane 0) (link_at (replicate n (up_link 1)) place)
+link_opens : (n place : ℕ) → LinkHolds place [] (fresh_lane 0) (link_at (replicate n (up_link 1)) place)
 link_opens n place =
     ⊎_elim
-    (λ up. subst (λ (l : LinkState). LinkStands place [] (fresh_lane 0) l) (sym up) (λ _. lane_fresh place 1 [] refl, λ down. absurd (down refl)))
-    (λ none. subst (λ (l : LinkState). LinkStands place [] (fresh_lane 0) l) (sym none) (λ up. absurd cc, λ _. record { nothing = refl; outcomes = refl }))
+    (λ up. subst (λ (l : LinkState). LinkHolds place [] (fresh_lane 0) l) (sym up) (λ _. lane_fresh place 1 [] refl, λ down. absurd (down refl)))
+    (λ none. subst (λ (l : LinkState). LinkHolds place [] (fresh_lane 0) l) (sym none) (λ up. absurd cc, λ _. record { nothing = refl; outcomes = refl }))
     (up_or_none n place)
 
 -- one client more is admitted
@@ -75,7 +75,7 @@ one_admitted ring clients =
     ap (λ (s : Sessions). record { ring = ring; sessions = s; admitted = clients + 1; links = replicate (length ring.servers) (up_link 1) }) sessions
     ∙ ap (λ (n : ℕ). record { ring = ring; sessions = fresh_sessions 0 (suc clients); admitted = n; links = replicate (length ring.servers) (up_link 1) }) one_more
 
-proxy_opens : (ring : RingState) (clients : ℕ) → ProxyStands (λ _. []) (λ _. []) [] (λ _. fresh_lane 0) (opening_proxy ring clients)
+proxy_opens : (ring : RingState) (clients : ℕ) → ProxyHolds (λ _. []) (λ _. []) [] (λ _. fresh_lane 0) (opening_proxy ring clients)
 proxy_opens ring zero = record {
   sized = All-nil IsSized;
   numbered = λ number. refl;
@@ -84,8 +84,8 @@ proxy_opens ring zero = record {
   links = λ place. link_opens (length ring.servers) place;
 }
 proxy_opens ring (suc clients) =
-    subst (λ (p : ProxyState). ProxyStands (λ _. []) (λ _. []) [] (λ _. fresh_lane 0) p) (one_admitted ring clients)
-    (stands-admitted (λ _. []) (λ _. []) [] (λ _. fresh_lane 0) (opening_proxy ring clients) (proxy_opens ring clients) (session_above 0 clients clients (omega arith)))
+    subst (λ (p : ProxyState). ProxyHolds (λ _. []) (λ _. []) [] (λ _. fresh_lane 0) p) (one_admitted ring clients)
+    (holds-admitted (λ _. []) (λ _. []) [] (λ _. fresh_lane 0) (opening_proxy ring clients) (proxy_opens ring clients) (session_above 0 clients clients (omega arith)))
 
 same_site : (opening : CacheState) (n place : ℕ) (site : SiteState) → slice_get (replicate n (first_site opening)) place ≡ Some site → first_site opening ≡ site
 same_site opening zero zero site at = absurd (none-some site at)
@@ -94,13 +94,13 @@ same_site opening (suc n) zero site at = same_Some (first_site opening) site at
 same_site opening (suc n) (suc place) site at = same_site opening n place site at
 
 -- the site of a server that was just admitted to a pool, where nothing was sent to it yet
-pub first_site_stands : (place : ℕ) (order : Order) (link : LinkState) (opening : CacheState) → IsGoodCache opening → commands_to place order ≡ [] → AreReplied place order []
-    → SiteStands place order (fresh_lane (length order)) link opening (first_site opening)
-first_site_stands place order link opening good none replied = record {
+pub first_site_holds : (place : ℕ) (order : Order) (link : LinkState) (opening : CacheState) → IsGoodCache opening → commands_to place order ≡ [] → AreReplied place order []
+    → SiteHolds place order (fresh_lane (length order)) link opening (first_site opening)
+first_site_holds place order link opening good none replied = record {
   made = [];
   texts = λ _. [];
   sent = λ _. [];
-  server = ServerStands-admitted opening (λ _. []) (λ _. []) [] (record { cache = opening; connections = []; admitted = 0 }) (ServerStands-new opening);
+  server = ServerHolds-admitted opening (λ _. []) (λ _. []) [] (record { cache = opening; connections = []; admitted = 0 }) (ServerHolds-new opening);
   good_cache = good;
   answers = tt;
   history = refl;
@@ -124,13 +124,13 @@ first_site_stands place order link opening good none replied = record {
   apart_living = λ up i way at. absurd (none-some way at);
 }
 
-pub opening_pool_stands : (opening : CacheState) (ring : RingState) (clients : ℕ) → IsGoodCache opening
-    → PoolStands opening (λ _. []) (λ _. []) [] (λ _. fresh_lane 0) (opening_pool opening ring clients)
-opening_pool_stands opening ring clients good = record {
+pub opening_pool_holds : (opening : CacheState) (ring : RingState) (clients : ℕ) → IsGoodCache opening
+    → PoolHolds opening (λ _. []) (λ _. []) [] (λ _. fresh_lane 0) (opening_pool opening ring clients)
+opening_pool_holds opening ring clients good = record {
   proxy = proxy_opens ring clients;
-  sites = λ place site at. subst (λ (s : SiteState). SiteStands place [] (fresh_lane 0) (link_at (replicate (length ring.servers) (up_link 1)) place) opening s)
+  sites = λ place site at. subst (λ (s : SiteState). SiteHolds place [] (fresh_lane 0) (link_at (replicate (length ring.servers) (up_link 1)) place) opening s)
       (same_site opening (length ring.servers) place site at)
-      (first_site_stands place [] (link_at (replicate (length ring.servers) (up_link 1)) place) opening good refl (λ tag atom reply is. absurd (none-some _ is)));
+      (first_site_holds place [] (link_at (replicate (length ring.servers) (up_link 1)) place) opening good refl (λ tag atom reply is. absurd (none-some _ is)));
   bytes = λ client. All-nil (λ (b : ℕ). b < 256);
 }
 
@@ -184,7 +184,7 @@ fresh_pool ring opening is_ring = record {
 }
 
 -- where nothing was done, the log leaves the pool so
-pub log_opens : (ring : RingState) (opening : CacheState) (clients : ℕ) → IsRing ring → LogStands ring [] (λ _. []) [] (opening_pool opening ring clients)
+pub log_opens : (ring : RingState) (opening : CacheState) (clients : ℕ) → IsRing ring → LogHolds ring [] (λ _. []) [] (opening_pool opening ring clients)
 log_opens ring opening clients is_ring =
     let begun = log_begins ring (opening_pool opening ring 0) (fresh_pool ring opening is_ring) in
     record {
@@ -218,13 +218,13 @@ opening_generations opening (suc n) (suc place) site at = opening_generations op
 
 -- a world that was just opened
 pub course_opens : (ring : RingState) (clients budget items : ℕ) → IsRing ring → 1 ≤ items
-    → CourseStands ring (opening_cache budget items 0) (opening_world ring clients budget items).course
+    → CourseHolds ring (opening_cache budget items 0) (opening_world ring clients budget items).course
 course_opens ring clients budget items is_ring some =
     stood_as ring (opening_cache budget items 0) [] (λ _. fresh_lane 0) (opening_world ring clients budget items).course (λ _. []) (λ _. []) (λ _. [])
     (λ n. sym (ap (λ (c : ClientState). c.text) (nobody_there clients n)))
     (λ n. sym (ap (λ (c : ClientState). c.taken) (nobody_there clients n)))
     (λ n. sym (ap (λ (c : ClientState). c.taken ++ output_of (session_in (fresh_sessions 0 clients) n)) (nobody_there clients n) ∙ nothing_put clients n))
-    (opening_pool_stands (opening_cache budget items 0) ring clients (opening_is_good budget items 0 some (omega arith)))
+    (opening_pool_holds (opening_cache budget items 0) ring clients (opening_is_good budget items 0 some (omega arith)))
     (log_opens ring (opening_cache budget items 0) clients is_ring)
     (sym (length-replicate clients nobody))
     (opening_generations (opening_cache budget items 0) (length ring.servers))

@@ -6,11 +6,11 @@ pub mod Serving
 pub mod Sites
 pub mod Pools
 pub mod Applies
-pub mod LogStands
+pub mod LogHolds
 pub mod Worlds
 pub mod Bare
 pub mod Courses
-pub mod CourseStands
+pub mod CourseHolds
 pub mod Joins
 pub mod Runs
 pub mod Refusals

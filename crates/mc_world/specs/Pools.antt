@@ -18,9 +18,9 @@ use Rattle.mc_proxy.specs.ProxyState.{sent_by, session_at, without}
 use Rattle.mc_proxy.specs.Turns.{Alone, Steps}
 use Rattle.mc_account.specs.Lanes.{Lane}
 use Rattle.mc_account.specs.Orders.{Entry as Asked, Order}
-use Rattle.mc_account.specs.Stands.{ProxyStands}
+use Rattle.mc_account.specs.Holds.{ProxyHolds}
 use Rattle.mc_world.specs.Happens.{Arrives, Enters, entry_of_tag, returned, taken_one}
-use Rattle.mc_world.specs.Sites.{SiteStands}
+use Rattle.mc_world.specs.Sites.{SiteHolds}
 use Rattle.mc_world.specs.WorldState.{PoolState, SiteState, WayState}
 
 -- a client's bytes are fed to its session; a request of a client is taken; one of its answers is put out
@@ -173,7 +173,7 @@ pub record LinkReturns (place : ℕ) (old new : PoolState) : Type 0 where
   pub proxy : new.proxy ≡ record old.proxy { links = with_link place (up_link ((link_at old.proxy.links place).generation + 1)) old.proxy.links }
 
 -- A pool is where an order and lanes leave its proxy, and each of its servers with its ways.
-pub record PoolStands (opening : CacheState) (texts sent : ℕ → List ℕ) (order : Order) (lanes : ℕ → Lane) (pool : PoolState) : Type 0 where
-  pub proxy : ProxyStands texts sent order lanes pool.proxy
-  pub sites : (place : ℕ) (site : SiteState) → slice_get pool.sites place ≡ Some site → SiteStands place order (lanes place) (link_at pool.proxy.links place) opening site
+pub record PoolHolds (opening : CacheState) (texts sent : ℕ → List ℕ) (order : Order) (lanes : ℕ → Lane) (pool : PoolState) : Type 0 where
+  pub proxy : ProxyHolds texts sent order lanes pool.proxy
+  pub sites : (place : ℕ) (site : SiteState) → slice_get pool.sites place ≡ Some site → SiteHolds place order (lanes place) (link_at pool.proxy.links place) opening site
   pub bytes : (client : ℕ) → All (λ b. b < 256) (texts client)

@@ -6,7 +6,7 @@ use Rattle.mc_link.specs.declared.turns.Tag.{Tag}
 use Rattle.mc_cache.specs.CacheState.{CacheState}
 use Rattle.mc_cache_laws.specs.GoodCaches.{IsGoodCache}
 use Rattle.mc_server.specs.ServerState.{ConnectionState, ServerState, connection_at}
-use Rattle.mc_server.specs.Stands.{ServerStands}
+use Rattle.mc_server.specs.Holds.{ServerHolds}
 use Rattle.mc_account.specs.Lanes.{Lane, spelled}
 use Rattle.mc_account.specs.Orders.{Order, Tagged, commands_to}
 use Rattle.mc_history.specs.Generations.{commands_of_lane, is_good}
@@ -43,11 +43,11 @@ pub record IsLostWay (place : ℕ) (order : Order) (made : List Made) (texts : �
 
 -- A server is where what it made leaves it, with each of its ways: its history tells what it made, and its cache is one whose replies
 -- can be had.
-pub record SiteStands (place : ℕ) (order : Order) (lane : Lane) (link : LinkState) (opening : CacheState) (site : SiteState) : Type 0 where
+pub record SiteHolds (place : ℕ) (order : Order) (lane : Lane) (link : LinkState) (opening : CacheState) (site : SiteState) : Type 0 where
   pub made : List Made
   pub texts : ℕ → List ℕ
   pub sent : ℕ → List ℕ
-  pub server : ServerStands opening texts sent (map taking_of made) site.server
+  pub server : ServerHolds opening texts sent (map taking_of made) site.server
   pub good_cache : IsGoodCache site.server.cache
   pub answers : AreMade opening made
   pub history : site.history ≡ map entry_of made

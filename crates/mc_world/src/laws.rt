@@ -8,11 +8,11 @@ ghost use Rattle.mc_proxy.specs.ProxyState.{output_of as output_at, session_at};
 ghost use Rattle.mc_session.specs.SessionState.{link_at};
 ghost use Rattle.mc_account.specs.Lanes.{Lane, fresh_lane};
 ghost use Rattle.mc_account.specs.Orders.{Order, note, note_all};
-ghost use Rattle.mc_account.specs.Stands.{changed, grown};
+ghost use Rattle.mc_account.specs.Holds.{changed, grown};
 ghost use Rattle.mc_world.specs.Accounts.{Account, AccountsForCommands};
 ghost use Rattle.mc_world.specs.Logs.{Log, before, is_up, number_of, up_by};
 ghost use Rattle.mc_world.specs.declared.events.Logged.{Logged};
-ghost use Rattle.mc_world.specs.Pools.{ClientGoes, TakesBytes, EndSeen, LateBytes, LateTurn, LinkReturns, HearsClient, LosesLink, PoolStands, PutsAnswer, ReachesProxy, ReachesServer, ServerTakes, TakesReply, TakesRequest, asked_by};
+ghost use Rattle.mc_world.specs.Pools.{ClientGoes, TakesBytes, EndSeen, LateBytes, LateTurn, LinkReturns, HearsClient, LosesLink, PoolHolds, PutsAnswer, ReachesProxy, ReachesServer, ServerTakes, TakesReply, TakesRequest, asked_by};
 ghost use Rattle.mc_world.specs.WorldState.{PoolState, SiteState, histories_of};
 ghost use Rattle.mc_history.specs.Named.{AreReplied};
 
@@ -25,64 +25,64 @@ pub fn nothing_gives_account()
 pub fn clients_keep_pools()
     ensures hears { (opening : CacheState) (texts sent : ℕ → List ℕ) (order : Order) (lanes : ℕ → Lane) (client : ℕ) (piece : List ℕ) (old new : PoolState)
         → ((number : ℕ) → All (λ b. b < 256) (grown client piece texts number)) → HearsClient client piece old new
-        → PoolStands opening texts sent order lanes old → PoolStands opening (grown client piece texts) sent order lanes new }
+        → PoolHolds opening texts sent order lanes old → PoolHolds opening (grown client piece texts) sent order lanes new }
     ensures takes { (opening : CacheState) (texts sent : ℕ → List ℕ) (order : Order) (lanes : ℕ → Lane) (client : ℕ) (old new : PoolState)
-        → (taking : TakesRequest client old new) → PoolStands opening texts sent order lanes old
-        → PoolStands opening texts sent (order ++ asked_by taking ∷ []) lanes new }
+        → (taking : TakesRequest client old new) → PoolHolds opening texts sent order lanes old
+        → PoolHolds opening texts sent (order ++ asked_by taking ∷ []) lanes new }
     ensures takes_bytes { (opening : CacheState) (texts sent : ℕ → List ℕ) (order : Order) (lanes : ℕ → Lane) (client count : ℕ) (old new : PoolState)
-        → TakesBytes client count old new → PoolStands opening texts sent order lanes old
-        → PoolStands opening texts (grown client (take count (output_at (session_at old.proxy client))) sent) order lanes new }
+        → TakesBytes client count old new → PoolHolds opening texts sent order lanes old
+        → PoolHolds opening texts (grown client (take count (output_at (session_at old.proxy client))) sent) order lanes new }
     ensures goes { (opening : CacheState) (texts sent : ℕ → List ℕ) (order : Order) (lanes : ℕ → Lane) (client : ℕ) (old new : PoolState)
-        → ClientGoes client old new → PoolStands opening texts sent order lanes old → PoolStands opening texts sent order lanes new }
+        → ClientGoes client old new → PoolHolds opening texts sent order lanes old → PoolHolds opening texts sent order lanes new }
     ensures puts { (opening : CacheState) (texts sent : ℕ → List ℕ) (order : Order) (lanes : ℕ → Lane) (client : ℕ) (old new : PoolState)
-        → PutsAnswer client old new → PoolStands opening texts sent order lanes old → PoolStands opening texts sent order lanes new }
+        → PutsAnswer client old new → PoolHolds opening texts sent order lanes old → PoolHolds opening texts sent order lanes new }
 {}
 
 /// So does what happens on a living generation, and its loss.
 pub fn living_ways_keep_pools()
     ensures reaches_server { (opening : CacheState) (texts sent : ℕ → List ℕ) (order : Order) (lanes : ℕ → Lane) (place count : ℕ) (old new : PoolState)
-        → ReachesServer place count old new → PoolStands opening texts sent order lanes old
-        → PoolStands opening texts sent order
+        → ReachesServer place count old new → PoolHolds opening texts sent order lanes old
+        → PoolHolds opening texts sent order
         (changed place (record (lanes place) { out = (lanes place).out ++ take count (link_at old.proxy.links place).output }) lanes) new }
     ensures server_takes { (opening : CacheState) (texts sent : ℕ → List ℕ) (order : Order) (lanes : ℕ → Lane) (place moment : ℕ) (old new : PoolState)
         → (taking : ServerTakes place moment old new) → moment < 2 ^ 63
-        → PoolStands opening texts sent order lanes old → PoolStands opening texts sent order lanes new }
+        → PoolHolds opening texts sent order lanes old → PoolHolds opening texts sent order lanes new }
     ensures reaches_proxy { (opening : CacheState) (texts sent : ℕ → List ℕ) (order : Order) (lanes : ℕ → Lane) (place count : ℕ) (old new : PoolState)
-        → (reach : ReachesProxy place count old new) → PoolStands opening texts sent order lanes old
-        → PoolStands opening texts sent order (changed place (record (lanes place) {
+        → (reach : ReachesProxy place count old new) → PoolHolds opening texts sent order lanes old
+        → PoolHolds opening texts sent order (changed place (record (lanes place) {
           came = (lanes place).came ++ take count (output_of (connection_at reach.there.site.server reach.there.site.connection));
         }) lanes) new }
     ensures takes_reply { (opening : CacheState) (texts sent : ℕ → List ℕ) (order : Order) (lanes : ℕ → Lane) (place : ℕ) (old new : PoolState)
-        → (taking : TakesReply place old new) → PoolStands opening texts sent order lanes old
-        → PoolStands opening texts sent (note taking.answers.tag (Reply taking.answers.reply) order)
+        → (taking : TakesReply place old new) → PoolHolds opening texts sent order lanes old
+        → PoolHolds opening texts sent (note taking.answers.tag (Reply taking.answers.reply) order)
         (changed place (record (lanes place) { replies = (lanes place).replies ++ taking.answers.reply ∷ [] }) lanes) new }
     ensures loses { (opening : CacheState) (texts sent : ℕ → List ℕ) (order : Order) (lanes : ℕ → Lane) (place : ℕ) (old new : PoolState)
-        → LosesLink place old new → PoolStands opening texts sent order lanes old
-        → PoolStands opening texts sent (note_all (map (λ waiting. waiting.1) (link_at old.proxy.links place).waiting) Lost order) lanes new }
+        → LosesLink place old new → PoolHolds opening texts sent order lanes old
+        → PoolHolds opening texts sent (note_all (map (λ waiting. waiting.1) (link_at old.proxy.links place).waiting) Lost order) lanes new }
 {}
 
 /// So do late bytes and late turns of a lost generation, its end, and the return of a link.
 pub fn lost_ways_keep_pools()
     ensures late_bytes { (opening : CacheState) (texts sent : ℕ → List ℕ) (order : Order) (lanes : ℕ → Lane) (place i count : ℕ) (old new : PoolState)
-        → LateBytes place i count old new → PoolStands opening texts sent order lanes old → PoolStands opening texts sent order lanes new }
+        → LateBytes place i count old new → PoolHolds opening texts sent order lanes old → PoolHolds opening texts sent order lanes new }
     ensures late_turn { (opening : CacheState) (texts sent : ℕ → List ℕ) (order : Order) (lanes : ℕ → Lane) (place i moment : ℕ) (old new : PoolState)
         → (taking : LateTurn place i moment old new) → moment < 2 ^ 63
-        → PoolStands opening texts sent order lanes old → PoolStands opening texts sent order lanes new }
+        → PoolHolds opening texts sent order lanes old → PoolHolds opening texts sent order lanes new }
     ensures end_seen { (opening : CacheState) (texts sent : ℕ → List ℕ) (order : Order) (lanes : ℕ → Lane) (place i : ℕ) (old new : PoolState)
-        → EndSeen place i old new → PoolStands opening texts sent order lanes old → PoolStands opening texts sent order lanes new }
+        → EndSeen place i old new → PoolHolds opening texts sent order lanes old → PoolHolds opening texts sent order lanes new }
     ensures returns_link { (opening : CacheState) (texts sent : ℕ → List ℕ) (order : Order) (lanes : ℕ → Lane) (place : ℕ) (old new : PoolState)
-        → LinkReturns place old new → PoolStands opening texts sent order lanes old
-        → PoolStands opening texts sent order (changed place (fresh_lane (length order)) lanes) new }
+        → LinkReturns place old new → PoolHolds opening texts sent order lanes old
+        → PoolHolds opening texts sent order (changed place (fresh_lane (length order)) lanes) new }
 {}
 
-/// A pool that is where its calls left it (`PoolStands`) gives account of its commands. Each client's requests were taken in order, each
+/// A pool that is where its calls left it (`PoolHolds`) gives account of its commands. Each client's requests were taken in order, each
 /// server's history is legal and of commands that were sent to it, and no command has two entries in all of them. A reply that is
 /// known of a command is that of its entry in the history of its server.
 pub fn pools_account_for_commands()
     ensures commands { (opening : CacheState) (texts sent : ℕ → List ℕ) (order : Order) (lanes : ℕ → Lane) (pool : PoolState)
-        → PoolStands opening texts sent order lanes pool → AccountsForCommands opening order texts (histories_of pool.sites) }
+        → PoolHolds opening texts sent order lanes pool → AccountsForCommands opening order texts (histories_of pool.sites) }
     ensures replied { (opening : CacheState) (texts sent : ℕ → List ℕ) (order : Order) (lanes : ℕ → Lane) (pool : PoolState) (place : ℕ) (site : SiteState)
-        → PoolStands opening texts sent order lanes pool → slice_get pool.sites place ≡ Some site → AreReplied place order site.history }
+        → PoolHolds opening texts sent order lanes pool → slice_get pool.sites place ≡ Some site → AreReplied place order site.history }
 {}
 
 /// A log that goes on: counts and links go by its last event, and the place before an event that was there stays.

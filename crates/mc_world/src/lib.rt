@@ -12,7 +12,7 @@
 //! `specs/Pools.antt`.
 //!
 //! Links are lost and come back in generations: bytes of a lost one may still arrive, and its server may still take what they
-//! ask, until it sees the end. [`courses_go_on`] says that where a pool is after all that was done (`CourseStands`) is kept by each event.
+//! ask, until it sees the end. [`courses_go_on`] says that where a pool is after all that was done (`CourseHolds`) is kept by each event.
 //!
 //! [`Pool`] has a call for each event, over servers with their ways ([`Site`]): it does what the event's record says exactly where
 //! the event applies (`specs/Applies.antt`), and changes nothing else. What its calls rest on ([`courses_serve`]) holds wherever a course
@@ -51,6 +51,6 @@ pub use sites::Site;
 pub use ways::Way;
 pub use world_laws::{
     courses_go_on, courses_serve, every_run_gives_account, every_world_gives_account,
-    nothing_is_stuck, opening_pools_stand,
+    nothing_is_stuck, opening_pools_hold,
 };
 pub use worlds::{MAX_CLIENTS, World};

@@ -5,8 +5,8 @@ ghost use Rattle.mc_cache.specs.CacheState.{CacheState, HasRoom, IsWithinBounds,
 ghost use Rattle.mc_cache_laws.specs.GoodCaches.{IsGoodCache};
 ghost use Rattle.mc_account.specs.Lanes.{fresh_lane};
 ghost use Rattle.mc_world.specs.Courses.{Applies, IsDone};
-ghost use Rattle.mc_world.specs.CourseStands.{CourseStands};
-ghost use Rattle.mc_world.specs.Pools.{PoolStands};
+ghost use Rattle.mc_world.specs.CourseHolds.{CourseHolds};
+ghost use Rattle.mc_world.specs.Pools.{PoolHolds};
 ghost use Rattle.mc_world.specs.Serving.{PoolServes};
 ghost use Rattle.mc_world.specs.Accounts.{Account};
 ghost use Rattle.mc_world.specs.Logs.{number_of, takes};
@@ -24,21 +24,21 @@ use mc_store::Store;
 use mc_text::Block;
 use std::alloc::Global;
 
-/// A pool that was just opened is where nothing was taken (`PoolStands`): its links are up, and each server has taken nothing.
-pub fn opening_pools_stand()
+/// A pool that was just opened is where nothing was taken (`PoolHolds`): its links are up, and each server has taken nothing.
+pub fn opening_pools_hold()
     ensures { (opening : CacheState) (ring : RingState) (clients : ℕ) → IsGoodCache opening
-        → PoolStands opening (λ _. []) (λ _. []) [] (λ _. fresh_lane 0) (opening_pool opening ring clients) }
+        → PoolHolds opening (λ _. []) (λ _. []) [] (λ _. fresh_lane 0) (opening_pool opening ring clients) }
 {}
 
-/// Where a course is after all that was done (`CourseStands`) is kept by each event that is done.
+/// Where a course is after all that was done (`CourseHolds`) is kept by each event that is done.
 pub fn courses_go_on()
     ensures { (ring : RingState) (opening : CacheState) (event : Event (List ℕ)) (old new : CourseState)
-        → CourseStands ring opening old → IsDone event old new → CourseStands ring opening new }
+        → CourseHolds ring opening old → IsDone event old new → CourseHolds ring opening new }
 {}
 
-/// Wherever a course is (`CourseStands`), its servers serve its proxy, over each link and on each of its lost generations.
+/// Wherever a course is (`CourseHolds`), its servers serve its proxy, over each link and on each of its lost generations.
 pub fn courses_serve()
-    ensures { (ring : RingState) (opening : CacheState) (c : CourseState) → CourseStands ring opening c → PoolServes c.pool }
+    ensures { (ring : RingState) (opening : CacheState) (c : CourseState) → CourseHolds ring opening c → PoolServes c.pool }
 {}
 
 /// Whatever is done, in whatever order, and whichever servers join: each client's bytes are its requests' answers in order, without

@@ -33,14 +33,14 @@ pub struct World<S: Store + Drop> {
 }
 
 impl<S: Store + Drop> Model for World<S> {
-    ghost use Rattle.mc_world.specs.CourseStands.{WorldStands};
+    ghost use Rattle.mc_world.specs.CourseHolds.{WorldHolds};
     ghost use Rattle.mc_world.specs.Worlds.{WorldState};
 
     ghost Value = { WorldState };
 
     ghost view = { λ w. record { course = w.course; opening = w.opening; budget = w.budget; items = w.items } };
 
-    ghost invariant = { λ w. WorldStands (record { course = w.course; opening = w.opening; budget = w.budget; items = w.items }) };
+    ghost invariant = { λ w. WorldHolds (record { course = w.course; opening = w.opening; budget = w.budget; items = w.items }) };
 }
 
 impl World<ListStore> {

@@ -32,7 +32,7 @@ ASK_WITH_WORDS = {"quit", "version", "set", "add", "replace", "cas"} | {name for
 
 
 class Relay:
-    """Stands between a client and a server on a port of its own, and takes the further words off `version`."""
+    """Holds between a client and a server on a port of its own, and takes the further words off `version`."""
 
     def __init__(self, port):
         self.server_port = port

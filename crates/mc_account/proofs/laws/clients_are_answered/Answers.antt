@@ -1,5 +1,5 @@
-use Rattle.mc_account.proofs.AnsweredLemmas.{stands-answered}
+use Rattle.mc_account.proofs.AnsweredLemmas.{holds-answered}
 use Rattle.mc_account.proofs.laws.clients_are_answered.Goals as goal
 
 pub returns : goal.returns
-returns c = stands-answered
+returns c = holds-answered

@@ -1,5 +1,5 @@
-use Rattle.mc_account.proofs.StandsLemmas.{stands-complete}
+use Rattle.mc_account.proofs.HoldsLemmas.{holds-complete}
 use Rattle.mc_account.proofs.laws.nothing_awaited_is_complete.Goals as goal
 
 pub returns : goal.returns
-returns c = stands-complete
+returns c = holds-complete

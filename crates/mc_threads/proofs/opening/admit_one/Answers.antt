@@ -1,5 +1,5 @@
 use Rattle.std.proofs.Common.{◌≡◌, ◌+◌, ◌∙◌, sym, subst, ℕ, None}
-use Rattle.mc_account.specs.Stands.{grown}
+use Rattle.mc_account.specs.Holds.{grown}
 use Rattle.mc_proxy.specs.ProxyState.{ProxyState, session_at}
 use Rattle.mc_threads.specs.Accounts.{joined}
 use Rattle.mc_threads.specs.Talks.{Talks}

@@ -1,6 +1,6 @@
 use Rattle.std.proofs.Common.{rules, ◌≡◌, ◌+◌, ◌<◌, ◌∙◌, ◌++◌, [], length, take, refl, ap, sym}
 use Rattle.std.proofs.lemmas.List.{take_all}
-use Rattle.mc_account.specs.Stands.{grown}
+use Rattle.mc_account.specs.Holds.{grown}
 use Rattle.mc_threads.specs.Accounts.{joined}
 use Rattle.mc_threads.proofs.AtLemmas.{grown_nothing, grown_twice, joined_next}
 use Rattle.mc_threads.proofs.TalkLemmas.{talks_as}

@@ -1,6 +1,6 @@
 use Rattle.std.proofs.Common.{◌≡◌, ◌+◌, ◌∙◌, ℕ, [], length, refl, ap, sym, subst, arith}
 use Rattle.mc_ring.specs.Rings.{RingState}
-use Rattle.mc_account.specs.Stands.{grown}
+use Rattle.mc_account.specs.Holds.{grown}
 use Rattle.mc_threads.specs.Accounts.{joined, texts_of}
 use Rattle.mc_threads.specs.Talks.{Talks}
 use Rattle.mc_threads.proofs.AtLemmas.{at_map, at_past, below, below_all, below_next, below_past}

@@ -1,5 +1,5 @@
 use Rattle.std.proofs.Common.{rules, ◌≡◌, ◌<◌, ◌∙◌, length, refl, sym, ap, set}
-use Rattle.mc_account.specs.Stands.{changed}
+use Rattle.mc_account.specs.Holds.{changed}
 use Rattle.mc_threads.specs.Accounts.{Bytes, outs_of}
 use Rattle.mc_threads.proofs.AtLemmas.{at_map, at_set}
 use Rattle.mc_threads.proofs.TalkLemmas.{talks_as, talks_moved}

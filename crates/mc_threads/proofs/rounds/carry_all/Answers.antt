@@ -1,6 +1,6 @@
 use Rattle.std.proofs.Common.{rules, ◌≡◌, ◌<◌, ◌∙◌, length, vec_len, arith, refl, sym, ap, set}
 use Rattle.rtrb.specs.Ring.{sent, received}
-use Rattle.mc_account.specs.Stands.{changed}
+use Rattle.mc_account.specs.Holds.{changed}
 use Rattle.mc_threads.specs.Talks.{came_from, went_to}
 use Rattle.mc_threads.specs.declared.links.Ends.{Ends}
 use Rattle.mc_threads.proofs.AtLemmas.{at_map, at_set}

@@ -21,13 +21,13 @@ returns-then-self-2-clause-little c =
 pub invariant_of-self : goal.invariant_of-self
 invariant_of-self c =
     let unread_is = c.split_at.ensures.back ∙ ap (λ (xs : List ℕ). drop c.self.inside.start xs) c.deref.ensures.value in
-    let stands = rw (c.in-Whole.is, unread_is) at c.stand_of.ensures in
+    let holds = rw (c.in-Whole.is, unread_is) at c.arrival_of.ensures in
     record {
       half = c.self.invariant.half;
-      searched = stands.0;
+      searched = holds.0;
       short = c.self.invariant.short;
       limit = c.self.invariant.limit;
-      whole = λ known. whole_from (drop c.self.inside.start c.self.inside.buffer.items) c.self.inside.wanted stands.1;
+      whole = λ known. whole_from (drop c.self.inside.start c.self.inside.buffer.items) c.self.inside.wanted holds.1;
       empty = c.self.invariant.empty;
       done = c.self.invariant.done;
     }
@@ -35,17 +35,17 @@ invariant_of-self c =
 pub returns-in-Whole-clause-little : goal.returns-in-Whole-clause-little
 returns-in-Whole-clause-little c =
     let unread_is = c.split_at.ensures.back ∙ ap (λ (xs : List ℕ). drop c.self.inside.start xs) c.deref.ensures.value in
-    let stands = rw (c.in-Whole.is, unread_is) at c.stand_of.ensures in
+    let holds = rw (c.in-Whole.is, unread_is) at c.arrival_of.ensures in
     let kept : c.self.inside.dropping ≡ None = search rules in
-    little_whole _ c.if-self.false kept (half_of c.self.inside c.self.invariant) stands.1
+    little_whole _ c.if-self.false kept (half_of c.self.inside c.self.invariant) holds.1
 
 -- the block is dropped from here on
 pub returns-in-Drops-clause-rest : goal.returns-in-Drops-clause-rest
 returns-in-Drops-clause-rest c =
     let s = c.args.self.now in
     let unread_is = c.split_at.ensures.back ∙ ap (λ (xs : List ℕ). drop c.self.inside.start xs) c.deref.ensures.value ∙ ap (λ (s : ReaderState). s.unread) c.self.view_is in
-    let stands = rw (c.in-Drops.is, unread_is) at c.stand_of.ensures in
+    let holds = rw (c.in-Drops.is, unread_is) at c.arrival_of.ensures in
     let unclosed = sym (ap (λ (s : ReaderState). s.closed) c.self.view_is) ∙ c.if-self.false in
     let kept : c.self.inside.dropping ≡ None = search rules in
     let none = sym (ap (λ (s : ReaderState). s.dropping) c.self.view_is) ∙ kept in
-    rest_drops s _ c.in-Drops.fault c.in-Drops.size unclosed none c.if-self.false (rw unread_is refl) c.clear.ensures.items stands.0 stands.1 stands.2
+    rest_drops s _ c.in-Drops.fault c.in-Drops.size unclosed none c.if-self.false (rw unread_is refl) c.clear.ensures.items holds.0 holds.1 holds.2

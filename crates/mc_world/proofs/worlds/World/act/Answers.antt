@@ -1,6 +1,6 @@
 use Rattle.std.proofs.Common.{◌≡◌, ◌∙◌, List, ℕ, ap, subst}
 use Rattle.mc_world.specs.Acts.{event_of}
-use Rattle.mc_world.specs.CourseStands.{WorldStands}
+use Rattle.mc_world.specs.CourseHolds.{WorldHolds}
 use Rattle.mc_world.specs.Steps.{StepsTo}
 use Rattle.mc_world.specs.WorldState.{PoolState}
 use Rattle.mc_world.specs.Worlds.{WorldState}
@@ -18,5 +18,5 @@ returns-in-Done-clause-over g c =
     let event : c.event_of-event.result ≡ event_of c.args.act c.args.moment c.args.self.now.course.pool =
     subst (λ (p : PoolState). c.event_of-event.result ≡ event_of c.args.act c.args.moment p) pool c.event_of-event.ensures in
     act_done c.args.act c.args.moment c.args.self.now c.step.new.self
-    (subst (λ (w : WorldState). WorldStands w) c.self.view_is c.self.invariant)
+    (subst (λ (w : WorldState). WorldHolds w) c.self.view_is c.self.invariant)
     (subst (λ (e : Event (List ℕ)). StepsTo e Done c.args.self.now.course c.step.new.self.course) event steps) c.step.ensures.opened

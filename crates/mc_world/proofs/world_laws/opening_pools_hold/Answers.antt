@@ -1,0 +1,5 @@
+use Rattle.mc_world.proofs.WorldOpeningLemmas.{opening_pool_holds}
+use Rattle.mc_world.proofs.world_laws.opening_pools_hold.Goals as goal
+
+pub returns : goal.returns
+returns c = opening_pool_holds

@@ -1,0 +1,30 @@
+-- Where a world is, after all that was done.
+use Rattle.std.specs.Prelude.{ℕ, ◌≡◌, length, Some, slice_get}
+use Rattle.mc_ring.specs.Rings.{RingState}
+use Rattle.mc_cache.specs.CacheState.{CacheState, IsWithinBounds, opening_cache}
+use Rattle.mc_session.specs.SessionState.{link_at}
+use Rattle.mc_account.specs.Lanes.{Lane}
+use Rattle.mc_account.specs.Orders.{Order}
+use Rattle.mc_world.specs.LogHolds.{LogHolds}
+use Rattle.mc_world.specs.Pools.{PoolHolds}
+use Rattle.mc_world.specs.WorldState.{PoolState, SiteState}
+use Rattle.mc_world.specs.Worlds.{CourseState, WorldState, put_out_of, taken_by, text_of}
+
+-- each site is of the generation of its link
+abbrev pub HaveOneGeneration : PoolState → Type 0
+HaveOneGeneration pool = (place : ℕ) (site : SiteState) → slice_get pool.sites place ≡ Some site → site.generation ≡ (link_at pool.proxy.links place).generation
+
+-- A course is where its proxy took requests in some order, and that passed over its links: so its pool is there, and its log tells
+-- of it. Each client has a session of its number, and each site is of the generation of its link.
+pub record CourseHolds (ring : RingState) (opening : CacheState) (c : CourseState) : Type 0 where
+  pub order : Order
+  pub lanes : ℕ → Lane
+  pub pool : PoolHolds opening (text_of c) (taken_by c) order lanes c.pool
+  pub log : LogHolds ring order (put_out_of c) c.log c.pool
+  pub numbered : c.pool.proxy.admitted ≡ length c.clients
+  pub generations : HaveOneGeneration c.pool
+
+-- the same of a world, whose caches may have their bounds
+pub record WorldHolds (w : WorldState) : Type 0 where
+  pub bounds : IsWithinBounds w.budget w.items
+  pub course : CourseHolds w.opening (opening_cache w.budget w.items 0) w.course

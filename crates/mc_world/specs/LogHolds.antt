@@ -1,0 +1,93 @@
+-- Where a log leaves a pool, and the order in which its proxy took requests.
+use Rattle.std.specs.Prelude.{ℕ, ◌≡◌, ◌<◌, ◌≤◌, ◌⊎◌, true, List, [], length, map, None, Some, slice_get, All}
+use Rattle.mc_request.specs.declared.parts.Atom.{Atom}
+use Rattle.mc_ring.specs.Rings.{IsRing, RingState}
+use Rattle.mc_route.specs.Routes.{to_place}
+use Rattle.mc_route.specs.declared.outcomes.Outcome.{Outcome}
+use Rattle.mc_route.specs.declared.outcomes.Outcome.TheVariants.{Awaited, Lost, Reply}
+use Rattle.mc_link.specs.declared.turns.Tag.{Tag}
+use Rattle.mc_session.specs.SessionState.{SessionState, answered, link_at}
+use Rattle.mc_proxy.specs.ProxyState.{ProxyState, session_at}
+use Rattle.mc_account.specs.Answered.{AreAnswers}
+use Rattle.mc_account.specs.Lookups.{IsRoutedWithin, asked_at, command_at, outcome_at}
+use Rattle.mc_account.specs.Orders.{Entry as Asked, Order, entries_of}
+use Rattle.mc_history.specs.Histories.{IsBefore, tag_in}
+use Rattle.mc_history.specs.declared.entries.Entry.{Entry}
+use Rattle.mc_world.specs.Accounts.{IsToldLost, NotAnswered, WasTaken, up_when_taken}
+use Rattle.mc_world.specs.Logs.{IsRingAfter, Log, before, is_up, moments_of, number_of, puts, serves, takes}
+use Rattle.mc_world.specs.WorldState.{PoolState, SiteState, WayState, histories_of}
+
+-- a command that became this of it: one that is awaited was sent on a link that was up; of one that is lost the log tells why
+abbrev pub IsTold : ℕ → Tag → List Entry → Log → Outcome → Type 0
+IsTold place tag history log Awaited = up_when_taken place tag log
+IsTold place tag history log (Reply reply) = Unit {0}
+IsTold place tag history log Lost = IsToldLost place tag history log
+
+-- an entry of a history was made after its request was taken, and before that was answered, where its command is not lost
+pub record IsPlaced (order : Order) (earlier : Log) (e : Entry) : Type 0 where
+  pub taken : WasTaken (tag_in e) earlier
+  pub answered : (outcome_at order (tag_in e) ≡ Some Lost) ⊎ NotAnswered (tag_in e) earlier
+
+-- of two entries of one client the first was asked before the second, where neither is lost
+abbrev pub AreOrdered : Order → Entry → Entry → Type 0
+AreOrdered order d e =
+    d.client ≡ e.client → (outcome_at order (tag_in d) ≡ Some Lost) ⊎ ((outcome_at order (tag_in e) ≡ Some Lost) ⊎ IsBefore (tag_in d) (tag_in e))
+
+-- a command of a lost generation that its server has not taken: it is lost, and was sent
+pub record IsUntaken (place : ℕ) (order : Order) (log : Log) (tag : Tag) : Type 0 where
+  pub lost : outcome_at order tag ≡ Some Lost
+  pub sent : up_when_taken place tag log
+
+-- The ring of a log, with a link and a site for each of its servers. The links are as the log has them; of a place where none is,
+-- nothing is logged.
+pub record ServersHold (opening : RingState) (log : Log) (pool : PoolState) : Type 0 where
+  pub ring : IsRingAfter opening log pool.proxy.ring
+  pub is_ring : IsRing pool.proxy.ring
+  pub linked : length pool.proxy.links ≡ length pool.proxy.ring.servers
+  pub sited : length pool.sites ≡ length pool.proxy.ring.servers
+  pub links : (place : ℕ) → place < length pool.sites → is_up place log ≡ (link_at pool.proxy.links place).up
+  pub no_links : (place : ℕ) → length pool.sites ≤ place → is_up place log ≡ true
+
+-- Requests that were taken: as many as the log has, each routed by the ring of then, to one of so many places.
+pub record RequestsHold (opening : RingState) (places : ℕ) (order : Order) (log : Log) : Type 0 where
+  pub taken : (client : ℕ) → length (entries_of client order) ≡ number_of (takes client) log
+  pub rings : (client request : ℕ) (e : Asked) → asked_at order client request ≡ Some e → IsRingAfter opening (before (takes client) request log) e.ring
+  pub inside : All (IsRoutedWithin places) order
+
+-- What was put out to each client is the answers to its first requests, one for each put; so many are answered of an open session.
+pub record AnswersHold (order : Order) (outs : ℕ → List ℕ) (log : Log) (proxy : ProxyState) : Type 0 where
+  pub put : (client : ℕ) → AreAnswers client order (number_of (puts client) log) (outs client) []
+  pub unanswered : (client : ℕ) (session : SessionState) → session_at proxy client ≡ Some session → answered session ≡ number_of (puts client) log
+
+-- Histories: an entry for each turn of the server, at its moment; each was made while its request was taken and not answered, and
+-- those of one client in its order.
+pub record HistoriesHold (order : Order) (log : Log) (histories : ℕ → List Entry) : Type 0 where
+  pub moments : (place : ℕ) → map (λ (e : Entry). e.moment) (histories place) ≡ moments_of place log
+  pub placed : (place k : ℕ) (e : Entry) → slice_get (histories place) k ≡ Some e → IsPlaced order (before (serves place) k log) e
+  pub ordered : (place j k : ℕ) (d e : Entry) → slice_get (histories place) j ≡ Some d → slice_get (histories place) k ≡ Some e → j < k → AreOrdered order d e
+
+-- What became of commands is what the log tells; those of lost generations that their server has not taken were sent and are lost.
+pub record CommandsHold (order : Order) (log : Log) (sites : List SiteState) : Type 0 where
+  pub told : (tag : Tag) (place : ℕ) (atom : Atom (List ℕ)) (outcome : Outcome) → command_at order tag ≡ Some (to_place place atom) → outcome_at order tag ≡ Some outcome
+      → IsTold place tag (histories_of sites place) log outcome
+  pub untaken : (place i j : ℕ) (site : SiteState) (way : WayState) (tag : Tag) → slice_get sites place ≡ Some site → slice_get site.lost i ≡ Some way
+      → slice_get way.untaken j ≡ Some tag → IsUntaken place order log tag
+
+-- A log leaves a pool so, whose requests were taken in this order and routed by this ring at first, and which put these bytes out.
+pub record LogHolds (opening : RingState) (order : Order) (outs : ℕ → List ℕ) (log : Log) (pool : PoolState) : Type 0 where
+  pub servers : ServersHold opening log pool
+  pub requests : RequestsHold opening (length pool.sites) order log
+  pub answers : AnswersHold order outs log pool.proxy
+  pub histories : HistoriesHold order log (histories_of pool.sites)
+  pub commands : CommandsHold order log pool.sites
+
+-- A pool in which nothing has happened: its links are up, no session is open, and no server took anything.
+pub record IsFresh (opening : RingState) (pool : PoolState) : Type 0 where
+  pub ring : pool.proxy.ring ≡ opening
+  pub is_ring : IsRing opening
+  pub linked : length pool.proxy.links ≡ length opening.servers
+  pub sited : length pool.sites ≡ length opening.servers
+  pub ups : (place : ℕ) → place < length pool.sites → (link_at pool.proxy.links place).up ≡ true
+  pub not_open : (client : ℕ) → session_at pool.proxy client ≡ None
+  pub histories : (place : ℕ) → histories_of pool.sites place ≡ []
+  pub none_lost : (place : ℕ) (site : SiteState) → slice_get pool.sites place ≡ Some site → site.lost ≡ []
