@@ -12,18 +12,17 @@ use crate::lines::{Asked, CommandLine};
 use crate::meta::Counting;
 use crate::names::{is_noreply, noreply_of, noreply_word};
 use crate::parts::{Direction, Update};
-use mc_text::{WordIter, is_plain_key, read_i64, read_u64};
+use mc_text::{WordIter, are_plain_keys, is_plain_key, read_i64, read_u64};
 
 /// `get`, and after its exptime `gat`, by the keys. One that is none refuses the line.
 #[inline(always)]
 pub fn keys_line(exptime: Option<i64>, with_cas: bool, keys: WordIter<'_>) -> CommandLine<'_>
     ensures { meaning_of result ≡ meaning_from None (if at_least 1 keys.entry then keys_line exptime with_cas keys.entry else Err UnknownCommand) }
 {
-    let mut words = keys.again();
-    let Some(first) = words.next() else {
+    if keys.again().next().is_none() {
         return CommandLine::Alone(Asked::Faulty(Fault::UnknownCommand));
-    };
-    if !is_plain_key(first) || !are_plain_keys(words) {
+    }
+    if !are_plain_keys(&keys) {
         return CommandLine::Alone(Asked::Faulty(Fault::BadFormat));
     }
     CommandLine::Alone(Asked::Get {
@@ -35,25 +34,10 @@ pub fn keys_line(exptime: Option<i64>, with_cas: bool, keys: WordIter<'_>) -> Co
 
 /// Whether there are words, and each is a plain key.
 #[inline(always)]
-pub fn has_plain_keys(mut words: WordIter<'_>) -> bool
-    ensures { result ≡ (at_least 1 words.entry && list_all is_plain_key words.entry) }
+pub fn has_plain_keys(words: &WordIter<'_>) -> bool
+    ensures { result ≡ (at_least 1 words.now && list_all is_plain_key words.now) }
 {
-    let Some(first) = words.next() else {
-        return false;
-    };
-    is_plain_key(first) && are_plain_keys(words)
-}
-
-/// Whether each word is a plain key.
-fn are_plain_keys(words: WordIter<'_>) -> bool
-    ensures { result ≡ list_all is_plain_key words.entry }
-{
-    for word in words {
-        if !is_plain_key(word) {
-            return false;
-        }
-    }
-    true
+    words.again().next().is_some() && are_plain_keys(words)
 }
 
 /// `gat <exptime> <key>*`.

@@ -5,13 +5,14 @@ ghost use Rattle.std.specs.Str.{bytes_eq};
 ghost use Rattle.std.specs.Cmp.Rules.{comparing, hashing};
 ghost use Rattle.std.proofs.Common.{rules};
 ghost use Rattle.std.proofs.lemmas.Cmp.{nat_list_eq_equiv};
-ghost use Rattle.mc_text.specs.Keys.{is_key, is_key_byte, is_plain_key};
+ghost use Rattle.mc_text.specs.Keys.{is_key, is_key_byte, is_line_byte, is_plain_key, is_short};
 ghost use Rattle.mc_text.specs.CodedKeys.{bytes_of_base64, coded_key, is_coded_too_long};
 ghost use Rattle.mc_text.specs.declared.keys.TheConstants.{KEY_LIMIT};
 ghost use Rattle.mc_text.specs.declared.coded_keys.TheConstants.{CODED_LIMIT};
 ghost use Rattle.mc_text.specs.declared.keys.KeyError.TheVariants.{Memory};
 
 use crate::coded_keys::{CODED_ROOM, decode_key};
+use crate::word_iter::WordIter;
 use std::alloc::{AllocError, Global};
 use std::hash::{Hash, Hasher};
 use std::marker::Model;
@@ -157,6 +158,45 @@ fn are_key_bytes(word: &[u8]) -> bool
         good &= is_key_byte(*byte);
     }
     good
+}
+
+/// Whether each word is a plain key. The bytes of all words are tested together, so that the processor tests many at once; in a text
+/// of no more bytes than a key may have no word is too long.
+pub fn are_plain_keys(words: &WordIter<'_>) -> bool
+    ensures { result ≡ list_all is_plain_key words.now }
+{
+    let text = words.text();
+    are_line_bytes(text) && (text.len() <= KEY_LIMIT || are_short(words.again()))
+}
+
+/// Whether no word is longer than a key.
+fn are_short(words: WordIter<'_>) -> bool
+    ensures { result ≡ list_all is_short words.entry }
+{
+    for word in words {
+        if word.len() > KEY_LIMIT {
+            return false;
+        }
+    }
+    true
+}
+
+/// Whether each byte may be in a plain key, or is a space.
+fn are_line_bytes(text: &[u8]) -> bool
+    ensures { result ≡ list_all is_line_byte text.now }
+{
+    let mut good = true;
+    for byte in text {
+        good &= is_line_byte(*byte);
+    }
+    good
+}
+
+/// Whether a byte may be in a plain key, or is a space.
+fn is_line_byte(byte: u8) -> bool
+    ensures { result ≡ is_line_byte byte }
+{
+    byte >= b' ' && byte != 127
 }
 
 /// Whether a byte may be in a plain key.

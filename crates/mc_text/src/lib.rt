@@ -32,7 +32,7 @@ pub use blocks::{Block, VALUE_LIMIT};
 pub use coded_keys::{CODED_LIMIT, CODED_ROOM, is_coded_key, read_coded, write_coded};
 pub use fronts::{drop_front, give_back, let_go};
 pub use key_bytes::KeyBytes;
-pub use keys::{KEY_LIMIT, Key, KeyError, is_plain_key};
+pub use keys::{KEY_LIMIT, Key, KeyError, are_plain_keys, is_plain_key};
 pub use laws::coded_keys_have_one_word;
 pub use lines::{LINE_LIMIT, Line, content_to, next_line, next_line_from};
 pub use numbers::{read_flags, read_i64, read_len, read_u64};

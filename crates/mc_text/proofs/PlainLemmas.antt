@@ -1,0 +1,133 @@
+-- A line of plain keys, by its bytes and by its words.
+use Rattle.std.proofs.Common.{◌≡◌, ℕ, zero, suc, ◌≤◌, Bool, true, false, ◌&&◌, List, [], ◌∷◌, length, filter, eqb, nat_lt, nat_le, refl, sym, ap, ◌∙◌, arith}
+use Rattle.std.proofs.lemmas.Bool.{eqb-true, eqb-false, le-leb, lt-ltb, leb-true}
+use Rattle.std.proofs.lemmas.List.Splits.{slice_split-cons_yes, slice_split-cons_no}
+use Rattle.std.specs.List.{list_all, slice_split, onto_first}
+use Rattle.mc_text.specs.Keys.{is_key_byte, is_line_byte, is_plain_key, is_short}
+use Rattle.mc_text.specs.Words.{words}
+
+abbrev is_space : ℕ → Bool
+is_space b = eqb b 32
+
+abbrev is_run : List ℕ → Bool
+is_run word = nat_lt 0 (length word)
+
+abbrev are_key_bytes : List ℕ → Bool
+are_key_bytes part = list_all is_key_byte part
+
+and_assoc : (a b c : Bool) → ((a && b) && c) ≡ (a && (b && c))
+and_assoc true b c = refl
+and_assoc false b c = refl
+
+-- a byte in front of the first part
+byte_onto : (b : ℕ) (parts : List (List ℕ)) → list_all are_key_bytes (onto_first b parts) ≡ (is_key_byte b && list_all are_key_bytes parts)
+byte_onto b [] = and_assoc (is_key_byte b) true true
+byte_onto b (part ∷ parts) = and_assoc (is_key_byte b) (are_key_bytes part) (list_all are_key_bytes parts)
+
+-- a byte that is no space may be on the line where it may be in a key
+not_space : (b : ℕ) → eqb b 32 ≡ false → is_key_byte b ≡ is_line_byte b
+not_space b other = grind (arith, eqb-false b 32 other)
+
+split_byte : (b : ℕ) (bs : List ℕ) (v : Bool) → eqb b 32 ≡ v → list_all are_key_bytes (slice_split is_space bs) ≡ list_all is_line_byte bs
+  → list_all are_key_bytes (slice_split is_space (b ∷ bs)) ≡ list_all is_line_byte (b ∷ bs)
+split_byte b bs true is h = rw (slice_split-cons_yes is_space b bs is, eqb-true b 32 is) h
+split_byte b bs false is h = rw (slice_split-cons_no is_space b bs is, byte_onto b (slice_split is_space bs), not_space b is, h) refl
+
+-- what is between spaces has bytes of keys alone, where the text has such and spaces alone
+split_bytes : (text : List ℕ) → list_all are_key_bytes (slice_split is_space text) ≡ list_all is_line_byte text
+split_bytes [] = refl
+split_bytes (b ∷ bs) = split_byte b bs (eqb b 32) refl (split_bytes bs)
+
+regrouped : (s k keys shorts all : Bool) → all ≡ (keys && shorts) → ((s && k) && all) ≡ ((k && keys) && (s && shorts))
+regrouped true true keys shorts all e = e
+regrouped true false keys shorts all e = refl
+regrouped false true true shorts all e = refl
+regrouped false true false shorts all e = refl
+regrouped false false keys shorts all e = refl
+
+run_is : (b : ℕ) (bs : List ℕ) → is_run (b ∷ bs) ≡ true
+run_is b bs = lt-ltb 0 (length (b ∷ bs)) (omega arith)
+
+run_kept : (b : ℕ) (bs : List ℕ) (parts : List (List ℕ)) → filter is_run ((b ∷ bs) ∷ parts) ≡ (b ∷ bs) ∷ filter is_run parts
+run_kept b bs parts = rw (run_is b bs) refl
+
+run_plain : (b : ℕ) (bs : List ℕ) → is_plain_key (b ∷ bs) ≡ (is_short (b ∷ bs) && are_key_bytes (b ∷ bs))
+run_plain b bs = rw (run_is b bs) refl
+
+-- runs are plain keys where their bytes are those of keys and none is too long
+runs_plain : (parts : List (List ℕ)) → list_all is_plain_key (filter is_run parts) ≡ (list_all are_key_bytes parts && list_all is_short (filter is_run parts))
+runs_plain [] = refl
+runs_plain ([] ∷ parts) = runs_plain parts
+runs_plain ((b ∷ bs) ∷ parts) =
+    let more = filter is_run parts in
+    ap (list_all is_plain_key) (run_kept b bs parts) ∙ ap (λ (v : Bool). v && list_all is_plain_key more) (run_plain b bs)
+    ∙ regrouped (is_short (b ∷ bs)) (are_key_bytes (b ∷ bs)) (list_all are_key_bytes parts) (list_all is_short more) (list_all is_plain_key more) (runs_plain parts)
+    ∙ ap (λ (ws : List (List ℕ)). list_all are_key_bytes ((b ∷ bs) ∷ parts) && list_all is_short ws) (sym (run_kept b bs parts))
+
+-- the words of a text are plain keys where its bytes may be on such a line, and no word is too long
+pub words_plain : (text : List ℕ) → list_all is_plain_key (words text) ≡ (list_all is_line_byte text && list_all is_short (words text))
+unfolding words
+words_plain text =
+    runs_plain (slice_split is_space text)
+    ∙ ap (λ (v : Bool). v && list_all is_short (filter is_run (slice_split is_space text))) (split_bytes text)
+
+-- no part has more bytes than so many
+abbrev within : ℕ → List ℕ → Bool
+within n part = nat_le (length part) n
+
+and_true : (a b : Bool) → a ≡ true → b ≡ true → (a && b) ≡ true
+and_true true b e f = f
+and_true false b e f = e
+
+and_left : (a b : Bool) → (a && b) ≡ true → a ≡ true
+and_left true b e = refl
+and_left false b e = e
+
+and_right : (a b : Bool) → (a && b) ≡ true → b ≡ true
+and_right true b e = e
+and_right false true e = refl
+and_right false false e = e
+
+within_more : (n : ℕ) (part : List ℕ) → within n part ≡ true → within (suc n) part ≡ true
+within_more n part h = le-leb (length part) (suc n) (omega (arith, leb-true (length part) n h))
+
+within_onto : (n b : ℕ) (part : List ℕ) → within n part ≡ true → within (suc n) (b ∷ part) ≡ true
+within_onto n b part h = le-leb (length (b ∷ part)) (suc n) (omega (arith, leb-true (length part) n h))
+
+all_more : (n : ℕ) (parts : List (List ℕ)) → list_all (within n) parts ≡ true → list_all (within (suc n)) parts ≡ true
+all_more n [] h = refl
+all_more n (part ∷ parts) h =
+    and_true (within (suc n) part) (list_all (within (suc n)) parts) (within_more n part (and_left (within n part) (list_all (within n) parts) h))
+    (all_more n parts (and_right (within n part) (list_all (within n) parts) h))
+
+onto_more : (n b : ℕ) (parts : List (List ℕ)) → list_all (within n) parts ≡ true → list_all (within (suc n)) (onto_first b parts) ≡ true
+onto_more n b [] h = and_true (within (suc n) (b ∷ [])) true (le-leb 1 (suc n) (omega arith)) refl
+onto_more n b (part ∷ parts) h =
+    and_true (within (suc n) (b ∷ part)) (list_all (within (suc n)) parts) (within_onto n b part (and_left (within n part) (list_all (within n) parts) h))
+    (all_more n parts (and_right (within n part) (list_all (within n) parts) h))
+
+split_within : (n : ℕ) (b : ℕ) (bs : List ℕ) (v : Bool) → eqb b 32 ≡ v → list_all (within n) (slice_split is_space bs) ≡ true
+  → list_all (within (suc n)) (slice_split is_space (b ∷ bs)) ≡ true
+split_within n b bs true is h =
+    rw (slice_split-cons_yes is_space b bs is)
+    (and_true (within (suc n) []) (list_all (within (suc n)) (slice_split is_space bs)) (le-leb 0 (suc n) (omega arith)) (all_more n (slice_split is_space bs) h))
+split_within n b bs false is h = rw (slice_split-cons_no is_space b bs is) (onto_more n b (slice_split is_space bs) h)
+
+-- no part of a text is longer than the text
+parts_within : (text : List ℕ) (n : ℕ) → length text ≤ n → list_all (within n) (slice_split is_space text) ≡ true
+parts_within [] n few = and_true (within n []) true (le-leb 0 n few) refl
+parts_within (b ∷ bs) zero few = absurd (omega (arith, few))
+parts_within (b ∷ bs) (suc n) few = split_within n b bs (eqb b 32) refl (parts_within bs n (omega (arith, few)))
+
+filter_all : (n : ℕ) (parts : List (List ℕ)) → list_all (within n) parts ≡ true → list_all (within n) (filter is_run parts) ≡ true
+filter_all n [] h = refl
+filter_all n ([] ∷ parts) h = filter_all n parts (and_right (within n []) (list_all (within n) parts) h)
+filter_all n ((b ∷ bs) ∷ parts) h =
+    ap (list_all (within n)) (run_kept b bs parts)
+    ∙ and_true (within n (b ∷ bs)) (list_all (within n) (filter is_run parts)) (and_left (within n (b ∷ bs)) (list_all (within n) parts) h)
+    (filter_all n parts (and_right (within n (b ∷ bs)) (list_all (within n) parts) h))
+
+-- a text of no more bytes than a key has no word that is too long
+pub short_words : (text : List ℕ) → length text ≤ 250 → list_all is_short (words text) ≡ true
+unfolding words
+short_words text few = filter_all 250 (slice_split is_space text) (parts_within text 250 few)
