@@ -19,7 +19,7 @@ use mc_text::{WordIter, are_plain_keys, is_plain_key, read_i64, read_u64};
 pub fn keys_line(exptime: Option<i64>, with_cas: bool, keys: WordIter<'_>) -> CommandLine<'_>
     ensures { meaning_of result ≡ meaning_from None (if at_least 1 keys.entry then keys_line exptime with_cas keys.entry else Err UnknownCommand) }
 {
-    if keys.again().next().is_none() {
+    if !keys.has_next() {
         return CommandLine::Alone(Asked::Faulty(Fault::UnknownCommand));
     }
     if !are_plain_keys(&keys) {
@@ -37,7 +37,7 @@ pub fn keys_line(exptime: Option<i64>, with_cas: bool, keys: WordIter<'_>) -> Co
 pub fn has_plain_keys(words: &WordIter<'_>) -> bool
     ensures { result ≡ (at_least 1 words.now && list_all is_plain_key words.now) }
 {
-    words.again().next().is_some() && are_plain_keys(words)
+    words.has_next() && are_plain_keys(words)
 }
 
 /// `gat <exptime> <key>*`.
@@ -48,7 +48,7 @@ pub fn gat_line(with_cas: bool, mut words: WordIter<'_>) -> CommandLine<'_>
     let Some(exptime) = words.next() else {
         return CommandLine::Alone(Asked::Faulty(Fault::UnknownCommand));
     };
-    if words.again().next().is_none() {
+    if !words.has_next() {
         return CommandLine::Alone(Asked::Faulty(Fault::UnknownCommand));
     }
     match read_i64(exptime) {

@@ -1,7 +1,10 @@
 -- A line of plain keys, by its bytes and by its words.
-use Rattle.std.proofs.Common.{◌≡◌, ℕ, zero, suc, ◌≤◌, Bool, true, false, ◌&&◌, List, [], ◌∷◌, length, filter, eqb, nat_lt, nat_le, refl, sym, ap, ◌∙◌, arith}
-use Rattle.std.proofs.lemmas.Bool.{eqb-true, eqb-false, le-leb, lt-ltb, leb-true}
-use Rattle.std.proofs.lemmas.List.Splits.{slice_split-cons_yes, slice_split-cons_no}
+use Rattle.std.proofs.Common.{◌≡◌, ℕ, zero, suc, ◌+◌, ◌<◌, ◌≤◌, Bool, true, false, ◌&&◌, List, [], ◌∷◌, ◌++◌, length, take, drop, get_or, filter, eqb, nat_lt, nat_le, refl, sym, ap, ◌∙◌, arith, add-one, drop-cons}
+use Rattle.std.proofs.lemmas.Bool.{eqb-true, eqb-false, eq-eqb, le-leb, lt-ltb, leb-true}
+use Rattle.std.proofs.lemmas.List.{take-append-drop, length-take}
+use Rattle.std.proofs.lemmas.List.Elements.{filter-append}
+use Rattle.std.proofs.lemmas.List.Folds.{list_all-append}
+use Rattle.std.proofs.lemmas.List.Splits.{slice_split-cons_yes, slice_split-cons_no, length-slice_split}
 use Rattle.std.specs.List.{list_all, slice_split, onto_first}
 use Rattle.mc_text.specs.Keys.{is_key_byte, is_line_byte, is_plain_key, is_short}
 use Rattle.mc_text.specs.Words.{words}
@@ -29,7 +32,7 @@ not_space : (b : ℕ) → eqb b 32 ≡ false → is_key_byte b ≡ is_line_byte 
 not_space b other = grind (arith, eqb-false b 32 other)
 
 split_byte : (b : ℕ) (bs : List ℕ) (v : Bool) → eqb b 32 ≡ v → list_all are_key_bytes (slice_split is_space bs) ≡ list_all is_line_byte bs
-  → list_all are_key_bytes (slice_split is_space (b ∷ bs)) ≡ list_all is_line_byte (b ∷ bs)
+    → list_all are_key_bytes (slice_split is_space (b ∷ bs)) ≡ list_all is_line_byte (b ∷ bs)
 split_byte b bs true is h = rw (slice_split-cons_yes is_space b bs is, eqb-true b 32 is) h
 split_byte b bs false is h = rw (slice_split-cons_no is_space b bs is, byte_onto b (slice_split is_space bs), not_space b is, h) refl
 
@@ -107,7 +110,7 @@ onto_more n b (part ∷ parts) h =
     (all_more n parts (and_right (within n part) (list_all (within n) parts) h))
 
 split_within : (n : ℕ) (b : ℕ) (bs : List ℕ) (v : Bool) → eqb b 32 ≡ v → list_all (within n) (slice_split is_space bs) ≡ true
-  → list_all (within (suc n)) (slice_split is_space (b ∷ bs)) ≡ true
+    → list_all (within (suc n)) (slice_split is_space (b ∷ bs)) ≡ true
 split_within n b bs true is h =
     rw (slice_split-cons_yes is_space b bs is)
     (and_true (within (suc n) []) (list_all (within (suc n)) (slice_split is_space bs)) (le-leb 0 (suc n) (omega arith)) (all_more n (slice_split is_space bs) h))
@@ -131,3 +134,42 @@ filter_all n ((b ∷ bs) ∷ parts) h =
 pub short_words : (text : List ℕ) → length text ≤ 250 → list_all is_short (words text) ≡ true
 unfolding words
 short_words text few = filter_all 250 (slice_split is_space text) (parts_within text 250 few)
+
+onto_append : (x : ℕ) (parts more : List (List ℕ)) → 0 < length parts → onto_first x (parts ++ more) ≡ onto_first x parts ++ more
+onto_append x [] more some = absurd (omega (arith, some))
+onto_append x (part ∷ parts) more some = refl
+
+split_onto : (x : ℕ) (xs : List ℕ) (y : ℕ) (ys : List ℕ) (v : Bool) → eqb x 32 ≡ v
+    → slice_split is_space (xs ++ y ∷ ys) ≡ slice_split is_space xs ++ slice_split is_space ys
+    → slice_split is_space (x ∷ (xs ++ y ∷ ys)) ≡ slice_split is_space (x ∷ xs) ++ slice_split is_space ys
+split_onto x xs y ys true is h =
+    slice_split-cons_yes is_space x (xs ++ y ∷ ys) is ∙ ap (λ (ps : List (List ℕ)). [] ∷ ps) h
+    ∙ ap (λ (ps : List (List ℕ)). ps ++ slice_split is_space ys) (sym (slice_split-cons_yes is_space x xs is))
+split_onto x xs y ys false is h =
+    slice_split-cons_no is_space x (xs ++ y ∷ ys) is ∙ ap (onto_first x) h
+    ∙ onto_append x (slice_split is_space xs) (slice_split is_space ys) (omega (arith, length-slice_split is_space xs))
+    ∙ ap (λ (ps : List (List ℕ)). ps ++ slice_split is_space ys) (sym (slice_split-cons_no is_space x xs is))
+
+-- what is between spaces, where a text is cut at one
+split_append : (xs : List ℕ) (y : ℕ) (ys : List ℕ) → eqb y 32 ≡ true → slice_split is_space (xs ++ y ∷ ys) ≡ slice_split is_space xs ++ slice_split is_space ys
+split_append [] y ys is = slice_split-cons_yes is_space y ys is
+split_append (x ∷ xs) y ys is = split_onto x xs y ys (eqb x 32) refl (split_append xs y ys is)
+
+-- the words of a text that is cut at a space
+words_cut : (xs : List ℕ) (y : ℕ) (ys : List ℕ) → eqb y 32 ≡ true → words (xs ++ y ∷ ys) ≡ words xs ++ words ys
+unfolding words
+words_cut xs y ys is = ap (filter is_run) (split_append xs y ys is) ∙ filter-append is_run (slice_split is_space xs) (slice_split is_space ys)
+
+cut_at : (text : List ℕ) (i : ℕ) → i < length text → text ≡ take i text ++ get_or text i 0 ∷ drop (i + 1) text
+cut_at text i inside =
+    sym (take-append-drop i text) ∙ ap (λ (more : List ℕ). take i text ++ more) (rw add-one (drop-cons text i 0 inside))
+
+-- where a space is among the first bytes, the words before it are short
+pub short_after : (text : List ℕ) (i : ℕ) → i < length text → i ≤ 250 → eqb (get_or text i 0) 32 ≡ true
+    → list_all is_short (words text) ≡ list_all is_short (words (drop (i + 1) text))
+short_after text i inside early is =
+    let front = take i text in
+    let more = drop (i + 1) text in
+    let few : length front ≤ 250 = omega (arith, length-take i text, early) in
+    ap (λ (t : List ℕ). list_all is_short (words t)) (cut_at text i inside) ∙ ap (list_all is_short) (words_cut front (get_or text i 0) more is)
+    ∙ list_all-append is_short (words front) (words more) ∙ ap (λ (v : Bool). v && list_all is_short (words more)) (short_words front few)

@@ -5,6 +5,7 @@ ghost use Rattle.std.specs.Str.{bytes_eq};
 ghost use Rattle.std.specs.Cmp.Rules.{comparing, hashing};
 ghost use Rattle.std.proofs.Common.{rules};
 ghost use Rattle.std.proofs.lemmas.Cmp.{nat_list_eq_equiv};
+ghost use Rattle.mc_text.specs.Words.{words};
 ghost use Rattle.mc_text.specs.Keys.{is_key, is_key_byte, is_line_byte, is_plain_key, is_short};
 ghost use Rattle.mc_text.specs.CodedKeys.{bytes_of_base64, coded_key, is_coded_too_long};
 ghost use Rattle.mc_text.specs.declared.keys.TheConstants.{KEY_LIMIT};
@@ -12,7 +13,8 @@ ghost use Rattle.mc_text.specs.declared.coded_keys.TheConstants.{CODED_LIMIT};
 ghost use Rattle.mc_text.specs.declared.keys.KeyError.TheVariants.{Memory};
 
 use crate::coded_keys::{CODED_ROOM, decode_key};
-use crate::word_iter::WordIter;
+use crate::word_iter::{WordIter, words};
+use memchr::memrchr;
 use std::alloc::{AllocError, Global};
 use std::hash::{Hash, Hasher};
 use std::marker::Model;
@@ -160,13 +162,29 @@ fn are_key_bytes(word: &[u8]) -> bool
     good
 }
 
-/// Whether each word is a plain key. The bytes of all words are tested together, so that the processor tests many at once; in a text
-/// of no more bytes than a key may have no word is too long.
+/// Whether each word is a plain key. The bytes of all words are tested together, so that the processor tests many at once.
 pub fn are_plain_keys(words: &WordIter<'_>) -> bool
     ensures { result ≡ list_all is_plain_key words.now }
 {
     let text = words.text();
-    are_line_bytes(text) && (text.len() <= KEY_LIMIT || are_short(words.again()))
+    are_line_bytes(text) && has_short_words(text)
+}
+
+/// Whether no word of a text is longer than a key. Most often two or three looks tell it: of so many bytes as a key may have and one
+/// more, one is a space, and what is before the last such space is short enough.
+fn has_short_words(text: &[u8]) -> bool
+    ensures { result ≡ list_all is_short (words text.now) }
+{
+    let mut rest = text;
+    while rest.len() > KEY_LIMIT {
+        let (window, _) = rest.split_at(KEY_LIMIT + 1);
+        let Some(space) = memrchr(b' ', window) else {
+            return are_short(words(rest));
+        };
+        let (_, more) = rest.split_at(space + 1);
+        rest = more;
+    }
+    true
 }
 
 /// Whether no word is longer than a key.
