@@ -25,8 +25,8 @@ rest_from bytes at =
     let n = length bytes in
     if nat_le 4 (n - at) then bit_or (half_at bytes at) (moved_up (half_at bytes (n - 4)) 32)
     else (if nat_lt 0 (n - at)
-      then bit_or (bit_or (slice_index bytes at) (moved_up (slice_index bytes (at + (n - at) / 2)) 8)) (moved_up (slice_index bytes (n - 1)) 16)
-      else 0)
+    then bit_or (bit_or (slice_index bytes at) (moved_up (slice_index bytes (at + (n - at) / 2)) 8)) (moved_up (slice_index bytes (n - 1)) 16)
+    else 0)
 
 -- a state after so many words
 unfoldable pub after_words : List ℕ → ℕ → ℕ → ℕ → ℕ

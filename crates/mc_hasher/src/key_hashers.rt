@@ -70,9 +70,7 @@ fn rest_from(bytes: &[u8], at: usize) -> u64
     if len >= 4 {
         half_at(bytes, at) | half_at(bytes, bytes.len() - 4) << 32
     } else if len > 0 {
-        bytes[at] as u64
-            | (bytes[at + len / 2] as u64) << 8
-            | (bytes[bytes.len() - 1] as u64) << 16
+        bytes[at] as u64 | (bytes[at + len / 2] as u64) << 8 | (bytes[bytes.len() - 1] as u64) << 16
     } else {
         0
     }

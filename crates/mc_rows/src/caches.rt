@@ -4,6 +4,7 @@ ghost use Rattle.std.specs.Prelude.{◌≡◌, pos, None};
 ghost use Rattle.mc_request.specs.declared.parts.Update.TheVariants.{Store as AStore};
 
 use mc_cache::Cache;
+use mc_hasher::SecretState;
 use mc_item::CasCounter;
 use mc_reply::{Marks, Reply, Shown};
 use mc_request::{
@@ -12,7 +13,6 @@ use mc_request::{
 use mc_store::{FixedHasher, ListStore, LruStore, Store, StoreError};
 use mc_text::{Block, Key};
 use std::alloc::{AllocError, Global};
-use std::hash::RandomState;
 use std::test::Fail;
 
 /// A store of `xyz` under `b`, whose key and block are its own.
@@ -185,7 +185,7 @@ fn meta_commands_find_memory(rt: HostRuntime) -> Result<(), Fail> {
     let alloc = rt.alloc();
     let by_list = answers_all(&mut new_cache(alloc), alloc, &ASKED)?;
     let by_hash = answers_all(&mut new_hashed(alloc)?, alloc, &ASKED)?;
-    let secret = LruStore::with_hasher(alloc, 10, RandomState::new(&rt)?)?;
+    let secret = LruStore::with_hasher(alloc, 10, SecretState::new(&rt)?)?;
     let none = CasCounter::starting_at(0);
     let mut secret = Cache::new(alloc, secret, 1_000, 10, none);
     assert!(rt; by_list && by_hash && answers_all(&mut secret, alloc, &ASKED)?);

@@ -8,13 +8,13 @@ use crate::hosts::Host;
 use crate::settings::Settings;
 use mc_cache::Cache;
 use mc_clients::serve_rounds;
+use mc_hasher::SecretState;
 use mc_item::CasCounter;
 use mc_program::ServeError;
 use mc_server::Server;
 use mc_store::LruStore;
 use mio::net::TcpListener;
 use std::alloc::Global;
-use std::hash::RandomState;
 use std::net::Net;
 use std::random::RandomSource;
 use std::rc::Rc;
@@ -47,8 +47,8 @@ fn new_server<R: RandomSource>(
     alloc: Global,
     settings: &Settings,
     counts: Rc<Counts>,
-) -> Result<Server<Counted<LruStore<RandomState>>>, ServeError> {
-    let hasher = RandomState::new(rt).map_err(|_| ServeError::Listen)?;
+) -> Result<Server<Counted<LruStore<SecretState>>>, ServeError> {
+    let hasher = SecretState::new(rt).map_err(|_| ServeError::Listen)?;
     let store = LruStore::with_hasher(alloc, settings.items, hasher).map_err(
         |_| ServeError::Memory,
     )?;
