@@ -1,8 +1,8 @@
 //! The clock of a server.
-ghost use Rattle.std.specs.Prelude.{◌≡◌, ◌<◌, ◌≤◌, ◌^◌, ℕ};
+ghost use Rattle.std.specs.Prelude.{◌≡◌, ◌<◌, ◌≤◌, ◌^◌, ◌/◌, ℕ};
 ghost use Rattle.mc_serve.specs.Clocks.{moment_after};
 
-use mc_socket::Uptime;
+use mc_socket::Stopwatch;
 use std::marker::Model;
 use std::rt::Clock;
 use std::time::{SystemTime, UNIX_EPOCH};
@@ -24,13 +24,13 @@ pub struct SystemSeconds<'a, R: Clock> {
     rt: &'a R,
     /// The wall clock as this one was made: whole seconds since 1970.
     start: u64,
-    uptime: Uptime,
+    stopwatch: Stopwatch,
 }
 
 impl<'a, R: Clock> Model for SystemSeconds<'a, R> {
     ghost Value = { ℕ };
 
-    ghost view = { λ c. moment_after c.start c.uptime };
+    ghost view = { λ c. moment_after c.start (c.stopwatch / 1000) };
 }
 
 impl<'a, R: Clock> SystemSeconds<'a, R> {
@@ -39,7 +39,7 @@ impl<'a, R: Clock> SystemSeconds<'a, R> {
         SystemSeconds {
             rt,
             start: wall_clock(rt),
-            uptime: Uptime::new(rt),
+            stopwatch: Stopwatch::new(rt),
         }
     }
 }
@@ -51,7 +51,7 @@ impl<'a, R: Clock> Seconds for SystemSeconds<'a, R> {
         ensures told { result ≡ self.new }
         ensures never_back { self.old ≤ result }
     {
-        moment_after(self.start, self.uptime.seconds(self.rt))
+        moment_after(self.start, self.stopwatch.millis(self.rt) / 1000)
     }
 }
 

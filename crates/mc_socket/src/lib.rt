@@ -5,13 +5,13 @@
 //! accepted: a poll that it is [registered](Acceptor::register) with reports it, which it is [told](Acceptor::note), and
 //! [`Acceptor::accept`] gives the connections, one by one. Of a connection's socket an [`Edge`] keeps what events say
 //! ([`Edge::note`]), and an [`Input`] is the reader over both, which asks the system for nothing that is known not to be there.
-//! [`step_after`] says what is done with a client whose pump ended, and [`Uptime`] and [`Stopwatch`] how long a program has
+//! [`step_after`] says what is done with a client whose pump ended, and a [`Stopwatch`] how long a program has
 //! served. [`keep_alive`] has the system look for peers that are gone without a word. [`PIECE_LEN`] and [`KEPT_ROOM`] are limits
 //! that all who serve sockets share.
 //!
 //! No call waits but [`bind`] and [`first_address`], which look a name up. What a socket carries, and who comes, no contract
 //! says. Proved are how many an acceptor accepts, that an input drops and repeats no byte of its stream, what is done after a pump,
-//! and that an uptime never goes back.
+//! and that a stopwatch never goes back.
 #![tactic(auto)]
 
 mod acceptors;
@@ -21,7 +21,6 @@ mod keeping;
 mod limits;
 mod steps;
 mod stopwatches;
-mod uptimes;
 
 pub use acceptors::{Acceptor, Backlog};
 pub use binding::{bind, first_address};
@@ -30,4 +29,3 @@ pub use keeping::keep_alive;
 pub use limits::{KEPT_ROOM, PIECE_LEN};
 pub use steps::{Step, step_after};
 pub use stopwatches::Stopwatch;
-pub use uptimes::Uptime;
