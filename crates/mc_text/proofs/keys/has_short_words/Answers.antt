@@ -1,4 +1,4 @@
-use Rattle.std.proofs.Common.{◌≡◌, ℕ, ◌+◌, ◌<◌, ◌≤◌, true, List, length, take, get_or, eqb, sym, ap, ◌∙◌, arith}
+use Rattle.std.proofs.Common.{◌≡◌, ℕ, ◌<◌, true, List, length, take, get_or, eqb, sym, ap, ◌∙◌, arith}
 use Rattle.std.proofs.lemmas.List.{get_or-take, length-take}
 use Rattle.std.specs.List.{list_all}
 use Rattle.mc_text.specs.Keys.{is_short}
