@@ -9,7 +9,7 @@ after it. Told are the milliseconds until the answer of that get, at the median 
 store costs the server while it is filled, by the clock of its process, for the first time and after a flush; and what it has
 resident when it is filled for the first time and for the last.
 
-It prints a table in Markdown, as it stands in RESULTS.md.
+It prints a table in Markdown, as it is in RESULTS.md.
 """
 
 import argparse
@@ -60,7 +60,7 @@ def fill(server, items):
 
 
 def flush(server):
-    """Milliseconds from a flush_all to the answer of a get that another connection sent behind it, and of its next get."""
+    """Milliseconds from a flush_all to the answer of a get that another connection sent after it, and of its next get."""
     with connected(server.port) as flusher, connected(server.port) as other:
         for connection in (flusher, other):
             told(connection, b"version\r\n", 1)

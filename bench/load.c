@@ -65,7 +65,7 @@ static long connections = 50, pipeline = 1, gets = 100, sets = 0, mgs = 0, many 
 static double zipf = 0;
 static struct peer *peers;
 static int watcher;
-static char *value;        /* what a value is behind its key */
+static char *value;        /* what a value is after its key */
 static char size_line[32]; /* the size of a value, and the end of the line */
 static uint32_t *sample;   /* keys as Zipf's law chooses them */
 static uint32_t next_to_fill;
@@ -175,7 +175,7 @@ static char *put_request(char *to, const struct request *request)
     return put(to, request->kind == GET ? "\r\n" : " v\r\n");
 }
 
-/* What stands before the value of a key in a reply. */
+/* What is before the value of a key in a reply. */
 static char *put_head(char *to, enum kind kind, uint32_t key)
 {
     if (kind == GET)
@@ -197,7 +197,7 @@ static size_t reply_size(const struct request *request)
     return value_size(request->kind) * keys_of(request) + (request->kind == GET ? strlen("END\r\n") : 0);
 }
 
-/* Whether the bytes are the value of a key with what stands before it: of the right size, beginning with the key. */
+/* Whether the bytes are the value of a key with what is before it: of the right size, beginning with the key. */
 static bool is_value(const char *at, enum kind kind, uint32_t key)
 {
     char wanted[64];
@@ -369,7 +369,7 @@ static void read_word(const char *word)
         }
     }
     if (strncmp(word, "zipf=", 5) != 0)
-        fail("a word is NAME=NUMBER, of the names that stand at the top of load.c");
+        fail("a word is NAME=NUMBER, of the names that are at the top of load.c");
     zipf = atof(word + 5);
 }
 

@@ -4,12 +4,12 @@
 Usage: serve.py SERVER [--through PROXY] [--beside PROGRAM] [--cases NAME,NAME ..] [--seconds S] [--rounds N]
 
 SERVER is the built mc_serverd. (memcached in its place measures memcached beside itself: all ratios are to be about 1.)
-Both servers stand filled, and are loaded in turn within one run: for each case many short rounds, each of both servers.
+Both servers are filled, and loaded in turn within one run: for each case many short rounds, each of both servers.
 The load is load.c, which is built by `cc -O2` into a temporary folder: it keeps a batch of requests of each connection
 outstanding and looks at every reply. Where there are two processors or more, both servers have one of their own and the
 load another.
 
-With --through, PROXY (the built mc_proxyd) is measured beside nutcracker (`distribution: ketama`, `hash: md5`): both stand in
+With --through, PROXY (the built mc_proxyd) is measured beside nutcracker (`distribution: ketama`, `hash: md5`): both are in
 front of the same two servers, which are SERVER's, on processors of their own where there are enough. What these servers spend
 on a request is told too, since a proxy may send them more or fewer commands.
 
@@ -20,7 +20,7 @@ median of all rounds, and between what the middle half of them lie. Some cases a
 million items take, or what a proxy has resident with 500 clients, and `flush` how long a `flush_all` of a million items holds
 up the other connections.
 
-It prints tables in Markdown, as they stand in RESULTS.md.
+It prints tables in Markdown, as they are in RESULTS.md.
 """
 
 import argparse
@@ -286,7 +286,7 @@ def memory_rows_of_proxies(pair, names):
 
 
 def flush_once(server):
-    """Milliseconds from a flush_all to the answer of a get that another connection sent behind it, and of its next get."""
+    """Milliseconds from a flush_all to the answer of a get that another connection sent after it, and of its next get."""
     get = b"get key-0000000000000000\r\n"
     with connected(server.port) as flusher, connected(server.port) as other:
         for connection in (flusher, other):

@@ -24,7 +24,7 @@ It fails, and says the connection, the batch, what was sent and what came, where
 
 What is said of the server is looked at in the proxy, where there is one; no link of it is to be lost.
 
-At the end stand what was answered how often, what was sent, and what it cost the server.
+At the end it prints what was answered how often, what was sent, and what it cost the server.
 """
 
 import argparse
@@ -53,7 +53,7 @@ MEMORY_BESIDE = 16 * 2**20
 
 PATIENCE = 10.0  # so long an answer may take
 QUIET = 0.5  # so long without an answer: what was sent has been swallowed
-QUIET_BEHIND_FLUSHES = 2.0  # longer, since no flush may be left behind
+QUIET_BEHIND_FLUSHES = 2.0  # longer, since no flush may be left
 GREEDY_BATCHES = 1 / 2000
 GREEDY_GETS, GREEDY_GETS_OF_A_PROXY = 600, 20
 GREEDY_TIME = 0.5
@@ -143,7 +143,7 @@ def exchange_of(tag):
 class Connection:
     """One of the connections: `does` says what it is about, `deadline` when that has taken too long.
 
-    junk: it sends a batch. barrier: it awaits the answer to what stands behind the batch. end: it has closed its side, and
+    junk: it sends a batch. barrier: it awaits the answer to what is after the batch. end: it has closed its side, and
     awaits that the server closes the other. exchange: it awaits the known answer. done: it has sent all its requests.
     """
 
@@ -210,7 +210,7 @@ class Connection:
         lines = self.replies.lines_of(piece)
         if does == "barrier" and self.barrier in lines:
             if lines[-1] != self.barrier or self.replies.rest:
-                raise Failed(f"behind the last answer came {lines[-3:]} and {self.replies.rest[:100]!r}")
+                raise Failed(f"after the last answer came {lines[-3:]} and {self.replies.rest[:100]!r}")
             self.begin_exchange()
         elif does in ("barrier", "end"):
             self.deadline = time.monotonic() + self.quiet()
@@ -371,7 +371,7 @@ class Fuzz:
         time.sleep(0.1)  # A server that is ending may take connections still.
         status = self.server.process.poll()
         print(f"FAILED: {failure}" if status is None else f"FAILED: the server ended, with status {status}; {failure}")
-        print(f"at connection {at.number}, behind batch {at.batch_number} ({at.does}), of seed {self.seed}")
+        print(f"at connection {at.number}, after batch {at.batch_number} ({at.does}), of seed {self.seed}")
         print(f"the batch, {len(at.batch)} bytes: {at.batch[:3000]!r}")
         print(f"came last and was not taken apart: {at.replies.rest[-500:]!r}")
 

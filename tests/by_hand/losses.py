@@ -13,7 +13,7 @@ wait, and started again; the next loss comes once the proxy uses it again. It fa
   stored before an answered command of the key never comes again.)
 - a command of the first server is said to be lost;
 - a client is closed, or waits ten seconds for an answer;
-- the proxy, with all clients at rest, has more sockets open behind the last loss than behind the 20th, or three megabytes more of
+- the proxy, with all clients at rest, has more sockets open after the last loss than after the 20th, or three megabytes more of
   memory resident (what the allocator keeps goes up and down by one or two).
 """
 
@@ -80,7 +80,7 @@ class Answers:
     def line(self):
         line = self.file.readline()
         if not line.endswith(b"\r\n"):
-            raise Wrong(f"the proxy closed the connection behind {line!r}")
+            raise Wrong(f"the proxy closed the connection after {line!r}")
         return line
 
     def block(self, size):
@@ -168,7 +168,7 @@ class Client(threading.Thread):
         return self.stores(key, number, b"ms %%s %%d O%d" % number, b"HD O%d\r\n" % number)
 
     def silent(self, key, number):
-        """A store that is answered only where it was lost, and behind it a request whose answer is known."""
+        """A store that is answered only where it was lost, and after it a request whose answer is known."""
         [(text, _)] = self.set(key, number)
         known, look_at_known = self.known()
         answer = b"NF O%d\r\n" % self.number
@@ -313,7 +313,7 @@ class Run:
         self.look_at_clients()
         self.tell(losses, early, late)
         if losses > EARLY and (late[0] > early[0] + MAY_GROW or late[1] > early[1]):
-            raise Wrong(f"the proxy grew: {early} bytes and descriptors behind {min(EARLY, losses)} losses, {late} at the end")
+            raise Wrong(f"the proxy grew: {early} bytes and descriptors after {min(EARLY, losses)} losses, {late} at the end")
 
     def tell(self, losses, early, late):
         told = sum((client.told for client in self.clients), collections.Counter())
@@ -321,7 +321,7 @@ class Run:
         print(f"{losses} losses, {len(self.clients)} clients, seed {self.seed}; {told['answered']:,} requests answered,", end=" ")
         print(f"{told['link lost']:,} told that the link was lost")
         print(f"from a loss to the next use {away[len(away) // 2] * 1e3:.0f} ms (median), {away[-1] * 1e3:.0f} at most")
-        print(f"memory of the proxy {early[0]:,} bytes behind {min(EARLY, losses)} losses, {late[0]:,} at the end;", end=" ")
+        print(f"memory of the proxy {early[0]:,} bytes after {min(EARLY, losses)} losses, {late[0]:,} at the end;", end=" ")
         print(f"descriptors {early[1]}, {late[1]}")
 
 
@@ -337,7 +337,7 @@ def main():
     try:
         run.lose_all(asked.losses)
     except (Wrong, *FAILURES) as error:
-        print(f"FAILED behind {len(run.away)} losses, seed {asked.seed}: {error}")
+        print(f"FAILED after {len(run.away)} losses, seed {asked.seed}: {error}")
         return 1
     finally:
         run.pool.stack.close()

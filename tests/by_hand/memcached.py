@@ -4,7 +4,7 @@
 Usage: memcached.py [NAME ..]      (examples of tests/examples/; all that have a meta command and one moment)
 
 Where memcached is installed, one is started for each example on a free port of 127.0.0.1 and ended again. It is sent
-the example's requests one by one, each with one more behind it, by whose answer the end of the other is known; our
+the example's requests one by one, each with one more after it, by whose answer the end of the other is known; our
 answer is that of model.py. No answer within a second, or a closed connection, is said so. Where it is not installed
 nothing is compared. The last line is a count. Differences are no failure: docs/PROTOCOL.md lists them ("Where we
 differ").

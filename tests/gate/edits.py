@@ -5,7 +5,7 @@ Usage: edits.py [--read] [CRATE ...]       (all crates that have such edits, whe
 
 The crates are copied to a temporary folder, what is built of them too, and have these edits there in the place of the gate's;
 `rt must-fail` tries them. That takes a crate's proof and some 20 seconds an edit, and first the proof of each library below that
-is not built. With --read it is only seen that each edit can be made: each text that it names stands in its file exactly once.
+is not built. With --read it is only seen that each edit can be made: each text that it names is in its file exactly once.
 That is a part of `make test`. The last line is 'N passed, M failed', one for each edit.
 """
 import argparse

@@ -1,11 +1,11 @@
 #!/usr/bin/env python3
-"""Sets 10,000 keys through a proxy, and sees that each stands at the server that owns it, and at no other.
+"""Sets 10,000 keys through a proxy, and sees that each is at the server that owns it, and at no other.
 
 Usage: keys_at_owners.py PROXY SERVER [--keys N] [--servers N]      (10,000 keys, 5 servers)
 
-PROXY is the built mc_proxyd, or nutcracker, which stands in front of the same ring; SERVER is the built mc_serverd, or memcached.
+PROXY is the built mc_proxyd, or nutcracker, which is in front of the same ring; SERVER is the built mc_serverd, or memcached.
 The owners are those of a model (rings.py). Each server is asked for all keys without the proxy, and then the proxy is. Before
-mc_proxyd one more server joins, and then as many other keys are set: each stands at its owner among all. It prints a line for
+mc_proxyd one more server joins, and then as many other keys are set: each is at its owner among all. It prints a line for
 each check that fails; the last line is 'N passed, M failed'.
 """
 
@@ -52,16 +52,16 @@ def held(connection, keys):
 
 
 def keys_are_at_their_owners(proxy, servers, keys):
-    """Sets the keys through the proxy, looks where each stands, and asks for all of them through the proxy."""
+    """Sets the keys through the proxy, looks where each is, and asks for all of them through the proxy."""
     with proxy.connected() as client:
         set_all(client, keys)
-        ring, stands = Ring([server.address for server in servers]), []
+        ring, found = Ring([server.address for server in servers]), []
         for server in servers:
             with server.connected() as direct:
-                stands.append(held(direct, keys))
+                found.append(held(direct, keys))
         for key in keys:
             wanted = [value_of(key) if place == ring.owner(key) else None for place in range(len(servers))]
-            want((key, [each.get(key) for each in stands]), (key, wanted))
+            want((key, [each.get(key) for each in found]), (key, wanted))
         want(held(client, keys), {key: value_of(key) for key in keys})
 
 

@@ -555,7 +555,7 @@ def is_asked_and_answers(link, client, key):
 
 
 def half_a_reply_is_no_reply():
-    """A server closes in mid-reply, behind a whole one: this one counts."""
+    """A server closes in mid-reply, after a whole one: this one counts."""
     with Played() as pool, pool.connected() as client:
         client.sendall(b"get a\r\nget b\r\nget c\r\n")
         want(received(pool.links[0], 21), b"get a\r\nget b\r\nget c\r\n")
@@ -570,7 +570,7 @@ def half_a_reply_is_no_reply():
 
 def a_slow_reader_is_waited_for():
     """Who sends gets of a large value and reads nothing holds nobody up, and is answered whole once it reads: also where the proxy
-    stands still while it reads, so that all that was unsent goes out by one write, and more is known."""
+    waits while it reads, so that all that was unsent goes out by one write, and more is known."""
     with Pool() as pool, pool.connected() as other, pool.connected() as slow:
         put, told, get, shown = stored(pool.ring.key(0), b"v" * 1_000_000)
         asked(other, put, told)

@@ -4,7 +4,7 @@
 Usage: refused.py PROGRAM TEST     (crates/mc_pool_rows/out/mc_pool_rows_tests, as `rt ci` or `rt test` built it, and a test's name)
 
 The program is run again and again with a library in front of the C library, which refuses the Nth allocation, for N from 1
-until none is left to refuse; and once more so with the two behind it refused too. The test has to make a call again that was
+until none is left to refuse; and once more so with the two after it refused too. The test has to make a call again that was
 refused memory, and then has to find all as it would have been; or, where a store was answered so, all else as the cache has it
 then. The library is that of refusing.py. A line is printed for each N at which the test
 fails; the last line is 'N passed, M failed', one for each way.

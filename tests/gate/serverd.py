@@ -5,7 +5,7 @@ Usage: serverd.py PROGRAM
 
 serverd.help is the text of --help. It prints a line for each check that fails; the last line is 'N passed, M failed'. Each
 server listens at a port of 127.0.0.1 that was free a moment ago, and is ended with its check. What a proxy does with connections
-as well stands in connections.py.
+as well is in connections.py.
 """
 
 import pathlib

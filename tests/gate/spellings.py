@@ -54,7 +54,7 @@ class Number:
 
 
 class Size(Number):
-    """The size of the value that stands behind the line."""
+    """The size of the value that is after the line."""
 
     def __init__(self):
         super().__init__(VALUE_LIMIT)
@@ -158,7 +158,7 @@ def block(dice):
 
 
 def spaced(dice, words):
-    """Words as a client may write them: with more than one space between, before and behind."""
+    """Words as a client may write them: with more than one space between, before and after."""
     gap = lambda: b" " * (dice.choice([1, 1, 1, 2, 3]))
     line = gap().join(words) if dice.random() < 0.2 else b" ".join(words)
     end = b"\n" if dice.random() < 0.2 else b"\r\n"

@@ -723,7 +723,7 @@ class Account:
             tag = Tag(*entry[:3])
             if self.outcome.get(tag) == "reply":
                 if tag <= last.get(tag.client, tag._replace(request=-1)):
-                    self.fault(f"history {place}: {tag} is behind a later one of its client")
+                    self.fault(f"history {place}: {tag} is after a later one of its client")
                 last[tag.client] = tag
 
     def check_answers(self):

@@ -10,7 +10,7 @@ plain and in base64.
 
 Each command goes to a random client, sometimes cut in two at a random place with a turn of another client between,
 and is followed by a turn of its client; a run of quiet commands, ended by `mn`, goes as one piece, with as many turns
-as it has commands. With `bytes` for the pieces each byte comes by itself, with a turn of its client behind it.
+as it has commands. With `bytes` for the pieces each byte comes by itself, with a turn of its client after it.
 Moments mostly rise by 0 to 2 seconds, and now and then fall back.
 """
 

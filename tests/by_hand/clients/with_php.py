@@ -1,7 +1,7 @@
 #!/usr/bin/env python3
 """Tries each call that PHP's Memcached has on a server, in the text protocol (Debian: php-cli, php-memcached).
 
-The calls stand in with_php.php; here they are counted.
+The calls are in with_php.php; here they are counted.
 """
 
 import json

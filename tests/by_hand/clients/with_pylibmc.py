@@ -1,7 +1,7 @@
 #!/usr/bin/env python3
 """Tries each call that pylibmc has on a server, in the text protocol (Debian: python3-pylibmc).
 
-pylibmc stands on libmemcached. Its calls are made with its ordinary settings, and again with others that change what is
+pylibmc is over libmemcached. Its calls are made with its ordinary settings, and again with others that change what is
 sent: no blocking, calls that are kept until they are a bufferful, no replies, keys spread over two servers by ketama.
 """
 
@@ -162,18 +162,18 @@ def buffered(client):
                 client.set(f"k{number}", number)
 
     yield "set, kept back", lambda: client.set("k", b"x"), Raises("Error", "error 32")
-    yield "get behind it", lambda: client.get("k"), b"x"
+    yield "get after it", lambda: client.get("k"), b"x"
     yield "hundred sets, kept back", lambda: set_each(range(100)), None
-    yield "get_multi behind them", lambda: sum(client.get_multi([f"k{number}" for number in range(100)]).values()), 4950
+    yield "get_multi after them", lambda: sum(client.get_multi([f"k{number}" for number in range(100)]).values()), 4950
 
 
 def unanswered(client):
     yield "set, noreply", lambda: client.set("u", b"x"), True
     yield "append, noreply", lambda: client.append("u", b"y"), True
     yield "prepend, noreply", lambda: client.prepend("u", b"w"), True
-    yield "get behind them", lambda: client.get("u"), b"wxy"
+    yield "get after them", lambda: client.get("u"), b"wxy"
     yield "delete, noreply", lambda: client.delete("u"), True
-    yield "get behind it", lambda: client.get("u"), None
+    yield "get after it", lambda: client.get("u"), None
 
 
 def calls(first, second):

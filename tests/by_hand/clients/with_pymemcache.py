@@ -118,7 +118,7 @@ def many(client):
 
 
 def unanswered(client):
-    """With noreply. What they did is seen by calls that are answered: on one connection they come behind."""
+    """With noreply. What they did is seen by calls that are answered: on one connection they come after."""
     yield "set, noreply", lambda: client.set("u", "x", noreply=True), True
     yield "add, noreply", lambda: client.add("u", "y", noreply=True), True
     yield "append, noreply", lambda: client.append("u", "b", noreply=True), True
