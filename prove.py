@@ -8,10 +8,9 @@ that it uses, and its own files. Once it is proved, the copy's out/ takes the pl
 A crate is skipped where neither its text, nor that of a crate that it uses, nor the toolchain has changed since, and what rt built
 is still there.
 
-Each crate has one job, or more where fewer crates are ready than processors are free. Of those that are ready, the one with the
-longest way up to a crate that was asked for comes first, and has the most. On a terminal the last line says what is being proved,
-and how long it may yet take: that is from the seconds below, and from the pace so far. Else there is a line for each crate that is
-done.
+Of the crates that are ready, the one with the longest way up to a crate that was asked for comes first. Each has one job or more: as
+many as let all end soonest, by the seconds below. On a terminal the last line says what is being proved, and how long it may yet
+take: that is from these seconds, and from the pace so far. Else there is a line for each crate that is done.
 
 --processors N takes N at a time; with no N, all that there are, but one for each 3 GB of free memory. --plan proves nothing: it
 prints when each crate would start and end. A failure ends all that runs; what rt said of the crate is printed, and the status is 1.
@@ -50,9 +49,11 @@ SECONDS = {
     "mc_clients": 60,
     "mc_fixtures": 34,
     "mc_forms": 22,
+    "mc_hasher": 19,
     "mc_history": 12,
     "mc_item": 22,
     "mc_link": 66,
+    "mc_numbered": 25,
     "mc_one_map": 30,
     "mc_pool_laws": 40,
     "mc_pool_play": 60,
@@ -187,36 +188,50 @@ class Schedule:
         found = [it for it, uses in self.uses.items() if it not in self.running and not any(below in self.uses for below in uses)]
         return sorted(found, key=lambda it: (-self.way(it), it))
 
-    def start(self):
-        """Starts a crate, and gives it and its jobs: of the free processors the share of its way in those of all that are ready, rounded
-        up. None where none can start."""
+    def start(self, since):
+        """Starts a crate, and gives it and its jobs. None where none can start. `since` is how long each has run that runs now."""
         ready, free = self.ready(), self.processors - sum(self.running.values())
         if not ready or free < 1:
             return None
-        self.running[ready[0]] = math.ceil(free * self.way(ready[0]) / sum(map(self.way, ready)))
+        self.running[ready[0]] = self.best(ready, free, since)
         return ready[0], self.running[ready[0]]
+
+    def share(self, ready, free, _):
+        """The jobs of the first crate that can start: of the free processors the share of its way in those of all that can, rounded up."""
+        return math.ceil(free * self.way(ready[0]) / sum(map(self.way, ready)))
+
+    def best(self, ready, free, since):
+        """The jobs of the first crate that can start with which all ends soonest, where those after it get their share."""
+        share = self.share(ready, free, since)
+        ends = {jobs: self.copied({ready[0]: jobs}).simulated(since, Schedule.share)[0] for jobs in range(1, free + 1)}
+        soonest = min(ends, key=ends.get)
+        return soonest if ends[soonest] < ends[share] - 1 else share
+
+    def copied(self, more):
+        """A copy in which these run as well."""
+        copy = Schedule(self.uses, self.processors)
+        copy.ways, copy.running = self.ways, {**self.running, **more}
+        return copy
 
     def end(self, name):
         del self.running[name], self.uses[name]
 
-
-def simulated(schedule, since):
-    """When each crate may start and end, and by how many jobs, from now on. `since` is how long each has run that runs now: one that
-    takes longer than it should goes on for a quarter of that."""
-    copy = Schedule(schedule.uses, schedule.processors)
-    copy.running = dict(schedule.running)
-    ends = {name: max(seconds(name, jobs) - since.get(name, 0), since.get(name, 0) / 4) for name, jobs in copy.running.items()}
-    now, rows = 0, []
-    while True:
-        while started := copy.start():
-            name, jobs = started
-            ends[name] = now + seconds(name, jobs)
-            rows.append((name, jobs, now, ends[name]))
-        if not ends:
-            return now, rows
-        name = min(ends, key=ends.get)
-        now = ends.pop(name)
-        copy.end(name)
+    def simulated(self, since, chosen):
+        """When all may be done, and when each crate that does not run yet may start and end, and by how many jobs, from now on. `chosen`
+        gives the jobs. A crate that takes longer than it should goes on for a quarter of that. It is for a copy: all ends."""
+        begun = {name: -since.get(name, 0) for name in self.running}
+        ends = {name: max(seconds(name, jobs) + begun[name], -begun[name] / 4) for name, jobs in self.running.items()}
+        now, rows = 0, []
+        while True:
+            while (free := self.processors - sum(self.running.values())) > 0 and (ready := self.ready()):
+                name, jobs = ready[0], chosen(self, ready, free, {it: now - begun[it] for it in self.running})
+                self.running[name], begun[name], ends[name] = jobs, now, now + seconds(name, jobs)
+                rows.append((name, jobs, now, ends[name]))
+            if not ends:
+                return now, rows
+            name = min(ends, key=ends.get)
+            now = ends.pop(name)
+            self.end(name)
 
 
 # One crate.
@@ -326,8 +341,11 @@ class Screen:
         return min(max(self.taken / self.expected, 0.3), 10) if self.expected else 1
 
     def left(self, schedule, runs):
-        since = {run.name: run.took() / self.pace() for run in runs}
-        return about(simulated(schedule, since)[0] * self.pace())
+        return about(schedule.copied({}).simulated(self.since(runs), Schedule.share)[0] * self.pace())
+
+    def since(self, runs):
+        """How long each has run, in expected seconds."""
+        return {run.name: run.took() / self.pace() for run in runs}
 
     def line(self, schedule, runs):
         names = ", ".join(f"{run.name} {clock(run.took())}" for run in runs)
@@ -367,14 +385,14 @@ def prove(crates, texts, schedule, screen, room):
     runs = []
     try:
         while schedule.uses:
-            while started := schedule.start():
+            while started := schedule.start(screen.since(runs)):
                 runs.append(begin(crates, *started, room))
             for run in [it for it in runs if it.process.poll() is not None]:
                 take(run, texts)
                 screen.ended(run, schedule.running[run.name])
                 runs.remove(run)
                 schedule.end(run.name)
-                while started := schedule.start():
+                while started := schedule.start(screen.since(runs)):
                     runs.append(begin(crates, *started, room))
                 screen.more(schedule, runs)
             screen.show(schedule, runs)
@@ -397,7 +415,7 @@ def usable_processors():
 
 
 def print_plan(schedule):
-    whole, rows = simulated(schedule, {})
+    whole, rows = schedule.copied({}).simulated({}, Schedule.best)
     for name, jobs, start, end in rows:
         print(f"{clock(start):>6} to {clock(end):>6}  {name}, {jobs} job{'s' * (jobs > 1)}")
     print(f"{len(rows)} crates in {clock(whole)}, on {schedule.processors} processors that nothing else uses")
@@ -420,7 +438,7 @@ def prove_asked(crates, asked):
     schedule, screen = Schedule(left, max(asked.processors, 1)), Screen(len(left))
     if not left:
         return
-    whole, _ = simulated(schedule, {})
+    whole, _ = schedule.copied({}).simulated({}, Schedule.best)
     print(f"{len(left)} of {len(need)} crates are to be proved; on {schedule.processors} free processors that takes {about(whole)}", flush=True)
     with room_for_copies() as room:
         prove(crates, texts, schedule, screen, pathlib.Path(room))
