@@ -7,7 +7,7 @@ Usage: fuzz.py SERVER [--through PROXY] [--requests N] [--connections N] [--seed
        fuzz.py --batch CONNECTION NUMBER [--seed N] > FILE             (the bytes of a batch that the other form sends)
 
 SERVER is the built mc_serverd (or memcached, whose lines are known too). Each connection sends batches of 1 to 79 requests
-(junk.py), whole or in pieces. Behind each it comes to a known place: by a request whose answer is known, or by closing and
+(junk.py), whole or in pieces. After each it comes to a known place: by a request whose answer is known, or by closing and
 connecting again, or by both where the junk has swallowed that request. Then it makes an exchange that is known byte for
 byte. Now and then somebody asks for 600 MB and reads none of it.
 
