@@ -255,14 +255,14 @@ def cost_told(rounds):
     return f"{cost:,.0f} ({own:,.0f} + {cost - own:,.0f}) | {busy:.0%}"
 
 
-def after_told(rounds):
+def servers_told(rounds):
     return f"{statistics.median(each.cost_after() for each in rounds):,.0f}"
 
 
 def row_of(case, rounds):
     low, ratio, high = statistics.quantiles((ours.cost() / theirs.cost() for ours, theirs in zip(*rounds)), n=4)
     told = [case.told, cost_told(rounds[0]), cost_told(rounds[1]), f"{ratio:.2f} ({low:.2f} to {high:.2f})"]
-    told.append(" | ".join(map(after_told, rounds)) if case.wanted is None else f"{case.wanted:.2f}")
+    told.append(" | ".join(map(servers_told, rounds)) if case.wanted is None else f"{case.wanted:.2f}")
     return f"| {' | '.join(told)} |"
 
 
