@@ -135,7 +135,7 @@ class Round(NamedTuple):
     def cost(self):
         return self.processor / self.requests * 1e9
 
-    def cost_after(self):
+    def cost_of_servers(self):
         """What the servers behind a proxy spent on a request."""
         return self.behind / self.requests * 1e9
 
@@ -256,7 +256,7 @@ def cost_told(rounds):
 
 
 def servers_told(rounds):
-    return f"{statistics.median(each.cost_after() for each in rounds):,.0f}"
+    return f"{statistics.median(each.cost_of_servers() for each in rounds):,.0f}"
 
 
 def row_of(case, rounds):
