@@ -58,8 +58,8 @@ def nine_gets_to_a_set(get, put):
     return get * 0.9 + put * 0.1
 
 
-# What a request costs. The source is bench/RESULTS.md, "A server on a socket" and "A proxy on a socket", 2026-11-23: the rows of a get
-# and of a set, one at a time and 32 at a time, with keys of 20 bytes and values of 100.
+# What a request costs. The source is bench/RESULTS.md, "A server on a socket" and "A proxy on a socket", what is said of 2026-11-23: a
+# get and a set, one at a time and 32 at a time, with keys of 20 bytes and values of 100.
 COSTS_OF_A_POOL = {
     "one at a time": Cost(nine_gets_to_a_set(5_348, 5_681), nine_gets_to_a_set(10_305, 12_523)),
     "32 at a time": Cost(nine_gets_to_a_set(861, 1_118), nine_gets_to_a_set(2_423, 2_188)),
