@@ -33,12 +33,12 @@ unfoldable pub after_words : List ℕ → ℕ → ℕ → ℕ → ℕ
 after_words bytes secret state zero = state
 after_words bytes secret state (suc n) = folded_product (bit_xor (after_words bytes secret state n) (word_at bytes (8 * n))) secret
 
--- a hasher after a text: its length, its words, and its rest
+-- a hasher after a text: its words, its rest, and its length
 unfoldable pub write : KeyHasher → List ℕ → KeyHasher
 write h bytes =
     let words = length bytes / 8 in
-    let state = after_words bytes h.secret (bit_xor h.state (length bytes)) words in
-    record { state = folded_product (bit_xor state (rest_from bytes (8 * words))) h.secret; secret = h.secret }
+    let last = folded_product (bit_xor (after_words bytes h.secret h.state words) (rest_from bytes (8 * words))) h.secret in
+    record { state = folded_product (bit_xor last (length bytes)) h.secret; secret = h.secret }
 
 -- what it makes of all texts
 abbrev pub finish : KeyHasher → ℕ

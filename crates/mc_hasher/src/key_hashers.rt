@@ -6,7 +6,8 @@ use std::hash::{BuildHasher, Hasher};
 use std::io;
 use std::random::RandomSource;
 
-/// Hashes bytes under two secret numbers: eight bytes at a time, each time by one product of 128 bits whose halves are joined.
+/// Hashes bytes under two secret numbers: eight bytes at a time, each time by one product of 128 bits whose halves are joined,
+/// then the rest, and last the length: so texts of two lengths are never the same numbers.
 #[derive(Clone, Copy)]
 pub struct KeyHasher {
     state: u64,
@@ -24,13 +25,14 @@ impl Hasher for KeyHasher {
 
     fn write(&mut self, bytes: &[u8]) {
         let len = bytes.len();
-        let mut state = self.state ^ len as u64;
+        let mut state = self.state;
         let mut at = 0;
         while len - at >= 8 {
             state = folded_product(state ^ word_at(bytes, at), self.secret);
             at += 8;
         }
-        self.state = folded_product(state ^ rest_from(bytes, at), self.secret);
+        let last = folded_product(state ^ rest_from(bytes, at), self.secret);
+        self.state = folded_product(last ^ len as u64, self.secret);
     }
 }
 

@@ -1,7 +1,7 @@
 //! A hasher of keys that a stranger cannot foretell.
 //!
 //! [`SecretState`] makes a [`KeyHasher`] for each key: `std::hash::RandomState` and its hasher, but faster for keys of some tens
-//! of bytes. Both hide two random numbers in what a key is hashed to, so who knows neither cannot choose keys that fall together.
+//! of bytes. Both hide two random numbers in what a key is hashed to, so that who knows neither cannot tell which keys fall together. No proof says so.
 //! A [`KeyHasher`] is no cipher: from hashes its secret could be computed, so no hash is to be shown.
 #![tactic(auto)]
 

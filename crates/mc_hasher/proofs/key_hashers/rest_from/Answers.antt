@@ -1,5 +1,4 @@
 use Rattle.std.specs.Prelude.{◌-◌, length}
-use Rattle.std.proofs.Common.{refl}
 use borrow.Author.Tests.{le-leb, lt-leb, lt-ltb, le-ltb}
 use Rattle.mc_hasher.specs.Hashes.{rest_from}
 use Rattle.mc_hasher.proofs.key_hashers.rest_from.Goals as goal

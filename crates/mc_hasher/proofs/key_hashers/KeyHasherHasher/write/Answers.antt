@@ -1,4 +1,4 @@
-use Rattle.std.specs.Prelude.{◌≡◌, ℕ, suc, ◌+◌, ◌-◌, ◌*◌, ◌/◌, length}
+use Rattle.std.specs.Prelude.{◌≡◌, ℕ, suc, ◌+◌, ◌*◌, ◌/◌, length}
 use Rattle.std.proofs.Common.{refl, arith}
 use Rattle.mc_hasher.specs.Hashes.{after_words, write}
 use Rattle.mc_hasher.proofs.key_hashers.KeyHasherHasher.write.Goals as goal
@@ -24,4 +24,4 @@ returns c =
     let n : ℕ = length c.args.bytes.now in
     let count : n / 8 ≡ c.loop-at.at / 8 = omega (arith, c.loop-at.invariant.0, c.loop-at.invariant.1, c.loop-at-test.false) in
     let whole : c.loop-at.at ≡ 8 * (c.loop-at.at / 8) = omega (arith, c.loop-at.invariant.0) in
-    rw (count, ← c.loop-at.invariant.2, ← whole, c.folded_product-self.ensures, c.rest_from.ensures)
+    rw (count, ← c.loop-at.invariant.2, ← whole, c.folded_product-self.ensures, c.folded_product-last.ensures, c.rest_from.ensures)
