@@ -39,6 +39,7 @@ fi
 add rt ci
 add tests/gate/edits.py --read
 add tests/gate/cited.py
+add tests/gate/uncited.py
 add tests/gate/believed.py --check
 add tests/gate/proving.py
 add bench/plot.py --check

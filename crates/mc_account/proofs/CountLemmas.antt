@@ -12,20 +12,20 @@ use Rattle.mc_link.specs.LinkState.{LinkState, Waiting}
 use Rattle.mc_link.specs.declared.turns.Tag.{Tag}
 use Rattle.mc_session.specs.Emits.{IsEmit, answer_of_one, emitted_from, is_known}
 use Rattle.mc_session.specs.Noting.{noted_at, noted_in}
-use Rattle.mc_session.specs.SessionState.{SessionState, Unanswered, answered, fresh_session, link_at}
+use Rattle.mc_session.specs.SessionState.{SessionState, Unanswered, answered, link_at}
 use Rattle.mc_session.specs.Turns.{IsFed, IsTurn}
 use Rattle.mc_session.specs.declared.turns.Emit.TheVariants as emits
 use Rattle.mc_session.specs.declared.turns.Turn.{Turn}
 use Rattle.mc_session.specs.declared.turns.Turn.TheVariants as turns
 use Rattle.mc_proxy.specs.LinkTurns.{Answers, lost_at}
 use Rattle.mc_proxy.specs.Noting.{all_lost, noted}
-use Rattle.mc_proxy.specs.ProxyState.{ProxyState, Sessions, sent_by, session_at, session_in, updated, with_fresh, without}
+use Rattle.mc_proxy.specs.ProxyState.{ProxyState, Sessions, sent_by, session_at, session_in, updated}
 use Rattle.mc_proxy.specs.Turns.{Alone, Steps}
 use Rattle.mc_account.specs.Answered.{answered_at}
 use Rattle.mc_account.specs.Lanes.{Lane}
 use Rattle.mc_account.specs.Orders.{Order, entries_of, unanswered_of}
 use Rattle.mc_account.specs.Holds.{ProxyHolds, SessionHolds}
-use Rattle.mc_account.proofs.OpenSessions.{at_each, fresh_other, noted_other, noted_own, updated_other, updated_own, without_other}
+use Rattle.mc_account.proofs.OpenSessions.{at_each, noted_other, noted_own, updated_other, updated_own}
 use Rattle.mc_account.proofs.HoldsLemmas.{stood}
 
 -- a session where as many are answered as of another one
@@ -53,14 +53,6 @@ answered_step number old new before after was is same m =
     at_each number before after old.sessions new.sessions was is (λ n s. option_map answered s ≡ answered_at old n)
     (ap (λ (count : ℕ). Some count) same ∙ sym (ap (λ (s : Option SessionState). option_map answered s) was))
     (λ _ _. refl) m
-
--- `admit`: of a session that was just admitted none is answered
-pub answered-admitted : (old : ProxyState) (m : ℕ) → old.admitted ≢ m → answered_at (with_fresh old) m ≡ answered_at old m
-answered-admitted old m differ = ap (λ (s : Option SessionState). option_map answered s) (fresh_other old.admitted m fresh_session old.sessions differ)
-
--- `gone`
-pub answered-gone : (number : ℕ) (old : ProxyState) (m : ℕ) → number ≢ m → answered_at (record old { sessions = without number old.sessions }) m ≡ answered_at old m
-answered-gone number old m differ = ap (λ (s : Option SessionState). option_map answered s) (without_other number m old.sessions differ)
 
 -- `feed`
 pub answered-fed : (number : ℕ) (piece : List ℕ) (old new : ProxyState) → Steps number old new (Alone (IsFed piece)) → (m : ℕ) → answered_at new m ≡ answered_at old m

@@ -247,13 +247,6 @@ told_before_waiting texts sent order lanes now h place up i c x at known told k 
           let clash : false ≡ true = ap is_told is ∙ told in absurd cc
     ]
 
-pub replied_before_waiting : (texts sent : ℕ → List ℕ) (order : Order) (lanes : ℕ → Lane) (now : ProxyState) → ProxyHolds texts sent order lanes now
-    → (place : ℕ) → (link_at now.links place).up ≡ true
-    → (i : ℕ) (c : Tagged) (reply : AReply (List ℕ)) → slice_get (commands_to place order) i ≡ Some c → outcome_at order c.1 ≡ Some (Reply reply)
-    → (k : ℕ) (w : Waiting) → slice_get (link_at now.links place).waiting k ≡ Some w → c.1.session ≡ w.1.session → IsBefore c.1 w.1
-replied_before_waiting texts sent order lanes now h place up i c reply at known k w waits same =
-    told_before_waiting texts sent order lanes now h place up i c (Reply reply) at known refl k w waits same
-
 -- of two that wait the one that waits longer was asked before
 pub waiting_in_order : (texts sent : ℕ → List ℕ) (order : Order) (lanes : ℕ → Lane) (now : ProxyState) → ProxyHolds texts sent order lanes now
     → (place : ℕ) → (link_at now.links place).up ≡ true

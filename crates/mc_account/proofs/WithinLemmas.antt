@@ -12,7 +12,7 @@ use Rattle.mc_route.specs.declared.routes.Routed.{Routed}
 use Rattle.mc_route.proofs.RouteLemmas.{route_inside}
 use Rattle.mc_link.specs.declared.turns.Tag.{Tag}
 use Rattle.mc_account.specs.Lookups.{IsRoutedWithin, asked_at, command_at, command_in}
-use Rattle.mc_account.specs.Orders.{Entry, Order, entries_of, note, note_all, note_in}
+use Rattle.mc_account.specs.Orders.{Entry, Order, entries_of, note, note_in}
 
 -- what holds of each of a list, holds of the one at a place
 all_at : {X : Type 0} (P : X → Type 0) (xs : List X) (k : ℕ) (x : X) → All P xs → slice_get xs k ≡ Some x → P x
@@ -60,10 +60,6 @@ within-note places tag outcome (e ∷ es) h =
     let first = All-head (IsRoutedWithin places) e es h in
     All-cons (IsRoutedWithin places) (note_in tag outcome e) (note tag outcome es) (record { ring = first.ring; few = first.few })
     (within-note places tag outcome es (All-tail (IsRoutedWithin places) e es h))
-
-pub within-note_all : (places : ℕ) (tags : List Tag) (outcome : Outcome) (order : Order) → All (IsRoutedWithin places) order → All (IsRoutedWithin places) (note_all tags outcome order)
-within-note_all places [] outcome order h = h
-within-note_all places (tag ∷ tags) outcome order h = within-note_all places tags outcome (note tag outcome order) (within-note places tag outcome order h)
 
 pub within-more : (few many : ℕ) (order : Order) → few ≤ many → All (IsRoutedWithin few) order → All (IsRoutedWithin many) order
 within-more few many [] le h = All-nil (IsRoutedWithin many)

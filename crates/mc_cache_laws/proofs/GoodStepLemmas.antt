@@ -1,6 +1,6 @@
 -- What a step of a good cache leaves, and what it answers.
 use Rattle.std.proofs.Common.{◌≡◌, ℕ, ◌+◌, ◌-◌, ◌<◌, ◌≤◌, ◌^◌, ◌&&◌, ◌==◌, nat_lt, not, ℤ, pos, negsuc, Bool, true, false, cond, List, [], ◌∷◌, length, Option, Some, None, is_some, IfSome, refl, arith, subst}
-use Rattle.std.specs.Option.{is_none, option_or, unwrap_or}
+use Rattle.std.specs.Option.{is_none, option_map, option_or, unwrap_or}
 use Rattle.std.specs.Str.Parse.{digits_value}
 use Rattle.std.proofs.lemmas.Bool.{cond_both, and_parts, ltb-true, lt-ltb, le-leb, not-true}
 use Rattle.std.proofs.lemmas.Option.{cond_some}
@@ -9,8 +9,8 @@ use Rattle.mc_text.specs.Numbers.{read_u64, has_digits}
 use Rattle.mc_text.specs.declared.blocks.TheConstants.{VALUE_LIMIT}
 use Rattle.mc_item.specs.declared.bodies.Body.{Body}
 use Rattle.mc_item.specs.declared.deadlines.Deadline.{Deadline}
-use Rattle.mc_item.specs.declared.deadlines.Deadline.TheVariants.{Never, At}
-use Rattle.mc_item.specs.Deadlines.{deadline_of, left_of}
+use Rattle.mc_item.specs.declared.deadlines.TheConstants.{NEVER}
+use Rattle.mc_item.specs.Deadlines.{due_at, deadline_of, left_of}
 use Rattle.mc_request.specs.WellFormed.{is_good_block, is_good_counting, is_good_creation, is_good_get, is_good_update, is_i64, is_u64, is_where_some}
 use Rattle.mc_request.specs.declared.meta.Counting.{Counting}
 use Rattle.mc_request.specs.declared.meta.Creation.{Creation}
@@ -37,7 +37,7 @@ use Rattle.mc_cache.specs.CacheState.{CacheState, opening_cache}
 use Rattle.mc_cache.specs.Replay.{Command, command_step}
 use Rattle.mc_cache.specs.Settling.{settled, emptied}
 use Rattle.mc_cache.specs.Showing.{asked, shown_of, marks_of, told}
-use Rattle.mc_cache.specs.Step.{Outcome, Content, numbered, unstored, unmet, compared, content_by, fronted, stored, store_step, touched, expiry_by, get_step, touch_step, delete_step, counted, count_step, count_none, due_at, flush_step, update_step, made_by, looked_at, meta_get_none, meta_get_step, meta_step, settled_step, step_of, atom_key}
+use Rattle.mc_cache.specs.Step.{Outcome, Content, numbered, unstored, unmet, compared, content_by, fronted, stored, store_step, touched, expiry_by, get_step, touch_step, delete_step, counted, count_step, count_none, flush_step, update_step, made_by, looked_at, meta_get_none, meta_get_step, meta_step, settled_step, step_of, atom_key}
 use Rattle.mc_cache_laws.specs.GoodCaches.{IsGoodBody, IsGoodCache, IsGoodCommand, StaysGood, AnswersAsItCan, AnswersEachAsItCan}
 use Rattle.std.specs.List.{All}
 use Rattle.std.proofs.lemmas.List.Elements.{All-nil, All-head, All-tail}
@@ -60,8 +60,9 @@ asked_is test true part passes = passes
 asked_is test false part passes = refl
 
 left_is : (deadline : Deadline) (moment : ℕ) → IsGoodDeadline deadline → is_where_some is_u64 (left_of deadline moment) ≡ true
-left_is Never moment fits = refl
-left_is (At due) moment fits = lt-ltb (due - moment) (2 ^ 64) (omega arith)
+left_is deadline moment fits =
+    cond_both (deadline.moment == NEVER) None (Some deadline.moment) (λ (due : Option ℕ). is_where_some is_u64 (option_map (λ d. d - moment) due) ≡ true)
+    (λ never. refl) (λ comes. lt-ltb (deadline.moment - moment) (2 ^ 64) (omega arith))
 
 -- what is shown of such an item, whatever its marks are
 shown_is_done : (counter : ℕ) (show : Show) (moment : ℕ) (marks : Marks) (body : Body) → counter < 2 ^ 64 → IsGoodBody counter body

@@ -9,12 +9,12 @@ use Rattle.mc_reply.specs.CanHave.{can_have}
 use Rattle.mc_spelling.specs.Spellings.{is_good_atom}
 use Rattle.mc_cache.specs.CacheState.{CacheState}
 use Rattle.mc_cache.specs.Replay.{Command, replay, replies}
-use Rattle.mc_cache.specs.Step.{due_at, step_of}
+use Rattle.mc_cache.specs.Step.{step_of}
 
 -- a body whose flags, expiry and value are within their limits, and whose number was given already
 pub record IsGoodBody (counter : ℕ) (body : Body) : Type 0 where
   pub flags : body.flags < 2 ^ 32
-  pub expiry : IfSome (due_at body.expiry) (λ due. due < 2 ^ 64)
+  pub expiry : body.expiry.moment < 2 ^ 64
   pub cas : body.cas ≤ counter
   pub value : length body.value ≤ VALUE_LIMIT
 

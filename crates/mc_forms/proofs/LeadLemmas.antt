@@ -153,10 +153,6 @@ pub record IsAfter {R : Type 0} (f : Form R) : Type 0 where
 pub clear_number : {R : Type 0} (most : ℕ) (f : ℕ → Form R) → most < 2 ^ 64 → ((n : ℕ) → IsAfter (f n)) → IsClear (Number most f)
 clear_number most f bound h = (bound, λ n. plain (f n) (h n).clear (h n).leads, λ n. (h n).clear)
 
--- a block with a text after it
-pub clear_block : {R : Type 0} (size b : ℕ) (bytes : List ℕ) (f : List ℕ → Form R) → ((block : List ℕ) → IsClear (f block)) → IsClear (Block size (λ block. Text (b ∷ bytes) (f block)))
-clear_block size b bytes f h = (λ block p. omega arith, h)
-
 -- a form without numbers and blocks is clear where no two of its rows begin alike
 abbrev pub are_clear : {R : Type 0} → Form R → Bool
 are_clear (Done r) = true

@@ -22,10 +22,6 @@ pub each_append : {X : Type 0} (P : X → Type 0) (xs ys : List X) → Each P xs
 each_append P [] ys h k = k
 each_append P (x ∷ xs) ys h k = (h.0, each_append P xs ys h.1 k)
 
-pub each_front : {X : Type 0} (P : X → Type 0) (xs ys : List X) → Each P (xs ++ ys) → Each P xs
-each_front P [] ys h = tt
-each_front P (x ∷ xs) ys h = (h.0, each_front P xs ys h.1)
-
 pub each_back : {X : Type 0} (P : X → Type 0) (xs ys : List X) → Each P (xs ++ ys) → Each P ys
 each_back P [] ys h = h
 each_back P (x ∷ xs) ys h = each_back P xs ys h.1
@@ -40,13 +36,6 @@ Keeps order longer = (tag : Tag) (routed : Routed) → command_at order tag ≡ 
 
 pub kept_named : (place : ℕ) (order longer : Order) (cs : List Tagged) → Keeps order longer → Each (IsNamed place order) cs → Each (IsNamed place longer) cs
 kept_named place order longer cs keeps h = each_weaker (IsNamed place order) (IsNamed place longer) cs (λ c k. keeps c.1 (to_place place c.0) k) h
-
--- what is there stays there where more is after
-get_there : (es fs : Order) (k : ℕ) (e : Asked) → slice_get es k ≡ Some e → slice_get (es ++ fs) k ≡ Some e
-get_there [] fs zero e h = absurd (none-some e h)
-get_there [] fs (suc k) e h = absurd (none-some e h)
-get_there (x ∷ xs) fs zero e h = h
-get_there (x ∷ xs) fs (suc k) e h = get_there xs fs k e h
 
 still_there : (es fs : Order) (k atom : ℕ) (routed : Routed) → command_in (slice_get es k) atom ≡ Some routed → command_in (slice_get (es ++ fs) k) atom ≡ Some routed
 still_there [] fs zero atom routed h = absurd (none-some routed h)

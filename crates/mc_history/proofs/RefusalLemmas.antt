@@ -1,6 +1,6 @@
 -- Of the replies that a command can have, the one for want of memory alone is spelled as its line.
-use Rattle.std.proofs.Common.{◌≡◌, ◌∙◌, ℕ, Bool, true, false, ◌||◌, List, [], ◌∷◌, ◌++◌, map, refl, sym, ap}
-use Rattle.std.specs.Prelude.{◌==◌, Option, Some, None, slice_index_or}
+use Rattle.std.proofs.Common.{◌≡◌, ◌∙◌, ℕ, true, false, ◌||◌, List, [], ◌∷◌, ◌++◌, map, refl, sym, ap}
+use Rattle.std.specs.Prelude.{◌==◌, Some, None, slice_index_or}
 use Rattle.mc_request.specs.Atoms.{head_of}
 use Rattle.mc_request.specs.Faults.{fault_line}
 use Rattle.mc_request.specs.declared.faults.Fault.TheVariants.{UnknownCommand, BadFormat, BadDelta, InvalidFlag, BadToken, BadDataChunk, LineTooLong, NonNumeric, TooLarge, CasUsedUp, OutOfMemory}
@@ -12,7 +12,7 @@ use Rattle.mc_request.specs.declared.parts.Taken.TheVariants.{Whole}
 use Rattle.mc_request.specs.declared.parts.Update.TheVariants.{Store, Touch, Delete, Count, FlushAll}
 use Rattle.mc_reply.specs.CanHave.{can_have}
 use Rattle.mc_reply.specs.MetaSpelling.{meta_spelling}
-use Rattle.mc_reply.specs.Spelling.{answer, answer_of, end_line, key_onto, reply_line, spelling_of}
+use Rattle.mc_reply.specs.Spelling.{answer, end_line, key_onto, reply_line, spelling_of}
 use Rattle.mc_reply.specs.declared.replies.Reply.{Reply as AReply}
 use Rattle.mc_reply.specs.declared.replies.Reply.TheVariants.{Stored, NotStored, Exists, NotFound, Deleted, Touched, Flushed, Number, Miss, Hit, Meta, Fault}
 use Rattle.mc_reply_reader.proofs.HeadLemmas.{replies_apart}

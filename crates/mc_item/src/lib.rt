@@ -13,7 +13,7 @@ mod rows;
 
 pub use bodies::{Body, OVERHEAD, cost, cost_at};
 pub use counters::CasCounter;
-pub use deadlines::{Deadline, RELATIVE_LIMIT};
+pub use deadlines::{Deadline, NEVER, RELATIVE_LIMIT};
 pub use rows::{
     a_second_more_is_a_moment, below_zero_is_dead_at_once, thirty_days_are_from_the_moment_on,
     zero_is_never,

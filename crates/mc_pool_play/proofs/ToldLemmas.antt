@@ -1,7 +1,7 @@
 -- What is told of a world, one line more at a time.
-use Rattle.std.proofs.Common.{◌≡◌, ◌∙◌, ℕ, ◌+◌, ◌<◌, ◌≤◌, List, [], ◌∷◌, ◌++◌, length, map, take, get_or, codes, decimal, sym, ap, arith, append_assoc}
+use Rattle.std.proofs.Common.{◌≡◌, ◌∙◌, ℕ, ◌+◌, ◌<◌, List, [], ◌∷◌, ◌++◌, length, map, take, get_or, codes, decimal, sym, ap, arith}
 use Rattle.std.specs.List.{flat_map, range_with_len}
-use Rattle.std.proofs.lemmas.List.{append-nil, length-map, length-take-le, map-append, map-id, take_more, take_all}
+use Rattle.std.proofs.lemmas.List.{append-nil, length-map, length-take-le, map-append, map-id, take_more}
 use Rattle.std.proofs.lemmas.List.FromFn.{map-range_with_len_more}
 use Rattle.std.proofs.lemmas.Grind.{flat_map-append}
 use Rattle.mc_history.specs.declared.entries.Entry.{Entry}
@@ -37,18 +37,3 @@ histories_lines_more course place =
 -- the lines of a server that took so many commands, up to some of them
 abbrev pub history_so_far : ℕ → ℕ → List Entry → List ℕ
 history_so_far place count entries = named_line (codes "history") place (decimal count) ++ flat_map (λ e. entry_line place e) entries
-
--- the line of one entry more
-pub history_more : (place count i : ℕ) (entries : List Entry) (e : Entry) → i < length entries → get_or entries i e ≡ e
-    → history_so_far place count (take (i + 1) entries) ≡ history_so_far place count (take i entries) ++ entry_line place e
-history_more place count i entries e inside is =
-    let line = λ (x : Entry). entry_line place x in
-    let head = named_line (codes "history") place (decimal count) in
-    let all : take (i + 1) entries ≡ take i entries ++ e ∷ [] = take_more entries i e inside ∙ ap (λ (x : Entry). take i entries ++ x ∷ []) is in
-    ap (λ (es : List Entry). head ++ flat_map line es) all ∙ ap (λ (xs : List ℕ). head ++ xs) (flat_map-append line (take i entries) (e ∷ []))
-    ∙ ap (λ (xs : List ℕ). head ++ (flat_map line (take i entries) ++ xs)) (append-nil (line e))
-    ∙ sym (append_assoc head (flat_map line (take i entries)) (line e))
-
--- all of them
-pub history_all : (place i : ℕ) (entries : List Entry) → length entries ≤ i → history_so_far place (length entries) (take i entries) ≡ history_lines place entries
-history_all place i entries past = ap (λ (es : List Entry). history_so_far place (length entries) es) (take_all i entries past)

@@ -105,10 +105,6 @@ link_fed place piece old new unread unread' ended' up is brings = record {
   still_up = ap (λ (link : LinkState). link.up) (link_is place (record (link_at old.links place) { unread = (link_at old.links place).unread ++ piece }) old new up is) ∙ up;
 }
 
--- a turn that was refused
-pub reply_refused : (place : ℕ) (s : ProxyState) (woken : List ℕ) → TakesReply place (Err Failed) s s woken woken
-reply_refused place s woken = record { stretch = link_none place s woken; how = refl }
-
 -- a turn gave a command its reply
 pub own_session : (place : ℕ) (old new : ProxyState) (answers : Answers place old new) (tag : Tag)
     → Some tag ≡ option_map (λ (w : Waiting). w.1) (slice_get (link_at old.links place).waiting 0) → tag.session ≡ answers.tag.session
@@ -131,16 +127,6 @@ reply_taken place session old new woken woken' answers up own is =
     record {
       stretch = subst (λ (ws : List ℕ). LinkStretch place old new [] [] woken ws) same one;
       how = subst P (sym link_is_now) (stays_up, less);
-    }
-
--- a turn found none
-pub reply_none : (place : ℕ) (old new : ProxyState) (woken : List ℕ) → (link_at old.links place).up ≡ true → IsLinkTurn place turns.Idle old new → TakesReply place (Ok false) old new woken woken
-reply_none place old new woken up turn =
-    let P : ProxyState → Type 0 = λ p. TakesReply place (Ok false) old p woken woken in
-    let one : LinkStretch place old new [] [] woken woken = link_one place Rested old new woken (up, turn) in
-    record {
-      stretch = one;
-      how = rw turn.1 (up, turn.0);
     }
 
 -- a turn lost the link

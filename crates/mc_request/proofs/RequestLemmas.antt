@@ -2,7 +2,7 @@
 use Rattle.std.proofs.Common.{◌≡◌, ℕ, zero, suc, ◌+◌, if◌then◌else◌, ◌<◌, ◌≤◌, Bool, true, false, cond, List, [], ◌∷◌, ◌++◌, length, take, drop, Option, Some, None, refl, sym, ap, ◌∙◌, arith, nat_lt, length-append, length-drop}
 use Rattle.std.proofs.lemmas.List.{take-append-le, drop-append-le}
 use Rattle.mc_text.specs.Lines as lines
-use Rattle.mc_text.specs.Lines.{FirstLine, first_line, line_end, HasNoLineFeed}
+use Rattle.mc_text.specs.Lines.{FirstLine, first_line}
 use Rattle.mc_text.specs.Words.{words}
 use Rattle.mc_text.proofs.LineLemmas.{first_line_whole-size, first_line_whole-more, first_line_too_long, first_line_too_long-more, first_line-nil}
 use Rattle.mc_request.specs.Meanings.{Meaning, Alone, Stores, Refuses, meaning}

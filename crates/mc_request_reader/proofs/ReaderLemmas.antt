@@ -1,5 +1,5 @@
 -- What a reader stands for after a step.
-use Rattle.std.proofs.Common.{◌≡◌, ◌∙◌, ℕ, suc, zero, ◌+◌, ◌-◌, ◌*◌, ◌||◌, ◌<◌, ◌≤◌, Bool, true, false, List, [], ◌∷◌, ◌++◌, length, drop, Option, Some, None, is_some, IsTrue, nat_lt, min, if◌then◌else◌, refl, sym, ap, arith, append_assoc, length-append, length-drop}
+use Rattle.std.proofs.Common.{◌≡◌, ◌∙◌, ℕ, suc, zero, ◌+◌, ◌-◌, ◌*◌, ◌<◌, ◌≤◌, Bool, true, false, List, [], ◌∷◌, ◌++◌, length, drop, Option, Some, None, is_some, IsTrue, nat_lt, min, if◌then◌else◌, refl, sym, ap, arith, append_assoc, length-append, length-drop}
 use Rattle.std.specs.Option.{option_map}
 use Rattle.std.specs.Prelude.{unwrap_or}
 use Rattle.std.proofs.lemmas.List.{get_or_append_left, drop-drop, drop-append-le, append-nil}
@@ -15,8 +15,8 @@ use Rattle.mc_request_reader.specs.declared.searched.Searched.{Searched}
 use Rattle.mc_request_reader.specs.declared.searched.Searched.TheVariants as searches
 use Rattle.mc_request_reader.specs.Steps.{IsSearched, IsShortOf, IsWholeFrom}
 use Rattle.mc_request.specs.Requests.{next_request, requests_from, requests_of, ends}
-use Rattle.mc_request_reader.specs.Reader.{ReaderState, rest_of, rest_from, most_by, most_held, KeepsRest, KeepsLittle}
-use Rattle.mc_request_reader.specs.UnreadFields.{state_of, IsEmptyWhile, IsUnread}
+use Rattle.mc_request_reader.specs.Reader.{ReaderState, rest_of, rest_from, most_held, KeepsRest, KeepsLittle}
+use Rattle.mc_request_reader.specs.UnreadFields.{IsUnread}
 use Rattle.mc_request_reader.specs.declared.unread.Unread.TheInside.{Inside}
 use Rattle.mc_request_reader.specs.Peeks.{HasNone, IsFirst, Shows, front_of, first_by, past}
 use Rattle.mc_request.proofs.RequestLemmas.{given, next_request-size, requests-step, takes, waits}
@@ -33,15 +33,6 @@ shows_whole s x front unclosed none closes_is e = record {
   closes = closes_is;
   first = record { rest = λ text. rw (unclosed, none, closes_is) (takes s.unread (x, front.size) e text ∙ ap (λ (ts : List Taken). x ∷ ts) (after_taken (ends x) (drop front.size s.unread ++ text))) };
 }
-
--- a look at the fault of a block that has been dropped
-pub shows_dropped : (s : ReaderState) (f : Fault) (left : ℕ) → s.closed ≡ false → s.dropping ≡ Some (f, left) → left ≤ 0 → closes f ≡ false → Shows s (Faulty f) (record { size = 0; closes = false })
-shows_dropped s f zero unclosed is done ok = record {
-  front_is = rw (unclosed, is, ok) refl;
-  closes = sym ok;
-  first = record { rest = λ text. let none : nat_lt (length (s.unread ++ text)) 0 ≡ false = grind arith in rw (unclosed, is, none) refl };
-}
-shows_dropped s f (suc left) unclosed is done ok = absurd (omega arith)
 
 first_size : (dropping : Option (Fault × ℕ)) (unread : List ℕ) (x : Taken × ℕ) → first_by dropping unread ≡ Some x → x.1 ≤ length unread
 first_size None unread x e = (next_request-size unread x e).1
@@ -103,18 +94,6 @@ none_yet old new same unclosed none e = record {
   rest = λ text. ap (λ (s : ReaderState). rest_of s text) same;
 }
 
--- a block that is being dropped
-pub none_dropping : (s : ReaderState) (f : Fault) (left : ℕ) → s.closed ≡ false → s.dropping ≡ Some (f, left) → 0 < left → (0 < left → length s.unread ≡ 0) → HasNone s s
-none_dropping s f left unclosed is more empty =
-    let none : length s.unread ≡ 0 = empty more in
-    let short : nat_lt (length (s.unread ++ [])) left ≡ true = grind (arith, length-append s.unread [], none) in
-    record {
-      was_open = unclosed;
-      is_open = unclosed;
-      none = rw (unclosed, is, short) refl;
-      rest = λ text. refl;
-    }
-
 -- something is whole, so there is a first
 pub whole_is_first : (s : ReaderState) → s.closed ≡ false → s.dropping ≡ None → is_some (next_request s.unread) ≡ true → rest_of s [] ≡ [] → ⊥
 whole_is_first s unclosed none some e =
@@ -124,13 +103,6 @@ whole_is_first s unclosed none some e =
 most_open : (s : ReaderState) → s.closed ≡ false → s.dropping ≡ None → s.held ≤ 2 * length s.unread → s.held ≤ most_held s
 most_open s unclosed none half = rw (unclosed, none) half
 
--- where nothing is whole, the bytes that wait are few
-pub little_waits : (s : ReaderState) (wanted : ℕ) → s.closed ≡ false → s.dropping ≡ None → s.held ≤ 2 * length s.unread → s.held < wanted → wanted ≤ 1114114 → KeepsLittle s
-little_waits s wanted unclosed none half few limit = record {
-  most = most_open s unclosed none half;
-  limit = λ e. omega (arith, few, limit);
-}
-
 -- where something is whole, they are bounded by those that are not taken
 pub little_whole : (s : ReaderState) → s.closed ≡ false → s.dropping ≡ None → s.held ≤ 2 * length s.unread → is_some (next_request s.unread) ≡ true → KeepsLittle s
 little_whole s unclosed none half some = record {
@@ -138,57 +110,12 @@ little_whole s unclosed none half some = record {
   limit = λ e. absurd (whole_is_first s unclosed none some e);
 }
 
--- where nothing is kept
-pub little_none : (s : ReaderState) → s.held ≡ 0 → KeepsLittle s
-little_none s none = record {
-  most = omega (arith, none);
-  limit = λ e. omega (arith, none);
-}
-
-most_parts : (closed : Bool) (dropping : Option (Fault × ℕ)) (held : ℕ) (unread : List ℕ) → held ≤ 2 * length unread → (closed ≡ true → held ≡ 0) → IsEmptyWhile dropping unread
-    → held ≤ (if closed then 0 else most_by dropping unread)
-most_parts true dropping held unread half done empty = omega (arith, done refl)
-most_parts false None held unread half done empty = half
-most_parts false (Some (f, zero)) held unread half done empty = half
-most_parts false (Some (f, suc left)) held unread half done empty =
-    let none : length unread ≡ 0 = empty.1 (omega arith) in
-    omega (arith, none, half)
-
 pub half_of : (r : Inside) → IsUnread r → length r.buffer.items ≤ 2 * length (drop r.start r.buffer.items)
 half_of r h = omega (arith, h.half, length-drop r.start r.buffer.items)
-
--- few bytes are kept
-pub little_few : (r : Inside) → IsUnread r → length r.buffer.items < 1114114 → KeepsLittle (state_of r)
-little_few r h few = record {
-  most = most_parts r.closed r.dropping (length r.buffer.items) (drop r.start r.buffer.items) (half_of r h) h.done h.empty;
-  limit = λ e. few;
-}
-
-stopped_limit : (closed : Bool) (dropping : Option (Fault × ℕ)) (held : ℕ) (unread : List ℕ) → closed || is_some dropping ≡ true → held ≤ 2 * length unread → (closed ≡ true → held ≡ 0)
-    → IsEmptyWhile dropping unread → rest_from closed dropping (unread ++ []) ≡ [] → held < 1114114
-stopped_limit true dropping held unread stopped half done empty e = omega (arith, done refl)
-stopped_limit false None held unread stopped half done empty e = absurd cc
-stopped_limit false (Some (f, zero)) held unread stopped half done empty e =
-    let none : nat_lt (length (unread ++ [])) 0 ≡ false = grind arith in
-    absurd (not_none (rw none at e))
-stopped_limit false (Some (f, suc left)) held unread stopped half done empty e =
-    let none : length unread ≡ 0 = empty.1 (omega arith) in
-    omega (arith, none, half)
-
--- after the end, and while a block is dropped
-pub little_stopped : (r : Inside) → IsUnread r → r.closed || is_some r.dropping ≡ true → KeepsLittle (state_of r)
-little_stopped r h stopped = record {
-  most = most_parts r.closed r.dropping (length r.buffer.items) (drop r.start r.buffer.items) (half_of r h) h.done h.empty;
-  limit = stopped_limit r.closed r.dropping (length r.buffer.items) (drop r.start r.buffer.items) stopped (half_of r h) h.done h.empty;
-}
 
 -- the state after what closes
 pub rest_closed : (s : ReaderState) (text : List ℕ) → s.closed ≡ true → rest_of s text ≡ []
 rest_closed s text closed = rw closed refl
-
--- the same by its parts
-pub rest_same : (s t : ReaderState) → t.unread ≡ s.unread → t.dropping ≡ s.dropping → t.closed ≡ s.closed → KeepsRest s t
-rest_same s t unread dropping closed = record { rest = λ text. rw (unread, dropping, closed) refl; closed = closed }
 
 -- the requests of a text whose first block is dropped
 drops : (u : List ℕ) (f : Fault) (size : ℕ) → closes f ≡ false → length u < size

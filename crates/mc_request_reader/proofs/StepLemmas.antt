@@ -3,7 +3,7 @@ use Rattle.std.proofs.Common.{◌≡◌, ℕ, ◌+◌, ◌-◌, if◌then◌else
 use Rattle.std.proofs.lemmas.Bool.{cases_lt}
 use Rattle.std.proofs.lemmas.List.{drop-append-le, append-nil}
 use Rattle.mc_text.specs.Lines as lines
-use Rattle.mc_text.specs.Lines.{FirstLine, first_line, line_end, HasNoLineFeed}
+use Rattle.mc_text.specs.Lines.{first_line, line_end}
 use Rattle.mc_text.specs.Words.{words}
 use Rattle.mc_text.proofs.LineLemmas.{first_line_whole, first_line_whole-size, first_line_whole-limit, first_line_whole-more}
 use Rattle.mc_request.specs.Meanings.{Meaning, Storing, Alone, Stores, Refuses, meaning}
@@ -77,13 +77,6 @@ pub stores_whole : (u : List ℕ) (line : ℕ) (s : Storing) (len : ℕ) → Sta
 stores_whole u line s len h enough =
     let test : nat_lt (length (drop line u)) (len + 2) ≡ false = grind (arith, length-drop line u, enough) in
     starts_now u (Stores s len) line h ∙ rw test refl
-
--- what holds before anything was looked at
-pub nothing_scanned : (u : List ℕ) → HasNoLineFeed 0 u
-nothing_scanned u = record { inside = omega arith; none = λ k lt. absurd (omega arith) }
-
-pub nothing_wanted : (u : List ℕ) → IsShortOf 0 u
-nothing_wanted u more short = absurd (omega arith)
 
 -- a block that has not come whole
 pub stores_waits : (u : List ℕ) (line : ℕ) (s : Storing) (len : ℕ) → StartsBy u (Stores s len) line → length u < line + (len + 2) → next_request u ≡ None

@@ -203,10 +203,6 @@ holder_is hash (p ∷ ps) m held =
 
 -- ---- only the members count
 
-holder_of-nil : (hash : ℕ) → holder_of [] hash ≡ None
-unfolding holder_of
-holder_of-nil hash = refl
-
 -- lists with the same members have the same holder
 pub holder_of-same : (hash : ℕ) (ps qs : List Point) → ((p : Point) → Member p ps → Member p qs) → ((p : Point) → Member p qs → Member p ps) → holder_of ps hash ≡ holder_of qs hash
 holder_of-same hash [] [] there back = refl

@@ -11,10 +11,6 @@ abbrev pub with_front : List Event → Result (List Event) ℕ → Result (List 
 with_front front (Ok events) = Ok (front ++ events)
 with_front front (Err line) = Err line
 
-pub with_front-nil : (r : Result (List Event) ℕ) → with_front [] r ≡ r
-with_front-nil (Ok events) = refl
-with_front-nil (Err line) = refl
-
 -- one event more
 pub with_front-more : (front : List Event) (n : ℕ) (event : Event) (r : Result (List Event) ℕ) → with_front front (with_event n (Some event) r) ≡ with_front (front ++ event ∷ []) r
 with_front-more front n event (Ok events) = ap (λ (es : List Event). Ok es) (sym (append_assoc front (event ∷ []) events))

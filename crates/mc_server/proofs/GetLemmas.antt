@@ -1,19 +1,18 @@
 -- A retrieval command, key by key.
-use Rattle.std.proofs.Common.{◌≡◌, ◌∙◌, ℕ, ℤ, ◌≤◌, Bool, true, false, ◌&&◌, List, [], ◌∷◌, ◌++◌, length, map, Option, Some, None, refl, sym, ap, append_assoc, arith}
+use Rattle.std.proofs.Common.{◌≡◌, ◌∙◌, ℕ, ℤ, Bool, true, false, ◌&&◌, List, [], ◌∷◌, ◌++◌, map, Option, Some, None, refl, sym, ap, append_assoc}
 use Rattle.std.specs.Borrow.{Bor}
 use Rattle.std.specs.List.{list_all}
 use Rattle.mc_text.specs.Keys.{is_plain_key}
 use Rattle.std.proofs.lemmas.List.{append-nil}
-use Rattle.mc_request.specs.Atoms.{gets_of, atoms_taken}
+use Rattle.mc_request.specs.Atoms.{gets_of}
 use Rattle.mc_request.specs.declared.parts.Atom.TheVariants as atoms
 use Rattle.mc_request.specs.declared.parts.Request.TheVariants.{Get}
-use Rattle.mc_request.specs.declared.parts.Taken.{Taken}
 use Rattle.mc_request.specs.declared.parts.Taken.TheVariants.{Whole}
 use Rattle.mc_reply.specs.declared.replies.Reply.{Reply}
 use Rattle.mc_reply.specs.declared.replies.Reply.TheVariants.{Stored, NotStored, Exists, NotFound, Deleted, Touched, Flushed, Number, Miss, Hit, Meta, Fault}
 use Rattle.mc_reply.specs.Replies.{filled}
-use Rattle.mc_reply.specs.Seen.{bytes_seen, value_len}
-use Rattle.mc_reply.specs.Spelling.{key_part, blocks_of, end_line, answer}
+use Rattle.mc_reply.specs.Seen.{bytes_seen}
+use Rattle.mc_reply.specs.Spelling.{key_part, blocks_of, end_line}
 use Rattle.mc_cache.specs.CacheState.{CacheState}
 use Rattle.mc_cache.specs.Replay.{Command, replay, replies, IsLegal}
 use Rattle.mc_cache.specs.Step.{step_of}
@@ -35,22 +34,6 @@ bytes_seen-filled (Hit flags cas none) value = refl
 bytes_seen-filled (Meta shown None) value = refl
 bytes_seen-filled (Meta shown (Some none)) value = refl
 bytes_seen-filled (Fault fault) value = refl
-
--- a reply shows no more of a value than there is
-pub value_len-filled : {V : Type 0} (reply : Reply V) (value : List ℕ) → value_len (filled reply value) ≤ length value
-value_len-filled Stored value = omega arith
-value_len-filled NotStored value = omega arith
-value_len-filled Exists value = omega arith
-value_len-filled NotFound value = omega arith
-value_len-filled Deleted value = omega arith
-value_len-filled Touched value = omega arith
-value_len-filled Flushed value = omega arith
-value_len-filled (Number number) value = omega arith
-value_len-filled Miss value = omega arith
-value_len-filled (Hit flags cas none) value = omega arith
-value_len-filled (Meta shown None) value = omega arith
-value_len-filled (Meta shown (Some none)) value = omega arith
-value_len-filled (Fault fault) value = omega arith
 
 -- the commands of some keys at a moment, none of which was refused memory
 abbrev pub gets : Option ℤ → Bool → ℕ → List (List ℕ) → List Command
@@ -112,13 +95,3 @@ pub filled_is_seen : {V : Type 0} (reply : Reply V) (value : Bor (List ℕ)) (he
     → whole ≡ filled reply value → value.now ≡ held → bytes_seen whole ≡ filled reply held
 filled_is_seen reply value held whole whole_is held_is =
     ap bytes_seen whole_is ∙ bytes_seen-filled reply value ∙ ap (λ (bytes : List ℕ). filled reply bytes) held_is
-
-pub filled_fits : {V : Type 0} (reply : Reply V) (value : Bor (List ℕ)) (held : List ℕ) (whole : Reply (Bor (List ℕ)))
-    → whole ≡ filled reply value → value.now ≡ held → value_len (bytes_seen whole) ≤ length held
-filled_fits reply value held whole whole_is held_is = rw (filled_is_seen reply value held whole whole_is held_is) (value_len-filled reply held)
-
--- what makes no command
-pub nothing_served : (number moment : ℕ) (s : CacheState) (what : Taken) (before after : List ℕ) → atoms_taken what ≡ [] → after ≡ before ++ answer what []
-    → Serves s s (record { connection = number; what = what; moment = moment; refused = false }) before after
-nothing_served number moment s what before after none after_is =
-    record { legal = rw none (tt, refl); cache = rw none refl; answered = rw none after_is }

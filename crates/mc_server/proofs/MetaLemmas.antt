@@ -1,5 +1,5 @@
 -- A meta command, by what the cache replied.
-use Rattle.std.proofs.Common.{◌≡◌, ◌∙◌, ℕ, ◌&&◌, Bool, true, false, List, [], ◌++◌, refl, sym, ap}
+use Rattle.std.proofs.Common.{◌≡◌, ◌∙◌, ℕ, ◌&&◌, Bool, true, false, List, ◌++◌, refl, sym, ap}
 use Rattle.std.specs.Borrow.{Bor}
 use Rattle.mc_request.specs.Parts.{key_bytes, meta_said, word_in_meta}
 use Rattle.mc_request.specs.Hides.{hides_of}
@@ -28,10 +28,6 @@ use Rattle.mc_server.proofs.UpdateLemmas.{is_hidden-filled, is_refusal-filled, o
 pub meta_shown : {V : Type 0} (hides : Hides) (form : MetaForm (List (List ℕ))) (key : List ℕ) (reply : Reply V) (value : List ℕ) → is_hidden hides reply ≡ false
     → shown_meta hides form key (filled reply value) ≡ meta_line form key (filled reply value)
 meta_shown hides form key reply value shown = rw (is_hidden-filled hides reply value, shown) refl
-
-pub meta_hidden : {V : Type 0} (hides : Hides) (form : MetaForm (List (List ℕ))) (key : List ℕ) (reply : Reply V) (value : List ℕ) → is_hidden hides reply ≡ true
-    → shown_meta hides form key (filled reply value) ≡ []
-meta_hidden hides form key reply value hidden = rw (is_hidden-filled hides reply value, hidden) refl
 
 -- the cache made the command, and what is shown of its reply was written
 pub meta_served : {V : Type 0} (number moment : ℕ) (s t : CacheState) (command : MetaCommand (List ℕ) (List ℕ)) (form : MetaForm (List (List ℕ))) (hides : Hides) (reply : Reply V) (value : List ℕ) (before after : List ℕ)

@@ -1,5 +1,5 @@
 -- How many bytes of a value a meta command shows.
-use Rattle.std.proofs.Common.{◌≡◌, ◌∙◌, ◌||◌, ℕ, ℤ, ◌+◌, ◌^◌, ◌<◌, ◌≤◌, ◌==◌, ◌&&◌, nat_le, nat_lt, if◌then◌else◌, cond, Bool, true, false, List, [], ◌∷◌, length, Option, Some, None, Result, Ok, Err, refl, sym, ap, arith}
+use Rattle.std.proofs.Common.{◌≡◌, ◌||◌, ℕ, ℤ, ◌+◌, ◌^◌, ◌<◌, ◌≤◌, ◌==◌, ◌&&◌, nat_le, nat_lt, if◌then◌else◌, cond, Bool, true, false, List, [], ◌∷◌, length, Option, Some, None, Result, Ok, Err, refl, ap, arith}
 use Rattle.std.proofs.lemmas.Bool.Decides.{nat_tests}
 use Rattle.std.specs.Prelude.{IfSome, IfOk}
 use Rattle.std.specs.Option.{option_or}
@@ -12,7 +12,6 @@ use Rattle.mc_request.specs.declared.faults.Fault as faults
 use Rattle.mc_request.specs.declared.faults.Fault.TheVariants.{TooLarge, CasUsedUp}
 use Rattle.mc_request.specs.declared.meta.Counting.{Counting}
 use Rattle.mc_request.specs.declared.meta.Creation.{Creation}
-use Rattle.mc_request.specs.declared.meta.MetaGet.{MetaGet}
 use Rattle.mc_request.specs.declared.meta.Show.{Show}
 use Rattle.mc_request.specs.declared.parts.Direction.{Direction}
 use Rattle.mc_request.specs.declared.parts.Direction.TheVariants.{Up, Down}
@@ -21,18 +20,17 @@ use Rattle.mc_request.specs.declared.parts.StoreMode.TheVariants.{Set, Add, Repl
 use Rattle.mc_request.specs.declared.parts.Update.{Update}
 use Rattle.mc_request.specs.declared.parts.Update.TheVariants.{Store, Touch, Delete, Count, FlushAll}
 use Rattle.mc_reply.specs.declared.replies.Marks.{Marks}
-use Rattle.mc_reply.specs.declared.replies.Marks.TheVariants.{Plain, Won}
+use Rattle.mc_reply.specs.declared.replies.Marks.TheVariants.{Plain}
 use Rattle.mc_reply.specs.declared.replies.Reply.{Reply}
 use Rattle.mc_reply.specs.declared.replies.Reply.TheVariants.{Stored, NotStored, Exists, NotFound, Deleted, Touched, Flushed, Number, Miss, Hit, Meta, Fault}
 use Rattle.mc_reply.specs.Seen.{value_len}
 use Rattle.mc_reply.proofs.SpellingLemmas.{length-number}
 use Rattle.mc_store.specs.Items.{Items, body_at}
-use Rattle.mc_cache.specs.CacheState.{CacheState, value_at}
-use Rattle.mc_cache.specs.Showing.{told, item_shown, marks_of}
-use Rattle.mc_cache.specs.Step.{Outcome, Content, admission, numbered, stored_by, stored, compared, unmet, unstored, content_by, store_by, touch_step, delete_by, delete_step, counted, count_number, count_by, count_none, count_step, update_step, step_of, held_under, made_by, looked_at, meta_get_none, meta_get_step}
+use Rattle.mc_cache.specs.CacheState.{CacheState}
+use Rattle.mc_cache.specs.Showing.{told, item_shown}
+use Rattle.mc_cache.specs.Step.{Outcome, Content, admission, numbered, stored_by, stored, compared, unmet, unstored, content_by, store_by, touch_step, delete_by, delete_step, counted, count_number, count_by, count_none, count_step, update_step, step_of, held_under}
 use Rattle.mc_cache.specs.Settling.{settled}
 use Rattle.mc_cache.proofs.StoredLemmas.{own_key}
-use Rattle.mc_server.proofs.GetLemmas.{value_len-filled}
 use Rattle.mc_reply.specs.Replies.{filled}
 use Rattle.mc_request.specs.declared.meta.MetaCommand.TheVariants as metas
 use Rattle.mc_request.specs.declared.parts.Atom.TheVariants as atoms
@@ -209,43 +207,6 @@ told_fits n show moment marks held Miss le = omega arith
 told_fits n show moment marks held (Hit flags cas value) le = absurd le
 told_fits n show moment marks held (Meta shown value) le = absurd le
 told_fits n show moment marks held (Fault fault) le = omega arith
-
-nothing_fits : (v : Bool) (n m : ℕ) → v ≡ false → n ≤ (if v then m else 0) → n ≤ 0
-nothing_fits true n m is le = absurd cc
-nothing_fits false n m is le = le
-
-made_hides : (s : CacheState) (key : List ℕ) (get : MetaGet) (create : Option ℤ) (moment : ℕ) (refused : Bool) → get.show.value ≡ false → value_len (meta_get_none s key get create moment refused).1 ≤ 0
-made_hides s key get None moment refused is = omega arith
-made_hides s key get (Some create) moment refused is =
-    let content = made_by get.exptime create moment in
-    let made = stored s key content refused Stored in
-    nothing_fits get.show.value _ 0 is (told_fits 0 get.show moment Won (held_under (Some key) made.0) made.1 (stored_by-short 0 s key content refused 0 (admission s key (length content.value)) (omega arith)).1)
-
--- a look leaves the value
-looked_short : (get : MetaGet) (exptime : Option ℤ) (moment : ℕ) (body : Body) → AtMost (length body.value) (Some (looked_at (record get { exptime = exptime }) moment body))
-looked_short get None moment body = omega arith
-looked_short get (Some exptime) moment body = omega arith
-
--- `mg` that shows no value
-looked_hides : (s : CacheState) (key : List ℕ) (held : Option Body) (get : MetaGet) (moment : ℕ) (refused : Bool) → get.show.value ≡ false → value_len (meta_get_step s key held get moment refused).1 ≤ 0
-looked_hides s key None get moment refused is = made_hides s key get get.create moment refused is
-looked_hides s key (Some body) get moment refused is =
-    nothing_fits get.show.value _ (length body.value) is
-    (shown_fits (length body.value) get.show moment (marks_of get.recache moment body) (Some (looked_at get moment body)) get.show.value refl (looked_short get get.exptime moment body))
-
--- `mg` shows at most what was held, by what the cache says of it
-pub get_fits : {V : Type 0} (s t : CacheState) (key : List ℕ) (get : MetaGet) (moment : ℕ) (refused : Bool) (reply : Reply V) (front : List ℕ) (v : Bool) → get.show.value ≡ v
-    → step_of s (atoms.Meta (metas.Get key get)) moment refused ≡ (t, filled reply front)
-    → step_of s (atoms.Meta (metas.Get key get)) moment refused ≡ (t, filled reply (value_at key t.items))
-    → length (value_at key t.items) ≤ length (value_at key s.items)
-    → value_len (filled reply front) ≤ (if v then length (value_at key s.items) else 0)
-get_fits s t key get moment refused reply front true is by_front by_value shrinks =
-    let same : filled reply front ≡ filled reply (value_at key t.items) = ap (λ (o : Outcome). o.1) (sym by_front ∙ by_value) in
-    rw same (omega (arith, shrinks, value_len-filled reply (value_at key t.items)))
-get_fits s t key get moment refused reply front false is by_front by_value shrinks =
-    let at = settled s (Some key) moment in
-    let told : (step_of s (atoms.Meta (metas.Get key get)) moment refused).1 ≡ filled reply front = ap (λ (o : Outcome). o.1) by_front in
-    rw told at (looked_hides at key (body_at key at.items) get moment refused is)
 
 -- an update shows at most what it stored
 pub update_fits : {V : Type 0} (s t : CacheState) (update : Update (List ℕ) (List ℕ)) (show : Show) (coded : Bool) (moment : ℕ) (refused : Bool) (reply : Reply V) (front : List ℕ)

@@ -14,7 +14,7 @@ use Rattle.mc_route.specs.Looks.{goes_to}
 use Rattle.mc_route.specs.Routes.{route_of_taken}
 use Rattle.mc_route.specs.declared.routes.Routed.{Routed}
 use Rattle.mc_route.specs.declared.outcomes.Outcome.{Outcome}
-use Rattle.mc_link.specs.LinkState.{LinkState, down_link}
+use Rattle.mc_link.specs.LinkState.{LinkState}
 use Rattle.mc_session.specs.SessionState.{SessionState, link_at}
 use Rattle.mc_session.specs.Sending.{at_once, handed, is_link_marked, is_session_marked}
 use Rattle.mc_session.specs.Looks.{IsReady, waits_for}

@@ -11,7 +11,7 @@ use Rattle.mc_request.specs.declared.meta.MetaGet.{MetaGet}
 use Rattle.mc_request.specs.declared.meta.Show.{Show}
 use Rattle.mc_request.specs.declared.parts.StoreMode.{StoreMode}
 use Rattle.mc_request.specs.declared.parts.Update.TheVariants as updates
-use Rattle.mc_spelling.specs.Spellings.{word_if, number_if, signed_if, creation_words, mode_word, direction_word, mg_flags, ms_flags, md_flags, ma_flags, meta_words, spaced}
+use Rattle.mc_spelling.specs.Spellings.{word_if, number_if, signed_if, creation_words, mode_word, direction_word, mg_flags, ms_flags, ma_flags, meta_words, spaced}
 use Rattle.mc_spelling.specs.SpelledPieces.{after_spaces, piece_if, number_piece, signed_piece, creation_piece, mg_show_pieces, ms_show_pieces, ma_show_pieces}
 
 -- how many digits a number has
@@ -136,10 +136,6 @@ pub ms_line_is : (mode : StoreMode) (compare : Option ℕ) (key : List ℕ) (fla
     → spaced (meta_words (metas.Update (updates.Store mode compare key flags exptime block) show))
     ≡ (codes "ms " ++ coded_of key) ++ ((codes " " ++ decimal (length block)) ++ after_spaces (ms_flags mode compare flags exptime show))
 ms_line_is mode compare key flags exptime block show = spaced_is (codes "ms") (coded_of key ∷ decimal (length block) ∷ ms_flags mode compare flags exptime show)
-
-pub md_line_is : (key : List ℕ) (compare : Option ℕ) (invalidate : Bool) (show : Show)
-    → spaced (meta_words (metas.Update (updates.Delete key compare invalidate) show)) ≡ (codes "md " ++ coded_of key) ++ after_spaces (md_flags compare invalidate)
-md_line_is key compare invalidate show = spaced_is (codes "md") (coded_of key ∷ md_flags compare invalidate)
 
 pub ma_line_is : (key : List ℕ) (counting : Counting) (show : Show)
     → spaced (meta_words (metas.Update (updates.Count key counting) show)) ≡ (codes "ma " ++ coded_of key) ++ after_spaces (ma_flags counting show)

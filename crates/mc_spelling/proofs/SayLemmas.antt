@@ -13,7 +13,7 @@ use Rattle.mc_text.proofs.CodedByteLemmas.{bytes_of_coded}
 use Rattle.mc_text.proofs.ByteLemmas.{is_byte, all_bytes, list_all-drop}
 use Rattle.mc_text.proofs.TextByteLemmas.{bytes_of_words, bytes_of_line}
 use Rattle.mc_request.specs.declared.faults.Fault.{Fault}
-use Rattle.mc_request.specs.declared.faults.Fault.TheVariants.{BadFormat, BadDelta, TooLarge, UnknownCommand}
+use Rattle.mc_request.specs.declared.faults.Fault.TheVariants.{BadFormat, TooLarge, UnknownCommand}
 use Rattle.mc_request.specs.declared.faults.Fault.TheVariants as faults
 use Rattle.mc_request.specs.declared.meta.MetaCommand.{MetaCommand}
 use Rattle.mc_request.specs.declared.meta.MetaCommand.TheVariants as metas

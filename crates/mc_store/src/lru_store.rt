@@ -155,7 +155,7 @@ impl<H: BuildHasher> Store for LruStore<H> {
             Some(item) => {
                 self.sums
                     .take_away(cost(&item.0, &item.1), item.1.value.len());
-                Some(item.1)
+                Some(body_of(item))
             }
             None => None,
         }
@@ -201,4 +201,11 @@ impl<H: BuildHasher> Store for LruStore<H> {
         self.cache.clear();
         self.sums = Sums::none();
     }
+}
+
+/// The body of an item, whose key is let go.
+fn body_of(item: (Key, Body)) -> Body
+    ensures { result ≡ item.1 }
+{
+    item.1
 }

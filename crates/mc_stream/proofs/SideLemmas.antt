@@ -1,8 +1,8 @@
 -- The two sides of a stream: what was carried, and then more; what one call of a side carried.
-use Rattle.std.proofs.Common.{◌≡◌, ◌∙◌, ◌<◌, inl, inr, ℕ, Bool, true, false, Result, Ok, Err, List, [], ◌∷◌, ◌++◌, length, take, Option, Some, None, refl, sym, ap, subst, append_assoc, arith}
+use Rattle.std.proofs.Common.{◌≡◌, ◌∙◌, inl, inr, ℕ, Bool, true, false, Result, Ok, Err, List, [], ◌∷◌, ◌++◌, take, Option, Some, None, refl, sym, ap, subst, append_assoc, arith}
 use Rattle.std.proofs.lemmas.List.{append-nil}
 use Rattle.std.proofs.KnownBytes.{Appends-nil, Appends-trans, Consumes-nil, Consumes-trans}
-use Rattle.std.specs.Io.KnownBytes.{Appends, Consumes, Keeps, IsAtEnd}
+use Rattle.std.specs.Io.KnownBytes.{Appends, Consumes, Keeps}
 use Rattle.mc_stream.specs.Sides.{IsAll, Carries, CarriesBy, Brings, HowItCame, HowItWent, IsStopOfSide, StopsRead, MovesNothing, Reads, Writes}
 use Rattle.mc_stream.specs.declared.outcomes.Pumped.{Pumped}
 use Rattle.mc_stream.specs.declared.outcomes.Pumped.TheVariants.{Again, Blocked, Done, Failed}
@@ -129,17 +129,6 @@ carries_sent unread written written' ended went h = record {
   at_end = λ e. inl e;
 }
 
--- the end came
-end_came : (a b : Option (List ℕ)) → Consumes a b [] → IsAtEnd b → IsAll a []
-end_came None b h e = tt
-end_came (Some a) None h e = absurd h
-end_came (Some a) (Some b) h e = sym (h ∙ e)
-
-pub brings_end : (a b : Option (List ℕ)) (n : ℕ) (piece : List ℕ) → n ≡ 0 → 0 < length piece → Consumes a b (take n piece) → (n ≡ 0 → 0 < length piece → IsAtEnd b) → Brings a b true []
-brings_end a b n piece none room consumed end =
-    let nothing : Consumes a b [] = subst (λ (k : ℕ). Consumes a b (take k piece)) none consumed in
-    record { consumed = nothing; at_end = λ _. end_came a b nothing (end none room) }
-
 -- bytes came, and the input was not seen to end
 pub brings_bytes : (a b : Option (List ℕ)) (ended : Bool) (came : List ℕ) → ended ≡ false → Consumes a b came → Brings a b ended came
 brings_bytes a b ended came open_yet consumed = record {
@@ -166,12 +155,6 @@ came_none unread unread' false unmoved h u = (h, refl, u)
 pub writes_nothing : (side : Result ℕ Pumped) (output : List ℕ) (written written' : Option (List ℕ)) → MovesNothing side → Keeps written written' → Writes side output written written'
 writes_nothing (Ok count) output written written' h kept = (omega (arith, h), rw h (keeps_appends written written' kept))
 writes_nothing (Err pump) output written written' h kept = (h, kept)
-
--- a read by whose error nothing came
-pub reads_nothing : (side : Result ℕ Pumped) (piece' : List ℕ) (ended' : Bool) (unread unread' : Option (List ℕ)) → MovesNothing side → ended' ≡ false → Keeps unread unread' → Reads side piece' ended' unread unread'
-reads_nothing (Ok count) piece' ended' unread unread' h open_yet kept =
-    (omega (arith, h), λ _. h, rw h (brings_bytes unread unread' ended' [] open_yet (keeps_consumes unread unread' kept)))
-reads_nothing (Err pump) piece' ended' unread unread' h open_yet kept = (h, open_yet, kept)
 
 -- a read that stopped the pump
 unheard : (pump : Pumped) (unread unread' : Option (List ℕ)) (ended' : Bool) → IsStopOfSide pump → Brings unread unread' ended' [] → StopsRead pump unread unread' ended' []

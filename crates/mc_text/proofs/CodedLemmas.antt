@@ -71,11 +71,6 @@ pub said_key : (word key : List ℕ) → coded_key word ≡ Some key → bytes_o
 unfolding coded_key
 said_key word key e = (coded_key-is (bytes_of_base64 word) key e).0
 
--- what is read as a key is one
-pub is_key-coded : (word key : List ℕ) → coded_key word ≡ Some key → is_key key ≡ true
-unfolding coded_key
-is_key-coded word key e = (coded_key-is (bytes_of_base64 word) key e).1
-
 -- bytes that are said are the key, where they are one, and else there is none
 pub coded_key-said : (word bytes : List ℕ) → bytes_of_base64 word ≡ Some bytes → coded_key word ≡ where_key bytes
 unfolding coded_key

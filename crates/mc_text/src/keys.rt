@@ -1,5 +1,5 @@
 //! Keys.
-ghost use Rattle.std.specs.Prelude.{◌≡◌, ◌∷◌, ◌≤◌, ◌<◌, ◌↔◌, ◌≢◌, ℕ, [], true, false, Some, None, List, length, IfOk, IsErrOf, OnOk, IsTrue};
+ghost use Rattle.std.specs.Prelude.{◌≡◌, ◌∷◌, ◌≤◌, ◌<◌, ◌↔◌, ◌≢◌, ℕ, [], true, false, Some, None, List, length, IsOk, IfOk, IsErrOf, OnOk, IsTrue};
 ghost use Rattle.std.specs.List.{list_all};
 ghost use Rattle.std.specs.Str.{bytes_eq};
 ghost use Rattle.std.specs.Cmp.Rules.{comparing, hashing};
@@ -51,18 +51,50 @@ impl From<AllocError> for KeyError {
     }
 }
 
+/// The most bytes of a key that takes no memory beside itself: as many as leave it 32 bytes.
+const INLINE: usize = 30;
+
+/// Where the bytes of a key are.
+#[derive(Debug, Drop)]
+enum Bytes {
+    /// In the key: the first `len` of these.
+    Inline { len: u8, bytes: [u8; INLINE] },
+    /// In memory of their own.
+    Heap(Vec<u8>),
+}
+
 /// A key: 1 to 250 bytes. Keys with equal bytes are one key. Contracts see the bytes.
-#[derive(Clone, Debug, Drop)]
+///
+/// Up to 30 bytes are in the key itself, and more are in memory of their own.
+#[derive(Debug, Drop)]
 pub struct Key {
-    bytes: Vec<u8>,
+    bytes: Bytes,
 }
 
 impl Model for Key {
+    ghost use Rattle.std.specs.Prelude.{ℕ, List};
+    ghost use Rattle.mc_text.specs.KeptKeys.{kept_bytes, IsKept};
+
     ghost Value = { List ℕ };
 
-    ghost view = { λ k. k.bytes.items };
+    ghost view = { λ k. kept_bytes k.bytes };
 
-    ghost invariant = { λ k. (0 < length k.bytes.items) × (length k.bytes.items ≤ KEY_LIMIT) };
+    ghost invariant = { λ k. IsKept k.bytes };
+}
+
+impl Clone for Key {
+    ghost is_clone = { λ x y. y ≡ x };
+
+    fn clone(&self) -> Result<Key, AllocError> {
+        let bytes = match &self.bytes {
+            Bytes::Inline { len, bytes } => Bytes::Inline {
+                len: *len,
+                bytes: *bytes,
+            },
+            Bytes::Heap(bytes) => Bytes::Heap(bytes.clone()?),
+        };
+        Ok(Key { bytes })
+    }
 }
 
 impl PartialEq for Key {
@@ -71,7 +103,7 @@ impl PartialEq for Key {
     ghost laws = { Prim.search (comparing, rules) };
 
     fn eq(&self, other: &Key) -> bool {
-        self.bytes == other.bytes
+        self.as_bytes() == other.as_bytes()
     }
 }
 
@@ -125,13 +157,25 @@ impl Key {
         Ok(Key::of_bytes(alloc, bytes)?)
     }
 
-    /// The key of bytes that are known to be one: they are copied, and not tested again.
+    /// The key of bytes that are known to be one: they are copied, and not tested again. Up to 30 bytes take no memory.
     pub fn of_bytes(alloc: Global, bytes: &[u8]) -> Result<Key, AllocError>
         requires { is_key bytes.now ≡ true }
-        ensures { IfOk result (λ key. key ≡ bytes.now) }
+        ensures key { IfOk result (λ key. key ≡ bytes.now) }
+        ensures inline { length bytes.now ≤ INLINE → IsOk result }
     {
-        let bytes = Vec::from_slice(alloc, bytes)?;
-        Ok(Key { bytes })
+        let len = bytes.len();
+        if len > INLINE {
+            let bytes = Bytes::Heap(Vec::from_slice(alloc, bytes)?);
+            return Ok(Key { bytes });
+        }
+        let mut room = [0; INLINE];
+        room[..len].copy_from_slice(bytes);
+        Ok(Key {
+            bytes: Bytes::Inline {
+                len: len as u8,
+                bytes: room,
+            },
+        })
     }
 
     /// The key's bytes.
@@ -140,7 +184,10 @@ impl Key {
         ensures size { (0 < length self.now) × (length self.now ≤ KEY_LIMIT) }
         ensures key { is_key self.now ≡ true }
     {
-        self.bytes.as_slice()
+        match &self.bytes {
+            Bytes::Inline { len, bytes } => &bytes[..*len as usize],
+            Bytes::Heap(bytes) => bytes.as_slice(),
+        }
     }
 }
 

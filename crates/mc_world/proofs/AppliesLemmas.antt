@@ -66,10 +66,6 @@ pub lives_nowhere : (place generation : ℕ) (pool : PoolState) → slice_get po
     → (IsTrue false → Lives place generation pool) × (Lives place generation pool → IsTrue false)
 lives_nowhere place generation pool none = (λ never. absurd cc, λ h. absurd (none-some h.site (sym none ∙ h.at)))
 
-pub lives_down : (place generation : ℕ) (pool : PoolState) → (IsUp place pool → ⊥)
-    → (IsTrue false → Lives place generation pool) × (Lives place generation pool → IsTrue false)
-lives_down place generation pool down = (λ never. absurd cc, λ h. absurd (down h.up))
-
 -- a turn of a session that takes nothing finds no request that is ready
 nothing_closed : (s : ReaderState) → s.closed ≡ true → rest_of s [] ≡ []
 nothing_closed s closed = ap (λ (v : Bool). rest_from v s.dropping (s.unread ++ [])) closed

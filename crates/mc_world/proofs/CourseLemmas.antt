@@ -41,10 +41,3 @@ pub with_text : (clients : List ClientState) (number : ℕ) (longer text taken b
 with_text clients number longer text taken bytes is was =
     ap (λ (t : List ℕ). with_client number (record { text = t; taken = taken }) clients) is
     ∙ ap (λ (c : ClientState). with_client number (record { text = c.text ++ bytes; taken = c.taken }) clients) was
-
-pub with_taken : (clients : List ClientState) (number : ℕ) (more text taken bytes : List ℕ) → more ≡ taken ++ bytes → record { text = text; taken = taken } ≡ client_at clients number
-    → with_client number (record { text = text; taken = more }) clients
-    ≡ with_client number (record (client_at clients number) { taken = (client_at clients number).taken ++ bytes }) clients
-with_taken clients number more text taken bytes is was =
-    ap (λ (t : List ℕ). with_client number (record { text = text; taken = t }) clients) is
-    ∙ ap (λ (c : ClientState). with_client number (record { text = c.text; taken = c.taken ++ bytes }) clients) was

@@ -17,7 +17,7 @@ use Rattle.mc_world.specs.WorldState.{PoolState, SiteState}
 use Rattle.mc_world.specs.Worlds.{CourseState, WorldState, cache_of}
 use Rattle.mc_world.specs.declared.acts.Act.{Act}
 use Rattle.mc_world.specs.declared.acts.Act.TheVariants.{PutAnswer, ReachProxy, ReachServer, SeeEnd, Serve, TakeBytes, TakeReply, TakeRequest}
-use Rattle.mc_world.specs.declared.errors.Step.TheVariants.{Done, Nothing}
+use Rattle.mc_world.specs.declared.errors.Step.TheVariants.{Done}
 use Rattle.mc_world.specs.declared.events.Event.{Event}
 use Rattle.mc_account.proofs.OpenSessions.{own_number}
 use Rattle.mc_world.proofs.LessLemmas.{ended_less, late_less, put_out_less, reached_less, replied_less, returned_less, served_less, taken_less, took_less}
@@ -123,11 +123,6 @@ over_then moment One Two false two a b c first second = record {
 pub over_as : (moment : ℕ) (One Two : CourseState → Type 0) (did : Bool) (a b : WorldState) → ((s : CourseState) → One s → Two s) → IsOver moment One did a b → IsOver moment Two did a b
 over_as moment One Two did a b tells over = record { goes = over.goes; idle = λ none. tells a.course (over.idle none) }
 
--- where a part did something, what was over before does not matter
-pub over_did : (moment : ℕ) (Idle : CourseState → Type 0) (one : Bool) (a b c : WorldState) → GoesOn moment one a b → GoesOn moment true b c → IsOver moment Idle true a c
-over_did moment Idle true a b c first second = record { goes = goes_then moment true true a b c first second; idle = λ none. absurd cc }
-over_did moment Idle false a b c first second = record { goes = goes_then moment false true a b c first second; idle = λ none. absurd cc }
-
 -- an event of a drain
 act_is : (act : Act) (moment : ℕ) (pool : PoolState) → is_of_drain moment (event_of act moment pool) ≡ true
 act_is (SeeEnd place) moment pool = refl
@@ -142,13 +137,6 @@ act_is (TakeBytes client) moment pool = refl
 -- what a world was opened with stays
 abbrev IsOpenedSo : WorldState → WorldState → Type 0
 IsOpenedSo old new = (new.opening ≡ old.opening) × (new.budget ≡ old.budget) × (new.items ≡ old.items)
-
-same_world : (old new : WorldState) → new.course ≡ old.course → IsOpenedSo old new → new ≡ old
-same_world old new course opened =
-    ap (λ (c : CourseState). record { course = c; opening = new.opening; budget = new.budget; items = new.items }) course
-    ∙ ap (λ (r : RingState). record { course = old.course; opening = r; budget = new.budget; items = new.items }) opened.0
-    ∙ ap (λ (n : ℕ). record { course = old.course; opening = old.opening; budget = n; items = new.items }) opened.1
-    ∙ ap (λ (n : ℕ). record { course = old.course; opening = old.opening; budget = old.budget; items = n }) opened.2
 
 -- an act that was done, and one that did not apply
 pub act_done : (act : Act) (moment : ℕ) (old new : WorldState) → WorldHolds old → StepsTo (event_of act moment old.course.pool) Done old.course new.course → IsOpenedSo old new
@@ -170,13 +158,6 @@ act_done act moment old new h steps opened = record {
   idle = λ none. absurd cc;
 }
 
-pub act_idle : (act : Act) (moment : ℕ) (old new : WorldState) → StepsTo (event_of act moment old.course.pool) Nothing old.course new.course → IsOpenedSo old new
-    → IsOver moment (λ c. IsIdle moment c.pool act) false old new
-act_idle act moment old new steps opened = record {
-  goes = same_world old new steps.does opened;
-  idle = λ _ applies. let clash : Nothing ≡ Done = steps.applies.1 applies in absurd cc;
-}
-
 -- a loop whose parts did something goes on; one that rests is over
 pub goes_did : (moment : ℕ) (did : Bool) (a b c : WorldState) → GoesOn moment did a b → GoesOn moment true b c → GoesOn moment true a c
 goes_did moment true a b c first second = goes_then moment true true a b c first second
@@ -184,10 +165,6 @@ goes_did moment false a b c first second = goes_then moment false true a b c fir
 
 pub goes_both : (moment : ℕ) (one two : Bool) (a b c : WorldState) → (one || two) ≡ true → GoesOn moment one a b → GoesOn moment two b c → GoesOn moment true a c
 goes_both moment one two a b c some first second = subst (λ (v : Bool). GoesOn moment v a c) some (goes_then moment one two a b c first second)
-
-pub over_rest : (moment : ℕ) (Idle : CourseState → Type 0) (did : Bool) (a b c : WorldState) → GoesOn moment did a b → IsOver moment Idle false b c → IsOver moment Idle did a c
-over_rest moment Idle true a b c goes over = record { goes = subst (λ (w : WorldState). GoesOn moment true a w) (sym over.goes) goes; idle = λ none. absurd cc }
-over_rest moment Idle false a b c goes over = record { goes = over.goes ∙ goes; idle = λ none. subst (λ (w : WorldState). Idle w.course) goes (over.idle refl) }
 
 -- what is so of the first numbers and of the next one
 below_more : (P : ℕ → Type 0) (n : ℕ) → ((k : ℕ) → k < n → P k) → P n → (k : ℕ) → k < n + 1 → P k
@@ -202,10 +179,6 @@ pub over_more : (moment : ℕ) (P : ℕ → CourseState → Type 0) (did one : B
 over_more moment P did one n a b c first second =
     over_as moment (λ s. ((k : ℕ) → k < n → P k s) × P n s) (λ s. (k : ℕ) → k < n + 1 → P k s) (did || one) a c (λ s both. below_more (λ k. P k s) n both.0 both.1)
     (over_then moment (λ s. (k : ℕ) → k < n → P k s) (λ s. P n s) did one a b c first second)
-
--- no part was done yet
-pub over_none : (moment : ℕ) (P : ℕ → CourseState → Type 0) (w : WorldState) → IsOver moment (λ s. (k : ℕ) → k < 0 → P k s) false w w
-over_none moment P w = record { goes = refl; idle = λ none k below. absurd (omega (arith, below)) }
 
 -- one of two did something
 pub first_did : (one two : Bool) → one ≡ true → (one || two) ≡ true

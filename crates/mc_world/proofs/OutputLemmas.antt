@@ -94,13 +94,6 @@ without_updated client after (x ∷ xs) =
       | false ↦ λ is. rw is (ap (λ (others : Sessions). x ∷ others) again)
     ]) refl
 
-pub gone_sent : (client count : ℕ) (p : ProxyState) → without client (sent_by client count (session_at p client) p).sessions ≡ without client p.sessions
-gone_sent client count p =
-    elim (session_at p client) as (λ o. without client (sent_by client count o p).sessions ≡ without client p.sessions) [
-      | None ↦ refl
-      | Some s ↦ without_updated client (record s { output = drop count s.output }) p.sessions
-    ]
-
 pub sent_admitted : (client count : ℕ) (p : ProxyState) → (sent_by client count (session_at p client) p).admitted ≡ p.admitted
 sent_admitted client count p =
     elim (session_at p client) as (λ o. (sent_by client count o p).admitted ≡ p.admitted) [

@@ -50,10 +50,6 @@ world_opens ring clients budget items is_ring bounds = record { bounds = bounds;
 pub world_accounts : (w : WorldState) → WorldHolds w → GivesAccount w
 world_accounts w h = course_accounts w.opening (cache_of w) w.course h.course
 
--- so does one whose course has gone on
-pub world_goes_on : (course : CourseState) (w : WorldState) → WorldHolds w → CourseHolds w.opening (cache_of w) course → WorldHolds (record w { course = course })
-world_goes_on course w h holds = record { bounds = h.bounds; course = holds }
-
 -- after a step that may have been refused
 pub course_stepped : (ring : RingState) (opening : CacheState) (event : Event (List ℕ)) (r : Result Step WorldError) (old new : CourseState) → CourseHolds ring opening old
     → IfOk r (λ step. Does step (IsDone event old new) (new ≡ old)) → OnErr r (new ≡ old) → CourseHolds ring opening new

@@ -1,7 +1,6 @@
 -- The tags of commands that wait, one by one.
-use Rattle.std.proofs.Common.{◌≡◌, ◌∙◌, ℕ, zero, suc, ◌+◌, ◌<◌, ◌≤◌, List, [], ◌∷◌, ◌++◌, length, map, drop, Option, Some, None, slice_get, refl, sym, ap, append_assoc, append-nil, arith}
+use Rattle.std.proofs.Common.{◌≡◌, ◌∙◌, ℕ, zero, suc, ◌+◌, ◌<◌, List, [], ◌∷◌, ◌++◌, length, map, drop, Option, Some, None, slice_get, refl, sym, ap, append_assoc, arith}
 use Rattle.std.specs.Option.{option_map}
-use Rattle.std.proofs.lemmas.List.{drop_all, length-map}
 use Rattle.std.proofs.lemmas.Option.{none-some, same_Some}
 use Rattle.mc_link.specs.LinkState.{Waiting}
 use Rattle.mc_link.specs.declared.turns.Tag.{Tag}
@@ -39,13 +38,6 @@ pub no_more : (waiting : List Waiting) (first n : ℕ) (tags : List Tag) → tag
 no_more waiting first n tags is h =
     let next : n + 1 ≡ suc n = omega arith in
     ap (λ (k : ℕ). tags ++ drop k (tags_in waiting)) next ∙ ap (λ (ts : List Tag). tags ++ ts) (sym (none_here waiting n is)) ∙ h
-
--- all of them are there at the end
-pub all_tags : (waiting : List Waiting) (first n : ℕ) (tags : List Tag) → length waiting ≤ n → tags ++ drop n (tags_in waiting) ≡ drop first (tags_in waiting)
-    → tags ≡ drop first (tags_in waiting)
-all_tags waiting first n tags past h =
-    let size : length (tags_in waiting) ≤ n = omega (arith, past, length-map waiting (λ (w : Waiting). w.1)) in
-    sym (append-nil tags) ∙ ap (λ (ts : List Tag). tags ++ ts) (sym (drop_all n (tags_in waiting) size)) ∙ h
 
 -- what is at a number, among the tags
 pub tag_of_waiting : (waiting : List Waiting) (n : ℕ) (tag : Tag) → tag_at waiting n ≡ Some tag → slice_get (tags_in waiting) n ≡ Some tag

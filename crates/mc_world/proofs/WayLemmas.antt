@@ -31,10 +31,6 @@ pub applies_as : (r : Result Step WorldError) (A B : Type 0) → (A → B) → (
 applies_as (Ok step) A B to from told = (λ is. to (told.0 is), λ b. told.1 (from b))
 applies_as (Err e) A B to from told = told
 
--- a generation that lives goes by its own way, and another by that of a lost one
-pub by_living : (place generation : ℕ) (pool : PoolState) (living late : Type 0) → Lives place generation pool → ByWay place generation pool living late → living
-by_living place generation pool living late lives way = ⊎_elim (λ own. own.1) (λ lost. absurd (lost.0 lives)) way
-
 pub by_late : (place generation : ℕ) (pool : PoolState) (living late : Type 0) → (Lives place generation pool → ⊥) → ByWay place generation pool living late → late
 by_late place generation pool living late dead way = ⊎_elim (λ own. absurd (dead own.0)) (λ lost. lost.1) way
 

@@ -218,7 +218,7 @@ impl<S: Store + Drop> Cache<S> {
     {
         let bare = Body {
             flags: 0,
-            expiry: Deadline::Never,
+            expiry: Deadline::never(),
             cas: 0,
             stale: false,
             won: false,

@@ -124,12 +124,7 @@ impl<S: Store + Drop> Cache<S> {
     {
         match delay {
             ..=0 => self.drop_all(),
-            _ => {
-                self.pending = match Deadline::of(delay, moment) {
-                    Deadline::Never => None,
-                    Deadline::At(due) => Some(due),
-                };
-            }
+            _ => self.pending = Deadline::of(delay, moment).due(),
         }
     }
 

@@ -1,4 +1,4 @@
-use Rattle.std.proofs.Common.{◌≡◌, rules}
+use Rattle.std.proofs.Common.{rules}
 use Rattle.mc_proxy.specs.ProxyState.{session_at}
 use Rattle.mc_stream.specs.declared.outcomes.Pumped.TheVariants.{Again}
 use Rattle.mc_proxy_pump.proofs.OwedLemmas.{answered, owed_is_open}

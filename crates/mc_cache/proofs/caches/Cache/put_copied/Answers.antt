@@ -6,11 +6,11 @@ use Rattle.mc_cache.proofs.caches.Cache.put_copied.Goals as goal
 
 -- nothing has changed before the key is copied
 pub put_new-requires-clause-absent : goal.put_new-requires-clause-absent
-put_new-requires-clause-absent g c = subst (λ (k : List ℕ). body_at k c.args.self.now.items ≡ None) (sym c.in-Ok.ensures) c.requires.absent
+put_new-requires-clause-absent g c = subst (λ (k : List ℕ). body_at k c.args.self.now.items ≡ None) (sym c.in-Ok.ensures.key) c.requires.absent
 
 pub returns-in-Ok-clause-ok : goal.returns-in-Ok-clause-ok
 returns-in-Ok-clause-ok g c =
-    subst (λ (k : List ℕ). OnOk c.put_new.result (c.put_new.new.self ≡ with_item c.args.self.now k c.args.body)) c.in-Ok.ensures c.put_new.ensures.ok
+    subst (λ (k : List ℕ). OnOk c.put_new.result (c.put_new.new.self ≡ with_item c.args.self.now k c.args.body)) c.in-Ok.ensures.key c.put_new.ensures.ok
 
 pub returns-in-Ok-clause-err : goal.returns-in-Ok-clause-err
 returns-in-Ok-clause-err g c = c.put_new.ensures.err
