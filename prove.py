@@ -83,6 +83,7 @@ SECONDS = {
     "mc_spelling": 79,
     "mc_store": 86,
     "mc_stream": 18,
+    "mc_table": 60,
     "mc_text": 70,
     "mc_thread_rows": 60,
     "mc_threads": 190,

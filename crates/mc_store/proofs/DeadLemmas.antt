@@ -1,19 +1,13 @@
 -- The dead ones of entries, and what they cost.
-use Rattle.std.proofs.Common.{◌≡◌, ℕ, zero, suc, ◌+◌, ◌≤◌, inl, inr, true, false, cond, List, [], ◌∷◌, ◌++◌, length, take, drop, Some, None, refl, ap, ◌∙◌, arith, length-append}
+use Rattle.std.proofs.Common.{◌≡◌, ℕ, zero, suc, ◌+◌, ◌≤◌, inl, inr, true, false, cond, List, [], ◌∷◌, ◌++◌, length, drop, Some, None, refl, ap, ◌∙◌, arith, length-append}
 use Rattle.std.specs.Str.{bytes_eq}
 use Rattle.mc_store.specs.Items.{body_at}
 use Rattle.mc_store.specs.Epochs.{Entries, live, entry_costs, IsLetGo, IsGivenBack}
-use Rattle.mc_store.proofs.LruLemmas.{cut}
+use Rattle.mc_store.proofs.HeldLemmas.{cut}
 
 -- no more entries, which cost no more
 abbrev pub IsFewer : Entries → Entries → Type 0
 IsFewer before after = (length after ≤ length before) × (entry_costs after ≤ entry_costs before)
-
--- of a front
-fewer_take : (n : ℕ) (entries : Entries) → IsFewer entries (take n entries)
-fewer_take zero entries = (omega arith, omega arith)
-fewer_take (suc n) [] = (omega arith, omega arith)
-fewer_take (suc n) (entry ∷ entries) = let again : IsFewer entries (take n entries) = fewer_take n entries in (omega (arith, again.0), omega (arith, again.1))
 
 -- of those without an entry
 fewer_cut : (key : List ℕ) (entries : Entries) → IsFewer entries (cut key entries)
@@ -25,13 +19,7 @@ fewer_cut key (entry ∷ entries) =
       | false ↦ (omega (arith, again.0), omega (arith, again.1))
     ]
 
--- the same of the dead ones
-pub dead_take_fewer : (count n : ℕ) (entries : Entries) → IsFewer (drop count entries) (drop count (take n entries))
-dead_take_fewer zero n entries = fewer_take n entries
-dead_take_fewer (suc count) zero entries = (omega arith, omega arith)
-dead_take_fewer (suc count) (suc n) [] = (omega arith, omega arith)
-dead_take_fewer (suc count) (suc n) (entry ∷ entries) = dead_take_fewer count n entries
-
+-- of the dead ones
 pub dead_cut_fewer : (key : List ℕ) (count : ℕ) (entries : Entries) → body_at key (live count entries) ≡ None
     → IsFewer (drop count entries) (drop count (cut key entries))
 dead_cut_fewer key zero entries absent = fewer_cut key entries

@@ -4,13 +4,13 @@ use Rattle.std.specs.Str.{bytes_eq}
 use Rattle.std.specs.Map.{lookup, lookup_entry, remove_entry, set_value}
 use Rattle.std.specs.Option.{option_map}
 use Rattle.std.proofs.lemmas.List.{length_push}
-use Rattle.lru.specs.LruCache.{promoted, last_entry, put_entries}
+use Rattle.mc_table.specs.Tables.{promoted, put_entry}
 use Rattle.mc_item.specs.declared.bodies.Body.{Body}
 use Rattle.mc_store.specs.declared.held.Held.{Held}
 use Rattle.mc_store.specs.Items.{Items, body_at, without}
-use Rattle.mc_store.specs.Epochs.{Entries, live, AreDead, IsParted, IsLetGo}
-use Rattle.mc_store.proofs.DeadLemmas.{IsFewer, dead_take_fewer, dead_cut_fewer}
-use Rattle.mc_store.proofs.LruLemmas.{held_at, cut, lookup_is, remove_is, entry_is, set_is, last_is, last_none}
+use Rattle.mc_store.specs.Epochs.{Entries, live, AreDead, IsParted, IsLetGo, IsGivenBack}
+use Rattle.mc_store.proofs.DeadLemmas.{IsFewer, dead_cut_fewer, gives_back}
+use Rattle.mc_store.proofs.HeldLemmas.{held_at, cut, lookup_is, remove_is, entry_is, set_is}
 
 -- what is dead stays so where an entry is taken out
 dead_cut : (key : List ℕ) (epoch : ℕ) (entries : Entries) → AreDead epoch entries → AreDead epoch (cut key entries)
@@ -158,6 +158,14 @@ looks_dead key epoch count entries held parted found other = dead_is key epoch c
 pub looks_none : (key : List ℕ) (count : ℕ) (entries : Entries) → lookup (bytes_eq key) entries ≡ None → body_at key (live count entries) ≡ None
 looks_none key count entries none = absent_is key count entries (sym (lookup_is key entries) ∙ none)
 
+-- what letting entries go leaves
+pub leaves : (epoch count price : ℕ) (old new : Entries) → IsParted epoch count old → IsLetGo price count old new
+    → IsParted epoch count new × (live count new ≡ live count old)
+leaves epoch count price old new parted go =
+    let rest : IsParted epoch count new × (live count new ≡ live count (new ++ go.gone)) =
+    parted_front epoch count new go.gone (subst (λ (es : Entries). IsParted epoch count es) go.parts parted) go.stay in
+    (rest.0, rest.1 ∙ ap (λ (es : Entries). live count es) (sym go.parts))
+
 -- what a write to a live body leaves
 pub record IsWritten (key : List ℕ) (epoch count : ℕ) (old new : Entries) (before after : Body) : Type 0 where
   pub parted : IsParted epoch count new
@@ -165,13 +173,15 @@ pub record IsWritten (key : List ℕ) (epoch count : ℕ) (old new : Entries) (b
   pub items : live count new ≡ (key, after) ∷ without key (live count old)
   pub dead : drop count new ≡ drop count old
 
-pub writes : (key : List ℕ) (epoch count : ℕ) (old new : Entries) (held after : Held) → IsParted epoch count old
-    → lookup (bytes_eq key) old ≡ Some held → held.epoch ≡ epoch → after.epoch ≡ epoch
-    → new ≡ set_value (bytes_eq key) (promoted (bytes_eq key) old) after → IsWritten key epoch count old new held.body after.body
-writes key epoch count old new held after parted found now still is =
-    let at : held_at key old ≡ Some held = sym (lookup_is key old) ∙ found in
+abbrev pub written : List ℕ → Entries → Held → Entries
+written key entries held = set_value (bytes_eq key) (promoted (bytes_eq key) entries) held
+
+pub writes : (key : List ℕ) (epoch count : ℕ) (old : Entries) (held after : Held) → IsParted epoch count old
+    → Some held ≡ lookup (bytes_eq key) old → held.epoch ≡ epoch → after.epoch ≡ epoch → IsWritten key epoch count old (written key old after) held.body after.body
+writes key epoch count old held after parted found now still =
+    let at : held_at key old ≡ Some held = sym (found ∙ lookup_is key old) in
     let there : IsLiveAt key epoch count old held = live_is key epoch count old held parted at now in
-    let first : new ≡ (key, after) ∷ cut key old = is ∙ set_is key old held after at in
+    let first : written key old after ≡ (key, after) ∷ cut key old = set_is key old held after at in
     record {
       parted = rw (first, there.one_more) (still, there.parted);
       held = there.body;
@@ -179,13 +189,32 @@ writes key epoch count old new held after parted found now still is =
       dead = rw (first) (subst (λ (n : ℕ). drop n ((key, after) ∷ cut key old) ≡ drop count old) (sym there.one_more) there.dead);
     }
 
+-- what it leaves, once others were let go
+pub record IsReplaced (key : List ℕ) (epoch count price : ℕ) (old new : Entries) (before after : Body) : Type 0 where
+  pub parted : IsParted epoch count new
+  pub held : body_at key (live count old) ≡ Some before
+  pub items : live count new ≡ (key, after) ∷ without key (live count old)
+  pub given : IsGivenBack price (drop count old) (drop count new)
+
+pub replaces : (key : List ℕ) (epoch count price : ℕ) (old new : Entries) (held after : Held) → IsParted epoch count old
+    → Some held ≡ lookup (bytes_eq key) old → held.epoch ≡ epoch → after.epoch ≡ epoch → IsLetGo price count (written key old after) new
+    → IsReplaced key epoch count price old new held.body after.body
+replaces key epoch count price old new held after parted found now still go =
+    let wrote = writes key epoch count old held after parted found now still in
+    let left = leaves epoch count price (written key old after) new wrote.parted go in
+    record {
+      parted = left.0;
+      held = wrote.held;
+      items = left.1 ∙ wrote.items;
+      given = subst (λ (es : Entries). IsGivenBack price es (drop count new)) wrote.dead (gives_back price count (written key old after) new (drop count new) go (omega arith, omega arith));
+    }
+
 -- what letting a dead entry go leaves that a look-up has promoted
 pub lets_go : (key : List ℕ) (epoch count : ℕ) (old new : Entries) (held : Held) → IsParted epoch count old
-    → lookup (bytes_eq key) old ≡ Some held → held.epoch ≢ epoch
-    → new ≡ drop 1 (set_value (bytes_eq key) (promoted (bytes_eq key) old) held)
+    → Some held ≡ lookup (bytes_eq key) old → held.epoch ≢ epoch → new ≡ drop 1 (written key old held)
     → IsParted epoch count new × (live count new ≡ live count old) × (body_at key (live count old) ≡ None)
 lets_go key epoch count old new held parted found other is =
-    let at : held_at key old ≡ Some held = sym (lookup_is key old) ∙ found in
+    let at : held_at key old ≡ Some held = sym (found ∙ lookup_is key old) in
     let absent : body_at key (live count old) ≡ None = dead_is key epoch count old held parted at other in
     let left : new ≡ cut key old = is ∙ ap (λ (es : Entries). drop 1 es) (set_is key old held held at) in
     let rest : IsParted epoch count (cut key old) × (live count (cut key old) ≡ live count old) = parted_cut key epoch count old parted absent in
@@ -243,38 +272,35 @@ takes_none key epoch count old new parted none is =
     let rest : IsParted epoch count (cut key old) × (live count (cut key old) ≡ live count old) = parted_cut key epoch count old parted absent in
     (rw cuts rest.0, rw cuts rest.1, absent)
 
--- where a put leaves the entries that were there, and what it puts in front
-puts_tail : (count cap : ℕ) (old new : Entries) (key : List ℕ) (held : Held)
-    → new ≡ put_entries bytes_eq (record { entries = old; cap = cap }) key held → (body_at key (live count old) ≡ None)
-    → (epoch : ℕ) → IsParted epoch count old → count ≤ cap - 1
+-- what putting an entry leaves, once others were let go
+puts_tail : (key : List ℕ) (epoch count : ℕ) (old new : Entries) (held : Held) → IsParted epoch count old → body_at key (live count old) ≡ None
+    → new ≡ put_entry bytes_eq key held old
     → (tail : Entries) × (new ≡ (key, held) ∷ tail) × IsParted epoch count tail × (live count tail ≡ live count old) × IsFewer (drop count old) (drop count tail)
-puts_tail count cap old new key held is absent epoch parted few =
-    let kept : IsParted epoch count (take (cap - 1) old) × (live count (take (cap - 1) old) ≡ live count old) = parted_take epoch count (cap - 1) old parted few in
+puts_tail key epoch count old new held parted absent is =
     let others : IsParted epoch count (cut key old) × (live count (cut key old) ≡ live count old) = parted_cut key epoch count old parted absent in
     (elim (held_at key old) as (λ (o : Option Held). held_at key old ≡ o → (tail : Entries) × (new ≡ (key, held) ∷ tail) × IsParted epoch count tail × (live count tail ≡ live count old)
     × IsFewer (drop count old) (drop count tail)) [
-      | None ↦ λ at. (take (cap - 1) old, is ∙ rw (entry_is key old, at) refl, kept.0, kept.1, dead_take_fewer count (cap - 1) old)
+      | None ↦ λ at. (old, is ∙ rw (entry_is key old, at) refl, parted, refl, (omega arith, omega arith))
       | Some before ↦ λ at. (cut key old, is ∙ rw (entry_is key old, at, remove_is key old) refl, others.0, others.1, dead_cut_fewer key count old absent)
     ]) refl
 
--- what putting an entry leaves, where there is room for one more that is live
-pub puts : (epoch count more cap : ℕ) (old new : Entries) (key : List ℕ) (held : Held) → IsParted epoch count old
-    → body_at key (live count old) ≡ None → length (live count old) < cap → held.epoch ≡ epoch → more ≡ count + 1
-    → new ≡ put_entries bytes_eq (record { entries = old; cap = cap }) key held
-    → IsParted epoch more new × (live more new ≡ (key, held.body) ∷ live count old) × IsFewer (drop count old) (drop more new)
-puts epoch count more cap old new key held parted absent room now one_more is =
-    let few : count ≤ cap - 1 = omega (arith, length-live epoch count old parted) in
-    let put = puts_tail count cap old new key held is absent epoch parted few in
-    let next : more ≡ suc count = omega arith in
-    (rw (next, put.1) (now, put.2), rw (next, put.1) (ap (λ (is : Items). (key, held.body) ∷ is) put.3), rw (next, put.1) put.4)
+pub record IsPut (key : List ℕ) (epoch count more price : ℕ) (old new : Entries) (body : Body) : Type 0 where
+  pub parted : IsParted epoch more new
+  pub items : live more new ≡ (key, body) ∷ live count old
+  pub given : IsGivenBack price (drop count old) (drop more new)
 
--- what letting entries go leaves
-pub leaves : (epoch count price : ℕ) (old new : Entries) → IsParted epoch count old → IsLetGo price count old new
-    → IsParted epoch count new × (live count new ≡ live count old)
-leaves epoch count price old new parted go =
-    let rest : IsParted epoch count new × (live count new ≡ live count (new ++ go.gone)) =
-    parted_front epoch count new go.gone (subst (λ (es : Entries). IsParted epoch count es) go.parts parted) go.stay in
-    (rest.0, rest.1 ∙ ap (λ (es : Entries). live count es) (sym go.parts))
+pub puts : (key : List ℕ) (epoch count more price : ℕ) (old mid new : Entries) (held : Held) → IsParted epoch count old → IsLetGo price count old mid
+    → body_at key (live count old) ≡ None → held.epoch ≡ epoch → more ≡ count + 1 → new ≡ put_entry bytes_eq key held mid
+    → IsPut key epoch count more price old new held.body
+puts key epoch count more price old mid new held parted go absent now one_more is =
+    let left : IsParted epoch count mid × (live count mid ≡ live count old) = leaves epoch count price old mid parted go in
+    let put = puts_tail key epoch count mid new held left.0 (ap (λ (is : Items). body_at key is) left.1 ∙ absent) is in
+    let next : more ≡ suc count = omega arith in
+    record {
+      parted = rw (next, put.1) (now, put.2);
+      items = rw (next, put.1) (ap (λ (is : Items). (key, held.body) ∷ is) (put.3 ∙ left.1));
+      given = rw (next, put.1) (gives_back price count old mid (drop count put.0) go put.4);
+    }
 
 -- of entries that are all live the last is the last item
 pops_live : (epoch : ℕ) (front : Entries) (last : List ℕ × Held) → IsParted epoch (length (front ++ last ∷ [])) (front ++ last ∷ [])
@@ -291,9 +317,8 @@ pub record IsPopped (epoch count less : ℕ) (old new : Entries) (last : List �
   pub ends : live count old ≡ live less new ++ (last.0, last.1.body) ∷ []
 
 pub pops : (epoch count less : ℕ) (old new : Entries) (last : List ℕ × Held) → IsParted epoch count old → length old ≡ count
-    → last_entry old ≡ Some last → new ≡ take (length old - 1) old → less ≡ count - 1 → IsPopped epoch count less old new last
-pops epoch count less old new last parted all found is one_less =
-    let ends : old ≡ new ++ last ∷ [] = subst (λ (es : Entries). old ≡ es ++ last ∷ []) (sym is) (last_is old last found) in
+    → old ≡ new ++ last ∷ [] → less ≡ count - 1 → IsPopped epoch count less old new last
+pops epoch count less old new last parted all ends one_less =
     let whole : IsParted epoch (length (new ++ last ∷ [])) (new ++ last ∷ []) =
     subst (λ (es : Entries). IsParted epoch (length es) es) ends (subst (λ (n : ℕ). IsParted epoch n old) (sym all) parted) in
     let parts = pops_live epoch new last whole in
@@ -308,20 +333,10 @@ pops epoch count less old new last parted all found is one_less =
     }
 
 -- one more entry that goes from the back
-pub goes_one : (initial old new out : Entries) (last : List ℕ × Held) → initial ≡ old ++ out → last_entry old ≡ Some last → new ≡ take (length old - 1) old
+pub goes_one : (initial old new out : Entries) (last : List ℕ × Held) → initial ≡ old ++ out → old ≡ new ++ last ∷ []
     → (initial ≡ new ++ (last ∷ out)) × (length old ≡ length new + 1)
-goes_one initial old new out last is found taken =
-    let ends : old ≡ new ++ last ∷ [] = subst (λ (es : Entries). old ≡ es ++ last ∷ []) (sym taken) (last_is old last found) in
+goes_one initial old new out last is ends =
     (is ∙ ap (λ (es : Entries). es ++ out) ends ∙ append_assoc new (last ∷ []) out, ap length ends ∙ length_push new last)
-
--- there is one where there is an entry
-pub goes_some : (initial old new out : Entries) → initial ≡ old ++ out → 0 < length old → new ≡ take (length old - 1) old
-    → (more : Entries) × (initial ≡ new ++ more) × (length old ≡ length new + 1)
-goes_some initial old new out is some taken =
-    (elim (last_entry old) as (λ (o : Option (List ℕ × Held)). last_entry old ≡ o → (more : Entries) × (initial ≡ new ++ more) × (length old ≡ length new + 1)) [
-      | None ↦ λ none. let nothing : length old ≡ 0 = ap length (last_none old none) in absurd (omega arith)
-      | Some last ↦ λ found. let gone = goes_one initial old new out last is found taken in (last ∷ out, gone.0, gone.1)
-    ]) refl
 
 -- where all but the live ones go
 length-all : (epoch count : ℕ) (entries : Entries) → IsParted epoch count entries → length (take count entries) ≡ count
@@ -336,12 +351,10 @@ leaves_all epoch count old new parted is =
     (rw is rest.0, rw is rest.1, rw is (length-all epoch count old parted))
 
 -- where none is left
-pub pops_none : (epoch count : ℕ) (old new : Entries) → IsParted epoch count old → last_entry old ≡ None → new ≡ take (length old - 1) old
+pub pops_none : (epoch count : ℕ) (old new : Entries) → IsParted epoch count old → old ≡ [] → new ≡ []
     → IsParted epoch count new × (live count new ≡ []) × (live count old ≡ [])
-pops_none epoch count old new parted none taken =
-    let nothing : old ≡ [] = last_none old none in
+pops_none epoch count old new parted nothing still =
     let few : count ≤ length old = count-fits epoch count old parted in
     let size : length old ≡ 0 = ap length nothing in
     let zeros : count ≡ 0 = omega arith in
-    let still : new ≡ [] = taken ∙ ap (λ (es : Entries). take (length es - 1) es) nothing in
     (rw (zeros, still) tt, rw zeros refl, rw zeros refl)

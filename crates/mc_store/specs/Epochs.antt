@@ -25,11 +25,10 @@ IsParted epoch zero entries = AreDead epoch entries
 IsParted epoch (suc count) [] = ⊥
 IsParted epoch (suc count) (entry ∷ entries) = (entry.1.epoch ≡ epoch) × IsParted epoch count entries
 
--- what a contract sees of such entries: the live items and the dead entries, most recent first, and how many entries there may be
+-- what a contract sees of such entries: the live items and the dead entries, most recent first
 pub record LiveAndDead : Type 0 where
   pub items : Items
   pub dead : Entries
-  pub cap : ℕ
 
 -- what entries cost
 abbrev pub entry_costs : Entries → ℕ

@@ -1,31 +1,29 @@
-//! EpochCache: lru's cache with a clear that takes the same time for any number of items.
-ghost use Rattle.std.specs.Prelude.{◌≡◌, ◌∷◌, ◌++◌, ◌+◌, ◌≤◌, ◌<◌, ◌^◌, [], length, take, is_some, None, Some, IfOk, OnOk, IfErr, OnErr, IfSome, IfNone};
-ghost use Rattle.std.specs.NonZero.{non_zero_usize_get};
+//! EpochCache: a table of items with a clear that takes the same time for any number of them.
+ghost use Rattle.std.specs.Prelude.{◌≡◌, ◌∷◌, ◌++◌, ◌≤◌, ◌<◌, ◌^◌, [], length, take, is_some, None, Some, IfOk, OnOk, IfErr, OnErr, IfSome, IfNone};
 ghost use Rattle.std.specs.Option.{option_copied};
 ghost use Rattle.mc_item.specs.Costs.{cost_of};
 ghost use Rattle.mc_store.specs.Epochs.{IsLetGo, IsGivenBack};
 ghost use Rattle.mc_store.specs.Items.{body_at, front_body, without, brought, expiring, marking};
 
 use crate::held::Held;
-use lru::LruCache;
 use mc_item::{Body, Deadline, cost};
+use mc_table::Table;
 use mc_text::{Key, KeyBytes};
 use std::alloc::{AllocError, Global};
 use std::hash::BuildHasher;
 use std::marker::Model;
 use std::mem;
-use std::num::NonZeroUsize;
 
-/// The items in lru's cache, each with the epoch in which it was put.
+/// The items in a table, each with the epoch in which it was put.
 ///
 /// The entries of the cache's own epoch are live, and come before all others. [`EpochCache::clear`] begins the next epoch, in which
 /// all entries are dead. What is dead is not counted and not found. Dead entries go from the back with later puts, or where a call
 /// other than [`EpochCache::peek`] asks for their key.
 ///
-/// Contracts see the live items, the dead entries, and the greatest number of entries, live and dead together.
+/// Contracts see the live items and the dead entries.
 #[derive(Drop)]
 pub struct EpochCache<H: BuildHasher> {
-    cache: LruCache<Key, Held, H>,
+    cache: Table<Key, Held, H>,
     epoch: u64,
     /// How many entries are live: the first ones.
     count: usize,
@@ -37,18 +35,17 @@ impl<H: BuildHasher> Model for EpochCache<H> {
 
     ghost Value = { LiveAndDead };
 
-    ghost view = { λ s. record { items = live s.count s.cache.entries; dead = drop s.count s.cache.entries; cap = s.cache.cap } };
+    ghost view = { λ s. record { items = live s.count s.cache; dead = drop s.count s.cache } };
 
-    ghost invariant = { λ s. IsParted s.epoch s.count s.cache.entries };
+    ghost invariant = { λ s. IsParted s.epoch s.count s.cache };
 }
 
 impl<H: BuildHasher + Drop> EpochCache<H> {
     /// A cache with no item and room for so many entries, whose keys this hasher hashes.
-    pub fn with_hasher(alloc: Global, room: NonZeroUsize, hasher: H) -> Result<Self, AllocError>
-        ensures items { IfOk result (λ c. c.items ≡ []) }
-        ensures cap { IfOk result (λ c. c.cap ≡ non_zero_usize_get room) }
+    pub fn with_hasher(alloc: Global, room: usize, hasher: H) -> Result<Self, AllocError>
+        ensures { IfOk result (λ c. c.items ≡ []) }
     {
-        let cache = LruCache::with_hasher(alloc, room, hasher)?;
+        let cache = Table::with_hasher(alloc, room, hasher)?;
         Ok(EpochCache {
             cache,
             epoch: 0,
@@ -95,7 +92,6 @@ impl<H: BuildHasher> EpochCache<H> {
     pub fn bring(&mut self, key: &[u8]) -> bool
         ensures held { result ≡ is_some (body_at key.now self.old.items) }
         ensures items { self.new.items ≡ brought key.now (body_at key.now self.old.items) self.old.items }
-        ensures cap { self.new.cap ≡ self.old.cap }
     {
         let Some(held) = self.cache.get_mut(KeyBytes { bytes: key }) else {
             return false;
@@ -111,7 +107,6 @@ impl<H: BuildHasher> EpochCache<H> {
     pub fn expire(&mut self, key: &[u8], expiry: Deadline) -> bool
         ensures held { result ≡ is_some (body_at key.now self.old.items) }
         ensures items { self.new.items ≡ brought key.now (expiring expiry (body_at key.now self.old.items)) self.old.items }
-        ensures cap { self.new.cap ≡ self.old.cap }
     {
         let Some(held) = self.cache.get_mut(KeyBytes { bytes: key }) else {
             return false;
@@ -128,7 +123,6 @@ impl<H: BuildHasher> EpochCache<H> {
     pub fn mark(&mut self, key: &[u8], stale: bool, won: bool, cas: u64) -> bool
         ensures held { result ≡ is_some (body_at key.now self.old.items) }
         ensures items { self.new.items ≡ brought key.now (marking stale won cas (body_at key.now self.old.items)) self.old.items }
-        ensures cap { self.new.cap ≡ self.old.cap }
     {
         let Some(held) = self.cache.get_mut(KeyBytes { bytes: key }) else {
             return false;
@@ -148,7 +142,6 @@ impl<H: BuildHasher> EpochCache<H> {
         ensures item { IfSome result (λ item. (item.0 ≡ key.now) × (body_at key.now self.old.items ≡ Some item.1)) }
         ensures none { IfNone result (body_at key.now self.old.items ≡ None) }
         ensures items { self.new.items ≡ without key.now self.old.items }
-        ensures cap { self.new.cap ≡ self.old.cap }
     {
         match self.cache.pop_entry(KeyBytes { bytes: key }) {
             Some((own, held)) => {
@@ -172,7 +165,6 @@ impl<H: BuildHasher> EpochCache<H> {
         ensures absent { OnErr result (body_at key.now self.old.items ≡ None) }
         ensures back { IfErr result (λ back. back ≡ body) }
         ensures err { OnErr result (self.new.items ≡ self.old.items) }
-        ensures cap { self.new.cap ≡ self.old.cap }
         ensures given_back { OnOk result (IsGivenBack (length body.value) self.old.dead self.new.dead) }
     {
         let Some(held) = self.cache.get_mut(KeyBytes { bytes: key }) else {
@@ -193,12 +185,10 @@ impl<H: BuildHasher> EpochCache<H> {
     ///
     /// Where there is no memory, `Err` hands the key and the body back.
     pub fn put_front(&mut self, key: Key, body: Body) -> Result<(), (Key, Body)>
-        requires absent { body_at key self.old.items ≡ None }
-        requires room { length self.old.items < self.old.cap }
+        requires { body_at key self.old.items ≡ None }
         ensures ok { OnOk result (self.new.items ≡ (key, body) ∷ self.old.items) }
         ensures back { IfErr result (λ back. back ≡ (key, body)) }
         ensures err { OnErr result (self.new.items ≡ self.old.items) }
-        ensures cap { self.new.cap ≡ self.old.cap }
         ensures given_back { IsGivenBack (cost_of key body.value) self.old.dead self.new.dead }
     {
         let_go(&mut self.cache, self.count, cost(&key, &body));
@@ -222,7 +212,6 @@ impl<H: BuildHasher> EpochCache<H> {
     pub fn drop_last(&mut self) -> Option<(Key, Body)>
         ensures last { IfSome result (λ last. self.old.items ≡ self.new.items ++ last ∷ []) }
         ensures empty { IfNone result ((self.old.items ≡ []) × (self.new.items ≡ [])) }
-        ensures cap { self.new.cap ≡ self.old.cap }
     {
         let_all_go(&mut self.cache, self.count);
         match self.cache.pop_lru() {
@@ -236,8 +225,7 @@ impl<H: BuildHasher> EpochCache<H> {
 
     /// Takes all items out: they are dead from now on. Only after the last epoch of 64 bits the entries go one by one.
     pub fn clear(&mut self)
-        ensures items { self.new.items ≡ [] }
-        ensures cap { self.new.cap ≡ self.old.cap }
+        ensures { self.new.items ≡ [] }
     {
         let Some(next) = self.epoch.checked_add(1) else {
             self.cache.clear();
@@ -250,11 +238,10 @@ impl<H: BuildHasher> EpochCache<H> {
 }
 
 /// Lets entries go, the last one first, but none of the first `count`: all others, or two at least that cost at least `price`.
-fn let_go<H: BuildHasher>(cache: &mut LruCache<Key, Held, H>, count: usize, price: u64)
-    requires { count ≤ length cache.old.entries }
-    ensures go { IsLetGo price count cache.old.entries cache.new.entries }
-    ensures fits { length cache.new.entries < 2 ^ 63 }
-    ensures cap { cache.new.cap ≡ cache.old.cap }
+fn let_go<H: BuildHasher>(cache: &mut Table<Key, Held, H>, count: usize, price: u64)
+    requires { count ≤ length cache.old }
+    ensures go { IsLetGo price count cache.old cache.new }
+    ensures fits { length cache.new < 2 ^ 63 }
 {
     let mut gone: u64 = 0;
     let mut freed: u64 = 0;
@@ -271,12 +258,13 @@ fn let_go<H: BuildHasher>(cache: &mut LruCache<Key, Held, H>, count: usize, pric
 }
 
 /// Lets all entries go but the first `count`.
-fn let_all_go<H: BuildHasher>(cache: &mut LruCache<Key, Held, H>, count: usize)
-    requires { count ≤ length cache.old.entries }
-    ensures front { cache.new.entries ≡ take count cache.old.entries }
-    ensures cap { cache.new.cap ≡ cache.old.cap }
+fn let_all_go<H: BuildHasher>(cache: &mut Table<Key, Held, H>, count: usize)
+    requires { count ≤ length cache.old }
+    ensures { cache.new ≡ take count cache.old }
 {
     while cache.len() > count {
-        let _ = cache.pop_lru();
+        let Some(_last) = cache.pop_lru() else {
+            break;
+        };
     }
 }

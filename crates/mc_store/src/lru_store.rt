@@ -1,4 +1,4 @@
-//! LruStore: the items in lru's cache, which finds them by a hash.
+//! LruStore: the items in a table, which finds them by a hash.
 ghost use Rattle.std.specs.Prelude.{◌≡◌, ◌≤◌, ◌<◌, ◌^◌, ◌↔◌, [], ◌+◌, Some, IfOk, IsErrOf};
 ghost use Rattle.mc_store.specs.Items.{cost_sum};
 
@@ -10,7 +10,6 @@ use mc_text::Key;
 use std::alloc::{AllocError, Global};
 use std::hash::{BuildHasher, BuildHasherDefault, FoldHasher};
 use std::marker::Model;
-use std::num::NonZeroUsize;
 use thiserror::Error;
 
 /// Why there is no store.
@@ -37,16 +36,15 @@ impl From<AllocError> for StoreError {
 /// The hasher of [`LruStore::new`], whose seed is fixed: a script gives the same steps each time.
 pub type FixedHasher = BuildHasherDefault<FoldHasher>;
 
-/// The items in a cache that finds them by a hash, in the order of their last use. Sums over them are kept beside them.
+/// The items in a table that finds them by a hash, in the order of their last use. Sums over them are kept beside them.
 ///
-/// Contracts see the items and the greatest number of them that the cache holds. What they cost together stays below 2^63.
+/// Contracts see the items and the greatest number of them. What they cost together stays below 2^63.
 ///
 /// # Work
 ///
-/// A call with a key hashes it once and searches the table once, but `put_front`, which does both twice and then looks for
-/// a free place. `drop_last` hashes the last key once and searches for it once. `len`, `used`, `longest`, `front` and `clear` do neither.
-/// So none of these takes longer where more items are held, as long as the hash spreads the keys, but for what is said of `put_front`
-/// below.
+/// A call with a key hashes it once and searches the table once, but `put_front`, which does both twice. `len`, `used`, `longest`,
+/// `front`, `drop_last` and `clear` do neither. So none of these takes longer where more items are held, as long as the hash
+/// spreads the keys, but for what is said of `put_front` below.
 ///
 /// `clear` begins a new epoch, which makes all entries dead. They are not counted and not found, and they are let go later: by
 /// each `put_front` two of them or more, until they cost as much as the item or none is left; by each `replace` that finds its key as
@@ -57,28 +55,27 @@ pub type FixedHasher = BuildHasherDefault<FoldHasher>;
 ///
 /// # Memory
 ///
-/// The constructor takes the table whole: for 9 * 2^k items, the least such number that is enough. Only `put_front` takes
-/// memory, a block for the item. The blocks of dead entries stay taken until they are let go. A key that is taken out of a crowded
-/// part of the table leaves its place counted as taken; where no place is left by that count, as may be after long eviction or a
-/// clear, `put_front` first lays the table out anew, which takes time for each entry but hashes none. That is done in place where the
-/// entries, the new one with them, are at most half of what the table is for. Else the table is doubled, which takes memory too; then
-/// they are at most half of it, so this comes once in a store's life. Where memory is refused, so is the item, and the items are as
-/// they were.
+/// The constructor takes the table whole, with a search table for 9 * 2^k items, the least such number that is enough. The blocks of
+/// dead entries stay taken until they are let go. A key that is taken out of a crowded part of the search table leaves its
+/// place counted as taken; where no place is left by that count, as may be after long eviction or a clear, `put_front` first
+/// lays that table out anew, which takes time for each entry but hashes none. That is done in place where the entries, the
+/// new one with them, are at most half of what it is for. Else it is doubled, and only that takes memory; then they are at
+/// most half of it, so this comes once in a store's life. Where memory is refused, so is the item, and the items are as they
+/// were.
 #[derive(Drop)]
 pub struct LruStore<H: BuildHasher> {
     cache: EpochCache<H>,
     sums: Sums,
+    most: usize,
 }
 
 impl<H: BuildHasher> Model for LruStore<H> {
-    ghost use Rattle.std.specs.Prelude.{ℕ, List};
-    ghost use Rattle.lru.specs.LruCache.{LruCache as Entries, lru_cache};
-    ghost use Rattle.mc_item.specs.declared.bodies.Body.{Body as Bodies};
+    ghost use Rattle.mc_store.specs.Items.{LimitedItems};
     ghost use Rattle.mc_store.specs.Sums.{IsSumOf};
 
-    ghost Value = { Entries (List ℕ) Bodies };
+    ghost Value = { LimitedItems };
 
-    ghost view = { λ s. lru_cache s.cache.items s.cache.cap };
+    ghost view = { λ s. record { items = s.cache.items; most = s.most } };
 
     ghost invariant = { λ s. IsSumOf s.sums s.cache.items };
 }
@@ -88,8 +85,8 @@ impl LruStore<FixedHasher> {
     /// hasher's seed is fixed, so who chooses the keys can choose such as fall together: strangers' keys want
     /// [`LruStore::with_hasher`].
     pub fn new(alloc: Global, items: usize) -> Result<Self, StoreError>
-        ensures empty { IfOk result (λ store. store.entries ≡ []) }
-        ensures room { IfOk result (λ store. store.cap ≡ items + 1) }
+        ensures empty { IfOk result (λ store. store.items ≡ []) }
+        ensures most { IfOk result (λ store. store.most ≡ items + 1) }
         ensures too_many { IsErrOf result StoreError.TooMany ↔ (2 ^ 64 ≤ items + 1) }
     {
         LruStore::with_hasher(alloc, items, BuildHasherDefault::new())
@@ -99,24 +96,24 @@ impl LruStore<FixedHasher> {
 impl<H: BuildHasher + Drop> LruStore<H> {
     /// A store with no item, and room for so many and one more, whose keys this hasher hashes.
     pub fn with_hasher(alloc: Global, items: usize, hasher: H) -> Result<Self, StoreError>
-        ensures empty { IfOk result (λ store. store.entries ≡ []) }
-        ensures room { IfOk result (λ store. store.cap ≡ items + 1) }
+        ensures empty { IfOk result (λ store. store.items ≡ []) }
+        ensures most { IfOk result (λ store. store.most ≡ items + 1) }
         ensures too_many { IsErrOf result StoreError.TooMany ↔ (2 ^ 64 ≤ items + 1) }
     {
         let most = items.checked_add(1).ok_or(StoreError::TooMany)?;
-        let room = NonZeroUsize::new(most).ok_or(StoreError::TooMany)?;
-        let cache = EpochCache::with_hasher(alloc, room, hasher)?;
+        let cache = EpochCache::with_hasher(alloc, most, hasher)?;
         Ok(LruStore {
             cache,
             sums: Sums::none(),
+            most,
         })
     }
 }
 
 impl<H: BuildHasher> Store for LruStore<H> {
-    ghost items = { λ s. s.entries };
+    ghost items = { λ s. s.items };
 
-    ghost most = { λ s. Some s.cap };
+    ghost most = { λ s. Some s.most };
 
     fn len(&self) -> usize {
         self.cache.len()

@@ -4,9 +4,7 @@ use Rattle.mc_store.proofs.epoch_cache.let_go.Given as goal
 
 abbrev pub invariant-loop-cache : goal.invariant-loop-cache
 invariant-loop-cache g l =
-    ((out : Entries) × (l.initial.cache.entries ≡ l.cache.entries ++ out) × (l.gone ≤ length out) × (l.freed ≤ entry_costs out))
-    × (l.count ≤ length l.cache.entries)
-    × (l.cache.cap ≡ l.initial.cache.cap)
+    ((out : Entries) × (l.initial.cache ≡ l.cache ++ out) × (l.gone ≤ length out) × (l.freed ≤ entry_costs out)) × (l.count ≤ length l.cache)
 
 abbrev pub decreases-loop-cache : goal.decreases-loop-cache
-decreases-loop-cache g l = length l.cache.entries
+decreases-loop-cache g l = length l.cache

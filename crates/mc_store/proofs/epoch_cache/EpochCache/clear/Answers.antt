@@ -8,4 +8,4 @@ invariant_of-self g c = rw c.clear.ensures tt
 pub invariant_of-self-2 : goal.invariant_of-self-2
 invariant_of-self-2 g c =
     let is : c.in-Some.next ≡ c.self.inside.epoch + 1 = omega (arith, c.in-Some.ensures) in
-    all_dead c.self.inside.epoch c.self.inside.count c.in-Some.next c.self.inside.cache.entries c.self.invariant is
+    all_dead c.self.inside.epoch c.self.inside.count c.in-Some.next c.self.inside.cache c.self.invariant is

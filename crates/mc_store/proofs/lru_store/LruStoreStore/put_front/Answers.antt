@@ -1,6 +1,5 @@
-use Rattle.std.proofs.Common.{List, ℕ, ap, arith}
-use Rattle.lru.specs.LruCache.{LruCache}
-use Rattle.mc_item.specs.declared.bodies.Body.{Body}
+use Rattle.std.proofs.Common.{ap, arith}
+use Rattle.mc_store.specs.Items.{LimitedItems}
 use Rattle.mc_store.proofs.SumLemmas.{long_least, sum_put}
 use Rattle.mc_store.proofs.lru_store.LruStoreStore.put_front.Goals as goal
 
@@ -11,4 +10,4 @@ add-requires-clause-long g c =
 pub invariant_of-self : goal.invariant_of-self
 invariant_of-self g c =
     sum_put c.args.key c.args.body c.self.inside.cache.items c.put_front.new.self.items c.self.inside.sums c.add.new.self c.cost-price.result c.len-length.result
-    c.self.invariant (rw (ap (λ (s : LruCache (List ℕ) Body). s.entries) c.self.view_is) c.requires.cost) c.in-Ok.ensures.ok c.cost-price.ensures c.len-length.ensures c.add.ensures
+    c.self.invariant (rw (ap (λ (s : LimitedItems). s.items) c.self.view_is) c.requires.cost) c.in-Ok.ensures.ok c.cost-price.ensures c.len-length.ensures c.add.ensures

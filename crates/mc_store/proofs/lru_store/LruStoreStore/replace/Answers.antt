@@ -1,8 +1,6 @@
-use Rattle.std.proofs.Common.{List, ℕ, ap, ◌<◌, ◌+◌, ◌^◌, arith}
+use Rattle.std.proofs.Common.{ap, ◌<◌, ◌+◌, ◌^◌, arith}
 use Rattle.mc_item.specs.Costs.{cost_of}
-use Rattle.mc_store.specs.Items.{cost_sum}
-use Rattle.lru.specs.LruCache.{LruCache}
-use Rattle.mc_item.specs.declared.bodies.Body.{Body}
+use Rattle.mc_store.specs.Items.{LimitedItems, cost_sum}
 use Rattle.mc_store.proofs.SumLemmas.{held_fits, replaced_fits, sum_replaced}
 use Rattle.mc_store.proofs.lru_store.LruStoreStore.replace.Goals as goal
 
@@ -16,13 +14,13 @@ take_away-requires-clause-long g c =
 
 pub add-requires-clause-long : goal.add-requires-clause-long
 add-requires-clause-long g c =
-    let fits : cost_sum c.self.inside.cache.items + cost_of c.args.key.now c.args.body.value < 2 ^ 63 = rw (ap (λ (s : LruCache (List ℕ) Body). s.entries) c.self.view_is) c.requires in
+    let fits : cost_sum c.self.inside.cache.items + cost_of c.args.key.now c.args.body.value < 2 ^ 63 = rw (ap (λ (s : LimitedItems). s.items) c.self.view_is) c.requires in
     (replaced_fits c.args.key.now c.in-Ok.before c.args.body c.self.inside.cache.items c.self.inside.sums c.take_away.new.self c.len-shorter.result c.len-length.result
     c.self.invariant c.in-Ok.ensures.before fits c.len-shorter.ensures c.len-length.ensures c.take_away.ensures).1
 
 pub invariant_of-self : goal.invariant_of-self
 invariant_of-self g c =
-    let fits : cost_sum c.self.inside.cache.items + cost_of c.args.key.now c.args.body.value < 2 ^ 63 = rw (ap (λ (s : LruCache (List ℕ) Body). s.entries) c.self.view_is) c.requires in
+    let fits : cost_sum c.self.inside.cache.items + cost_of c.args.key.now c.args.body.value < 2 ^ 63 = rw (ap (λ (s : LimitedItems). s.items) c.self.view_is) c.requires in
     sum_replaced c.args.key.now c.in-Ok.before c.args.body c.self.inside.cache.items c.replace.new.self.items c.self.inside.sums c.take_away.new.self c.add.new.self
     c.len-shorter.result c.len-length.result
     c.self.invariant c.in-Ok.ensures.before fits c.in-Ok.ensures.ok c.len-shorter.ensures c.len-length.ensures c.take_away.ensures c.add.ensures

@@ -1,11 +1,10 @@
--- What lru's words say of entries whose keys are bytes.
-use Rattle.std.proofs.Common.{◌≡◌, ℕ, ◌-◌, true, false, cond, List, [], ◌∷◌, ◌++◌, length, take, Option, Some, None, refl, sym, subst, arith}
+-- What a table's words say of entries whose keys are bytes.
+use Rattle.std.proofs.Common.{◌≡◌, ℕ, true, false, cond, List, [], ◌∷◌, Option, Some, None, refl, sym}
 use Rattle.std.specs.Cmp.Lexicographic.{same_text, nat_list_eq_equiv}
 use Rattle.std.specs.Str.{bytes_eq}
 use Rattle.std.specs.Map.{lookup, lookup_entry, remove_entry, set_value}
 use Rattle.std.specs.Option.{option_map}
-use Rattle.lru.specs.LruCache.{promoted, last_entry}
-use Rattle.lru.proofs.Pairs.{cut_end, last_of_push}
+use Rattle.mc_table.specs.Tables.{promoted}
 use Rattle.mc_store.specs.declared.held.Held.{Held}
 use Rattle.mc_store.specs.Epochs.{Entries}
 
@@ -49,22 +48,3 @@ promoted_is key entries held at = rw (entry_is key entries, at, remove_is key en
 pub set_is : (key : List ℕ) (entries : Entries) (held after : Held) → held_at key entries ≡ Some held
     → set_value (bytes_eq key) (promoted (bytes_eq key) entries) after ≡ (key, after) ∷ cut key entries
 set_is key entries held after at = rw (promoted_is key entries held at, nat_list_eq_equiv.refl key) refl
-
--- the last entry is after all others
-pub last_is : (entries : Entries) (last : List ℕ × Held) → last_entry entries ≡ Some last → entries ≡ take (length entries - 1) entries ++ last ∷ []
-last_is [] last found = absurd cc
-last_is (entry ∷ entries) last found =
-    let parts = cut_end (entry ∷ entries) (omega arith) in
-    let ends = last_of_push parts.0 parts.1 in
-    let at : last_entry (parts.0 ++ parts.1 ∷ []) ≡ Some last = subst (λ (l : Entries). last_entry l ≡ Some last) parts.2 found in
-    let same : parts.1 ≡ last = cc in
-    subst (λ (l : Entries). l ≡ take (length l - 1) l ++ last ∷ []) (sym parts.2) (rw (ends.1, same) refl)
-
--- there is none where there is no entry
-pub last_none : (entries : Entries) → last_entry entries ≡ None → entries ≡ []
-last_none [] none = refl
-last_none (entry ∷ entries) none =
-    let parts = cut_end (entry ∷ entries) (omega arith) in
-    let ends = last_of_push parts.0 parts.1 in
-    let at : last_entry (parts.0 ++ parts.1 ∷ []) ≡ None = subst (λ (l : Entries). last_entry l ≡ None) parts.2 none in
-    absurd cc

@@ -1,0 +1,7 @@
+pub mod LinkLemmas
+pub mod PlaceLemmas
+pub mod RingLemmas
+pub mod AllLemmas
+pub mod OrderLemmas
+pub mod EntryLemmas
+pub mod TableLemmas

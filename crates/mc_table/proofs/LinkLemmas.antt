@@ -1,0 +1,89 @@
+-- What links say after two places are joined.
+use Rattle.std.proofs.Common.{◌≡◌, ◌≢◌, ℕ, ◌<◌, inl, inr, List, length, set, sym, ap, ◌∙◌, subst, get_or-set_other, get_or-set_same}
+use Rattle.std.proofs.lemmas.Bool.{cases_eq}
+use Rattle.std.proofs.lemmas.List.{length-set}
+use Rattle.mc_table.specs.declared.links.Link.{Link}
+use Rattle.mc_table.specs.Rings.{no_link, link_at, with_after, with_before, joined, unlinked, linked_before}
+
+-- one write: what it leaves at its place and elsewhere
+
+written_same : (links : List Link) (place : ℕ) (link : Link) → place < length links → link_at (set links place link) place ≡ link
+written_same links place link within = get_or-set_same links place link no_link within
+
+written_other : (links : List Link) (place other : ℕ) (link : Link) → other ≢ place → link_at (set links place link) other ≡ link_at links other
+written_other links place other link apart = get_or-set_other links place other link no_link apart
+
+after-with_after : (links : List Link) (place next : ℕ) → place < length links → (link_at (with_after links place next) place).after ≡ next
+after-with_after links place next within = ap (λ (l : Link). l.after) (written_same links place (record { before = (link_at links place).before; after = next }) within)
+
+before-with_before : (links : List Link) (place previous : ℕ) → place < length links → (link_at (with_before links place previous) place).before ≡ previous
+before-with_before links place previous within = ap (λ (l : Link). l.before) (written_same links place (record { before = previous; after = (link_at links place).after }) within)
+
+-- a write of the one side leaves the other as it is
+before-with_after : (links : List Link) (place next other : ℕ) → place < length links → (link_at (with_after links place next) other).before ≡ (link_at links other).before
+before-with_after links place next other within =
+    let link : Link = record { before = (link_at links place).before; after = next } in
+    elim (cases_eq other place) as (λ _. (link_at (with_after links place next) other).before ≡ (link_at links other).before) [
+      | inl same ↦ subst (λ (k : ℕ). (link_at (with_after links place next) k).before ≡ (link_at links k).before) (sym same) (ap (λ (l : Link). l.before) (written_same links place link within))
+      | inr apart ↦ ap (λ (l : Link). l.before) (written_other links place other link apart)
+    ]
+
+after-with_before : (links : List Link) (place previous other : ℕ) → place < length links → (link_at (with_before links place previous) other).after ≡ (link_at links other).after
+after-with_before links place previous other within =
+    let link : Link = record { before = previous; after = (link_at links place).after } in
+    elim (cases_eq other place) as (λ _. (link_at (with_before links place previous) other).after ≡ (link_at links other).after) [
+      | inl same ↦ subst (λ (k : ℕ). (link_at (with_before links place previous) k).after ≡ (link_at links k).after) (sym same) (ap (λ (l : Link). l.after) (written_same links place link within))
+      | inr apart ↦ ap (λ (l : Link). l.after) (written_other links place other link apart)
+    ]
+
+after-with_after_other : (links : List Link) (place next other : ℕ) → other ≢ place → (link_at (with_after links place next) other).after ≡ (link_at links other).after
+after-with_after_other links place next other apart = ap (λ (l : Link). l.after) (written_other links place other (record { before = (link_at links place).before; after = next }) apart)
+
+before-with_before_other : (links : List Link) (place previous other : ℕ) → other ≢ place → (link_at (with_before links place previous) other).before ≡ (link_at links other).before
+before-with_before_other links place previous other apart = ap (λ (l : Link). l.before) (written_other links place other (record { before = previous; after = (link_at links place).after }) apart)
+
+pub length-with_after : (links : List Link) (place next : ℕ) → length (with_after links place next) ≡ length links
+length-with_after links place next = length-set links place (record { before = (link_at links place).before; after = next })
+
+pub length-with_before : (links : List Link) (place previous : ℕ) → length (with_before links place previous) ≡ length links
+length-with_before links place previous = length-set links place (record { before = previous; after = (link_at links place).after })
+
+-- two places that are joined
+
+pub length-joined : (links : List Link) (b a : ℕ) → length (joined links b a) ≡ length links
+unfolding joined
+length-joined links b a = length-with_before (with_after links b a) a b ∙ length-with_after links b a
+
+pub length-unlinked : (links : List Link) (place : ℕ) → length (unlinked links place) ≡ length links
+unfolding unlinked
+length-unlinked links place = length-joined links (link_at links place).before (link_at links place).after
+
+pub length-linked_before : (links : List Link) (place next : ℕ) → length (linked_before links place next) ≡ length links
+unfolding linked_before
+length-linked_before links place next =
+    length-joined (joined links (link_at links next).before place) place next ∙ length-joined links (link_at links next).before place
+
+pub after-joined : (links : List Link) (b a : ℕ) → b < length links → a < length links → (link_at (joined links b a) b).after ≡ a
+unfolding joined
+after-joined links b a lb la =
+    let la2 : a < length (with_after links b a) = rw length-with_after la in
+    after-with_before (with_after links b a) a b b la2 ∙ after-with_after links b a lb
+
+pub after-joined_other : (links : List Link) (b a other : ℕ) → b < length links → a < length links → other ≢ b → (link_at (joined links b a) other).after ≡ (link_at links other).after
+unfolding joined
+after-joined_other links b a other lb la apart =
+    let la2 : a < length (with_after links b a) = rw length-with_after la in
+    after-with_before (with_after links b a) a b other la2 ∙ after-with_after_other links b a other apart
+
+pub before-joined : (links : List Link) (b a : ℕ) → b < length links → a < length links → (link_at (joined links b a) a).before ≡ b
+unfolding joined
+before-joined links b a lb la =
+    let la2 : a < length (with_after links b a) = rw length-with_after la in
+    before-with_before (with_after links b a) a b la2
+
+pub before-joined_other : (links : List Link) (b a other : ℕ) → b < length links → a < length links → other ≢ a → (link_at (joined links b a) other).before ≡ (link_at links other).before
+unfolding joined
+before-joined_other links b a other lb la apart =
+    before-with_before_other (with_after links b a) a b other apart ∙ before-with_after links b a other lb
+
+pub ruleset lengths = (length-joined, length-unlinked, length-linked_before)

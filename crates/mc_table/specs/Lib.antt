@@ -1,0 +1,4 @@
+pub mod Places
+pub mod Rings
+pub mod Tables
+pub mod Lends

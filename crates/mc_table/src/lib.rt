@@ -1,0 +1,23 @@
+//! A table of entries, in the order of their last use.
+//!
+//! A [`Table`] finds an entry by its key's hash, and knows which one was used most recently. An entry is put in front
+//! ([`Table::put`], [`Table::put_front`]), looked at ([`Table::peek`], [`Table::peek_mru`]), brought to the front and changed
+//! ([`Table::get_mut`]), and taken out ([`Table::pop_entry`], [`Table::pop_mru`], [`Table::pop_lru`], [`Table::clear`]). What each
+//! call leaves is said of the entries, most recent first, in std's words of a map and those of `specs/Tables.antt`.
+//!
+//! Entries lie side by side in an `indexmap::IndexMap`, in which the last one takes the place of one that is taken out. Their
+//! order is in links of their own (`orders.rt`), so a use writes to three links and moves no entry. Only `put` and
+//! `put_front` take memory.
+#![tactic(auto)]
+
+mod links;
+mod orders;
+mod queries;
+mod tables;
+
+// A crate can name a table in a contract only if the types of its fields are exported.
+#[doc(hidden)]
+pub use links::Link;
+#[doc(hidden)]
+pub use orders::Order;
+pub use tables::Table;

@@ -1,0 +1,222 @@
+//! Tables: entries that are found by a hash, in the order of their last use.
+ghost use Rattle.std.specs.Prelude.{◌≡◌, ◌^◌, ◌<◌, [], ◌∷◌, ◌++◌, suc, length, drop, slice_get, IfOk, IfErr, IfSome, IfNone, OnOk, OnErr, None};
+ghost use Rattle.std.specs.Option.{option_copied, option_copied_mut, option_map};
+ghost use Rattle.std.specs.Borrow.{sem};
+ghost use Rattle.std.specs.Map.{lookup, lookup_entry, remove_entry};
+ghost use Rattle.std.specs.Map.Iter.{deref_pair};
+ghost use Rattle.mc_table.specs.Places.{left_out};
+ghost use Rattle.mc_table.specs.Tables.{in_order, promoted, put_entry, IsAt, IsNowhere, IsTable};
+
+use crate::orders::Order;
+use crate::queries::Query;
+use indexmap::IndexMap;
+use std::alloc::{AllocError, AllocFailed, Global};
+use std::collections::hash_map::Equivalent;
+use std::hash::{BuildHasher, Hash};
+use std::marker::Model;
+use std::mem;
+
+/// Entries that are found by a hash, in the order of their last use.
+///
+/// Contracts see the entries, the most recently used first.
+///
+/// # Work
+///
+/// A call with a key hashes it once and searches once, but `put`, which does both twice where the key is not there. The others do
+/// neither.
+///
+/// # Memory
+///
+/// The constructor takes room for so many entries. A table holds fewer than 2^32: one more is refused as where there is no memory. An
+/// entry takes its own size, 8 bytes in the order, 8 for its hash and slot, and 64 bytes of the search table for each nine
+/// entries that there may be.
+#[derive(Drop)]
+pub struct Table<K: Eq + Hash, V, S: BuildHasher> {
+    map: IndexMap<K, V, S>,
+    /// The place of each entry: its index in the map, and one more.
+    order: Order,
+}
+
+impl<K: Eq + Hash, V, S: BuildHasher> Model for Table<K, V, S> {
+    ghost use Rattle.std.specs.Prelude.{List};
+    ghost use Rattle.std.specs.Coded.{coded_list, coded×};
+    ghost use Rattle.mc_table.specs.Tables.{in_order, IsTable};
+
+    ghost Value = { List (K × V) };
+
+    ghost coded = { coded_list (coded× K.code V.code) };
+
+    ghost view = { λ t. in_order t.map.entries t.order };
+
+    ghost invariant = { λ t. IsTable t.map.entries t.order };
+}
+
+impl<K: Eq + Hash, V, S: BuildHasher + Drop> Table<K, V, S> {
+    /// A table of no entry, with room for so many, whose keys this hasher hashes.
+    pub fn with_hasher(alloc: Global, entries: usize, hasher: S) -> Result<Self, AllocError>
+        ensures { IfOk result (λ t. t ≡ []) }
+    {
+        let order = Order::with_capacity(alloc, entries)?;
+        let map = IndexMap::with_capacity_and_hasher(alloc, entries, hasher)?;
+        Ok(Table { map, order })
+    }
+}
+
+impl<K: Eq + Hash, V, S: BuildHasher> Table<K, V, S> {
+    ghost use Rattle.mc_table.specs.Lends.{lends_value};
+
+    /// How many entries there are.
+    pub fn len(&self) -> usize
+        ensures len { result ≡ length self.now }
+        ensures fits { result < 2 ^ 63 }
+    {
+        self.map.len()
+    }
+
+    /// The value of the key. The order stays as it is.
+    pub fn peek<Q: Equivalent<K>>(&self, k: Q) -> Option<&V>
+        ensures { option_copied result ≡ lookup (Q.equivalent k) self.now }
+    {
+        let index = find(&self.map, k)?;
+        Some(&self.map[index])
+    }
+
+    /// Takes out the key and its value.
+    pub fn pop_entry<Q: Equivalent<K>>(&mut self, k: Q) -> Option<(K, V)>
+        ensures value { result ≡ lookup_entry (Q.equivalent k) self.old }
+        ensures entries { self.new ≡ remove_entry (Q.equivalent k) self.old }
+    {
+        let Some(index) = find(&self.map, k) else {
+            return None;
+        };
+        remove_at(&mut self.map, &mut self.order, index)
+    }
+
+    /// Takes out the entry that was used least recently.
+    pub fn pop_lru(&mut self) -> Option<(K, V)>
+        ensures last { IfSome result (λ last. self.old ≡ self.new ++ last ∷ []) }
+        ensures empty { IfNone result ((self.old ≡ []) × (self.new ≡ [])) }
+    {
+        let place = self.order.last();
+        if place == 0 {
+            return None;
+        }
+        remove_at(&mut self.map, &mut self.order, place as usize - 1)
+    }
+
+    /// Takes out the entry that was used most recently.
+    pub fn pop_mru(&mut self) -> Option<(K, V)>
+        ensures value { result ≡ slice_get self.old 0 }
+        ensures entries { self.new ≡ drop 1 self.old }
+    {
+        let place = self.order.first();
+        if place == 0 {
+            return None;
+        }
+        remove_at(&mut self.map, &mut self.order, place as usize - 1)
+    }
+
+    /// The entry that was used most recently.
+    pub fn peek_mru(&self) -> Option<(&K, &V)>
+        ensures { option_map deref_pair result ≡ slice_get self.now 0 }
+    {
+        let place = self.order.first();
+        if place == 0 {
+            return None;
+        }
+        self.map.get_index(place as usize - 1)
+    }
+
+    /// The value of the key to write to. Makes it the most recently used.
+    pub fn get_mut<Q: Equivalent<K>>(&mut self, k: Q) -> Option<&mut V>
+        ensures* writes_back { sem 𝓛 (lends_value K.row V.row S.row S.Hasher.row K.Hash S.BuildHasher S.Hasher.Hasher self.entry (Q.equivalent k) (promoted (Q.equivalent k) self.old) result) }
+        ensures value { option_copied_mut result ≡ lookup (Q.equivalent k) self.old }
+    {
+        let index = find(&self.map, k)?;
+        self.order.to_front(index as u32 + 1);
+        Some(&mut self.map[index])
+    }
+
+    /// Puts a value under a key, in front, and gives the old value where the key is there: then the old key stays.
+    ///
+    /// Where there is no memory, `Err` hands the key and the value back, and nothing has changed.
+    pub fn put(&mut self, k: K, v: V) -> Result<Option<V>, AllocFailed<(K, V)>>
+    where
+        K: Drop,
+        V: Drop,
+        ensures old { IfOk result (λ old. old ≡ lookup (K.eq k) self.old) }
+        ensures entries { OnOk result (self.new ≡ put_entry K.eq k v self.old) }
+        ensures value_returned { IfErr result (λ y. y.value ≡ (k, v)) }
+        ensures err { OnErr result (self.new ≡ self.old) }
+    {
+        if let Some(held) = self.get_mut(&k) {
+            return Ok(Some(mem::replace(held, v)));
+        }
+        self.put_front(k, v)?;
+        Ok(None)
+    }
+
+    /// Takes out all entries. It takes one after the other.
+    pub fn clear(&mut self)
+    where
+        K: Drop,
+        V: Drop,
+        ensures { self.new ≡ [] }
+    {
+        self.map.clear();
+        self.order.clear();
+    }
+
+    /// Puts an entry in front, under a key that is not there.
+    ///
+    /// Where there is no memory, `Err` hands the key and the value back, and nothing has changed.
+    pub fn put_front(&mut self, k: K, v: V) -> Result<(), AllocFailed<(K, V)>>
+    where
+        K: Drop,
+        V: Drop,
+        requires { lookup (K.eq k) self.old ≡ None }
+        ensures ok { OnOk result (self.new ≡ (k, v) ∷ self.old) }
+        ensures value_returned { IfErr result (λ y. y.value ≡ (k, v)) }
+        ensures err { OnErr result (self.new ≡ self.old) }
+    {
+        let Ok(()) = self.order.push_front() else {
+            return Err(AllocFailed { value: (k, v) });
+        };
+        match self.map.insert_full(k, v) {
+            Ok(_) => Ok(()),
+            Err(failed) => {
+                let place = self.order.first();
+                self.order.remove(place);
+                Err(failed)
+            }
+        }
+    }
+}
+
+/// The index of the entry that a key is found at.
+fn find<K: Eq + Hash, V, S: BuildHasher, Q: Equivalent<K>>(
+    map: &IndexMap<K, V, S>,
+    k: Q,
+) -> Option<usize>
+    ensures found { IfSome result (λ index. IsAt (Q.equivalent k) map.now.entries index) }
+    ensures none { IfNone result (IsNowhere (Q.equivalent k) map.now.entries) }
+{
+    map.get_index_of(Query(k))
+}
+
+/// Takes out the entry at an index of the map, and its place.
+fn remove_at<K: Eq + Hash, V, S: BuildHasher>(
+    map: &mut IndexMap<K, V, S>,
+    order: &mut Order,
+    index: usize,
+) -> Option<(K, V)>
+    requires table { IsTable map.old.entries order.old }
+    requires within { index < length map.old.entries }
+    ensures entry { result ≡ slice_get map.old.entries index }
+    ensures table { IsTable map.new.entries order.new }
+    ensures others { in_order map.new.entries order.new ≡ in_order map.old.entries (left_out (suc index) order.old) }
+{
+    let entry = map.swap_remove_index(index);
+    order.remove((index + 1) as u32);
+    entry
+}
