@@ -110,6 +110,10 @@ def a_slow_reader_is_waited_for():
         want_at_most(grown, MARK + len(ANSWER) + 256 * KILOBYTE)
         is_served(other)
         want(received(slow, 100 * len(ANSWER)) == ANSWER * 100, True)
+        with server.connected() as gone:
+            gone.sendall(b"get k\r\n" * 100)
+            is_served(other)
+        is_served(other)
 
 
 def too_large_an_answer_is_refused():

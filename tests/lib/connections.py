@@ -70,6 +70,8 @@ def two_are_accepted_and_no_more(start):
     with start("--accept 2") as program:
         first, second = program.connected(), program.connected()
         is_served(second)
+        second.shutdown(socket.SHUT_WR)
+        want(received_to_the_end(second), b"")
         second.close()
         is_served(first)
         with program.connected() as third:

@@ -1,5 +1,5 @@
 //! How each call of a proxy keeps its account. The functions do nothing: their contracts are the laws.
-ghost use Rattle.std.specs.Prelude.{◌≡◌, ◌≢◌, ◌+◌, ◌<◌, ◌≤◌, ℕ, Bool, true, false, List, [], ◌∷◌, ◌++◌, Some, None, All, length, map, drop, take, replicate, slice_get};
+ghost use Rattle.std.specs.Prelude.{◌≡◌, ◌≢◌, ◌+◌, ◌<◌, ◌≤◌, ℕ, Bool, true, List, [], ◌∷◌, ◌++◌, Some, None, All, length, map, drop, take, replicate, slice_get};
 ghost use Rattle.std.specs.List.{list_all};
 ghost use Rattle.mc_request.specs.declared.parts.Atom.{Atom};
 ghost use Rattle.mc_ring.specs.Rings.{RingState};
@@ -11,7 +11,7 @@ ghost use Rattle.mc_link.specs.LinkState.{Waiting, can_come_back, down_link, up_
 ghost use Rattle.mc_link.specs.declared.turns.Tag.{Tag};
 ghost use Rattle.mc_session.specs.Emits.{IsEmit, is_told};
 ghost use Rattle.mc_session.specs.Sending.{at_once};
-ghost use Rattle.mc_session.specs.SessionState.{SessionState, answered, link_at, with_link};
+ghost use Rattle.mc_session.specs.SessionState.{answered, link_at, with_link};
 ghost use Rattle.mc_session.specs.Turns.{IsFed, IsTurn};
 ghost use Rattle.mc_session.specs.declared.turns.Emit.TheVariants as emits;
 ghost use Rattle.mc_session.specs.declared.turns.Turn.{Turn};
@@ -160,13 +160,6 @@ pub fn nothing_awaited_is_complete()
     ensures { (texts sent : ℕ → List ℕ) (order : Order) (lanes : ℕ → Lane) (now : ProxyState)
         → ProxyHolds texts sent order lanes now → ((place : ℕ) → (link_at now.links place).waiting ≡ [])
         → list_all is_complete order ≡ true }
-{}
-
-/// Of an open session: the bytes that were taken out, and then its output, are the answers to the requests that are answered.
-pub fn open_sessions_are_answered()
-    ensures { (texts sent : ℕ → List ℕ) (order : Order) (lanes : ℕ → Lane) (now : ProxyState)
-        → ProxyHolds texts sent order lanes now → (number : ℕ) (session : SessionState) → session_at now number ≡ Some session
-        → AreAnswers number order (answered session) (sent number) session.output }
 {}
 
 /// Only an `emit` that puts an answer out answers a request, and it answers one. After all other calls as many are answered of

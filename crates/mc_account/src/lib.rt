@@ -19,7 +19,6 @@ pub use laws::{
     bytes_sent_to_clients_hold, bytes_sent_to_servers_hold, clients_are_answered,
     commands_are_found, commands_rise, commands_stay_within, found_commands_are_there,
     idle_calls_hold, joined_servers_hold, known_commands_come_first, lost_links_hold,
-    nothing_awaited_is_complete, open_sessions_are_answered, pieces_hold, replies_hold,
-    returned_links_hold, server_bytes_hold, sessions_gone_hold, taken_requests_hold,
-    waiting_commands_are_awaited,
+    nothing_awaited_is_complete, pieces_hold, replies_hold, returned_links_hold, server_bytes_hold,
+    sessions_gone_hold, taken_requests_hold, waiting_commands_are_awaited,
 };

@@ -16,14 +16,12 @@ const PORT_LIMIT: u64 = 65_535;
 pub fn is_address(text: &[u8]) -> bool
     ensures { result ≡ is_address text.now }
 {
-    match colon_of(text) {
-        Some(place) => {
-            let (host, rest) = text.split_at(place);
-            let (_, port) = rest.split_at(1);
-            is_host(host) && is_port(port)
-        }
-        None => false,
-    }
+    let Some(place) = colon_of(text) else {
+        return false;
+    };
+    let (host, rest) = text.split_at(place);
+    let (_, port) = rest.split_at(1);
+    is_host(host) && is_port(port)
 }
 
 /// Where the first colon is.
@@ -51,11 +49,6 @@ fn has_host_bytes_alone(word: &[u8]) -> bool
 fn is_port(word: &[u8]) -> bool
     ensures { result ≡ is_port word.now }
 {
-    if let [b'0', ..] = word {
-        return false;
-    }
-    match read_u64(word) {
-        Some(port) => port >= 1 && port <= PORT_LIMIT,
-        None => false,
-    }
+    !matches!(word, [b'0', ..])
+        && read_u64(word).is_some_and(|port| port >= 1 && port <= PORT_LIMIT)
 }

@@ -40,97 +40,23 @@ pub enum Kind {
     QuietMisses,
 }
 
-pub const CASES: [Case; 15] = [
-    Case {
-        kind: Kind::SmallSets,
-        size: 100_000,
-        piece: 1,
-        asks_first: false,
-    },
-    Case {
-        kind: Kind::SmallSets,
-        size: 100_000,
-        piece: 7,
-        asks_first: false,
-    },
-    Case {
-        kind: Kind::SmallSets,
-        size: 100_000,
-        piece: 4_096,
-        asks_first: false,
-    },
-    Case {
-        kind: Kind::SmallSets,
-        size: 100_000,
-        piece: 65_536,
-        asks_first: false,
-    },
-    Case {
-        kind: Kind::Block,
-        size: 1_048_576,
-        piece: 1,
-        asks_first: false,
-    },
-    Case {
-        kind: Kind::Block,
-        size: 1_048_576,
-        piece: 65_536,
-        asks_first: false,
-    },
-    Case {
-        kind: Kind::RefusedBlock,
-        size: 100_000_000,
-        piece: 65_536,
-        asks_first: false,
-    },
-    Case {
-        kind: Kind::Gets,
-        size: 100_000,
-        piece: 65_536,
-        asks_first: false,
-    },
-    Case {
-        kind: Kind::Increments,
-        size: 100_000,
-        piece: 65_536,
-        asks_first: false,
-    },
-    Case {
-        kind: Kind::SmallSets,
-        size: 100_000,
-        piece: 7,
-        asks_first: true,
-    },
-    Case {
-        kind: Kind::RefusedBlock,
-        size: 100_000_000,
-        piece: 65_536,
-        asks_first: true,
-    },
-    Case {
-        kind: Kind::GetOfKeys,
-        size: 1_000,
-        piece: 65_536,
-        asks_first: false,
-    },
-    Case {
-        kind: Kind::MetaGets,
-        size: 100_000,
-        piece: 65_536,
-        asks_first: false,
-    },
-    Case {
-        kind: Kind::MetaSets,
-        size: 100_000,
-        piece: 65_536,
-        asks_first: false,
-    },
-    Case {
-        kind: Kind::QuietMisses,
-        size: 100_000,
-        piece: 65_536,
-        asks_first: false,
-    },
+/// Each case by its kind, size and piece, and whether the caller asks first.
+pub const CASES: [(Kind, u64, usize, bool); 15] = [
+    (Kind::SmallSets, 100_000, 1, false),
+    (Kind::SmallSets, 100_000, 7, false),
+    (Kind::SmallSets, 100_000, 4_096, false),
+    (Kind::SmallSets, 100_000, 65_536, false),
+    (Kind::Block, 1_048_576, 1, false),
+    (Kind::Block, 1_048_576, 65_536, false),
+    (Kind::RefusedBlock, 100_000_000, 65_536, false),
+    (Kind::Gets, 100_000, 65_536, false),
+    (Kind::Increments, 100_000, 65_536, false),
+    (Kind::SmallSets, 100_000, 7, true),
+    (Kind::RefusedBlock, 100_000_000, 65_536, true),
+    (Kind::GetOfKeys, 1_000, 65_536, false),
+    (Kind::MetaGets, 100_000, 65_536, false),
+    (Kind::MetaSets, 100_000, 65_536, false),
+    (Kind::QuietMisses, 100_000, 65_536, false),
 ];
 
 impl Kind {

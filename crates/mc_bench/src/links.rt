@@ -7,7 +7,7 @@ use mc_request_reader::{Peek, Reader};
 use mc_ring::{Address, Ring};
 use mc_route::{Outcome, Routed, join, route};
 use mc_spelling::spelled_len;
-use std::alloc::Global;
+use std::alloc::{AllocError, Global};
 use std::collections::VecDeque;
 
 /// How many gets are under way at a time.
@@ -160,23 +160,15 @@ impl Lane {
 }
 
 /// So many gets of a key of 20 bytes.
-fn asked(alloc: Global, gets: u64) -> anyhow::Result<Vec<u8>> {
-    let mut text = Vec::new(alloc);
-    for _ in 0..gets {
-        text.extend_from_slice(b"get key:0000000000000001\r\n")?;
-    }
-    Ok(text)
+fn asked(alloc: Global, gets: u64) -> Result<Vec<u8>, AllocError> {
+    b"get key:0000000000000001\r\n".repeat(alloc, gets as usize)
 }
 
 /// As many replies to them.
-fn came(alloc: Global, gets: u64, value: usize) -> anyhow::Result<Vec<u8>> {
-    let block = Vec::from_elem(alloc, b'x', value)?;
+fn came(alloc: Global, gets: u64, value: usize) -> Result<Vec<u8>, AllocError> {
     let line = format!(in alloc; "VALUE key:0000000000000001 0 {value}\r\n")?;
-    let mut text = Vec::new(alloc);
-    for _ in 0..gets {
-        text.extend_from_slice(line.as_bytes())?;
-        text.extend_from_slice(block.as_slice())?;
-        text.extend_from_slice(b"\r\nEND\r\n")?;
-    }
-    Ok(text)
+    let mut reply = Vec::from_slice(alloc, line.as_bytes())?;
+    reply.extend_from_slice(&b"x".repeat(alloc, value)?)?;
+    reply.extend_from_slice(b"\r\nEND\r\n")?;
+    reply.repeat(alloc, gets as usize)
 }

@@ -50,9 +50,7 @@ impl Load {
         count: u64,
     ) -> Result<Load, AllocError> {
         let mut head = Vec::from_slice(alloc, first)?;
-        for _ in 0..count {
-            head.extend_from_slice(then)?;
-        }
+        head.extend_from_slice(&then.repeat(alloc, count as usize)?)?;
         Ok(Load {
             name: format!(in alloc; "{count} {what}")?,
             head,

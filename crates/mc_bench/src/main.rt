@@ -83,9 +83,15 @@ fn load(rt: &HostRuntime, case: &Case) -> anyhow::Result<()> {
 
 /// Runs each case at a part of its size and at a tenth of that.
 fn run_all(rt: &HostRuntime, parts: u64, is_timed: bool) -> anyhow::Result<()> {
-    for case in &CASES {
-        run(rt, case, parts, is_timed)?;
-        run(rt, case, parts.saturating_mul(10), is_timed)?;
+    for (kind, size, piece, asks_first) in CASES {
+        let case = Case {
+            kind,
+            size,
+            piece,
+            asks_first,
+        };
+        run(rt, &case, parts, is_timed)?;
+        run(rt, &case, parts.saturating_mul(10), is_timed)?;
     }
     Ok(())
 }

@@ -1,6 +1,7 @@
 //! How fast a ring finds the owners of keys.
 
 use crate::figures::nanos;
+use crate::stores::key;
 use mc_ring::{Address, Ring};
 use mc_text::Key;
 use md5::{Digest, Md5};
@@ -54,8 +55,7 @@ fn measure_owners(
 fn keys(alloc: Global) -> anyhow::Result<Vec<Key>> {
     let mut keys = Vec::new(alloc);
     for number in 0..KEYS {
-        let text = format!(in alloc; "key:{number:016}")?;
-        keys.push(Key::plain(alloc, text.as_bytes())?)?;
+        keys.push(key(alloc, number)?)?;
     }
     Ok(keys)
 }

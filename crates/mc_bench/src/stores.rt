@@ -102,8 +102,8 @@ fn keys(alloc: Global, from: u64, count: u64) -> anyhow::Result<Vec<Key>> {
     Ok(keys)
 }
 
-/// The key of this number.
-fn key(alloc: Global, number: u64) -> anyhow::Result<Key> {
+/// The key of this number, of 20 bytes.
+pub fn key(alloc: Global, number: u64) -> anyhow::Result<Key> {
     let text = format!(in alloc; "key:{number:016}")?;
     Ok(Key::plain(alloc, text.as_bytes())?)
 }

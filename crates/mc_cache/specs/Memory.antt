@@ -13,7 +13,7 @@ use Rattle.mc_request.specs.declared.parts.Atom.TheVariants as atoms
 use Rattle.mc_request.specs.declared.parts.StoreMode.{StoreMode}
 use Rattle.mc_request.specs.declared.parts.StoreMode.TheVariants.{Append, Prepend}
 use Rattle.mc_request.specs.declared.parts.Update.{Update}
-use Rattle.mc_request.specs.declared.parts.Update.TheVariants.{Store, Touch, Delete, Count, FlushAll}
+use Rattle.mc_request.specs.declared.parts.Update.TheVariants.{Store, Count}
 use Rattle.mc_store.specs.Items.{body_at}
 use Rattle.mc_cache.specs.CacheState.{CacheState}
 use Rattle.mc_cache.specs.Settling.{settled}
@@ -45,9 +45,7 @@ count_may_refuse counting (Some body) =
 abbrev pub update_may_refuse : CacheState → Update (List ℕ) (List ℕ) → Bool
 update_may_refuse s (Store mode compare key flags exptime block) = store_may_refuse compare mode (body_at key s.items) block
 update_may_refuse s (Count key counting) = count_may_refuse counting (body_at key s.items)
-update_may_refuse s (Touch key exptime) = false
-update_may_refuse s (Delete key compare invalidate) = false
-update_may_refuse s (FlushAll delay) = false
+update_may_refuse s update = false
 
 -- `mg`, where it makes an item
 abbrev pub get_may_refuse : MetaGet → Option Body → Bool
@@ -82,10 +80,7 @@ store_takes_block s compare mode key held block =
 
 abbrev pub update_takes_block : CacheState → Update (List ℕ) (List ℕ) → Bool
 update_takes_block s (Store mode compare key flags exptime block) = store_takes_block s compare mode key (body_at key s.items) block
-update_takes_block s (Count key counting) = false
-update_takes_block s (Touch key exptime) = false
-update_takes_block s (Delete key compare invalidate) = false
-update_takes_block s (FlushAll delay) = false
+update_takes_block s update = false
 
 -- a command whose block is lent must have a block of its own made at a moment, before anything changes, only where a
 -- whole value is stored under a held key; where it is its own already, that store takes no memory

@@ -1,5 +1,6 @@
 -- What a meta command shows of an item.
 use Rattle.std.specs.Prelude.{ℕ, ◌||◌, nat_lt, Bool, true, false, List, length, Option, Some, None, if◌then◌else◌}
+use Rattle.std.specs.Bool.{then_some}
 use Rattle.mc_item.specs.declared.bodies.Body.{Body}
 use Rattle.mc_item.specs.Deadlines.{left_of}
 use Rattle.mc_request.specs.declared.meta.Show.{Show}
@@ -32,25 +33,20 @@ marks_by true won needs = if won then StaleSent else if needs then WonStale else
 abbrev pub marks_of : Option ℕ → ℕ → Body → Marks
 marks_of recache moment body = marks_by body.stale body.won (needs_filling recache moment body)
 
--- what is after a flag, where it is asked for
-abbrev pub asked : {A : Type 0} → Bool → A → Option A
-asked false shown = None
-asked true shown = Some shown
-
--- what is shown of an item at a moment, with these marks: source protocol.txt, "Meta Get", flags c, f, s and t
+-- what is shown of an item at a moment, with these marks, each part where it is asked for: source protocol.txt, "Meta Get", flags c, f, s and t
 abbrev pub shown_of : Show → ℕ → Marks → Body → Shown
 shown_of show moment marks body = record {
-  cas = asked show.cas body.cas;
-  flags = asked show.flags body.flags;
-  size = asked show.size (length body.value);
-  left = asked show.left (left_of body.expiry moment);
+  cas = then_some show.cas body.cas;
+  flags = then_some show.flags body.flags;
+  size = then_some show.size (length body.value);
+  left = then_some show.left (left_of body.expiry moment);
   marks = marks;
 }
 
 -- a reply that shows what is held: source protocol.txt, "Meta Get", flag v
 abbrev pub item_shown : Show → ℕ → Marks → Option Body → Reply (List ℕ)
 item_shown show moment marks None = Meta nothing_shown None
-item_shown show moment marks (Some body) = Meta (shown_of show moment marks body) (asked show.value body.value)
+item_shown show moment marks (Some body) = Meta (shown_of show moment marks body) (then_some show.value body.value)
 
 -- the reply to an update, told to a meta command: what was stored is shown, and of what was deleted nothing; what else a
 -- reply says, it says to a meta command too

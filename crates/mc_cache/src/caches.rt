@@ -132,7 +132,15 @@ impl<S: Store + Drop> Cache<S> {
         ensures shrinks { (other : List ℕ)
             → length (value_at other self.new.items) ≤ length (value_at other self.old.items) }
     {
-        self.retrieve(key, exptime, with_cas, moment)
+        let Some(found) = self.settle_in_front(key, moment) else {
+            return Reply::Miss;
+        };
+        self.touch_front(key, exptime, moment);
+        Reply::Hit {
+            flags: found.flags,
+            cas: with_cas.then_some(found.cas),
+            value: (),
+        }
     }
 
     /// The command `Update`, with the key and the block lent. Its reply shows no value.
@@ -296,10 +304,7 @@ impl<S: Store + Drop> Cache<S> {
     pub fn value(&self, key: &[u8]) -> Option<&[u8]>
         ensures { option_copied result ≡ held_value key.now self.now.items }
     {
-        match self.store.peek(key) {
-            Some(body) => Some(body.value.as_slice()),
-            None => None,
-        }
+        Some(self.store.peek(key)?.value.as_slice())
     }
 
     /// The value of the first item, which has no bytes where there is none.

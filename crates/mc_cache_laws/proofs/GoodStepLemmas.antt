@@ -1,5 +1,6 @@
 -- What a step of a good cache leaves, and what it answers.
 use Rattle.std.proofs.Common.{◌≡◌, ℕ, ◌+◌, ◌-◌, ◌<◌, ◌≤◌, ◌^◌, ◌&&◌, ◌==◌, nat_lt, not, ℤ, pos, negsuc, Bool, true, false, cond, List, [], ◌∷◌, length, Option, Some, None, is_some, IfSome, refl, arith, subst}
+use Rattle.std.specs.Bool.{then_some}
 use Rattle.std.specs.Option.{is_none, option_map, option_or, unwrap_or}
 use Rattle.std.specs.Str.Parse.{digits_value}
 use Rattle.std.proofs.lemmas.Bool.{cond_both, and_parts, ltb-true, lt-ltb, le-leb, not-true}
@@ -36,7 +37,7 @@ use Rattle.mc_store.specs.Items.{body_at, brought}
 use Rattle.mc_cache.specs.CacheState.{CacheState, opening_cache}
 use Rattle.mc_cache.specs.Replay.{Command, command_step}
 use Rattle.mc_cache.specs.Settling.{settled, emptied}
-use Rattle.mc_cache.specs.Showing.{asked, shown_of, marks_of, told}
+use Rattle.mc_cache.specs.Showing.{shown_of, marks_of, told}
 use Rattle.mc_cache.specs.Step.{Outcome, Content, numbered, unstored, unmet, compared, content_by, fronted, stored, store_step, touched, expiry_by, get_step, touch_step, delete_step, counted, count_step, count_none, flush_step, update_step, made_by, looked_at, meta_get_none, meta_get_step, meta_step, settled_step, step_of, atom_key}
 use Rattle.mc_cache_laws.specs.GoodCaches.{IsGoodBody, IsGoodCache, IsGoodCommand, StaysGood, AnswersAsItCan, AnswersEachAsItCan}
 use Rattle.std.specs.List.{All}
@@ -55,7 +56,7 @@ none_is None is = refl
 none_is (Some x) is = absurd cc
 
 -- a part that is there where it is asked for
-asked_is : {A : Type 0} (test : A → Bool) (is_asked : Bool) (part : A) → test part ≡ true → is_as_asked test is_asked (asked is_asked part) ≡ true
+asked_is : {A : Type 0} (test : A → Bool) (is_asked : Bool) (part : A) → test part ≡ true → is_as_asked test is_asked (then_some is_asked part) ≡ true
 asked_is test true part passes = passes
 asked_is test false part passes = refl
 
@@ -66,15 +67,15 @@ left_is deadline moment fits =
 
 -- what is shown of such an item, whatever its marks are
 shown_is_done : (counter : ℕ) (show : Show) (moment : ℕ) (marks : Marks) (body : Body) → counter < 2 ^ 64 → IsGoodBody counter body
-    → is_done show (shown_of show moment marks body) (asked show.value body.value) ≡ true
+    → is_done show (shown_of show moment marks body) (then_some show.value body.value) ≡ true
 shown_is_done counter show moment marks body few good =
-    let cas : is_as_asked is_u64 show.cas (asked show.cas body.cas) ≡ true = asked_is is_u64 show.cas body.cas (lt-ltb body.cas (2 ^ 64) (omega (arith, good.cas))) in
-    let flags : is_as_asked is_u32 show.flags (asked show.flags body.flags) ≡ true = asked_is is_u32 show.flags body.flags (lt-ltb body.flags (2 ^ 32) good.flags) in
-    let size : is_as_asked is_size show.size (asked show.size (length body.value)) ≡ true =
+    let cas : is_as_asked is_u64 show.cas (then_some show.cas body.cas) ≡ true = asked_is is_u64 show.cas body.cas (lt-ltb body.cas (2 ^ 64) (omega (arith, good.cas))) in
+    let flags : is_as_asked is_u32 show.flags (then_some show.flags body.flags) ≡ true = asked_is is_u32 show.flags body.flags (lt-ltb body.flags (2 ^ 32) good.flags) in
+    let size : is_as_asked is_size show.size (then_some show.size (length body.value)) ≡ true =
     asked_is is_size show.size (length body.value) (le-leb (length body.value) VALUE_LIMIT good.value) in
-    let left : is_as_asked (is_where_some is_u64) show.left (asked show.left (left_of body.expiry moment)) ≡ true =
+    let left : is_as_asked (is_where_some is_u64) show.left (then_some show.left (left_of body.expiry moment)) ≡ true =
     asked_is (is_where_some is_u64) show.left (left_of body.expiry moment) (left_is body.expiry moment good.expiry) in
-    let value : is_as_asked is_good_block show.value (asked show.value body.value) ≡ true =
+    let value : is_as_asked is_good_block show.value (then_some show.value body.value) ≡ true =
     asked_is is_good_block show.value body.value (le-leb (length body.value) VALUE_LIMIT good.value) in
     rw (cas, flags, size, left, value) refl
 

@@ -24,7 +24,7 @@ use Rattle.mc_request.specs.declared.parts.Update.TheVariants.{Store, Touch, Del
 use Rattle.mc_reply.specs.declared.replies.Marks.{Marks}
 use Rattle.mc_reply.specs.declared.replies.Marks.TheVariants.{Plain, Won}
 use Rattle.mc_reply.specs.declared.replies.Reply.{Reply}
-use Rattle.mc_reply.specs.declared.replies.Reply.TheVariants.{Stored, NotStored, Exists, NotFound, Deleted, Touched, Flushed, Number, Miss, Hit, Meta, Fault}
+use Rattle.mc_reply.specs.declared.replies.Reply.TheVariants.{Stored, NotFound, Deleted, Touched, Number, Miss, Hit, Meta, Fault}
 use Rattle.mc_store.specs.Items.{Items, body_at, without, brought, kept, item_cost}
 use Rattle.mc_store.proofs.ItemLemmas.{body_at-without, body_at-brought}
 use Rattle.mc_store.proofs.KeptLemmas.{kept-first, kept-begins}
@@ -210,22 +210,10 @@ none_is (Some x) is = absurd cc
 
 update-follows : (s : CacheState) (update : Update (List ℕ) (List ℕ)) (moment : ℕ) (refused : Bool) (key : List ℕ) → is_unnumbered update ≡ true → key_in update ≡ Some key → IsUnflushed s
     → Follows s key (update_key (map_of s.items key) update moment) (update_step s update moment refused)
-update-follows s (Store mode compare at flags exptime value) moment refused key plain is good =
-    let its : at ≡ key = cc in
-    subst (λ k. Follows s k (update_key (map_of s.items k) (Store mode compare at flags exptime value) moment) (update_step s (Store mode compare at flags exptime value) moment refused)) its
-    (store-follows s compare mode at (record { flags = flags; expiry = deadline_of exptime moment; won = false; value = value }) refused (none_is compare plain) good)
-update-follows s (Touch at exptime) moment refused key plain is good =
-    let its : at ≡ key = cc in
-    subst (λ k. Follows s k (update_key (map_of s.items k) (Touch at exptime) moment) (update_step s (Touch at exptime) moment refused)) its
-    (touch-follows s at (body_at at s.items) exptime moment refl good)
-update-follows s (Delete at compare invalidate) moment refused key plain is good =
-    let its : at ≡ key = cc in
-    subst (λ k. Follows s k (update_key (map_of s.items k) (Delete at compare invalidate) moment) (update_step s (Delete at compare invalidate) moment refused)) its
-    (delete-follows s at (body_at at s.items) compare invalidate (none_is compare plain) refl good)
-update-follows s (Count at counting) moment refused key plain is good =
-    let its : at ≡ key = cc in
-    subst (λ k. Follows s k (update_key (map_of s.items k) (Count at counting) moment) (update_step s (Count at counting) moment refused)) its
-    (count-follows s at (body_at at s.items) counting moment refused (none_is counting.compare plain) refl good)
+update-follows s (Store mode compare at flags exptime value) moment refused key plain is good = grind (arith, store-follows, none_is)
+update-follows s (Touch at exptime) moment refused key plain is good = grind (arith, touch-follows)
+update-follows s (Delete at compare invalidate) moment refused key plain is good = grind (arith, delete-follows, none_is)
+update-follows s (Count at counting) moment refused key plain is good = grind (arith, count-follows, none_is)
 update-follows s (FlushAll delay) moment refused key plain is good = absurd cc
 
 -- what is shown of an item whose number is not asked for
@@ -236,53 +224,16 @@ shown-unnumbered show moment marks body hides = rw hides refl
 told-unnumbered : (show : Show) (moment : ℕ) (marks : Marks) (held : Option Body) (reply : Reply (List ℕ)) → show.cas ≡ false
     → told show moment marks held reply ≡ told show moment marks (option_map unnumbered held) reply
 told-unnumbered show moment marks None reply hides = refl
-told-unnumbered show moment marks (Some body) reply hides =
-    elim reply as (λ r. told show moment marks (Some body) r ≡ told show moment marks (Some (unnumbered body)) r) [
-      | Stored ↦ shown-unnumbered show moment marks body hides
-      | Number number ↦ shown-unnumbered show moment marks body hides
-      | NotStored ↦ refl
-      | Exists ↦ refl
-      | NotFound ↦ refl
-      | Deleted ↦ refl
-      | Touched ↦ refl
-      | Flushed ↦ refl
-      | Miss ↦ refl
-      | Hit flags cas value ↦ refl
-      | Meta shown value ↦ refl
-      | Fault fault ↦ refl
-    ]
+told-unnumbered show moment marks (Some body) reply hides = grind (arith, shown-unnumbered)
 
 -- an error line is told as it is
 told-refusal : (show : Show) (moment : ℕ) (marks : Marks) (held : Option Body) (reply : Reply (List ℕ)) → is_refused_store (told show moment marks held reply) ≡ false → is_refused_store reply ≡ false
-told-refusal show moment marks held reply answered =
-    (elim reply as (λ r. is_refused_store (told show moment marks held r) ≡ false → is_refused_store r ≡ false) [
-      | Stored ↦ λ a. refl
-      | Number number ↦ λ a. refl
-      | NotStored ↦ λ a. refl
-      | Exists ↦ λ a. refl
-      | NotFound ↦ λ a. refl
-      | Deleted ↦ λ a. refl
-      | Touched ↦ λ a. refl
-      | Flushed ↦ λ a. refl
-      | Miss ↦ λ a. refl
-      | Hit flags cas value ↦ λ a. refl
-      | Meta shown value ↦ λ a. refl
-      | Fault fault ↦ λ a. a
-    ]) answered
+told-refusal show moment marks held reply answered = grind arith
 
 -- a meta command follows where its update does
 told-follows : (s : CacheState) (key : List ℕ) (show : Show) (moment : ℕ) (marks : Marks) (expected : KeyOutcome) (o : Outcome) → show.cas ≡ false
     → Follows s key expected o → Follows s key (told_key show moment marks expected) (o.0, told show moment marks (body_at key o.0.items) o.1)
-told-follows s key show moment marks expected o hides follows answered many =
-    let was : Matches s key expected o = follows (told-refusal show moment marks (body_at key o.0.items) o.1 answered) many in
-    record {
-      reply = told-unnumbered show moment marks (body_at key o.0.items) o.1 hides
-          ∙ ap (λ (h : Option Body). told show moment marks h o.1) was.own ∙ ap (λ (r : Reply (List ℕ)). told show moment marks expected.0 r) was.reply;
-      own = was.own;
-      others = was.others;
-      within = was.within;
-      pending = was.pending;
-    }
+told-follows s key show moment marks expected o hides follows answered many = grind (arith, told-unnumbered, told-refusal)
 
 -- `mg`
 meta_get_none-follows : (s : CacheState) (key : List ℕ) (get : MetaGet) (create : Option ℤ) (moment : ℕ) (refused : Bool) → get.show.cas ≡ false → body_at key s.items ≡ None → IsUnflushed s
@@ -307,17 +258,9 @@ meta_get-follows s key (Some body) get moment refused hides is good = λ answere
 -- a command on a settled cache
 pub settled_step-follows : (s : CacheState) (atom : Atom (List ℕ)) (moment : ℕ) (refused : Bool) (key : List ℕ) → is_of_map atom ≡ true → atom_key atom ≡ Some key → IsUnflushed s
     → Follows s key (key_step (map_of s.items key) atom moment) (settled_step s atom moment refused)
-settled_step-follows s (atoms.Get at exptime with_cas) moment refused key plain is good =
-    let its : at ≡ key = cc in
-    let no_cas : with_cas ≡ false = not-true with_cas plain in
-    subst (λ k. Follows s k (get_key (map_of s.items k) exptime moment) (get_step s at (body_at at s.items) exptime with_cas moment)) its
-    (subst (λ c. Follows s at (get_key (map_of s.items at) exptime moment) (get_step s at (body_at at s.items) exptime c moment)) (sym no_cas)
-    (get-follows s at (body_at at s.items) exptime moment refl good))
+settled_step-follows s (atoms.Get at exptime with_cas) moment refused key plain is good = grind (arith, not-true, get-follows)
 settled_step-follows s (atoms.Update update) moment refused key plain is good = update-follows s update moment refused key plain is good
-settled_step-follows s (atoms.Meta (metas.Get at get)) moment refused key plain is good =
-    let its : at ≡ key = cc in
-    subst (λ k. Follows s k (meta_get_key (map_of s.items k) get moment) (meta_get_step s at (body_at at s.items) get moment refused)) its
-    (meta_get-follows s at (body_at at s.items) get moment refused (not-true get.show.cas plain) refl good)
+settled_step-follows s (atoms.Meta (metas.Get at get)) moment refused key plain is good = grind (arith, not-true, meta_get-follows)
 settled_step-follows s (atoms.Meta (metas.Update update show)) moment refused key plain is good =
     let parts = and_parts (is_unnumbered update) (not show.cas) plain in
     subst (λ (k : Option (List ℕ)). Follows s key (told_key show moment Plain (update_key (map_of s.items key) update moment))

@@ -11,15 +11,14 @@ use Rattle.mc_request.specs.declared.meta.MetaCommand.TheVariants as metas
 use Rattle.mc_request.specs.declared.parts.Atom.{Atom}
 use Rattle.mc_request.specs.declared.parts.Atom.TheVariants as atoms
 use Rattle.mc_request.specs.declared.parts.Update.TheVariants.{Store, Touch, Delete, Count, FlushAll}
-use Rattle.mc_reply.specs.declared.replies.Reply.{Reply}
 use Rattle.mc_store.specs.Items.{Items, body_at, without}
 use Rattle.mc_store.proofs.ItemLemmas.{without-absent, body_at-without}
 use Rattle.mc_cache.specs.CacheState.{CacheState, IsHeldWithin, IsWithinBounds}
 use Rattle.mc_cache.specs.Replay.{command_step, replay, replies}
-use Rattle.mc_cache.specs.Settling.{settled, flushed, emptied, is_due, is_dead_at, without_dead}
+use Rattle.mc_cache.specs.Settling.{settled, is_dead_at, without_dead}
 use Rattle.mc_cache.specs.Step.{Outcome, settled_step, step_of, atom_key}
 use Rattle.mc_cache.proofs.HeldLemmas.{held-without}
-use Rattle.mc_cache_laws.specs.OneMap.{OneMap, KeyOutcome, key_step, found, map_with, map_step_at, map_step}
+use Rattle.mc_cache_laws.specs.OneMap.{OneMap, KeyOutcome, key_step, found, map_with, map_step}
 use Rattle.mc_cache_laws.specs.MapLaws.{is_of_map, is_refused_store, keeps_others, IsPlainStep, IsUnflushed, unnumbered, map_of, IsMap, IsMapStep, StepsAsMap}
 use Rattle.mc_cache_laws.specs.Pools.{Executed, Caches, caches_with, pool_step, pool_after, pool_replies, map_replies, map_after, commands_at, IsAtOwner, ArePlainSteps, StepPlainly, replies_at, AreMap, AreUnflushed, opening_caches, empty_map, ActAsMap}
 use Rattle.mc_cache_laws.proofs.MapStepLemmas.{Matches, settled_step-follows}
@@ -35,9 +34,7 @@ abbrev pub alive : CacheState → List ℕ → ℕ → CacheState
 alive s key moment = record s { items = without_dead key moment s.items }
 
 pub settled-alive : (s : CacheState) (key : List ℕ) (moment : ℕ) → s.pending ≡ None → settled s (Some key) moment ≡ alive s key moment
-settled-alive s key moment none =
-    let stays : flushed s moment ≡ s = ap (λ p. cond (is_due p moment) (emptied s) s) none in
-    ap (λ (f : CacheState). alive f key moment) stays
+settled-alive s key moment none = grind arith
 
 pub alive-unflushed : (s : CacheState) (key : List ℕ) (moment : ℕ) → IsUnflushed s → IsUnflushed (alive s key moment)
 alive-unflushed s key moment good = record {
@@ -47,21 +44,13 @@ alive-unflushed s key moment good = record {
 }
 
 alive-own : (s : CacheState) (key : List ℕ) (moment : ℕ) → IsUnflushed s → map_of (alive s key moment).items key ≡ found moment (map_of s.items key)
-alive-own s key moment good =
-    let bodies : body_at key (without_dead key moment s.items) ≡ found moment (body_at key s.items) =
-    elim (is_dead_at (body_at key s.items) moment) as (λ v. body_at key (cond v (without key s.items) s.items) ≡ cond v None (body_at key s.items))
-    [ true ↦ good.within.distinct key | false ↦ refl ] in
-    ap (option_map unnumbered) bodies ∙ sym (found-unnumbered moment (body_at key s.items))
+alive-own s key moment good = grind (arith, found-unnumbered)
 
 alive-others : (s : CacheState) (key other : List ℕ) (moment : ℕ) → bytes_eq key other ≡ false → body_at other (alive s key moment).items ≡ body_at other s.items
-alive-others s key other moment differ =
-    cond_both (is_dead_at (body_at key s.items) moment) (without key s.items) s.items (λ (items : Items). body_at other items ≡ body_at other s.items)
-    (λ dead. body_at-without key other s.items differ) (λ lives. refl)
+alive-others s key other moment differ = grind (arith, cond_both, body_at-without)
 
 pub alive-many : (s : CacheState) (key : List ℕ) (moment : ℕ) → IsUnflushed s → length (without key (alive s key moment).items) ≡ length (without key s.items)
-alive-many s key moment good =
-    cond_both (is_dead_at (body_at key s.items) moment) (without key s.items) s.items (λ (items : Items). length (without key items) ≡ length (without key s.items))
-    (λ dead. ap length (without-absent key (without key s.items) (good.within.distinct key))) (λ lives. refl)
+alive-many s key moment good = grind (arith, cond_both, without-absent)
 
 -- a command of the map has a key
 keyless : (atom : Atom (List ℕ)) → atom_key atom ≡ None → is_of_map atom ≡ false
@@ -103,13 +92,7 @@ step-at s good map holds atom moment refused plain key is =
       | true ↦ λ same. subst (λ (k : List ℕ). e.0 ≡ map_of o.0.items k) (same_text key other (sym same)) (sym own)
       | false ↦ λ differ. holds other ∙ sym (ap (option_map unnumbered) (m.others other differ ∙ alive-others s key other moment differ))
     ]) refl in
-    record {
-      reply = ap (λ (x : Outcome). x.1) steps ∙ m.reply ∙ ap (λ h. (key_step h atom moment).1) finds
-          ∙ sym (ap (λ (k : Option (List ℕ)). (map_step_at k map atom moment).1) is);
-      holds = λ other.
-          ap (λ (k : Option (List ℕ)). (map_step_at k map atom moment).0 other) is ∙ at_key other ∙ sym (ap (λ (x : Outcome). map_of x.0.items other) steps);
-      unflushed = subst (λ (x : Outcome). IsUnflushed x.0) (sym steps) (record { within = m.within; pending = m.pending });
-    }
+    grind arith
 
 pub steps_as_map : (s : CacheState) → IsUnflushed s → StepsAsMap s
 steps_as_map s good map holds atom moment refused plain =
@@ -121,22 +104,15 @@ steps_as_map s good map holds atom moment refused plain =
 -- what a command finds under its key alone decides its reply, and under another key what is held there
 step-reply : (map other : OneMap) (atom : Atom (List ℕ)) (moment : ℕ) (key : List ℕ) → atom_key atom ≡ Some key → map key ≡ other key
     → (map_step map atom moment).1 ≡ (map_step other atom moment).1
-step-reply map other atom moment key is same =
-    subst (λ (k : Option (List ℕ)). (map_step_at k map atom moment).1 ≡ (map_step_at k other atom moment).1) (sym is)
-    (ap (λ h. (key_step (found moment h) atom moment).1) same)
+step-reply map other atom moment key is same = grind arith
 
 step-holds : (map other : OneMap) (atom : Atom (List ℕ)) (moment : ℕ) (key at : List ℕ) → atom_key atom ≡ Some key → map key ≡ other key → map at ≡ other at
     → (map_step map atom moment).0 at ≡ (map_step other atom moment).0 at
-step-holds map other atom moment key at is same there =
-    subst (λ (k : Option (List ℕ)). (map_step_at k map atom moment).0 at ≡ (map_step_at k other atom moment).0 at) (sym is)
-    (ap (λ h. cond (bytes_eq key at) (key_step (found moment h) atom moment).0 (map at)) same
-    ∙ ap (λ h. cond (bytes_eq key at) (key_step (found moment (other key)) atom moment).0 h) there)
+step-holds map other atom moment key at is same there = grind arith
 
 step-other : (map : OneMap) (atom : Atom (List ℕ)) (moment : ℕ) (key at : List ℕ) → atom_key atom ≡ Some key → bytes_eq key at ≡ false
     → (map_step map atom moment).0 at ≡ map at
-step-other map atom moment key at is differ =
-    subst (λ (k : Option (List ℕ)). (map_step_at k map atom moment).0 at ≡ map at) (sym is)
-    (ap (λ v. cond v (key_step (found moment (map key)) atom moment).0 (map at)) differ)
+step-other map atom moment key at is differ = grind arith
 
 -- the caches of several servers
 with-own : (place at : ℕ) (s : CacheState) (caches : Caches) → (place == at) ≡ true → caches_with place s caches at ≡ s
@@ -168,20 +144,7 @@ pool_step-at owner map caches e key is owned holds good plain =
     let after : CacheState = (step_of s atom moment e.command.refused).0 in
     let its : OneMap = map_of s.items in
     let here : IsMapStep its s atom moment e.command.refused = steps_as_map s (good e.place) its (λ k. refl) atom moment e.command.refused plain in
-    let same : map key ≡ its key = holds key ∙ ap (λ p. map_of (caches p).items key) (sym owned) in
-    record {
-      reply = here.reply ∙ sym (step-reply map its atom moment key is same);
-      holds = λ at.
-          (elim (e.place == owner at) as (λ v. (e.place == owner at) ≡ v → (map_step map atom moment).0 at ≡ map_of (cond v after (caches (owner at))).items at) [
-            | true ↦ λ own.
-                let there : map at ≡ its at = holds at ∙ ap (λ p. map_of (caches p).items at) (sym (eqb-true e.place (owner at) own)) in
-                step-holds map its atom moment key at is same there ∙ here.holds at
-            | false ↦ λ differ.
-                let apart : bytes_eq key at ≡ false = other_owner owner key at e.place owned differ in
-                step-other map atom moment key at is apart ∙ holds at
-          ]) refl;
-      unflushed = λ at. cond_both (e.place == at) after (caches at) IsUnflushed (λ own. here.unflushed) (λ differ. good at);
-    }
+    grind (arith, cond_both, eqb-true, step-reply, step-holds, step-other, other_owner)
 
 pool_step-is : (owner : List ℕ → ℕ) (map : OneMap) (caches : Caches) (e : Executed) → IsAtOwner owner e
     → AreMap owner map caches → AreUnflushed caches → IsPlainStep (caches e.place) e.command.atom e.command.moment e.command.refused → IsPoolStep owner map caches e
@@ -208,29 +171,14 @@ plain-first caches e es plain =
 
 plain-others : (caches : Caches) (e : Executed) (es : List Executed) → ((place : ℕ) → ArePlainSteps (caches place) (commands_at place (e ∷ es)))
     → (place : ℕ) → ArePlainSteps (next caches e place) (commands_at place es)
-plain-others caches e es plain place =
-    (elim (e.place == place) as (λ v. (e.place == place) ≡ v → ArePlainSteps (caches place) (cond v (e.command ∷ commands_at place es) (commands_at place es))
-    → ArePlainSteps (next caches e place) (commands_at place es)) [
-      | true ↦ λ own along. subst (λ (s : CacheState). ArePlainSteps s (commands_at place es)) (sym (next-own caches e place own)) along.1
-      | false ↦ λ differ along.
-          subst (λ (s : CacheState). ArePlainSteps s (commands_at place es)) (sym (with-other e.place place (command_step (caches e.place) e.command).0 caches differ)) along
-    ]) refl (plain place)
+plain-others caches e es plain place = grind (arith, with-other, next-own)
 
 -- what a server answers is what the pool answers there
 pub own_replies : (caches : Caches) (es : List Executed) (place : ℕ) → replies (caches place) (commands_at place es) ≡ replies_at place es (pool_replies caches es)
 own_replies caches [] place = refl
 own_replies caches (e ∷ es) place =
     let rest : replies (next caches e place) (commands_at place es) ≡ replies_at place es (pool_replies (next caches e) es) = own_replies (next caches e) es place in
-    (elim (e.place == place) as (λ v. (e.place == place) ≡ v → replies (caches place) (cond v (e.command ∷ commands_at place es) (commands_at place es))
-    ≡ cond v ((pool_step caches e).1 ∷ replies_at place es (pool_replies (next caches e) es)) (replies_at place es (pool_replies (next caches e) es))) [
-      | true ↦ λ own.
-          let its : (command_step (caches place) e.command).1 ≡ (pool_step caches e).1 = ap (λ p. (command_step (caches p) e.command).1) (sym (eqb-true e.place place own)) in
-          ap (λ (r : Reply (List ℕ)). r ∷ replies (command_step (caches place) e.command).0 (commands_at place es)) its
-          ∙ ap (λ (s : CacheState). (pool_step caches e).1 ∷ replies s (commands_at place es)) (sym (next-own caches e place own))
-          ∙ ap (λ (rs : List (Reply (List ℕ))). (pool_step caches e).1 ∷ rs) rest
-      | false ↦ λ differ.
-          ap (λ (s : CacheState). replies s (commands_at place es)) (sym (with-other e.place place (command_step (caches e.place) e.command).0 caches differ)) ∙ rest
-    ]) refl
+    grind (arith, eqb-true, with-other, next-own)
 
 -- along commands
 record ActTogether (owner : List ℕ → ℕ) (map : OneMap) (caches : Caches) (es : List Executed) : Type 0 where
@@ -248,41 +196,24 @@ act_together owner map caches (e ∷ es) holds good plain =
     let rest : ActTogether owner after (next caches e) es =
     act_together owner after (next caches e) es step.holds step.unflushed
     (record { at_owners = All-tail (IsAtOwner owner) e es plain.at_owners; plain = plain-others caches e es plain.plain }) in
-    record {
-      together = ap (λ (r : Reply (List ℕ)). r ∷ pool_replies (next caches e) es) step.reply
-          ∙ ap (λ (rs : List (Reply (List ℕ))). (map_step map e.command.atom e.command.moment).1 ∷ rs) rest.together;
-      holds = rest.holds;
-      unflushed = rest.unflushed;
-    }
+    grind arith
 
 pub act_as_map : (owner : List ℕ → ℕ) (map : OneMap) (caches : Caches) (es : List Executed) → AreMap owner map caches → AreUnflushed caches → StepPlainly owner caches es
     → ActAsMap owner map caches es
 act_as_map owner map caches es holds good plain =
     let act : ActTogether owner map caches es = act_together owner map caches es holds good plain in
-    record {
-      together = act.together;
-      at_servers = λ place. own_replies caches es place ∙ ap (replies_at place es) act.together;
-      holds = act.holds;
-      unflushed = act.unflushed;
-    }
+    grind (arith, own_replies)
 
 -- servers that hold nothing yet
 pub opening_are_map : (owner : List ℕ → ℕ) (budget limit counter : ℕ) → AreMap owner empty_map (opening_caches budget limit counter)
 opening_are_map owner budget limit counter key = refl
 
 pub opening_are_unflushed : (budget limit counter : ℕ) → IsWithinBounds budget limit → AreUnflushed (opening_caches budget limit counter)
-opening_are_unflushed budget limit counter bounds place = record {
-  within = record { bounds = bounds; affordable = omega arith; few = omega arith; distinct = λ key. refl };
-  pending = refl;
-}
+opening_are_unflushed budget limit counter bounds place = grind arith
 
 -- each server's cache is what its own commands leave
 pub own_commands : (caches : Caches) (es : List Executed) (place : ℕ) → pool_after caches es place ≡ replay (caches place) (commands_at place es)
 own_commands caches [] place = refl
 own_commands caches (e ∷ es) place =
     let rest : pool_after (next caches e) es place ≡ replay (next caches e place) (commands_at place es) = own_commands (next caches e) es place in
-    (elim (e.place == place) as (λ v. (e.place == place) ≡ v → pool_after (next caches e) es place ≡ replay (caches place) (cond v (e.command ∷ commands_at place es) (commands_at place es))) [
-      | true ↦ λ own. rest ∙ ap (λ (s : CacheState). replay s (commands_at place es)) (next-own caches e place own)
-      | false ↦ λ differ.
-          rest ∙ ap (λ (s : CacheState). replay s (commands_at place es)) (with-other e.place place (command_step (caches e.place) e.command).0 caches differ)
-    ]) refl
+    grind (arith, with-other, next-own)

@@ -33,8 +33,7 @@ pub use one_map::{
     wide_caches_evict_nothing,
 };
 pub use rows::{
-    cas_compares_the_number, evicts_beyond_the_limit, evicts_by_last_use, faults_come_in_order,
-    flags_and_expiry_stay, flushes_come, items_are_deleted_and_touched, items_expire,
-    modes_of_storing, named_items_are_first, numbers_are_counted, numbers_are_used_up,
-    set_then_get,
+    cas_compares_the_number, evicts_by_last_use, faults_come_in_order, flags_and_expiry_stay,
+    flushes_come, items_are_deleted_and_touched, items_expire, modes_of_storing,
+    named_items_are_first, numbers_are_counted, set_then_get,
 };

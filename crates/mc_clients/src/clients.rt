@@ -92,14 +92,12 @@ impl<K: Default + Drop> Clients<K> {
 
     /// The client of a key.
     pub fn get(&self, key: usize) -> Option<&Client<K>> {
-        let seat = self.seats.get(key)?;
-        Some(&seat.client)
+        self.seats.get(key).map(|seat| &seat.client)
     }
 
     /// The client of a key, to write to what is kept of it.
     pub fn get_mut(&mut self, key: usize) -> Option<&mut Client<K>> {
-        let seat = self.seats.get_mut(key)?;
-        Some(&mut seat.client)
+        self.seats.get_mut(key).map(|seat| &mut seat.client)
     }
 
     /// Takes a client in at a moment. One for whom there is no place or no memory is closed at once.

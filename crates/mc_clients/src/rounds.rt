@@ -115,7 +115,6 @@ pub fn patience(goes_on: bool, soon: bool, left: Option<u64>) -> Option<Duration
     if goes_on {
         return Some(Duration::from_millis(0));
     }
-    let soon = if soon { Some(PATIENCE) } else { None };
-    let left = earlier(soon, left)?;
+    let left = earlier(soon.then_some(PATIENCE), left)?;
     Some(Duration::from_millis(left.min(MOST_PATIENCE)))
 }

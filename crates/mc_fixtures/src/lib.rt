@@ -2,8 +2,8 @@
 //! memory, and texts.
 //!
 //! [`new_server`] is a server as a [`Setup`] says, over a [`MeagreStore`], which has memory for so many new keys.
-//! [`Source`] and [`Sink`] are the sides of a stream that gives bytes and takes them; how many bytes a call moves, and
-//! whether it blocks, is interrupted or fails, their [`Calls`] say. Nothing here is part of a program.
+//! A [`Stream`] gives bytes and takes them; how many bytes a call of one of its [`Sides`] moves, and whether it blocks, is
+//! interrupted or fails, their [`Calls`] say. Nothing here is part of a program.
 #![tactic(auto)]
 
 mod meagre;
@@ -12,6 +12,6 @@ mod streams;
 mod texts;
 
 pub use meagre::MeagreStore;
-pub use servers::{MOMENT, OutOfBounds, Setup, WIDE, new_server};
-pub use streams::{Call, Calls, MANY, SCRIPTS, Sides, Sink, Source};
+pub use servers::{MOMENT, Setup, WIDE, new_server};
+pub use streams::{Call, Calls, MANY, SCRIPTS, Sides, Sink, Source, Stream};
 pub use texts::{read_so, with_value};

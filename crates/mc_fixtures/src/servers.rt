@@ -5,7 +5,7 @@ use mc_cache::{Cache, is_within_bounds};
 use mc_item::CasCounter;
 use mc_server::Server;
 use std::alloc::Global;
-use thiserror::Error;
+use std::test::Fail;
 
 /// How a server is set up.
 #[derive(Clone, Copy)]
@@ -31,15 +31,10 @@ pub const WIDE: Setup = Setup {
 /// The moment of every turn, in seconds.
 pub const MOMENT: u64 = 100;
 
-/// No cache has the bounds of a setup.
-#[derive(Debug, Drop, Error)]
-#[error("no cache has these bounds")]
-pub struct OutOfBounds;
-
 /// A server that is set up so.
-pub fn new_server(alloc: Global, setup: Setup) -> Result<Server<MeagreStore>, OutOfBounds> {
+pub fn new_server(alloc: Global, setup: Setup) -> Result<Server<MeagreStore>, Fail> {
     if !is_within_bounds(setup.budget, setup.items) {
-        return Err(OutOfBounds);
+        return Err("no cache has these bounds".into());
     }
     let store = MeagreStore::new(alloc, setup.keys);
     let counter = CasCounter::starting_at(setup.last);

@@ -41,12 +41,18 @@ pub struct Calls {
 }
 
 impl Calls {
-    pub fn new(script: &'static [Call], odd: Option<(usize, Call)>) -> Self {
+    pub fn new(script: &'static [Call]) -> Self {
         Calls {
             script,
-            odd,
+            odd: None,
             made: 0,
         }
+    }
+
+    /// The same, but for one call.
+    fn with(self, number: usize, call: Call) -> Self {
+        let odd = Some((number, call));
+        Calls { odd, ..self }
     }
 
     /// Makes a call, and says how many bytes it may move.
@@ -78,27 +84,6 @@ pub struct Source {
     pub calls: Calls,
 }
 
-impl Source {
-    pub fn new(alloc: Global, bytes: &[u8], calls: Calls) -> Result<Self, AllocError> {
-        Ok(Source {
-            bytes: bytes.to_vec(alloc)?,
-            given: 0,
-            is_open: false,
-            calls,
-        })
-    }
-
-    /// A side to which bytes are still to come.
-    pub fn open(alloc: Global, calls: Calls) -> Self {
-        Source {
-            bytes: Vec::new(alloc),
-            given: 0,
-            is_open: true,
-            calls,
-        }
-    }
-}
-
 impl Read for Source {
     fn read(&mut self, piece: &mut [u8]) -> io::Result<usize> {
         let most = self.calls.make()?;
@@ -119,15 +104,6 @@ impl Read for Source {
 pub struct Sink {
     pub taken: Vec<u8>,
     pub calls: Calls,
-}
-
-impl Sink {
-    pub fn new(alloc: Global, calls: Calls) -> Self {
-        Sink {
-            taken: Vec::new(alloc),
-            calls,
-        }
-    }
 }
 
 impl Write for Sink {
@@ -151,19 +127,74 @@ pub struct Sides {
 }
 
 impl Sides {
+    /// Sides that go by a script of reads and one of writes.
+    pub fn new((reads, writes): (&'static [Call], &'static [Call])) -> Self {
+        Sides {
+            reads: Calls::new(reads),
+            writes: Calls::new(writes),
+        }
+    }
+
     /// The same, but for one call of one of them.
     pub fn with(self, is_write: bool, number: usize, call: Call) -> Self {
-        let odd = Some((number, call));
-        let Sides {
-            mut reads,
-            mut writes,
-        } = self;
         if is_write {
-            writes.odd = odd;
+            let writes = self.writes.with(number, call);
+            Sides { writes, ..self }
         } else {
-            reads.odd = odd;
+            let reads = self.reads.with(number, call);
+            Sides { reads, ..self }
         }
-        Sides { reads, writes }
+    }
+
+    /// How many calls of one of them were made.
+    pub fn made(self, is_write: bool) -> usize {
+        if is_write {
+            self.writes.made
+        } else {
+            self.reads.made
+        }
+    }
+}
+
+/// A stream in memory.
+#[derive(Drop)]
+pub struct Stream {
+    pub source: Source,
+    pub sink: Sink,
+}
+
+impl Stream {
+    /// A stream that gives these bytes, and then the end.
+    pub fn new(alloc: Global, bytes: &[u8], sides: Sides) -> Result<Self, AllocError> {
+        Ok(Stream::of(alloc, bytes.to_vec(alloc)?, false, sides))
+    }
+
+    /// A stream that has no bytes to give yet, and blocks until it has some.
+    pub fn open(alloc: Global, sides: Sides) -> Self {
+        Stream::of(alloc, Vec::new(alloc), true, sides)
+    }
+
+    fn of(alloc: Global, bytes: Vec<u8>, is_open: bool, sides: Sides) -> Self {
+        Stream {
+            source: Source {
+                bytes,
+                given: 0,
+                is_open,
+                calls: sides.reads,
+            },
+            sink: Sink {
+                taken: Vec::new(alloc),
+                calls: sides.writes,
+            },
+        }
+    }
+
+    /// How its calls went.
+    pub fn sides(&self) -> Sides {
+        Sides {
+            reads: self.source.calls,
+            writes: self.sink.calls,
+        }
     }
 }
 

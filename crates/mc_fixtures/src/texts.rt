@@ -10,22 +10,16 @@ pub fn with_value(
     sixteens: usize,
     after: &[u8],
 ) -> Result<Vec<u8>, AllocError> {
-    let mut text = Vec::new(alloc);
-    text.extend_from_slice(before)?;
-    for _ in 0..sixteens {
-        text.extend_from_slice(b"0123456789abcdef")?;
-    }
+    let mut text = before.to_vec(alloc)?;
+    text.extend_from_slice(&b"0123456789abcdef".repeat(alloc, sixteens)?)?;
     text.extend_from_slice(after)?;
     Ok(text)
 }
 
 /// Whether each error reads so.
 pub fn read_so<E: Display>(alloc: Global, texts: &[(E, &str)]) -> bool {
-    for (error, text) in texts {
-        match error.to_string(alloc) {
-            Ok(said) if said.as_str() == *text => {}
-            _ => return false,
-        }
-    }
-    true
+    texts.iter().all(|(
+        error,
+        text,
+    )| matches!(error.to_string(alloc), Ok(said) if said.as_str() == *text))
 }

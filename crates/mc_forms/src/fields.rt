@@ -51,10 +51,7 @@ fn digits(most: u64, begun: u64, unread: &[u8]) -> Result<(u64, &[u8]), Unready>
             let (_, rest) = unread.split_at(at);
             return Ok((value, rest));
         }
-        match with_digit(most, value, u64::from(byte - b'0')) {
-            Some(next) => value = next,
-            None => return Err(Unready::Strange),
-        }
+        value = with_digit(most, value, u64::from(byte - b'0')).ok_or(Unready::Strange)?;
     }
     Err(Unready::More(1))
 }

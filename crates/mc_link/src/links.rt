@@ -6,7 +6,7 @@ use crate::turns::{LinkError, LinkTurn, LostLink, Tag};
 use mc_reply_reader::{NextReply, ReplyReader};
 use mc_request::{Atom, Head};
 use mc_spelling::write_atom;
-use mc_text::{Block, drop_front, let_go};
+use mc_text::{Block, drop_front, give_back, let_go};
 use std::alloc::Global;
 use std::collections::VecDeque;
 use std::marker::Model;
@@ -99,10 +99,7 @@ impl Link {
     pub fn tag(&self, place: usize) -> Option<Tag>
         ensures { result ≡ option_map (λ waiting. waiting.1) (slice_get self.now.state.waiting place) }
     {
-        match self.waiting.get(place) {
-            Some((_, tag)) => Some(*tag),
-            None => None,
-        }
+        self.waiting.get(place).map(|(_, tag)| *tag)
     }
 
     /// Comes up, and gives the new generation: one more than before.
@@ -279,9 +276,7 @@ impl Link {
     pub fn give_back(&mut self, kept: usize)
         ensures { self.new.state ≡ self.old.state }
     {
-        if self.output.is_empty() && self.output.capacity() > kept {
-            self.output.shrink_to_fit();
-        }
+        give_back(&mut self.output, kept);
         if self.waiting.is_empty() && self.waiting.capacity() > kept {
             self.waiting.shrink_to_fit();
         }

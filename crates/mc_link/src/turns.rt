@@ -2,10 +2,10 @@
 ghost use Rattle.std.specs.Prelude.{◌≡◌};
 ghost use Rattle.mc_link.specs.declared.turns.LinkError.TheVariants.{Memory};
 
-use mc_reply::{Reply, ReplyError};
-use mc_request::{Head, ReadError};
+use mc_reply::Reply;
+use mc_request::Head;
 use mc_text::Block;
-use std::alloc::{AllocError, AllocFailed};
+use std::alloc::AllocError;
 use thiserror::Error;
 
 /// Whose command it is: what a proxy gives along with a command, and is given back with its reply.
@@ -51,34 +51,10 @@ pub enum LinkError {
     Memory,
 }
 
-impl From<AllocError> for LinkError {
+impl<E: Into<AllocError> + Drop> From<E> for LinkError {
     ghost from_gives = { λ _ e. e ≡ Memory };
 
-    fn from(_e: AllocError) -> LinkError {
-        LinkError::Memory
-    }
-}
-
-impl<T: Drop> From<AllocFailed<T>> for LinkError {
-    ghost from_gives = { λ _ e. e ≡ Memory };
-
-    fn from(_e: AllocFailed<T>) -> LinkError {
-        LinkError::Memory
-    }
-}
-
-impl From<ReadError> for LinkError {
-    ghost from_gives = { λ _ e. e ≡ Memory };
-
-    fn from(_e: ReadError) -> LinkError {
-        LinkError::Memory
-    }
-}
-
-impl From<ReplyError> for LinkError {
-    ghost from_gives = { λ _ e. e ≡ Memory };
-
-    fn from(_e: ReplyError) -> LinkError {
+    fn from(_e: E) -> LinkError {
         LinkError::Memory
     }
 }

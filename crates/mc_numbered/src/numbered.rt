@@ -62,10 +62,8 @@ impl<T> Numbered<T> {
     pub fn get(&self, number: u64) -> Option<&T>
         ensures { option_copied result ≡ entry_of self.now.entries number }
     {
-        match self.place_of(number) {
-            Some(place) => Some(&self.entries[place].1),
-            None => None,
-        }
+        let place = self.place_of(number)?;
+        Some(&self.entries[place].1)
     }
 
     /// What is under a number, to be changed.
@@ -73,10 +71,8 @@ impl<T> Numbered<T> {
         ensures* writes_back { sem 𝓛 (LendsEntry T.row self.entry number result) }
         ensures value { option_copied_mut result ≡ entry_of self.old.entries number }
     {
-        match self.place_of(number) {
-            Some(place) => Some(self.at_mut(place)),
-            None => None,
-        }
+        let place = self.place_of(number)?;
+        Some(self.at_mut(place))
     }
 
     /// The entry at a place, to be changed. It is tried first by the next look-up.
@@ -138,9 +134,7 @@ impl<T: Drop> Numbered<T> {
         ensures is_free { entry_of self.new.entries number ≡ None }
         ensures unchanged { IfNone result (self.new ≡ self.old) }
     {
-        match self.place_of(number) {
-            Some(place) => Some(self.entries.remove(place).1),
-            None => None,
-        }
+        let place = self.place_of(number)?;
+        Some(self.entries.remove(place).1)
     }
 }

@@ -1,5 +1,5 @@
 -- Commands of several servers in one order, by turns.
-use Rattle.std.proofs.Common.{◌≡◌, ◌∙◌, ℕ, suc, ◌==◌, Bool, true, false, if◌then◌else◌, List, [], ◌∷◌, ◌++◌, length, drop, Some, refl, sym, ap, arith}
+use Rattle.std.proofs.Common.{◌≡◌, ◌∙◌, ℕ, suc, ◌==◌, Bool, if◌then◌else◌, List, [], ◌∷◌, ◌++◌, length, drop, Some, refl, ap, arith}
 use Rattle.std.specs.List.{All}
 use Rattle.std.proofs.lemmas.Bool.{eq-eqb, eqb-true}
 use Rattle.std.proofs.lemmas.List.Elements.{All-cons, All-nil}
@@ -52,12 +52,7 @@ turns-own : (commands : ℕ → List Command) (place : ℕ) (places : List ℕ) 
 turns-own commands place places h = h place ∙ ap (λ (v : Bool). if v then suc (times place places) else times place places) (eq-eqb place place refl)
 
 turns-after : (commands : ℕ → List Command) (place : ℕ) (places : List ℕ) → HaveTurns commands (place ∷ places) → HaveTurns (after_turn place commands) places
-turns-after commands place places h other =
-    (elim (place == other) as (λ v. length (commands other) ≡ (if v then suc (times other places) else times other places)
-    → length (if v then drop 1 (commands other) else commands other) ≡ times other places) [
-      | true ↦ λ more. one-less (commands other) (times other places) more
-      | false ↦ λ same. same
-    ]) (h other)
+turns-after commands place places h other = grind (arith, one-less)
 
 -- then each of its commands is executed, in order
 pub merged-own : (places : List ℕ) (commands : ℕ → List Command) → HaveTurns commands places → (place : ℕ) → commands_at place (merged commands places) ≡ commands place
@@ -66,14 +61,7 @@ merged-own (at ∷ places) commands h place =
     let f : HasFirst (commands at) = has-first (commands at) (times at places) (turns-own commands at places h) in
     let rest : List Executed = merged (after_turn at commands) places in
     let again : commands_at place rest ≡ after_turn at commands place = merged-own places (after_turn at commands) (turns-after commands at places h) place in
-    ap (λ (cs : List Command). commands_at place (first_at at cs ++ rest)) f.is
-    ∙ (elim (at == place) as (λ v. (at == place) ≡ v → commands_at place rest ≡ (if v then drop 1 (commands place) else commands place)
-    → (if v then f.first ∷ commands_at place rest else commands_at place rest) ≡ commands place) [
-      | true ↦ λ own same.
-          let here : commands place ≡ f.first ∷ f.others = ap commands (sym (eqb-true at place own)) ∙ f.is in
-          ap (λ (cs : List Command). f.first ∷ cs) (same ∙ ap (λ (cs : List Command). drop 1 cs) here) ∙ sym here
-      | false ↦ λ differ same. same
-    ]) refl again
+    grind (arith, eqb-true)
 
 -- commands that a server executes as the owner of their keys
 abbrev pub AreOwned : (List ℕ → ℕ) → ℕ → List Command → Type 0
@@ -86,10 +74,7 @@ owned-later owner place (c ∷ cs) h = h.1
 
 owned-after : (owner : List ℕ → ℕ) (commands : ℕ → List Command) (at : ℕ) → ((place : ℕ) → AreOwned owner place (commands place))
     → (place : ℕ) → AreOwned owner place (after_turn at commands place)
-owned-after owner commands at h place = (elim (at == place) as (λ v. AreOwned owner place (if v then drop 1 (commands place) else commands place)) [
-  | true ↦ owned-later owner place (commands place) (h place)
-  | false ↦ h place
-])
+owned-after owner commands at h place = grind (arith, owned-later)
 
 owned-first : (owner : List ℕ → ℕ) (at : ℕ) (cs : List Command) (es : List Executed) → AreOwned owner at cs → All (IsAtOwner owner) es → All (IsAtOwner owner) (first_at at cs ++ es)
 owned-first owner at [] es h hs = hs
@@ -99,5 +84,4 @@ pub merged-owned : (owner : List ℕ → ℕ) (places : List ℕ) (commands : �
     → All (IsAtOwner owner) (merged commands places)
 merged-owned owner [] commands h = All-nil (IsAtOwner owner)
 merged-owned owner (at ∷ places) commands h =
-    owned-first owner at (commands at) (merged (after_turn at commands) places) (h at)
-    (merged-owned owner places (after_turn at commands) (owned-after owner commands at h))
+    grind (arith, owned-after, owned-first, merged-owned owner places (after_turn at commands) (owned-after owner commands at h))

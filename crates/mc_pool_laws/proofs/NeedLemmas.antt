@@ -21,7 +21,7 @@ use Rattle.mc_reply.specs.Spelling.{spelling_of}
 use Rattle.mc_reply.specs.declared.replies.Reply.{Reply as AReply}
 use Rattle.mc_reply.specs.declared.replies.Reply.TheVariants.{Flushed}
 use Rattle.mc_ring.specs.Rings.{RingState}
-use Rattle.mc_route.specs.Routes.{route_of_taken, to_place}
+use Rattle.mc_route.specs.Routes.{to_place}
 use Rattle.mc_route.specs.declared.outcomes.Outcome.{Outcome}
 use Rattle.mc_route.specs.declared.outcomes.Outcome.TheVariants as outcomes
 use Rattle.mc_route.specs.declared.routes.Routed.{Routed}
@@ -107,9 +107,7 @@ some_not_none {x = x} {xs = xs} same = (let size : suc (length xs) ≡ 0 = ap le
 
 -- of no request there is a command
 no_command : (tag : Tag) (command : Routed) → command_at [] tag ≡ Some command → ⊥
-no_command tag command at =
-    let found = in_request (asked_at [] tag.session tag.request) tag.atom command at in
-    none_there tag.request found.0 found.1
+no_command tag command at = grind (arith, in_request, none_there)
 
 -- what is there for one number alone
 there_by : {X : Type 0} (v : Bool) (xs : List X) (k : ℕ) (y : X) → slice_get (if v then xs else []) k ≡ Some y → (v ≡ true) × (slice_get xs k ≡ Some y)
@@ -117,25 +115,17 @@ there_by true xs k y at = (refl, at)
 there_by false xs k y at = absurd (none_there k y at)
 
 pub own_by : (number : ℕ) → (0 == number) ≡ true → 0 ≡ number
-own_by number h = elim (eqb_tells 0 number) [
-  | inl own ↦ own.1
-  | inr other ↦ absurd (false≢true (sym other.0 ∙ h))
-]
+own_by number h = grind (arith, false≢true, eqb_tells)
 
 pub asked_only : (e : AskedFor) (client request : ℕ) (x : AskedFor) → e.session ≡ 0 → asked_at (e ∷ []) client request ≡ Some x → (0 ≡ client) × (request ≡ 0) × (x ≡ e)
-asked_only e client request x own at =
-    let there = there_by (e.session == client) (e ∷ []) request x at in
-    let here = one_here e request x there.1 in
-    (own_by client (ap (λ (s : ℕ). s == client) (sym own) ∙ there.0), here.0, here.1)
+asked_only e client request x own at = grind (arith, one_here, there_by, own_by)
 
 -- the history of the first server alone
 abbrev pub first_only : List Entry → ℕ → List Entry
 first_only es place = if 0 == place then es else []
 
 pub first_there : (es : List Entry) (place k : ℕ) (e : Entry) → slice_get (first_only es place) k ≡ Some e → (0 ≡ place) × (slice_get es k ≡ Some e)
-first_there es place k e at =
-    let there = there_by (0 == place) es k e at in
-    (own_by place there.0, there.1)
+first_there es place k e at = grind (arith, there_by, own_by)
 
 -- what the log of one request counts, and what was asked
 pub asked_text : (client : ℕ) (told : List Outcome) (ring : RingState) → (untaken : List Taken) × (taken_of client (asked_by ring flush_asked told ∷ []) ++ untaken ≡ requests_of (flush_text client))
@@ -163,10 +153,7 @@ outcome_in_request None atom q h = absurd (none-some q h)
 outcome_in_request (Some e) atom q h = (e, refl, h)
 
 outcome_there : (e : AskedFor) (tag : Tag) (q : Outcome) → e.session ≡ 0 → outcome_at (e ∷ []) tag ≡ Some q → slice_get e.outcomes tag.atom ≡ Some q
-outcome_there e tag q own became =
-    let found = outcome_in_request (asked_at (e ∷ []) tag.session tag.request) tag.atom q became in
-    let o = asked_only e tag.session tag.request found.0 own found.1 in
-    ap (λ (x : AskedFor). slice_get x.outcomes tag.atom) (sym o.2) ∙ found.2
+outcome_there e tag q own became = grind (arith, slice_get, asked_only, outcome_in_request)
 
 no_outcome : (ring : RingState) (what : Taken) (tag : Tag) (q : Outcome) → outcome_at (asked_by ring what [] ∷ []) tag ≡ Some q → ⊥
 no_outcome ring what tag q became = none_there tag.atom q (outcome_there (asked_by ring what []) tag q refl became)
@@ -208,28 +195,7 @@ answered_but : (one : Clause) (ring by : RingState) (what : Taken) (told : List 
     → (one ≢ Lost → (tag : Tag) → outcome_at (asked_by by what told ∷ []) tag ≡ Some outcomes.Lost → ⊥)
     → AccountsBut one ring a_cache (asked_by by what told ∷ []) texts (outs_of (asked_by by what told ∷ []) answered_log) no_history answered_log
 answered_but one ring by what told texts asked routed sized known replied lost =
-    let e = asked_by by what told in
-    record {
-      asked = asked;
-      turns = λ keeps client. one_of (0 == client) e;
-      rings = λ keeps client request x at.
-          let o = asked_only e client request x refl at in
-          subst (λ (c : ℕ). IsRingAfter ring (before (takes c) request answered_log) x.ring) o.0
-          (subst (λ (r : ℕ). IsRingAfter ring (before (takes 0) r answered_log) x.ring) (sym o.1)
-          (ap (λ (y : AskedFor). y.ring) o.2 ∙ routed keeps));
-      sized = λ keeps. All-cons IsSized e [] (sized keeps) (All-nil IsSized);
-      legal = λ keeps place. tt;
-      once = λ keeps r s j k d x at. absurd (none_there j d at);
-      replied = λ keeps tag place atom reply at became. absurd (replied keeps tag reply became);
-      lost = λ keeps tag place atom at became. absurd (lost keeps tag became);
-      ordered = λ keeps place j k d x r q at. absurd (none_there j d at);
-      answered = λ keeps client. complete_of (0 == client) e (known keeps);
-      put = λ keeps client. refl;
-      few = λ keeps client. few_of (0 == client) e;
-      moments = λ keeps place. refl;
-      placed = λ keeps place k x at. absurd (none_there k x at);
-      unanswered = λ keeps place k x at. absurd (none_there k x at);
-    }
+    grind (arith, none_there, asked_only, one_of, complete_of, few_of)
 
 untold : IsUnaccounted one_server flush_text no_history answered_log
 untold = record {
@@ -376,23 +342,7 @@ nothing_but : (one : Clause) (outs : ℕ → List ℕ) (log : Log)
     → (one ≢ Answered → (client : ℕ) → list_all is_complete (take (number_of (puts client) log) []) ≡ true)
     → (one ≢ Moments → (place : ℕ) → [] ≡ moments_of place log)
     → AccountsBut one one_server a_cache [] no_text outs no_history log
-nothing_but one outs log turns put few answered moments = record {
-  asked = λ keeps client. ([], sym nothing_read);
-  turns = turns;
-  rings = λ keeps client request x at. absurd (none_there request x at);
-  sized = λ keeps. All-nil IsSized;
-  legal = λ keeps place. tt;
-  once = λ keeps r s j k d x at. absurd (none_there j d at);
-  replied = λ keeps tag place atom reply at became. absurd (no_command tag (to_place place atom) at);
-  lost = λ keeps tag place atom at became. absurd (no_command tag (to_place place atom) at);
-  ordered = λ keeps place j k d x r q at. absurd (none_there j d at);
-  answered = answered;
-  put = put;
-  few = few;
-  moments = moments;
-  placed = λ keeps place k x at. absurd (none_there k x at);
-  unanswered = λ keeps place k x at. absurd (none_there k x at);
-}
+nothing_but one outs log turns put few answered moments = grind (arith, nothing_read, none_there, no_command)
 
 -- a turn takes nothing
 pub without_turns : Allows Turns (λ ring opening texts outs histories log. length (requests_of (texts 0)) < number_of (takes 0) log)
@@ -535,15 +485,7 @@ moments_one false x is = refl
 
 -- a reply that no cache gives
 not_replayed : IsReplayed one_server flush_text served_log 0 a_cache (misreplied ∷ []) → ⊥
-not_replayed replayed =
-    let s = replayed.1 in
-    let what : flush_asked ≡ s.what = same_Some flush_asked s.what (ap (λ (ts : List Taken). slice_get ts 0) (sym text_read) ∙ s.taken.sent) in
-    let routed : ◌≡◌ {A = Option Routed} (Some (to_place 0 flush)) (Some (to_place 0 replayed.0)) =
-    ap (λ (w : Taken). slice_get (route_of_taken one_server w) 0) what ∙ ap (λ (r : RingState). slice_get (route_of_taken r s.what) 0) (sym s.taken.then) ∙ s.routed in
-    let command : flush ≡ replayed.0 = ap (λ (c : Routed). c.atom) (same_Some (to_place 0 flush) (to_place 0 replayed.0) routed) in
-    let reply : ◌≡◌ {A = List ℕ} [] (spelling_of flush Flushed) =
-    replayed.2.reply ∙ ap (λ (a : Atom (List ℕ)). spelling_of a (step_of a_cache a 5 false).1) (sym command) in
-    some_not_none (sym reply)
+not_replayed replayed = grind (arith, slice_get, same_Some, text_read, some_not_none)
 
 pub without_legal : Allows Legal (λ ring opening texts outs histories log. IsReplayed ring texts log 0 opening (histories 0) → ⊥)
 without_legal = (
@@ -597,10 +539,7 @@ moments_two false = refl
 
 taken_twice : (k : ℕ) (e : Entry) → slice_get (flushed ∷ flushed ∷ []) k ≡ Some e → WasTaken (tag_in e) (before (serves 0) k twice_log)
 taken_twice zero e at = subst (λ (x : Entry). WasTaken (tag_in x) (before (serves 0) 0 twice_log)) (same_Some flushed e at) (omega arith)
-taken_twice (suc k) e at =
-    let here = one_here flushed k e at in
-    subst (λ (n : ℕ). WasTaken (tag_in e) (before (serves 0) (suc n) twice_log)) (sym here.0)
-    (subst (λ (x : Entry). WasTaken (tag_in x) (before (serves 0) 1 twice_log)) (sym here.1) (omega arith))
+taken_twice (suc k) e at = grind (arith, one_here)
 
 pub without_once : Allows Once (λ ring opening texts outs histories log. (d : Entry) × (e : Entry) × (slice_get (histories 0) 0 ≡ Some d)
     × (slice_get (histories 0) 1 ≡ Some e) × (tag_in d ≡ tag_in e))

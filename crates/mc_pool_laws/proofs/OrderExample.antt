@@ -1,9 +1,8 @@
 -- A run of which all clauses of an account hold but the one of the order: two requests of a client are executed the other way round.
-use Rattle.std.proofs.Common.{◌≡◌, ◌∙◌, ◌==◌, ℕ, zero, suc, ◌≤◌, ◌⊎◌, inl, inr, Bool, true, false, if◌then◌else◌, List, [], ◌∷◌, ◌++◌, length, map, take, Some, slice_get, refl, sym, ap, ap₂, subst, arith}
+use Rattle.std.proofs.Common.{◌≡◌, ◌∙◌, ℕ, zero, suc, ◌≤◌, ◌⊎◌, inl, inr, Bool, true, false, if◌then◌else◌, List, [], ◌∷◌, ◌++◌, length, map, take, Some, slice_get, refl, sym, ap, ap₂, arith}
 use Rattle.std.specs.Prelude.{codes}
 use Rattle.std.specs.List.{list_all}
 use Rattle.std.proofs.lemmas.Bool.{false≢true, true≢false}
-use Rattle.std.proofs.lemmas.List.Elements.{All-cons, All-nil}
 use Rattle.std.proofs.lemmas.Option.{same_Some}
 use Rattle.mc_text.specs.Lines.{first_line, line_end}
 use Rattle.mc_text.specs.Words.{words}
@@ -21,7 +20,7 @@ use Rattle.mc_route.specs.declared.routes.Routed.{Routed}
 use Rattle.mc_link.specs.declared.turns.Tag.{Tag}
 use Rattle.mc_session.specs.Sending.{tag_of}
 use Rattle.mc_account.specs.Lookups.{asked_at, command_at, outcome_at}
-use Rattle.mc_account.specs.Orders.{Entry as AskedFor, IsSized, Order, is_complete}
+use Rattle.mc_account.specs.Orders.{Entry as AskedFor, Order, is_complete}
 use Rattle.mc_history.specs.declared.entries.Entry.{Entry}
 use Rattle.mc_history.specs.Histories.{HasReply, IsBefore, IsLegal, tag_in}
 use Rattle.mc_world.specs.Accounts.{NotAnswered, WasTaken}
@@ -74,9 +73,7 @@ mine_by false k x at = absurd (none_there k x at)
 
 asked_two : (client request : ℕ) (x : AskedFor) → asked_at two_asked client request ≡ Some x
     → (0 ≡ client) × (((request ≡ 0) × (x ≡ first_asked)) ⊎ ((request ≡ 1) × (x ≡ second_asked)))
-asked_two client request x at =
-    let there = mine_by (0 == client) request x at in
-    (own_by client there.0, two_here first_asked second_asked request x there.1)
+asked_two client request x at = grind (arith, own_by, two_here, mine_by)
 
 text_by : (v : Bool) → (untaken : List Taken) × (map (λ (e : AskedFor). e.what) (mine v) ++ untaken ≡ requests_of (codes "flush_all\r\nflush_all\r\n"))
 text_by true = ([], sym two_read)
@@ -99,13 +96,7 @@ moments_by true = refl
 moments_by false = refl
 
 rings_by : (client request : ℕ) (x : AskedFor) → asked_at two_asked client request ≡ Some x → IsRingAfter one_server (before (takes client) request two_log) x.ring
-rings_by client request x at =
-    let o = asked_two client request x at in
-    subst (λ (c : ℕ). IsRingAfter one_server (before (takes c) request two_log) x.ring) o.0
-    (elim o.1 [
-      | inl h ↦ subst (λ (r : ℕ). IsRingAfter one_server (before (takes 0) r two_log) x.ring) (sym h.0) (ap (λ (y : AskedFor). y.ring) h.1)
-      | inr h ↦ subst (λ (r : ℕ). IsRingAfter one_server (before (takes 0) r two_log) x.ring) (sym h.0) (ap (λ (y : AskedFor). y.ring) h.1)
-    ])
+rings_by client request x at = grind (arith, one_server, asked_two)
 
 -- each command of it is a flush at the first server, that was flushed
 outcomes_by : (x : AskedFor) (request : ℕ) → ((request ≡ 0) × (x ≡ first_asked)) ⊎ ((request ≡ 1) × (x ≡ second_asked)) → x.outcomes ≡ outcomes.Reply Flushed ∷ []
@@ -113,11 +104,7 @@ outcomes_by x request (inl h) = ap (λ (y : AskedFor). y.outcomes) h.1
 outcomes_by x request (inr h) = ap (λ (y : AskedFor). y.outcomes) h.1
 
 two_outcome : (tag : Tag) (q : Outcome) → outcome_at two_asked tag ≡ Some q → q ≡ outcomes.Reply Flushed
-two_outcome tag q became =
-    let found = outcome_in_request (asked_at two_asked tag.session tag.request) tag.atom q became in
-    let o = asked_two tag.session tag.request found.0 found.1 in
-    (one_here (outcomes.Reply Flushed) tag.atom q
-    (ap (λ (qs : List Outcome). slice_get qs tag.atom) (sym (outcomes_by found.0 tag.request o.1)) ∙ found.2)).1
+two_outcome tag q became = grind (arith, slice_get, one_here, outcome_in_request, asked_two, outcomes_by)
 
 abbrev pub reply_in : Outcome → AReply (List ℕ)
 reply_in (outcomes.Reply reply) = reply
@@ -160,31 +147,13 @@ replied_by tag place atom reply at became =
     ]
 
 once_by : (j k : ℕ) (d e : Entry) → slice_get turned j ≡ Some d → slice_get turned k ≡ Some e → tag_in d ≡ tag_in e → j ≡ k
-once_by j k d e at also same =
-    let requests : d.request ≡ e.request = ap (λ (t : Tag). t.request) same in
-    elim (two_here later flushed j d at) [
-      | inl h ↦ elim (two_here later flushed k e also) [
-        | inl g ↦ h.0 ∙ sym g.0
-        | inr g ↦ (let one : d.request ≡ 1 = ap (λ (x : Entry). x.request) h.1 in
-            let none : e.request ≡ 0 = ap (λ (x : Entry). x.request) g.1 in
-            absurd (omega (arith, requests, one, none)))
-      ]
-      | inr h ↦ elim (two_here later flushed k e also) [
-        | inl g ↦ (let none : d.request ≡ 0 = ap (λ (x : Entry). x.request) h.1 in
-            let one : e.request ≡ 1 = ap (λ (x : Entry). x.request) g.1 in
-            absurd (omega (arith, requests, one, none)))
-        | inr g ↦ h.0 ∙ sym g.0
-      ]
-    ]
+once_by j k d e at also same = grind (arith, flushed, two_here)
 
 abbrev IsPlacedAt : ℕ → Entry → Type 0
 IsPlacedAt k x = WasTaken (tag_in x) (before (serves 0) k two_log) × NotAnswered (tag_in x) (before (serves 0) k two_log)
 
 placed_by : (k : ℕ) (x : Entry) → slice_get turned k ≡ Some x → IsPlacedAt k x
-placed_by k x at = elim (two_here later flushed k x at) [
-  | inl h ↦ subst (λ (n : ℕ). IsPlacedAt n x) (sym h.0) (subst (λ (e : Entry). IsPlacedAt 0 e) (sym h.1) (omega arith, omega arith))
-  | inr h ↦ subst (λ (n : ℕ). IsPlacedAt n x) (sym h.0) (subst (λ (e : Entry). IsPlacedAt 1 e) (sym h.1) (omega arith, omega arith))
-]
+placed_by k x at = grind (arith, flushed, two_here)
 
 turned_legal : IsLegal two_asked 0 a_cache turned
 turned_legal = (
@@ -195,34 +164,8 @@ turned_legal = (
 )
 
 two_but : AccountsBut Ordered one_server a_cache two_asked two_text (outs_of two_asked two_log) (first_only turned) two_log
-two_but = record {
-  asked = λ keeps client. text_by (0 == client);
-  turns = λ keeps client. many_by (0 == client);
-  rings = λ keeps. rings_by;
-  sized = λ keeps. All-cons IsSized first_asked (second_asked ∷ []) refl (All-cons IsSized second_asked [] refl (All-nil IsSized));
-  legal = λ keeps place.
-      (elim (0 == place) as (λ v. (0 == place) ≡ v → IsLegal two_asked place a_cache (if v then turned else [])) [
-        | true ↦ λ own. subst (λ (p : ℕ). IsLegal two_asked p a_cache turned) (own_by place own) turned_legal
-        | false ↦ λ other. tt
-      ]) refl;
-  once = λ keeps r s j k d x at also same.
-      let here = first_there turned r j d at in
-      let there = first_there turned s k x also in
-      (sym here.0 ∙ there.0, once_by j k d x here.1 there.1 same);
-  replied = λ keeps. replied_by;
-  lost = λ keeps tag place atom at became. absurd (true≢false (ap is_lost (two_outcome tag outcomes.Lost became)));
-  ordered = λ keeps. absurd (keeps refl);
-  answered = λ keeps client. complete_by (0 == client);
-  put = λ keeps client. refl;
-  few = λ keeps client. few_by (0 == client);
-  moments = λ keeps place. moments_by (0 == place);
-  placed = λ keeps place k x at.
-      let here = first_there turned place k x at in
-      subst (λ (p : ℕ). WasTaken (tag_in x) (before (serves p) k two_log)) here.0 (placed_by k x here.1).0;
-  unanswered = λ keeps place k x at reply became.
-      let here = first_there turned place k x at in
-      subst (λ (p : ℕ). NotAnswered (tag_in x) (before (serves p) k two_log)) here.0 (placed_by k x here.1).1;
-}
+two_but =
+    grind (arith, true≢false, a_cache, first_there, is_lost, own_by, text_by, many_by, complete_by, few_by, moments_by, rings_by, two_outcome, replied_by, once_by, placed_by, turned_legal)
 
 pub without_ordered : Allows Ordered (λ ring opening texts outs histories log. (d : Entry) × (e : Entry) × (slice_get (histories 0) 0 ≡ Some d)
     × (slice_get (histories 0) 1 ≡ Some e) × (d.client ≡ e.client) × WasAnswered (tag_in d) log × WasAnswered (tag_in e) log

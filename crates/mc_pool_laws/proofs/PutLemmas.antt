@@ -27,15 +27,13 @@ pub puts_few : (ring : RingState) (opening : CacheState) (order : Order) (texts 
 puts_few ring opening order texts outs histories log h client =
     let asked = taken_few ring opening order texts outs histories log h client in
     let few = h.few client in
-    let turns = h.turns client in
-    omega (arith, asked, few, turns)
+    grind arith
 
 pub none_put : (ring : RingState) (opening : CacheState) (order : Order) (texts outs : ℕ → List ℕ) (histories : ℕ → List Entry) (log : Log)
     → Accounts ring opening order texts outs histories log → (client : ℕ) → texts client ≡ [] → number_of (puts client) log ≡ 0
 none_put ring opening order texts outs histories log h client silent =
     let few = puts_few ring opening order texts outs histories log h client in
-    let nothing : length (requests_of (texts client)) ≡ 0 = ap (λ (text : List ℕ). length (requests_of text)) silent ∙ ap length nothing_in in
-    omega (arith, few, nothing)
+    grind (arith, nothing_in)
 
 pub nothing_asked : (ring : RingState) (opening : CacheState) (order : Order) (texts outs : ℕ → List ℕ) (histories : ℕ → List Entry) (log : Log)
     → Accounts ring opening order texts outs histories log → (client : ℕ) → texts client ≡ [] → outs client ≡ []

@@ -1,5 +1,5 @@
 -- What the order of an account has is what clients sent, and the other way round.
-use Rattle.std.proofs.Common.{◌≡◌, ◌∙◌, ℕ, zero, suc, ◌<◌, ◌≤◌, List, [], ◌∷◌, ◌++◌, length, Option, None, Some, slice_get, refl, sym, ap, ap₂, subst, arith}
+use Rattle.std.proofs.Common.{◌≡◌, ◌∙◌, ℕ, zero, suc, ◌<◌, ◌≤◌, List, [], ◌∷◌, length, Option, None, Some, slice_get, refl, sym, ap, ap₂, subst, arith}
 use Rattle.std.proofs.lemmas.List.{length-append, length-map}
 use Rattle.std.proofs.lemmas.Option.{none-some, same_Some}
 use Rattle.mc_request.specs.declared.parts.Atom.{Atom}
@@ -17,7 +17,7 @@ use Rattle.mc_account.specs.Orders.{Entry as Asked, Order, entries_of, taken_of}
 use Rattle.mc_history.specs.declared.entries.Entry.{Entry}
 use Rattle.mc_history.specs.Histories.{IsLegal, tag_in}
 use Rattle.mc_world.specs.Accounts.{Accounts}
-use Rattle.mc_world.specs.Logs.{Log, before, number_of, takes}
+use Rattle.mc_world.specs.Logs.{Log, number_of, takes}
 use Rattle.mc_world.proofs.LogEntryLemmas.{got_inside, got_map, got_some, got_there}
 use Rattle.mc_pool_laws.specs.Sent.{IsReplayed, IsSent, IsTaken}
 use Rattle.mc_pool_laws.proofs.OneRing.{ring_one}
@@ -27,11 +27,7 @@ pub taken_few : (ring : RingState) (opening : CacheState) (order : Order) (texts
     → Accounts ring opening order texts outs histories log → (client : ℕ) → number_of (takes client) log ≤ length (requests_of (texts client))
 taken_few ring opening order texts outs histories log h client =
     let asked = h.asked client in
-    let all : length (requests_of (texts client)) ≡ length (taken_of client order ++ asked.0) = ap (λ (ts : List Taken). length ts) (sym asked.1) in
-    let both = length-append (taken_of client order) asked.0 in
-    let mapped : length (taken_of client order) ≡ length (entries_of client order) = length-map (entries_of client order) (λ (e : Asked). e.what) in
-    let turns = h.turns client in
-    omega (arith, all, both, mapped, turns)
+    grind (arith, length-append, length-map)
 
 -- what the order has of a client is the request of its number in the client's text
 sent_in_text : (ring : RingState) (opening : CacheState) (order : Order) (texts outs : ℕ → List ℕ) (histories : ℕ → List Entry) (log : Log)
@@ -94,10 +90,7 @@ sent_command ring opening order texts outs histories log h tag command s =
     let e = taken_entry ring opening order texts outs histories log h tag.session tag.request s.taken.turn in
     let what_is : e.0.what ≡ s.what =
     same_Some e.0.what s.what (sym (sent_in_text ring opening order texts outs histories log h tag.session tag.request e.0 e.1) ∙ s.taken.sent) in
-    let ring_is : e.0.ring ≡ s.ring =
-    ring_one ring e.0.ring s.ring (before (takes tag.session) tag.request log) (h.rings tag.session tag.request e.0 e.1) s.taken.then in
-    ap (λ (o : Option Asked). command_in o tag.atom) e.1
-    ∙ ap₂ (λ (r : RingState) (w : Taken). slice_get (route_of_taken r w) tag.atom) ring_is what_is ∙ s.routed
+    grind (arith, slice_get, ap₂, ring_one)
 
 -- a cache replays a history
 pub replayed : (ring : RingState) (opening : CacheState) (order : Order) (texts outs : ℕ → List ℕ) (histories : ℕ → List Entry) (log : Log)
@@ -126,6 +119,4 @@ pub first_reply : (ring : RingState) (opening : CacheState) (order : Order) (tex
 first_reply ring opening order texts outs histories log h place atom e es is sent =
     let legal = subst (λ (history : List Entry). IsLegal order place opening history) is (h.legal place) in
     let known = sent_command ring opening order texts outs histories log h (tag_in e) (to_place place atom) sent in
-    let same : legal.0 ≡ atom =
-    ap (λ (command : Routed). command.atom) (same_Some (to_place place legal.0) (to_place place atom) (sym legal.1 ∙ known)) in
-    legal.2.reply ∙ ap (λ (a : Atom (List ℕ)). spelling_of a (step_of opening a e.moment e.refused).1) same
+    grind (arith, same_Some)

@@ -60,12 +60,8 @@ pub record AccountsBut (one : Clause) (ring : RingState) (opening : CacheState) 
   pub unanswered : one ≢ Unanswered → (place k : ℕ) (e : Entry) → slice_get (histories place) k ≡ Some e → (reply : AReply (List ℕ))
       → outcome_at order (tag_in e) ≡ Some (outcomes.Reply reply) → NotAnswered (tag_in e) (before (serves place) k log)
 
--- some order is such that all clauses but one hold
-abbrev pub AccountBut : Clause → RingState → CacheState → (ℕ → List ℕ) → (ℕ → List ℕ) → (ℕ → List Entry) → Log → Type 0
-AccountBut one ring opening texts outs histories log = (order : Order) × AccountsBut one ring opening order texts outs histories log
-
--- there is a run of which all clauses but one hold, and this holds too
+-- there is a run of which by some order all clauses but one hold, and this holds too
 abbrev pub Allows : Clause → (RingState → CacheState → (ℕ → List ℕ) → (ℕ → List ℕ) → (ℕ → List Entry) → Log → Type 0) → Type 0
 Allows one P =
     (ring : RingState) × (opening : CacheState) × (texts : ℕ → List ℕ) × (outs : ℕ → List ℕ) × (histories : ℕ → List Entry) × (log : Log)
-    × AccountBut one ring opening texts outs histories log × P ring opening texts outs histories log
+    × ((order : Order) × AccountsBut one ring opening order texts outs histories log) × P ring opening texts outs histories log

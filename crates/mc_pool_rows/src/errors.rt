@@ -1,11 +1,35 @@
-//! How the errors of rings, links and proxies read.
+//! How errors read.
 
 use mc_fixtures::read_so;
 use mc_link::LinkError;
 use mc_proxy::ProxyError;
+use mc_reply::ReplyError;
+use mc_request::ReadError;
 use mc_ring::RingError;
 use mc_route::RouteError;
+use mc_server::ServerError;
+use mc_store::StoreError;
+use mc_text::KeyError;
 use std::test::Fail;
+
+const OF_KEYS: [(KeyError, &'static str); 5] = [
+    (KeyError::Empty, "empty key"),
+    (KeyError::TooLong, "key longer than 250 bytes"),
+    (KeyError::BadByte, "control byte or space in key"),
+    (KeyError::BadBase64, "key is no base64"),
+    (KeyError::Memory, "out of memory"),
+];
+
+const OF_STORES: [(StoreError, &'static str); 2] = [
+    (StoreError::Memory, "out of memory"),
+    (StoreError::TooMany, "too many items"),
+];
+
+const OF_SERVERS: [(ServerError, &'static str); 3] = [
+    (ServerError::NoConnection, "no such connection"),
+    (ServerError::TooMany, "too many connections"),
+    (ServerError::Memory, "out of memory"),
+];
 
 const OF_RINGS: [(RingError, &'static str); 5] = [
     (RingError::NoServer, "no server"),
@@ -34,9 +58,14 @@ const OF_PROXIES: [(ProxyError, &'static str); 7] = [
 fn errors_have_texts(rt: HostRuntime) -> Result<(), Fail> {
     let alloc = rt.alloc();
     assert!(rt;
-        read_so(alloc, &OF_RINGS)
-            && read_so(alloc, &OF_LINKS)
-            && read_so(alloc, &OF_PROXIES)
+        read_so(alloc, &OF_KEYS) && read_so(alloc, &OF_STORES) && read_so(alloc, &OF_SERVERS)
+    );
+    assert!(rt;
+        read_so(alloc, &OF_RINGS) && read_so(alloc, &OF_LINKS) && read_so(alloc, &OF_PROXIES)
+    );
+    assert!(rt;
+        read_so(alloc, &[(ReplyError::Memory, "out of memory")])
+            && read_so(alloc, &[(ReadError::Memory, "out of memory")])
             && read_so(alloc, &[(RouteError::Memory, "out of memory")])
     );
     Ok(())

@@ -4,18 +4,29 @@
 //! figure, and is never taken from what the program wrote.
 #![tactic(auto)]
 
+/// A call, which is made again where it is refused memory.
 #[cfg(test)]
-mod cuts;
+macro_rules! again {
+    ($call:expr) => {{
+        for _ in 0..3 {
+            if let Ok(done) = $call {
+                return Ok(done);
+            }
+        }
+        $call
+    }};
+}
+
 #[cfg(test)]
 mod errors;
-#[cfg(test)]
-mod links;
 #[cfg(test)]
 mod marks;
 #[cfg(test)]
 mod pools;
 #[cfg(test)]
 mod proxy_pumps;
+#[cfg(test)]
+mod requests;
 #[cfg(test)]
 mod rings;
 #[cfg(test)]

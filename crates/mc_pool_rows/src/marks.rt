@@ -3,7 +3,6 @@
 use crate::pools::{ONE, pool};
 use mc_fixtures::with_value;
 use mc_proxy::{Emit, LINK_MARK, LinkTurn, MAX_UNANSWERED, Proxy, ProxyError, Turn, UNSENT_MARK};
-use std::alloc::Global;
 use std::test::Fail;
 
 const GET: &[u8] = b"get a\r\n";
@@ -77,24 +76,14 @@ fn unsent_to_a_client(proxy: &mut Proxy, answer: &[u8]) -> Result<bool, ProxyErr
     Ok(are_all && waits && still && then)
 }
 
-/// Whether the mark of a link holds up, with a set of a large value.
-fn holds_by_link(alloc: Global, proxy: &mut Proxy) -> Result<bool, Fail> {
-    let set = with_value(alloc, b"set a 0 0 1048576\r\n", SIXTEENS, b"\r\n")?;
-    Ok(unsent_on_a_link(proxy, &set)?)
-}
-
-/// Whether the mark of a client holds up, with an answer of a large value.
-fn holds_by_client(alloc: Global, proxy: &mut Proxy) -> Result<bool, Fail> {
-    let answer = with_value(alloc, b"VALUE a 0 1048576\r\n", SIXTEENS, b"\r\nEND\r\n")?;
-    Ok(unsent_to_a_client(proxy, &answer)?)
-}
-
 #[test]
 fn marks_hold_requests_up(rt: HostRuntime) -> Result<(), Fail> {
     let alloc = rt.alloc();
+    let set = with_value(alloc, b"set a 0 0 1048576\r\n", SIXTEENS, b"\r\n")?;
+    let answer = with_value(alloc, b"VALUE a 0 1048576\r\n", SIXTEENS, b"\r\nEND\r\n")?;
     let by_count = unanswered(&mut pool(alloc, &ONE)?)?;
-    let by_link = holds_by_link(alloc, &mut pool(alloc, &ONE)?)?;
-    let by_client = holds_by_client(alloc, &mut pool(alloc, &ONE)?)?;
+    let by_link = unsent_on_a_link(&mut pool(alloc, &ONE)?, &set)?;
+    let by_client = unsent_to_a_client(&mut pool(alloc, &ONE)?, &answer)?;
     assert!(rt; by_count && by_link && by_client);
     Ok(())
 }

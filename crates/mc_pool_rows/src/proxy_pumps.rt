@@ -3,9 +3,7 @@
 
 use crate::pools::{ONE, pool};
 use mc_fixtures::Call::{Fails, Moves};
-use mc_fixtures::{
-    Call, Calls, MANY, MOMENT, MeagreStore, SCRIPTS, Sides, Sink, Source, WIDE, new_server,
-};
+use mc_fixtures::{Call, MANY, MOMENT, MeagreStore, SCRIPTS, Sides, Stream, WIDE, new_server};
 use mc_proxy::Proxy;
 use mc_proxy_pump::{Pumped, pump_client, pump_link};
 use mc_server::Server;
@@ -68,23 +66,6 @@ fn is_told(alloc: Global, exchange: &Exchange, taken: &[u8]) -> Result<bool, All
     Ok(false)
 }
 
-/// Whether a client was answered, as far as it goes.
-fn is_begun(alloc: Global, exchange: &Exchange, taken: &[u8]) -> Result<bool, AllocError> {
-    Ok(told(alloc, exchange, REQUESTS)?.starts_with(taken))
-}
-
-/// Whether a client was answered whole.
-fn is_whole(alloc: Global, exchange: &Exchange, taken: &[u8]) -> Result<bool, AllocError> {
-    Ok(told(alloc, exchange, REQUESTS)?.as_slice() == taken)
-}
-
-/// A stream in memory.
-#[derive(Drop)]
-struct Stream {
-    source: Source,
-    sink: Sink,
-}
-
 /// A proxy over one server, and the stream between the two.
 #[derive(Drop)]
 struct Pool {
@@ -95,20 +76,12 @@ struct Pool {
     number: u64,
 }
 
-/// A stream to a server, from which nothing has come yet.
-fn new_link(alloc: Global, sides: Sides) -> Stream {
-    Stream {
-        source: Source::open(alloc, sides.reads),
-        sink: Sink::new(alloc, sides.writes),
-    }
-}
-
 fn new_pool(alloc: Global, sides: Sides) -> Result<Pool, Fail> {
     let mut server = new_server(alloc, WIDE)?;
     let number = server.admit()?;
     Ok(Pool {
         proxy: pool(alloc, &ONE)?,
-        link: new_link(alloc, sides),
+        link: Stream::open(alloc, sides),
         server,
         number,
     })
@@ -119,7 +92,7 @@ fn mend(alloc: Global, pool: &mut Pool, sides: Sides) -> Result<(), Fail> {
     if !pool.proxy.is_up(0) {
         pool.server.close(pool.number)?;
         pool.number = pool.server.admit()?;
-        pool.link = new_link(alloc, sides);
+        pool.link = Stream::open(alloc, sides);
         pool.proxy.back(0)?;
     }
     Ok(())
@@ -186,19 +159,39 @@ fn play(
     sides: Sides,
 ) -> Result<(Pumped, Sides, Vec<u8>), Fail> {
     let session = pool.proxy.admit()?;
-    let mut client = Stream {
-        source: Source::new(alloc, sent, sides.reads)?,
-        sink: Sink::new(alloc, sides.writes),
-    };
+    let mut client = Stream::new(alloc, sent, sides)?;
     let mut woken = Vec::new(alloc);
     let last = pumped(pool, session, &mut client, &mut woken)?;
     pool.proxy.gone(session)?;
-    let made = Sides {
-        reads: client.source.calls,
-        writes: client.sink.calls,
-    };
-    Ok((last, made, client.sink.taken))
+    Ok((last, client.sides(), client.sink.taken))
 }
+
+/// The calls on the stream of a client that is answered whole, if it is.
+fn calls_of(
+    alloc: Global,
+    pool: &mut Pool,
+    exchange: &Exchange,
+    sides: Sides,
+) -> Result<Option<Sides>, Fail> {
+    let (last, made, taken) = play(alloc, pool, exchange.sent, sides)?;
+    let is_whole = last == Pumped::Done
+        && taken.as_slice() == told(alloc, exchange, REQUESTS)?.as_slice();
+    Ok(is_whole.then_some(made))
+}
+
+/// What ends a stream: whether it is the link's, whether a write does it, and how the call goes.
+type End = (bool, bool, Call);
+
+/// Each read fails, and each write fails or takes nothing; and the server's end of the link is closed.
+const ENDS: [End; 7] = [
+    (false, false, Fails),
+    (false, true, Fails),
+    (false, true, Moves(0)),
+    (true, false, Fails),
+    (true, false, Moves(0)),
+    (true, true, Fails),
+    (true, true, Moves(0)),
+];
 
 /// How the calls on a client's stream and on the link's go.
 #[derive(Clone, Copy)]
@@ -208,87 +201,23 @@ struct Streams {
 }
 
 impl Streams {
-    /// The same, but for one call of one of the four sides.
-    fn with(self, end: End, number: usize) -> Self {
-        let Streams {
-            mut client,
-            mut link,
-        } = self;
-        if end.is_link {
-            link = link.with(end.is_write, number, end.call);
+    /// The same, but for one call, which ends its stream so.
+    fn with(self, (is_link, is_write, call): End, number: usize) -> Self {
+        if is_link {
+            let link = self.link.with(is_write, number, call);
+            Streams { link, ..self }
         } else {
-            client = client.with(end.is_write, number, end.call);
+            let client = self.client.with(is_write, number, call);
+            Streams { client, ..self }
         }
-        Streams { client, link }
     }
 
-    /// How many calls of one of the four sides were made.
-    fn made(self, end: End) -> usize {
-        let sides = if end.is_link { self.link } else { self.client };
-        let calls = if end.is_write {
-            sides.writes
-        } else {
-            sides.reads
-        };
-        calls.made
+    /// How many calls were made of the side of such an end.
+    fn made(self, (is_link, is_write, _): End) -> usize {
+        let sides = if is_link { self.link } else { self.client };
+        sides.made(is_write)
     }
 }
-
-/// The sides of a stream that go by a pair of scripts.
-fn sides_of(scripts: &(&'static [Call], &'static [Call])) -> Sides {
-    let (reads, writes) = scripts;
-    Sides {
-        reads: Calls::new(reads, None),
-        writes: Calls::new(writes, None),
-    }
-}
-
-/// What ends a stream: whether it is the link's, whether a write does it, and how the call goes.
-#[derive(Clone, Copy)]
-struct End {
-    is_link: bool,
-    is_write: bool,
-    call: Call,
-}
-
-/// Each read fails, and each write fails or takes nothing; and the server's end of the link is closed.
-const ENDS: [End; 7] = [
-    End {
-        is_link: false,
-        is_write: false,
-        call: Fails,
-    },
-    End {
-        is_link: false,
-        is_write: true,
-        call: Fails,
-    },
-    End {
-        is_link: false,
-        is_write: true,
-        call: Moves(0),
-    },
-    End {
-        is_link: true,
-        is_write: false,
-        call: Fails,
-    },
-    End {
-        is_link: true,
-        is_write: false,
-        call: Moves(0),
-    },
-    End {
-        is_link: true,
-        is_write: true,
-        call: Fails,
-    },
-    End {
-        is_link: true,
-        is_write: true,
-        call: Moves(0),
-    },
-];
 
 /// Whether it is right how an exchange goes of which one call ends its stream. Where that is the client's, the client was sent
 /// a beginning of its answers; where it is the link's, it was told of each request the answer, or that the link is lost. The
@@ -302,41 +231,28 @@ fn ends_alone(
 ) -> Result<bool, Fail> {
     let streams = calm.with(end, number);
     let mut pool = new_pool(alloc, streams.link)?;
-    let is_so = ends_so(alloc, &mut pool, exchange, streams.client, end)?;
-    mend(alloc, &mut pool, calm.link)?;
-    Ok(is_so && is_served(alloc, &mut pool, calm.client)?)
-}
-
-/// Whether the client was sent what it should be, where one call ends its stream or the link's.
-fn ends_so(
-    alloc: Global,
-    pool: &mut Pool,
-    exchange: &Exchange,
-    sides: Sides,
-    end: End,
-) -> Result<bool, Fail> {
-    let (last, _, taken) = play(alloc, pool, exchange.sent, sides)?;
-    if end.is_link {
-        Ok(last == Pumped::Done && is_told(alloc, exchange, &taken)?)
+    let (last, _, taken) = play(alloc, &mut pool, exchange.sent, streams.client)?;
+    let is_so = if end.0 {
+        last == Pumped::Done && is_told(alloc, exchange, &taken)?
     } else {
-        Ok(last == Pumped::Failed && is_begun(alloc, exchange, &taken)?)
-    }
+        last == Pumped::Failed && told(alloc, exchange, REQUESTS)?.starts_with(&taken)
+    };
+    mend(alloc, &mut pool, calm.link)?;
+    let [first, _] = &EXCHANGES;
+    let next = calls_of(alloc, &mut pool, first, calm.client)?;
+    Ok(is_so && next.is_some())
 }
 
-/// Whether a client of the first exchange is answered whole.
-fn is_served(alloc: Global, pool: &mut Pool, sides: Sides) -> Result<bool, Fail> {
-    let [exchange, _] = &EXCHANGES;
-    let (last, _, taken) = play(alloc, pool, exchange.sent, sides)?;
-    Ok(last == Pumped::Done && is_whole(alloc, exchange, &taken)?)
-}
-
-/// Whether it is right how an exchange goes, whichever of its calls ends its stream.
-fn end_alone(
-    alloc: Global,
-    exchange: &Exchange,
-    calm: Streams,
-    made: Streams,
-) -> Result<bool, Fail> {
+/// Whether an exchange is answered whole where no call ends a stream, and right whichever of its calls does.
+fn is_pumped(alloc: Global, exchange: &Exchange, calm: Streams) -> Result<bool, Fail> {
+    let mut pool = new_pool(alloc, calm.link)?;
+    let Some(client) = calls_of(alloc, &mut pool, exchange, calm.client)? else {
+        return Ok(false);
+    };
+    let made = Streams {
+        client,
+        link: pool.link.sides(),
+    };
     let mut is_so = true;
     for end in ENDS {
         for number in 0..made.made(end) {
@@ -346,29 +262,14 @@ fn end_alone(
     Ok(is_so)
 }
 
-/// Whether an exchange is answered whole where no call ends a stream, and right where one does.
-fn is_pumped(alloc: Global, exchange: &Exchange, calm: Streams) -> Result<bool, Fail> {
-    let mut pool = new_pool(alloc, calm.link)?;
-    let (last, client, taken) = play(alloc, &mut pool, exchange.sent, calm.client)?;
-    let made = Streams {
-        client,
-        link: Sides {
-            reads: pool.link.source.calls,
-            writes: pool.link.sink.calls,
-        },
-    };
-    let is_so = last == Pumped::Done && is_whole(alloc, exchange, &taken)?;
-    Ok(is_so && end_alone(alloc, exchange, calm, made)?)
-}
-
 /// The client's stream goes by each pair of scripts, and the link's by another.
 #[test]
 fn proxy_pump_never_works(rt: HostRuntime) -> Result<(), Fail> {
     for exchange in &EXCHANGES {
         for (client, link) in SCRIPTS.iter().zip(SCRIPTS.iter().rev()) {
             let calm = Streams {
-                client: sides_of(client),
-                link: sides_of(link),
+                client: Sides::new(*client),
+                link: Sides::new(*link),
             };
             assert!(rt; is_pumped(rt.alloc(), exchange, calm)?);
         }

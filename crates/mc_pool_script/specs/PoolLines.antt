@@ -28,18 +28,6 @@ bytes_line clients text = do
   bytes ← text_of words.1
   Some (Event (ClientBytes client bytes))
 
--- `gone <client>`
-abbrev pub gone_line : ℕ → List ℕ → Option PoolLine
-gone_line clients text = option_map (λ client. Event (ClientGone client)) (place_of clients text)
-
--- `turn <client>`
-abbrev pub turn_line : ℕ → List ℕ → Option PoolLine
-turn_line clients text = option_map (λ client. Event (ProxyTurn client)) (place_of clients text)
-
--- `emit <client>`
-abbrev pub emit_line : ℕ → List ℕ → Option PoolLine
-emit_line clients text = option_map (λ client. Event (PutOut client)) (place_of clients text)
-
 -- `takes <client> <count>`
 unfoldable pub takes_line : ℕ → List ℕ → Option PoolLine
 takes_line clients text = do
@@ -76,18 +64,6 @@ to_proxy_line servers text = do
   count ← count_of words.1
   Some (Event (ReachProxy server count))
 
--- `reply <server>`
-abbrev pub reply_line : ℕ → List ℕ → Option PoolLine
-reply_line servers text = option_map (λ server. Event (ReplyTurn server)) (place_of servers text)
-
--- `lost <server>`
-abbrev pub lost_line : ℕ → List ℕ → Option PoolLine
-lost_line servers text = option_map (λ server. Event (LinkLost server)) (place_of servers text)
-
--- `back <server>`
-abbrev pub back_line : ℕ → List ℕ → Option PoolLine
-back_line servers text = option_map (λ server. Event (LinkBack server)) (place_of servers text)
-
 -- `end <server> <generation>`
 unfoldable pub end_line : ℕ → List ℕ → Option PoolLine
 end_line servers text = do
@@ -106,26 +82,28 @@ join_line servers text = do
   address ← address_read text
   if is_some (refusal_of_more servers address) then None else Some (Joins address)
 
--- `drain <moment>`
-abbrev pub drain_line : List ℕ → Option PoolLine
-drain_line text = option_map (λ moment. Drains moment) (moment_read text)
+-- the line of a command whose words are numbers alone, by what follows its name: `gone <client>`, `turn <client>`,
+-- `emit <client>`, `reply <server>`, `lost <server>`, `back <server>`, `drain <moment>`, and those above
+abbrev pub numbers_line : ℕ → ℕ → Command → List ℕ → Option PoolLine
+numbers_line clients servers Gone text = option_map (λ client. Event (ClientGone client)) (place_of clients text)
+numbers_line clients servers Turn text = option_map (λ client. Event (ProxyTurn client)) (place_of clients text)
+numbers_line clients servers Emit text = option_map (λ client. Event (PutOut client)) (place_of clients text)
+numbers_line clients servers Takes text = takes_line clients text
+numbers_line clients servers ToServer text = to_server_line servers text
+numbers_line clients servers Serve text = serve_line servers text
+numbers_line clients servers ToProxy text = to_proxy_line servers text
+numbers_line clients servers Reply text = option_map (λ server. Event (ReplyTurn server)) (place_of servers text)
+numbers_line clients servers Lost text = option_map (λ server. Event (LinkLost server)) (place_of servers text)
+numbers_line clients servers Back text = option_map (λ server. Event (LinkBack server)) (place_of servers text)
+numbers_line clients servers End text = end_line servers text
+numbers_line clients servers Drain text = option_map (λ moment. Drains moment) (moment_read text)
+numbers_line clients servers command text = None
 
--- the line of a command, by what follows its name
+-- the line of a command, likewise
 abbrev pub line_by : ℕ → List (List ℕ) → Command → List ℕ → Option PoolLine
 line_by clients servers Bytes text = bytes_line clients text
-line_by clients servers Gone text = gone_line clients text
-line_by clients servers Turn text = turn_line clients text
-line_by clients servers Emit text = emit_line clients text
-line_by clients servers Takes text = takes_line clients text
-line_by clients servers ToServer text = to_server_line (length servers) text
-line_by clients servers Serve text = serve_line (length servers) text
-line_by clients servers ToProxy text = to_proxy_line (length servers) text
-line_by clients servers Reply text = reply_line (length servers) text
-line_by clients servers Lost text = lost_line (length servers) text
-line_by clients servers Back text = back_line (length servers) text
-line_by clients servers End text = end_line (length servers) text
 line_by clients servers Join text = join_line servers text
-line_by clients servers Drain text = drain_line text
+line_by clients servers command text = numbers_line clients (length servers) command text
 
 -- the command of a name
 abbrev pub command_of : List ℕ → Option Command

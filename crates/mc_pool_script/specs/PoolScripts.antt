@@ -104,17 +104,13 @@ with_point seen point = option_map (λ p. pointed seen p) point
 abbrev pub with_line : PoolSeen → Option PoolLine → Option PoolSeen
 with_line seen line = option_map (λ l. followed seen l) line
 
--- a script goes on by a line of this name, with what follows that: points come before all else
-abbrev pub more_by : PoolSeen → List ℕ → List ℕ → List ℕ → Option PoolSeen
-more_by seen line name text =
-    if bytes_eq name (codes "point") && length seen.lines == 0 then with_point seen (point_of seen.servers text)
-    else with_line seen (line_of seen.clients (servers_of seen) line)
-
--- a script goes on by a line
+-- a script goes on by a line: points come before all else
 unfoldable pub read_more : PoolSeen → List ℕ → Option PoolSeen
 read_more seen line = do
   words ← cut_at_space line
-  more_by seen line words.0 words.1
+  if bytes_eq words.0 (codes "point") && length seen.lines == 0
+      then with_point seen (point_of seen.servers words.1)
+      else with_line seen (line_of seen.clients (servers_of seen) line)
 
 -- and by all that follow, or the number of the first of them that is bad
 unfoldable pub read_all : PoolSeen → List (ℕ × List ℕ) → Result PoolSeen ℕ

@@ -1,6 +1,6 @@
 //! Lines of clients, by what follows the line's name.
 ghost use Rattle.std.specs.Prelude.{◌≡◌, ◌^◌, IfOk, IfSome, IsOkUnless};
-ghost use Rattle.mc_pool_script.specs.PoolLines.{HasMoment, bytes_line, count_of, emit_line, gone_line, takes_line, turn_line};
+ghost use Rattle.mc_pool_script.specs.PoolLines.{HasMoment, bytes_line, count_of, takes_line};
 
 use crate::lines::PoolLine;
 use mc_script::{SimError, cut_at_space, read_escaped, read_place};
@@ -27,33 +27,6 @@ pub fn read_bytes(alloc: Global, clients: u64, text: &[u8]) -> Result<Option<Poo
             bytes: Block::from(bytes),
         })
     }))
-}
-
-/// `<client>`
-pub fn read_gone(clients: u64, text: &[u8]) -> Option<PoolLine>
-    ensures line { result ≡ gone_line clients text.now }
-    ensures moment { IfSome result (λ line. HasMoment line (2 ^ 63)) }
-{
-    let client = read_place(text, clients)?;
-    Some(PoolLine::Event(Event::ClientGone { client }))
-}
-
-/// `<client>`
-pub fn read_turn(clients: u64, text: &[u8]) -> Option<PoolLine>
-    ensures line { result ≡ turn_line clients text.now }
-    ensures moment { IfSome result (λ line. HasMoment line (2 ^ 63)) }
-{
-    let client = read_place(text, clients)?;
-    Some(PoolLine::Event(Event::ProxyTurn { client }))
-}
-
-/// `<client>`
-pub fn read_emit(clients: u64, text: &[u8]) -> Option<PoolLine>
-    ensures line { result ≡ emit_line clients text.now }
-    ensures moment { IfSome result (λ line. HasMoment line (2 ^ 63)) }
-{
-    let client = read_place(text, clients)?;
-    Some(PoolLine::Event(Event::Emit { client }))
 }
 
 /// `<client> <count>`

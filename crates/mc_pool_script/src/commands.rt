@@ -40,35 +40,21 @@ pub enum Command {
 pub fn command_of(name: &[u8]) -> Option<Command>
     ensures { result ≡ command_of name.now }
 {
-    if let Some(command) = client_command(name) {
-        return Some(command);
-    }
-    if let Some(command) = way_command(name) {
-        return Some(command);
-    }
-    link_command(name)
+    client_command(name).or(way_command(name).or(link_command(name)))
 }
 
 #[tactic(auto, unfolding(crate::specs::Commands::client_command))]
 fn client_command(name: &[u8]) -> Option<Command>
     ensures { result ≡ client_command name.now }
 {
-    if name == b"bytes".as_slice() {
-        return Some(Command::Bytes);
+    match name {
+        b"bytes" => Some(Command::Bytes),
+        b"gone" => Some(Command::Gone),
+        b"turn" => Some(Command::Turn),
+        b"emit" => Some(Command::Emit),
+        b"takes" => Some(Command::Takes),
+        _ => None,
     }
-    if name == b"gone".as_slice() {
-        return Some(Command::Gone);
-    }
-    if name == b"turn".as_slice() {
-        return Some(Command::Turn);
-    }
-    if name == b"emit".as_slice() {
-        return Some(Command::Emit);
-    }
-    if name == b"takes".as_slice() {
-        return Some(Command::Takes);
-    }
-    None
 }
 
 #[tactic(auto, unfolding(crate::specs::Commands::way_command))]
@@ -76,38 +62,28 @@ fn way_command(name: &[u8]) -> Option<Command>
     ensures { result ≡ way_command name.now }
 {
     if name == b"toserver".as_slice() {
-        return Some(Command::ToServer);
+        Some(Command::ToServer)
+    } else if name == b"serve".as_slice() {
+        Some(Command::Serve)
+    } else if name == b"toproxy".as_slice() {
+        Some(Command::ToProxy)
+    } else if name == b"reply".as_slice() {
+        Some(Command::Reply)
+    } else {
+        None
     }
-    if name == b"serve".as_slice() {
-        return Some(Command::Serve);
-    }
-    if name == b"toproxy".as_slice() {
-        return Some(Command::ToProxy);
-    }
-    if name == b"reply".as_slice() {
-        return Some(Command::Reply);
-    }
-    None
 }
 
 #[tactic(auto, unfolding(crate::specs::Commands::link_command))]
 fn link_command(name: &[u8]) -> Option<Command>
     ensures { result ≡ link_command name.now }
 {
-    if name == b"lost".as_slice() {
-        return Some(Command::Lost);
+    match name {
+        b"lost" => Some(Command::Lost),
+        b"back" => Some(Command::Back),
+        b"end" => Some(Command::End),
+        b"join" => Some(Command::Join),
+        b"drain" => Some(Command::Drain),
+        _ => None,
     }
-    if name == b"back".as_slice() {
-        return Some(Command::Back);
-    }
-    if name == b"end".as_slice() {
-        return Some(Command::End);
-    }
-    if name == b"join".as_slice() {
-        return Some(Command::Join);
-    }
-    if name == b"drain".as_slice() {
-        return Some(Command::Drain);
-    }
-    None
 }

@@ -10,18 +10,12 @@ pub fn is_of_pool(input: &[u8]) -> bool
     ensures { result ≡ is_of_pool input.now }
 {
     let mut lines = lines_of(input);
-    match lines.next() {
-        Some((_, line)) => begins_pool(line),
-        None => false,
-    }
+    lines.next().is_some_and(|(_, line)| begins_pool(line))
 }
 
 #[tactic(auto, unfolding(crate::specs::Kinds::begins_pool))]
 fn begins_pool(line: &[u8]) -> bool
     ensures { result ≡ begins_pool line.now }
 {
-    match cut_at_space(line) {
-        Some((word, _)) => word == b"pool".as_slice(),
-        None => false,
-    }
+    cut_at_space(line).is_some_and(|(word, _)| word == b"pool".as_slice())
 }

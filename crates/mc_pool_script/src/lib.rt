@@ -13,7 +13,6 @@
 mod addresses;
 mod client_lines;
 mod commands;
-mod drains;
 mod joins;
 mod kinds;
 mod lines;

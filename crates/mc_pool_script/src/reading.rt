@@ -1,17 +1,15 @@
 //! A line of a pool script, by its name and what follows that.
-ghost use Rattle.std.specs.Prelude.{◌≡◌, ◌^◌, length, IfOk, IfSome, IsOkUnless};
-ghost use Rattle.mc_pool_script.specs.PoolLines.{HasMoment, line_by, line_of};
+ghost use Rattle.std.specs.Prelude.{◌≡◌, ◌^◌, IfOk, IfSome, IsOkUnless};
+ghost use Rattle.mc_pool_script.specs.PoolLines.{HasMoment, line_of, numbers_line};
 
-use crate::client_lines::{read_bytes, read_emit, read_gone, read_takes, read_turn};
+use crate::client_lines::{read_bytes, read_takes};
 use crate::commands::{Command, command_of};
-use crate::drains::read_drain;
 use crate::joins::read_join;
 use crate::lines::PoolLine;
-use crate::server_lines::{
-    read_back, read_end, read_lost, read_reply, read_serve, read_to_proxy, read_to_server,
-};
+use crate::server_lines::{read_end, read_serve, read_server, read_to_proxy, read_to_server};
 use mc_ring::Address;
-use mc_script::{SimError, cut_at_space};
+use mc_script::{SimError, cut_at_space, read_moment, read_place};
+use mc_world::Event;
 use std::alloc::Global;
 
 /// What a line says, where so many clients and these servers are there.
@@ -32,36 +30,43 @@ pub fn read_line(
     let Some(command) = command_of(name) else {
         return Ok(None);
     };
-    read_by(alloc, clients, servers, command, text)
-}
-
-/// What a line of a command says, by what follows its name.
-fn read_by(
-    alloc: Global,
-    clients: u64,
-    servers: &[Address],
-    command: Command,
-    text: &[u8],
-) -> Result<Option<PoolLine>, SimError>
-    ensures line { IfOk result (λ found. found ≡ line_by clients servers.now command text.now) }
-    ensures moment { IfOk result (λ found. IfSome found (λ line. HasMoment line (2 ^ 63))) }
-    ensures only_memory { IsOkUnless result SimError.Memory }
-{
-    let count = servers.len();
     match command {
         Command::Bytes => read_bytes(alloc, clients, text),
-        Command::Gone => Ok(read_gone(clients, text)),
-        Command::Turn => Ok(read_turn(clients, text)),
-        Command::Emit => Ok(read_emit(clients, text)),
-        Command::Takes => Ok(read_takes(clients, text)),
-        Command::ToServer => Ok(read_to_server(count, text)),
-        Command::Serve => Ok(read_serve(count, text)),
-        Command::ToProxy => Ok(read_to_proxy(count, text)),
-        Command::Reply => Ok(read_reply(count, text)),
-        Command::Lost => Ok(read_lost(count, text)),
-        Command::Back => Ok(read_back(count, text)),
-        Command::End => Ok(read_end(count, text)),
         Command::Join => read_join(alloc, servers, text),
-        Command::Drain => Ok(read_drain(text)),
+        _ => Ok(read_numbers(clients, servers.len(), command, text)),
+    }
+}
+
+/// What a line of a command says whose words are numbers alone, by what follows its name.
+fn read_numbers(clients: u64, servers: usize, command: Command, text: &[u8]) -> Option<PoolLine>
+    ensures line { result ≡ numbers_line clients servers command text.now }
+    ensures moment { IfSome result (λ line. HasMoment line (2 ^ 63)) }
+{
+    match command {
+        Command::Gone => Some(PoolLine::Event(Event::ClientGone {
+            client: read_place(text, clients)?,
+        })),
+        Command::Turn => Some(PoolLine::Event(Event::ProxyTurn {
+            client: read_place(text, clients)?,
+        })),
+        Command::Emit => Some(PoolLine::Event(Event::Emit {
+            client: read_place(text, clients)?,
+        })),
+        Command::Reply => Some(PoolLine::Event(Event::ReplyTurn {
+            server: read_server(servers, text)?,
+        })),
+        Command::Lost => Some(PoolLine::Event(Event::LinkLost {
+            server: read_server(servers, text)?,
+        })),
+        Command::Back => Some(PoolLine::Event(Event::LinkBack {
+            server: read_server(servers, text)?,
+        })),
+        Command::Takes => read_takes(clients, text),
+        Command::ToServer => read_to_server(servers, text),
+        Command::Serve => read_serve(servers, text),
+        Command::ToProxy => read_to_proxy(servers, text),
+        Command::End => read_end(servers, text),
+        Command::Drain => Some(PoolLine::Drain(read_moment(text)?)),
+        Command::Bytes | Command::Join => None,
     }
 }

@@ -14,8 +14,6 @@ use crate::reading::read_line;
 use mc_cache::{MAX_BUDGET, MAX_ITEMS};
 use mc_ring::{Address, Point, Ring, RingError, SERVER_LIMIT};
 use mc_script::{LineIter, SimError, cut_at_space, lines_of, read_limit};
-use mc_text::Block;
-use mc_world::Event;
 use std::alloc::{AllocError, Global};
 use std::marker::Model;
 
@@ -144,40 +142,20 @@ impl PoolScript {
         let Some(found) = read_line(alloc, self.clients, addresses, line)? else {
             return Ok(false);
         };
-        match found {
-            PoolLine::Event(event) => self.add_event(event)?,
-            PoolLine::Join(address) => self.add_join(address)?,
-            PoolLine::Drain(moment) => self.add_drain(moment)?,
-        }
+        self.follow(found)?;
         Ok(true)
     }
 
-    /// Goes on by an event.
-    fn add_event(&mut self, event: Event<Block>) -> Result<(), AllocError>
-        requires moment { HasMoment (PoolLine.Event event) (2 ^ 63) }
-        ensures followed { OnOk result (self.new ≡ followed self.old (PoolLine.Event event)) }
+    /// Goes on by what a line says. A server that joins has an address more.
+    fn follow(&mut self, line: PoolLine) -> Result<(), AllocError>
+        requires moment { HasMoment line (2 ^ 63) }
+        ensures followed { OnOk result (self.new ≡ followed self.old line) }
     {
-        self.lines.push(PoolLine::Event(event))?;
-        Ok(())
-    }
-
-    /// Goes on by a server that joins.
-    fn add_join(&mut self, address: Address) -> Result<(), AllocError>
-        ensures followed { OnOk result (self.new ≡ followed self.old (PoolLine.Join address)) }
-    {
-        let copy = copy_of(&address)?;
-        self.addresses.reserve(1)?;
-        self.lines.push(PoolLine::Join(address))?;
-        self.addresses.push(copy).unwrap();
-        Ok(())
-    }
-
-    /// Goes on by all that is left to do.
-    fn add_drain(&mut self, moment: u64) -> Result<(), AllocError>
-        requires moment { moment < 2 ^ 63 }
-        ensures followed { OnOk result (self.new ≡ followed self.old (PoolLine.Drain moment)) }
-    {
-        self.lines.push(PoolLine::Drain(moment))?;
+        self.lines.reserve(1)?;
+        if let PoolLine::Join(address) = &line {
+            self.addresses.push(copy_of(address)?)?;
+        }
+        self.lines.push(line).unwrap();
         Ok(())
     }
 }
@@ -282,9 +260,5 @@ fn read_limits(line: &[u8]) -> Option<(u64, u64, u64, usize)>
     let clients = read_limit(clients, MAX_CLIENTS)?;
     let budget = read_limit(budget, MAX_BUDGET)?;
     let items = read_limit(items, MAX_ITEMS as u64)?;
-    if command == b"pool".as_slice() {
-        Some((servers, clients, budget, items as usize))
-    } else {
-        None
-    }
+    (command == b"pool".as_slice()).then_some((servers, clients, budget, items as usize))
 }

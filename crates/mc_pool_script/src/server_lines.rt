@@ -1,7 +1,7 @@
 //! Lines of servers and their links, by what follows the line's name.
 ghost use Rattle.std.specs.Prelude.{◌≡◌, ◌^◌, ◌<◌, IfSome};
 ghost use Rattle.mc_script.specs.Numbers.{place_of};
-ghost use Rattle.mc_pool_script.specs.PoolLines.{HasMoment, back_line, end_line, lost_line, reply_line, serve_line, to_proxy_line, to_server_line};
+ghost use Rattle.mc_pool_script.specs.PoolLines.{HasMoment, end_line, serve_line, to_proxy_line, to_server_line};
 
 use crate::client_lines::read_count;
 use crate::lines::PoolLine;
@@ -55,33 +55,6 @@ pub fn read_to_proxy(servers: usize, text: &[u8]) -> Option<PoolLine>
     let server = read_server(servers, server)?;
     let count = read_count(count)?;
     Some(PoolLine::Event(Event::ToProxy { server, count }))
-}
-
-/// `<server>`
-pub fn read_reply(servers: usize, text: &[u8]) -> Option<PoolLine>
-    ensures line { result ≡ reply_line servers text.now }
-    ensures moment { IfSome result (λ line. HasMoment line (2 ^ 63)) }
-{
-    let server = read_server(servers, text)?;
-    Some(PoolLine::Event(Event::ReplyTurn { server }))
-}
-
-/// `<server>`
-pub fn read_lost(servers: usize, text: &[u8]) -> Option<PoolLine>
-    ensures line { result ≡ lost_line servers text.now }
-    ensures moment { IfSome result (λ line. HasMoment line (2 ^ 63)) }
-{
-    let server = read_server(servers, text)?;
-    Some(PoolLine::Event(Event::LinkLost { server }))
-}
-
-/// `<server>`
-pub fn read_back(servers: usize, text: &[u8]) -> Option<PoolLine>
-    ensures line { result ≡ back_line servers text.now }
-    ensures moment { IfSome result (λ line. HasMoment line (2 ^ 63)) }
-{
-    let server = read_server(servers, text)?;
-    Some(PoolLine::Event(Event::LinkBack { server }))
 }
 
 /// `<server> <generation>`

@@ -22,20 +22,14 @@ impl Proxy {
     pub fn is_up(&self, server: usize) -> bool
         ensures { result ≡ (link_at self.now.links server).up }
     {
-        match self.links.get(server) {
-            Some(link) => link.is_up(),
-            None => false,
-        }
+        self.links.get(server).is_some_and(Link::is_up)
     }
 
     /// The bytes that a link is to send and that were not taken out: none where the link is down or not there.
     pub fn link_output(&self, server: usize) -> &[u8]
         ensures { result.now ≡ (link_at self.now.links server).output }
     {
-        match self.links.get(server) {
-            Some(link) => link.output(),
-            None => &[],
-        }
+        self.links.get(server).map_or(&[], Link::output)
     }
 
     /// Lets go of the first `count` bytes of a link's output, which its server was sent. It takes no memory.
@@ -148,10 +142,7 @@ impl Proxy {
     pub fn waiting(&self, server: usize) -> usize
         ensures { result ≡ length (link_at self.now.links server).waiting }
     {
-        match self.links.get(server) {
-            Some(link) => link.waiting(),
-            None => 0,
-        }
+        self.links.get(server).map_or(0, Link::waiting)
     }
 
     /// The tag of the command number `place` of those that wait on a link, the oldest being number 0.

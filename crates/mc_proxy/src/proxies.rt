@@ -132,10 +132,7 @@ impl Proxy {
     pub fn ready(&self, number: u64) -> bool
         ensures { IsTrue result ↔ (0 < length (waiting_of (session_at self.now number))) }
     {
-        match self.sessions.get(number) {
-            Some(session) => session.ready(),
-            None => false,
-        }
+        self.sessions.get(number).is_some_and(Session::ready)
     }
 
     /// Whether the first request or fault of a session that has come whole has a command for the server of a place. It is
@@ -171,10 +168,7 @@ impl Proxy {
     pub fn output(&self, number: u64) -> &[u8]
         ensures { result.now ≡ output_of (session_at self.now number) }
     {
-        match self.sessions.get(number) {
-            Some(session) => session.output(),
-            None => &[],
-        }
+        self.sessions.get(number).map_or(&[], Session::output)
     }
 
     /// Lets go of the first `count` bytes of a session's output, which its client was sent. It takes no memory.
@@ -192,10 +186,7 @@ impl Proxy {
     pub fn unanswered(&self, number: u64) -> usize
         ensures { result ≡ unanswered_of (session_at self.now number) }
     {
-        match self.sessions.get(number) {
-            Some(session) => session.unanswered(),
-            None => 0,
-        }
+        self.sessions.get(number).map_or(0, Session::unanswered)
     }
 
     /// Whether nothing is read of a session any more, after `quit` or a line too long, and all that was taken of it is
@@ -203,10 +194,7 @@ impl Proxy {
     pub fn finished(&self, number: u64) -> bool
         ensures { result ≡ is_finished (session_at self.now number) }
     {
-        match self.sessions.get(number) {
-            Some(session) => session.is_finished(),
-            None => false,
-        }
+        self.sessions.get(number).is_some_and(Session::is_finished)
     }
 
     /// Gives back the memory that a session has reserved and that holds nothing, where there is room for more than `kept`
@@ -230,9 +218,7 @@ impl Proxy {
         ensures only_no_session { IsOkUnless result ProxyError.NoSession }
         ensures err { OnErr result (self.new ≡ self.old) }
     {
-        match self.sessions.remove(number) {
-            Some(_) => Ok(()),
-            None => Err(ProxyError::NoSession),
-        }
+        self.sessions.remove(number).ok_or(ProxyError::NoSession)?;
+        Ok(())
     }
 }

@@ -4,9 +4,10 @@ use Rattle.mc_session.specs.SessionState.{SessionState}
 use Rattle.mc_proxy.specs.ProxyState.{ProxyState}
 use Rattle.mc_stream.specs.declared.outcomes.Pumped.{Pumped}
 use Rattle.mc_stream.specs.declared.outcomes.Pumped.TheVariants.{Again}
+use Rattle.mc_stream.specs.Sides.{pump_of}
 use Rattle.mc_proxy_pump.specs.Calls.{Stretch}
 use Rattle.mc_proxy_pump.specs.Clients.{PumpsClient, is_owed_at}
-use Rattle.mc_proxy_pump.specs.Rounds.{Sends, pump_by}
+use Rattle.mc_proxy_pump.specs.Rounds.{Sends}
 use Rattle.mc_proxy_pump.proofs.PumpLemmas.{pumps_then, pumps_turns, pumps_unsent, stopped}
 
 -- it is open
@@ -16,7 +17,7 @@ owed_is_open (Some session) owed = refl
 
 -- answers, and then a write
 pub answered : (number : ℕ) (side : Result Bool Pumped) (a b c : ProxyState) (unread written written' : Option (List ℕ)) (ended : Bool)
-    → Stretch number a b [] [] → Sends number side b c written written' → PumpsClient number (pump_by side) a c unread unread written written' ended ended
+    → Stretch number a b [] [] → Sends number side b c written written' → PumpsClient number (pump_of side) a c unread unread written written' ended ended
 answered number (Ok moved) a b c unread written written' ended put sent = stopped number moved Again a b c unread written written' ended put sent tt
 answered number (Err pump) a b c unread written written' ended put sent =
     pumps_then number pump a b c unread unread unread written written written' ended ended ended

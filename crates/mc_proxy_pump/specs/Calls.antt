@@ -37,15 +37,11 @@ Calls number (call ∷ calls) old new = (middle : ProxyState) × (IsCall number 
 -- the bytes that came by a call, and those that went
 abbrev pub came_by : Call → List ℕ
 came_by (Fed came) = came
-came_by (Turned turn) = []
-came_by (Emitted emit) = []
-came_by (Sent count went) = []
+came_by other = []
 
 abbrev pub went_by : Call → List ℕ
-went_by (Fed came) = []
-went_by (Turned turn) = []
-went_by (Emitted emit) = []
 went_by (Sent count went) = went
+went_by other = []
 
 -- the bytes that came by calls, joined, and those that went
 abbrev pub came_of : List Call → List ℕ

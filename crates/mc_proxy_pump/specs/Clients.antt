@@ -10,7 +10,7 @@ use Rattle.mc_proxy.specs.ProxyState.{ProxyState, output_of, session_at, unanswe
 use Rattle.mc_proxy.specs.Turns.{waiting_of}
 use Rattle.mc_stream.specs.Sides.{CarriesBy}
 use Rattle.mc_stream.specs.declared.outcomes.Pumped.{Pumped}
-use Rattle.mc_stream.specs.declared.outcomes.Pumped.TheVariants.{Again, Blocked, Done, Failed}
+use Rattle.mc_stream.specs.declared.outcomes.Pumped.TheVariants.{Blocked, Done}
 use Rattle.mc_proxy_pump.specs.Calls.{Stretch}
 
 -- whether nothing is read of a session any more; not so where it is not open
@@ -48,10 +48,9 @@ pub record IsStuck (ended : Bool) (proxy : ProxyState) (session : Option Session
 
 -- how a session is left: done where it is over, blocked where it is stuck
 abbrev pub Leaves : Pumped → Bool → ProxyState → Option SessionState → Type 0
-Leaves Again ended proxy session = Unit {0}
 Leaves Blocked ended proxy session = IsStuck ended proxy session
 Leaves Done ended proxy session = IsOver ended session
-Leaves Failed ended proxy session = Unit {0}
+Leaves other ended proxy session = Unit {0}
 
 -- What a pump of the session of a number does: calls for it, and nothing else. The bytes that came by them are those that the
 -- reader gave, or the first of them where the pump failed, and the bytes that went are those that the writer took.

@@ -43,17 +43,11 @@ LinkCalls place (call ∷ calls) old new = (middle : ProxyState) × (IsLinkCall 
 -- the bytes that came by a call, and those that went
 abbrev pub came_by : LinkCall → List ℕ
 came_by (Fed came) = came
-came_by (Sent count went) = []
-came_by (Replied tag) = []
-came_by Rested = []
-came_by Lost = []
+came_by other = []
 
 abbrev pub went_by : LinkCall → List ℕ
-went_by (Fed came) = []
 went_by (Sent count went) = went
-went_by (Replied tag) = []
-went_by Rested = []
-went_by Lost = []
+went_by other = []
 
 -- the bytes that came by calls, joined, and those that went
 abbrev pub came_of : List LinkCall → List ℕ
@@ -75,11 +69,8 @@ with_woken session woken = if is_last session woken then woken else woken ++ ses
 -- the same after calls: each session whose command got its reply
 abbrev pub woken_by : List LinkCall → List ℕ → List ℕ
 woken_by [] woken = woken
-woken_by (Fed came ∷ calls) woken = woken_by calls woken
-woken_by (Sent count went ∷ calls) woken = woken_by calls woken
 woken_by (Replied tag ∷ calls) woken = woken_by calls (with_woken tag.session woken)
-woken_by (Rested ∷ calls) woken = woken_by calls woken
-woken_by (Lost ∷ calls) woken = woken_by calls woken
+woken_by (other ∷ calls) woken = woken_by calls woken
 
 -- calls for a link by which these bytes came and these went, and the sessions that they woke
 pub record LinkStretch (place : ℕ) (old new : ProxyState) (came went woken woken' : List ℕ) : Type 0 where

@@ -18,10 +18,8 @@ LeavesLink Failed link = Unit {0}
 
 -- whether a pump of a link is done, which it is where the input has ended
 abbrev pub is_done : Pumped → Bool
-is_done Again = false
-is_done Blocked = false
 is_done Done = true
-is_done Failed = false
+is_done other = false
 
 -- What a pump of the link of a place does: calls for it, and nothing else. The bytes that came by them are those that the
 -- reader gave, or the first of them where the pump failed, and all of them where it is done; the bytes that went are those that

@@ -1,5 +1,5 @@
 -- What the parts of a round of a session's pump do.
-use Rattle.std.specs.Prelude.{◌≡◌, ℕ, ◌+◌, ◌*◌, ◌<◌, ◌≤◌, ◌⊎◌, Bool, true, false, not, ◌&&◌, List, [], length, Option, None, Result, Ok, Err}
+use Rattle.std.specs.Prelude.{◌≡◌, ℕ, ◌+◌, ◌*◌, ◌<◌, ◌≤◌, ◌⊎◌, Bool, true, false, not, ◌&&◌, List, [], length, Option, None, Result}
 use Rattle.mc_session.specs.SessionState.{SessionState}
 use Rattle.mc_session.specs.declared.limits.TheConstants.{UNSENT_MARK}
 use Rattle.mc_session.specs.declared.turns.Turn.{Turn}
@@ -8,7 +8,6 @@ use Rattle.mc_proxy.specs.ProxyState.{ProxyState, output_of, session_at, unanswe
 use Rattle.mc_proxy.specs.Turns.{waiting_of}
 use Rattle.mc_stream.specs.Sides.{HowItCame, HowItWent}
 use Rattle.mc_stream.specs.declared.outcomes.Pumped.{Pumped}
-use Rattle.mc_stream.specs.declared.outcomes.Pumped.TheVariants.{Again}
 use Rattle.mc_proxy_pump.specs.Calls.{Stretch}
 use Rattle.mc_proxy_pump.specs.Clients.{IsHeldUpAt, emitted_at, is_closed_at}
 
@@ -25,17 +24,14 @@ StopsAt turns.Closing proxy session = (waiting_of session ≡ []) × (is_closed_
 
 -- whether nothing more will come, where no more is taken for this cause: the input has ended, or is read no further
 abbrev pub ends_by : Turn → (ended : Bool) → Bool
-ends_by turns.Took ended = false
 ends_by turns.Idle ended = ended
-ends_by turns.Waiting ended = false
 ends_by turns.Closing ended = true
+ends_by other ended = false
 
 -- whether the input is read on, where as much is unsent as the mark or not
 abbrev pub reads_by : Turn → (ended marked : Bool) → Bool
-reads_by turns.Took ended marked = false
 reads_by turns.Idle ended marked = not ended && not marked
-reads_by turns.Waiting ended marked = false
-reads_by turns.Closing ended marked = false
+reads_by other ended marked = false
 
 -- requests are taken until none can be
 pub record TakesTurns (number : ℕ) (old new : ProxyState) : Type 0 where
@@ -70,13 +66,3 @@ pub record Receives (number : ℕ) (side : Result Bool Pumped) (old new : ProxyS
   pub came : List ℕ
   pub stretch : Stretch number old new came []
   pub how : HowItCame side unread unread' ended' came (new ≡ old)
-
--- a round that does not stop goes on as a pump that may be called again
-abbrev pub pump_of : Result (Unit {0}) Pumped → Pumped
-pump_of (Ok u) = Again
-pump_of (Err pump) = pump
-
--- the same of a part that says whether it moved anything
-abbrev pub pump_by : Result Bool Pumped → Pumped
-pump_by (Ok moved) = Again
-pump_by (Err pump) = pump

@@ -2,9 +2,10 @@
 ghost use Rattle.std.specs.Prelude.{◌≡◌, ◌<◌, ◌==◌, ◌&&◌, ℕ, Bool, List, [], Option, None, Ok, false, length, IfOk, IsSome};
 ghost use Rattle.mc_proxy.specs.ProxyState.{output_of, session_at, unanswered_of};
 ghost use Rattle.mc_proxy.specs.Turns.{waiting_of};
+ghost use Rattle.mc_stream.specs.Sides.{pump_of};
 ghost use Rattle.mc_proxy_pump.specs.Calls.{Stretch};
 ghost use Rattle.mc_proxy_pump.specs.Clients.{PumpsClient, emitted_at, is_closed_at, is_owed_at};
-ghost use Rattle.mc_proxy_pump.specs.Rounds.{HasAnswered, HowMany, Receives, Sends, StopsAt, TakesTurns, ends_by, pump_by, pump_of, reads_by};
+ghost use Rattle.mc_proxy_pump.specs.Rounds.{HasAnswered, HowMany, Receives, Sends, StopsAt, TakesTurns, ends_by, reads_by};
 
 use mc_proxy::{Emit, Proxy, ProxyError, Turn, UNSENT_MARK};
 use mc_stream::{MAX_ROUNDS, Pumped, read_once, write_once};
@@ -62,7 +63,7 @@ pub fn pump_answers<W: Write>(
     tally: &mut Tally,
 ) -> Result<bool, Pumped>
     ensures pumps { (unread : Option (List ℕ)) (ended : Bool) → IsSome (session_at proxy.old session)
-        → PumpsClient session (pump_by result) proxy.old proxy.new unread unread (W.contents writer.old) (W.contents writer.new) ended ended }
+        → PumpsClient session (pump_of result) proxy.old proxy.new unread unread (W.contents writer.old) (W.contents writer.new) ended ended }
     ensures not_open { session_at proxy.old session ≡ None → (result ≡ Ok false) × (proxy.new ≡ proxy.old) }
 {
     if !is_owed(proxy, session) {
@@ -126,28 +127,19 @@ fn round<R: Read, W: Write>(
 fn is_over(proxy: &Proxy, session: u64, turn: Turn, ended: bool) -> bool
     ensures { result ≡ ((length (output_of (session_at proxy.now session)) == 0) && ((unanswered_of (session_at proxy.now session) == 0) && ends_by turn ended)) }
 {
-    proxy.output(session).is_empty() && proxy.unanswered(session) == 0 && ends(turn, ended)
-}
-
-/// Whether nothing more will come, where no more is taken for this cause.
-fn ends(turn: Turn, ended: bool) -> bool
-    ensures { result ≡ ends_by turn ended }
-{
-    match turn {
+    let ends = match turn {
         Turn::Idle => ended,
         Turn::Closing => true,
         Turn::Took | Turn::Waiting => false,
-    }
+    };
+    proxy.output(session).is_empty() && proxy.unanswered(session) == 0 && ends
 }
 
 /// Whether the input is read on, where no more is taken for this cause, and as much is unsent as the mark or not.
 fn is_read(turn: Turn, ended: bool, is_marked: bool) -> bool
     ensures { result ≡ reads_by turn ended is_marked }
 {
-    match turn {
-        Turn::Idle => !ended && !is_marked,
-        Turn::Took | Turn::Waiting | Turn::Closing => false,
-    }
+    turn == Turn::Idle && !ended && !is_marked
 }
 
 /// Takes requests and puts answers out, as far as it goes, and says why no more is taken.

@@ -1,10 +1,10 @@
 //! The body of a link: commands out, replies in.
-ghost use Rattle.std.specs.Prelude.{◌≡◌, ◌+◌, ◌<◌, ◌≤◌, true, false, length, vec_len, vec_capacity};
+ghost use Rattle.std.specs.Prelude.{◌≡◌, ◌<◌, true, false, length, vec_len, vec_capacity};
 ghost use Rattle.mc_session.specs.SessionState.{link_at};
-ghost use Rattle.mc_proxy_pump.specs.LinkCalls.{is_last, with_woken};
+ghost use Rattle.mc_proxy_pump.specs.LinkCalls.{with_woken};
 ghost use Rattle.mc_proxy_pump.specs.Links.{PumpsLink};
 ghost use Rattle.mc_proxy_pump.specs.LinkRounds.{ReceivesLink, SendsLink, TakesReplies, TakesReply};
-ghost use Rattle.mc_proxy_pump.specs.Rounds.{pump_of};
+ghost use Rattle.mc_stream.specs.Sides.{pump_of};
 
 use mc_proxy::{LinkTurn, Proxy};
 use mc_stream::{MAX_ROUNDS, Pumped, read_once, write_once};
@@ -159,17 +159,7 @@ fn wake(woken: &mut Vec<u64>, session: u64)
     requires { vec_len woken.old < vec_capacity woken.old }
     ensures { woken.new.items ≡ with_woken session woken.old.items }
 {
-    if !is_last_of(woken.as_slice(), session) {
+    if woken.last().is_none_or(|last| *last != session) {
         woken.push_reserved(session);
-    }
-}
-
-/// Whether a session is the last of those that were woken.
-fn is_last_of(woken: &[u64], session: u64) -> bool
-    ensures { result ≡ is_last session woken.now }
-{
-    match woken.last() {
-        Some(last) => *last == session,
-        None => false,
     }
 }

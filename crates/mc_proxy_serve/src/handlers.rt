@@ -1,8 +1,6 @@
 //! What serves the clients of a proxy.
 ghost use Rattle.std.specs.Prelude.{◌≡◌, ◌<◌, vec_len};
 
-use crate::pools::Pool;
-use crate::woken::Woken;
 use mc_clients::{Client, Handler};
 use mc_program::ServeError;
 use mc_proxy::{MAX_SESSIONS, Proxy};
@@ -14,18 +12,7 @@ use std::alloc::Global;
 use std::collections::HashMap;
 
 /// How many bytes a client has sent, and servers have sent for it, since it was owed nothing: no fewer than are kept for it.
-#[derive(Clone, Copy, Debug, Default)]
-pub struct Held {
-    /// So many.
-    pub bytes: u64,
-}
-
-impl Held {
-    /// Notes that so many more have come.
-    pub fn add(&mut self, bytes: u64) {
-        self.bytes = self.bytes.saturating_add(bytes);
-    }
-}
+pub type Held = u64;
 
 /// A proxy, and what its clients share.
 #[derive(Drop)]
@@ -35,9 +22,9 @@ pub struct ProxyHandler {
     /// The keys of the clients by the numbers of their sessions.
     keys: HashMap<u64, usize>,
     /// What reads fill: made once.
-    piece: Vec<u8>,
+    pub piece: Vec<u8>,
     /// What passed of all clients.
-    tally: Tally,
+    pub tally: Tally,
     /// As many bytes kept for one client stop its turns and reads.
     most: u64,
     ghost reads: { 0 < vec_len piece },
@@ -56,11 +43,6 @@ impl ProxyHandler {
         })
     }
 
-    /// What passed of all clients.
-    pub fn tally(&self) -> Tally {
-        self.tally
-    }
-
     /// The key of the client of a session.
     pub fn key_of(&self, session: u64) -> Option<usize> {
         self.keys.get(&session).copied()
@@ -68,23 +50,9 @@ impl ProxyHandler {
 
     /// Whether the next request of a session waits for one of the links to the servers of some places.
     pub fn waits_for_any(&self, session: u64, places: &[usize]) -> bool {
-        for place in places {
-            if self.proxy.waits_for(session, *place) {
-                return true;
-            }
-        }
-        false
-    }
-
-    /// Has a pool carry the bytes of its upstreams ([`Pool::carry`]).
-    pub fn carry(
-        &mut self,
-        pool: &mut Pool,
-        woken: &mut Woken,
-        freed: &mut Vec<usize>,
-        now: u64,
-    ) -> bool {
-        pool.carry(&mut self.proxy, &mut self.piece, woken, freed, now)
+        places
+            .iter()
+            .any(|place| self.proxy.waits_for(session, *place))
     }
 
     /// Sends a client its answers, and says what is done with it then. Once it is owed nothing, it is served again.
@@ -97,7 +65,7 @@ impl ProxyHandler {
             Ok(moved) => {
                 let owed = is_owed(&self.proxy, client.number);
                 if !owed {
-                    client.kept.bytes = 0;
+                    client.kept = 0;
                 }
                 if moved || !owed {
                     Step::GoOn
@@ -148,15 +116,16 @@ impl Handler<Held> for ProxyHandler {
 
     /// Where more bytes are kept for the client than may be, it is sent its answers alone.
     fn serve(&mut self, client: &mut Client<Held>, _moment: u64) -> Step {
-        if client.kept.bytes > self.most {
+        if client.kept > self.most {
             return self.drain(client);
         }
         let before = self.tally.read;
         let pumped = self.pump(client);
         if is_owed(&self.proxy, client.number) {
-            client.kept.add(self.tally.read.saturating_sub(before));
+            let came = self.tally.read.saturating_sub(before);
+            client.kept = client.kept.saturating_add(came);
         } else {
-            client.kept.bytes = 0;
+            client.kept = 0;
         }
         step_after(pumped)
     }

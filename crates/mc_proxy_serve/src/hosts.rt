@@ -39,9 +39,12 @@ pub struct Host<'a> {
     carried: bool,
     /// The moment of the round, in milliseconds.
     now: u64,
+    /// The second of the round.
+    second: u64,
     /// In which second the clients rested last.
     rested: u64,
     pace: Pace,
+    ghost within: { second < 2 ^ 63 },
 }
 
 impl<'a> Host<'a> {
@@ -63,16 +66,10 @@ impl<'a> Host<'a> {
             freed: Vec::with_capacity(alloc, SERVER_LIMIT)?,
             carried: true,
             now: 0,
+            second: 0,
             rested: 0,
             pace: Pace::new(settings.terms.report, 0),
         })
-    }
-
-    /// The second of the round.
-    fn second(&self) -> u64
-        ensures { result < 2 ^ 63 }
-    {
-        self.now / 1000
     }
 
     /// Whether somebody goes on though nothing happens, or may be let in, where so much is known of those who wait.
@@ -96,9 +93,13 @@ impl<'a> Host<'a> {
     /// came together, so that it goes out together.
     fn carry(&mut self) {
         for _ in 0..MAX_PASSES {
-            let others = self
-                .handler
-                .carry(&mut self.pool, &mut self.woken, &mut self.freed, self.now);
+            let others = self.pool.carry(
+                &mut self.handler.proxy,
+                &mut self.handler.piece,
+                &mut self.woken,
+                &mut self.freed,
+                self.now,
+            );
             self.carried = !others && self.woken.is_empty() && self.freed.is_empty();
             if self.carried {
                 return;
@@ -114,22 +115,14 @@ impl<'a> Host<'a> {
         }
     }
 
-    /// Serves the client of a key.
-    fn serve(&mut self, key: usize) {
-        let second = self.second();
-        self.clients.serve(&mut self.handler, key, second);
-    }
-
     /// Serves the clients whose requests wait for a link that came below its mark.
     fn let_on(&mut self) {
         for key in 0..MAX_SESSIONS {
-            if let Some(client) = self.clients.get(key) {
-                if self
-                    .handler
-                    .waits_for_any(client.number, self.freed.as_slice())
-                {
-                    self.serve(key);
-                }
+            let freed = self.freed.as_slice();
+            if let Some(client) = self.clients.get(key)
+                && self.handler.waits_for_any(client.number, freed)
+            {
+                self.clients.serve(&mut self.handler, key, self.second);
             }
         }
         self.freed.clear();
@@ -142,7 +135,7 @@ impl<'a> Host<'a> {
             let Some(key) = self.take_woken() else {
                 break;
             };
-            self.serve(key);
+            self.clients.serve(&mut self.handler, key, self.second);
         }
     }
 
@@ -150,11 +143,11 @@ impl<'a> Host<'a> {
     fn take_woken(&mut self) -> Option<usize> {
         for _ in 0..self.woken.len() {
             let (session, brought) = self.woken.take()?;
-            if let Some(key) = self.handler.key_of(session) {
-                if let Some(client) = self.clients.get_mut(key) {
-                    client.kept.add(brought);
-                    return Some(key);
-                }
+            if let Some(key) = self.handler.key_of(session)
+                && let Some(client) = self.clients.get_mut(key)
+            {
+                client.kept = client.kept.saturating_add(brought);
+                return Some(key);
             }
         }
         None
@@ -168,8 +161,15 @@ impl<'a> Host<'a> {
             }
         }
         self.freed.clear();
-        let second = self.second();
-        self.clients.serve_all(&mut self.handler, second);
+        self.clients.serve_all(&mut self.handler, self.second);
+    }
+
+    /// Loses the upstreams on which a reply is late, and has clients told so.
+    fn give_up(&mut self) {
+        if self.pool.give_up(&mut self.handler.proxy, self.now) {
+            self.carried = false;
+            self.serve_all();
+        }
     }
 
     /// Lets the client in that waits, once each upstream was tried.
@@ -178,9 +178,8 @@ impl<'a> Host<'a> {
             return;
         }
         if let Some(stream) = self.next.take() {
-            let second = self.second();
             self.clients
-                .admit(&mut self.handler, stream, registry, second);
+                .admit(&mut self.handler, stream, registry, self.second);
         }
     }
 
@@ -200,7 +199,7 @@ impl<'a> Host<'a> {
     fn report<R: Eprint>(&self, rt: &R, accepted: u64) {
         let report = self
             .clients
-            .report(self.second(), accepted, self.handler.tally());
+            .report(self.second, accepted, self.handler.tally);
         // Where it cannot be said, all are served all the same.
         let _ = eprintln!(rt; "{PROGRAM}: {report}");
         self.pool.report(rt, &self.handler.proxy);
@@ -212,9 +211,8 @@ impl<'a, R: Net + Clock + Eprint> Rounds<R, Stopwatch> for Host<'a> {
     /// second.
     fn before(&mut self, rt: &R, registry: &Registry, backlog: Backlog) -> Option<Duration> {
         self.pool.keep(rt, registry, self.now);
-        let second = self.second();
-        self.pool.tell(rt, second);
-        self.joining.tell(rt, second);
+        self.pool.tell(rt, self.second);
+        self.joining.tell(rt, self.second);
         let soon = self.clients.is_busy() || backlog == Backlog::Refused || self.joining.is_due();
         patience(self.goes_on(backlog), soon, self.left())
     }
@@ -222,12 +220,9 @@ impl<'a, R: Net + Clock + Eprint> Rounds<R, Stopwatch> for Host<'a> {
     /// Upstreams on which a reply is late are lost, and clients are told so.
     fn begin(&mut self, rt: &R, clock: &mut Stopwatch) {
         self.now = clock.millis(rt);
-        if self.pool.give_up(&mut self.handler.proxy, self.now) {
-            self.carried = false;
-            self.serve_all();
-        }
-        let second = self.second();
-        self.clients.go_on(&mut self.handler, second);
+        self.second = self.now / 1000;
+        self.give_up();
+        self.clients.go_on(&mut self.handler, self.second);
     }
 
     fn wake(&mut self, event: &Event) {
@@ -235,8 +230,7 @@ impl<'a, R: Net + Clock + Eprint> Rounds<R, Stopwatch> for Host<'a> {
         if key >= MAX_SESSIONS {
             self.pool.note(&mut self.handler.proxy, event);
         } else {
-            let second = self.second();
-            self.clients.wake(&mut self.handler, event, second);
+            self.clients.wake(&mut self.handler, event, self.second);
         }
     }
 
@@ -257,16 +251,15 @@ impl<'a, R: Net + Clock + Eprint> Rounds<R, Stopwatch> for Host<'a> {
     }
 
     fn finish(&mut self, rt: &R, accepted: u64) {
-        let second = self.second();
-        if second == self.rested {
+        if self.second == self.rested {
             return;
         }
-        self.rested = second;
-        self.clients.rest(&mut self.handler, second);
+        self.rested = self.second;
+        self.clients.rest(&mut self.handler, self.second);
         if !self.clients.is_busy() {
             self.pool.rest(&mut self.handler.proxy);
         }
-        if self.pace.comes(second) {
+        if self.pace.comes(self.second) {
             self.report(rt, accepted);
         }
     }

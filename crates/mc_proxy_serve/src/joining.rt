@@ -1,6 +1,7 @@
 //! The server that joins while a proxy runs.
 
-use crate::notices::{Cause, Notice, Notices, tell};
+use crate::notices::{Notice, Notices, tell};
+use mc_proxy::ProxyError;
 use mc_ring::Address;
 
 /// The server that joins with a client, and what is to be said of it.
@@ -32,13 +33,13 @@ impl<'a> Joining<'a> {
     }
 
     /// Notes whether it has joined. Where it has not, it is tried again with the next client.
-    pub fn note(&mut self, joined: Result<(), Cause>) {
+    pub fn note(&mut self, joined: Result<(), ProxyError>) {
         match joined {
             Ok(()) => {
                 self.joined = true;
                 self.notices.note(Notice::Joined);
             }
-            Err(cause) => self.notices.note(Notice::NotJoined(cause)),
+            Err(error) => self.notices.note(Notice::NotJoined(error.into())),
         }
     }
 

@@ -21,7 +21,6 @@ mod limits;
 mod notices;
 mod options;
 mod pools;
-mod reports;
 mod serving;
 mod settings;
 mod upstreams;

@@ -114,11 +114,7 @@ impl Notices {
         ensures said { self.new.said ≡ self.old.said }
         ensures second { self.new.second ≡ self.old.second }
     {
-        self.due = if notice == self.said {
-            None
-        } else {
-            Some(notice)
-        };
+        self.due = (notice != self.said).then_some(notice);
     }
 
     /// Whether something is to be said.

@@ -8,9 +8,6 @@ use mc_ring::{Address, Ring, RingError};
 use std::alloc::{AllocError, Global};
 use thiserror::Error;
 
-/// As many bytes kept for one client stop it, where nobody says otherwise: 256 MiB.
-const USUAL_HELD: u64 = 268_435_456;
-
 /// The most bytes that may be kept for one client: 1 TiB.
 const MOST_HELD: u64 = 1_099_511_627_776;
 
@@ -75,7 +72,7 @@ impl<'a> Options<'a> {
             ring,
             settings: ProxySettings {
                 terms: Terms::of(matches),
-                held: matches.get_one::<u64>("held").unwrap_or(USUAL_HELD),
+                held: matches.get_one::<u64>("held").ok_or(ListError::Bad)?,
                 timeout: matches.get_one::<u64>("timeout").unwrap_or(0),
                 join,
             },

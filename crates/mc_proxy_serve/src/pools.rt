@@ -2,7 +2,6 @@
 ghost use Rattle.std.specs.Prelude.{◌<◌, length};
 
 use crate::notices::Cause;
-use crate::options::PROGRAM;
 use crate::upstreams::Upstream;
 use crate::woken::Woken;
 use mc_proxy::{LINK_MARK, MAX_SESSIONS, Proxy, ProxyError};
@@ -42,21 +41,19 @@ impl Pool {
 
     /// Whether each upstream was tried.
     pub fn is_tried(&self) -> bool {
-        self.upstreams.iter().all(|upstream| upstream.is_tried())
+        self.upstreams.iter().all(|upstream| upstream.tried)
     }
 
     /// When something is to be done for an upstream unasked, at the earliest.
     pub fn due(&self, now: u64) -> Option<u64> {
-        let mut due = None;
-        for upstream in self.upstreams.iter() {
-            due = earlier(due, upstream.due(now, self.timeout));
-        }
-        due
+        self.upstreams.iter().fold(None, |due, upstream| {
+            earlier(due, upstream.due(now, self.timeout))
+        })
     }
 
     /// Whether the socket of an upstream may have something for it.
     pub fn is_stirred(&self) -> bool {
-        self.upstreams.iter().any(|upstream| upstream.is_stirred())
+        self.upstreams.iter().any(|upstream| upstream.stirred)
     }
 
     /// Tries the upstreams that are down where it is time for them.
@@ -84,9 +81,7 @@ impl Pool {
     /// Says on standard error what became of each upstream.
     pub fn report<R: Eprint>(&self, rt: &R, proxy: &Proxy) {
         for (place, upstream) in self.upstreams.iter().enumerate() {
-            let report = upstream.report(proxy.waiting(place));
-            // Where it cannot be said, all are served all the same.
-            let _ = eprintln!(rt; "{PROGRAM}: {report}");
+            upstream.report(rt, proxy.waiting(place));
         }
     }
 
@@ -98,12 +93,7 @@ impl Pool {
     }
 
     /// Has a server join, that was not tried. At an error nothing has changed.
-    pub fn join(&mut self, proxy: &mut Proxy, server: &Address) -> Result<(), Cause> {
-        Ok(self.try_join(proxy, server)?)
-    }
-
-    /// The same, in the proxy's words.
-    fn try_join(&mut self, proxy: &mut Proxy, server: &Address) -> Result<(), ProxyError> {
+    pub fn join(&mut self, proxy: &mut Proxy, server: &Address) -> Result<(), ProxyError> {
         let upstream = upstream_to(self.alloc, server)?;
         let address = server.clone()?;
         self.upstreams.reserve(1)?;
@@ -140,12 +130,12 @@ impl Pool {
     {
         let mut others = false;
         for (place, upstream) in self.upstreams.iter_mut().enumerate() {
-            if !upstream.is_stirred() && proxy.link_output(place).is_empty() {
+            if !upstream.stirred && proxy.link_output(place).is_empty() {
                 continue;
             }
             let was_marked = is_marked(proxy, place);
             let pumped = upstream.pump(proxy, place, piece, &mut woken.pumped);
-            others |= !woken.bring(upstream.brought());
+            others |= !woken.bring(upstream.brought);
             if self.timeout > 0 {
                 upstream.note_waiting(proxy, place, now);
             }

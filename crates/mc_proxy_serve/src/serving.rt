@@ -35,8 +35,6 @@ pub fn serve<R: Net + Clock + RandomSource + Wait + Eprint>(
 /// A random number; 0 where the system gives none.
 fn random_number<R: RandomSource>(rt: &R) -> u64 {
     let mut bytes = [0; 8];
-    match rt.fill_bytes(&mut bytes) {
-        Ok(()) => u64::from_ne_bytes(bytes),
-        Err(_) => 0,
-    }
+    let filled = rt.fill_bytes(&mut bytes);
+    filled.map_or(0, |()| u64::from_ne_bytes(bytes))
 }

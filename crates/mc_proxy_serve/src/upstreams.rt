@@ -4,7 +4,7 @@ ghost use Rattle.std.specs.Prelude.{◌<◌, length};
 use crate::delays::delay_after;
 use crate::limits::{CONNECT_MILLIS, LEAST_DELAY};
 use crate::notices::{Cause, Notice, Notices, tell};
-use crate::reports::LineReport;
+use crate::options::PROGRAM;
 use crate::waits::Waits;
 use mc_proxy::Proxy;
 use mc_proxy_pump::{Pumped, pump_link};
@@ -41,10 +41,10 @@ pub struct Upstream {
     /// How many connections failed in a row.
     failures: u32,
     /// Whether the first connection that was begun came to be, or failed.
-    tried: bool,
+    pub tried: bool,
     edge: Edge,
     /// Whether its socket may have something for it: only where it is up.
-    stirred: bool,
+    pub stirred: bool,
     notices: Notices,
     waits: Waits,
     /// How often a connection was lost that was there.
@@ -52,7 +52,7 @@ pub struct Upstream {
     /// How many bytes have come since the last reply but one was taken: no fewer than are kept of a reply that is not whole.
     unread: u64,
     /// How many bytes the replies have at most that its last pump took.
-    brought: u64,
+    pub brought: u64,
 }
 
 impl Upstream {
@@ -75,19 +75,9 @@ impl Upstream {
         }
     }
 
-    /// Whether its first connection came to be, or failed.
-    pub fn is_tried(&self) -> bool {
-        self.tried
-    }
-
     /// Whether the connection is there.
     pub fn is_up(&self) -> bool {
         matches!(self.state, State::Up(_))
-    }
-
-    /// Whether its socket may have something for it.
-    pub fn is_stirred(&self) -> bool {
-        self.stirred
     }
 
     /// Whether something is to be said of it.
@@ -113,22 +103,18 @@ impl Upstream {
         random: u64,
     ) {
         match self.state {
-            State::Up(_) => {}
-            State::Connecting(_) => {
-                if now >= self.begun.saturating_add(CONNECT_MILLIS) {
-                    self.delay(now, random);
-                    self.refuse(Cause::TimedOut);
+            State::Connecting(_) if now >= self.begun.saturating_add(CONNECT_MILLIS) => {
+                self.delay(now, random);
+                self.refuse(Cause::TimedOut);
+            }
+            State::Down if now >= self.next => {
+                self.begun = now;
+                self.delay(now, random);
+                if let Err(cause) = self.connect(rt, registry, token) {
+                    self.refuse(cause);
                 }
             }
-            State::Down => {
-                if now >= self.next {
-                    self.begun = now;
-                    self.delay(now, random);
-                    if let Err(cause) = self.connect(rt, registry, token) {
-                        self.refuse(cause);
-                    }
-                }
-            }
+            _ => {}
         }
     }
 
@@ -146,12 +132,8 @@ impl Upstream {
             State::Connecting(_) => Some(self.begun.saturating_add(CONNECT_MILLIS)),
             State::Down => Some(self.next),
         };
-        let said = if self.is_due() {
-            Some(now.saturating_add(LEAST_DELAY))
-        } else {
-            None
-        };
-        earlier(own, said)
+        let said = now.saturating_add(LEAST_DELAY);
+        earlier(own, self.is_due().then_some(said))
     }
 
     /// When the reply to the command that waits longest is late.
@@ -159,16 +141,12 @@ impl Upstream {
         if timeout == 0 {
             return None;
         }
-        let oldest = self.waits.oldest()?;
-        Some(oldest.saturating_add(timeout))
+        Some(self.waits.oldest()?.saturating_add(timeout))
     }
 
     /// Whether a reply is late.
     pub fn is_late(&self, now: u64, timeout: u64) -> bool {
-        match self.late(timeout) {
-            Some(late) => self.is_up() && now >= late,
-            None => false,
-        }
+        self.is_up() && self.late(timeout).is_some_and(|late| now >= late)
     }
 
     /// Begins a connection to the first IPv4 address that the server's host has. The error is why it could not.
@@ -264,18 +242,8 @@ impl Upstream {
     /// Notes that so many bytes came, and whether a reply was taken. What came after that is part of the next one.
     fn note_brought(&mut self, came: u64, taken: bool) {
         let unread = self.unread.saturating_add(came);
-        if taken {
-            self.brought = unread;
-            self.unread = came;
-        } else {
-            self.brought = 0;
-            self.unread = unread;
-        }
-    }
-
-    /// How many bytes the replies have at most that its last pump took.
-    pub fn brought(&self) -> u64 {
-        self.brought
+        self.brought = if taken { unread } else { 0 };
+        self.unread = if taken { came } else { unread };
     }
 
     /// Notes which commands wait at a moment, so that it is known once one has waited for too long.
@@ -301,16 +269,15 @@ impl Upstream {
         self.notices.note(Notice::Lost(cause));
     }
 
-    /// What became of it, and of the commands that were put on it, of which so many wait.
-    pub fn report(&self, waiting: usize) -> LineReport<'_> {
-        LineReport {
-            server: self.address.as_str(),
-            up: self.is_up(),
-            losses: self.losses,
-            sent: self.waits.sent(waiting),
-            lost: self.waits.lost(),
-            waiting,
-        }
+    /// Says on standard error what became of it, and of the commands that were put on it, of which so many wait.
+    pub fn report<R: Eprint>(&self, rt: &R, waiting: usize) {
+        let server = self.address.as_str();
+        let state = if self.is_up() { "up" } else { "down" };
+        let (losses, sent, lost) = (self.losses, self.waits.sent(waiting), self.waits.lost());
+        // Where it cannot be said, all are served all the same.
+        let _ = eprintln!(rt;
+            "{PROGRAM}: server={server} state={state} losses={losses} sent={sent} lost={lost} waiting={waiting}"
+        );
     }
 
     /// Why its pump has failed: where the link is lost by a strange reply, where not the connection is over, and else there was

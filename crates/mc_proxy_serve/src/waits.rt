@@ -1,5 +1,4 @@
 //! How long the commands on a link have waited.
-ghost use Rattle.std.specs.Prelude.{◌≡◌, ◌+◌};
 
 use std::alloc::Global;
 use std::collections::VecDeque;
@@ -64,17 +63,13 @@ impl Waits {
     pub fn note(&mut self, waiting: usize, at: u64) {
         let done = self.done();
         for _ in 0..self.puts.len() {
-            match self.puts.front() {
-                Some(put) if put.count <= done => {}
-                _ => break,
+            if self.puts.front().is_none_or(|put| put.count > done) {
+                break;
             }
             self.puts.pop_front();
         }
         let count = self.sent(waiting);
-        let before = match self.puts.back() {
-            Some(put) => put.count,
-            None => done,
-        };
+        let before = self.puts.back().map_or(done, |put| put.count);
         if count > before {
             // Where there is no memory it is noted at the next moment.
             let _ = self.puts.push_back(Put { count, at });
@@ -83,7 +78,6 @@ impl Waits {
 
     /// When the command was put on the link that has waited longest, where one waits.
     pub fn oldest(&self) -> Option<u64> {
-        let put = self.puts.front()?;
-        Some(put.at)
+        self.puts.front().map(|put| put.at)
     }
 }

@@ -10,7 +10,7 @@ use mc_proxy::MAX_SESSIONS;
 use mc_proxy_serve::{ListError, Options, PROGRAM, command, serve};
 use mc_ring::Ring;
 use mc_socket::bind;
-use mc_watch::{OWN_FILES, open_files, served};
+use mc_watch::{OWN_FILES, tell_open_files};
 use std::net::Net;
 use std::process::ExitCode;
 use std::random::RandomSource;
@@ -43,7 +43,8 @@ where
         return print_size(rt, &ring);
     }
     let listener = bind(rt, listen)?;
-    tell_open_files(rt, ring.servers().len());
+    let others = OWN_FILES.saturating_add(ring.servers().len() as u64);
+    tell_open_files(rt, PROGRAM, others, MAX_SESSIONS);
     // Whom the line does not reach is served all the same.
     let _ = println!(rt; "listening {listen}");
     serve(rt, alloc, listener, &settings, ring)?;
@@ -55,20 +56,6 @@ fn failure_of(error: ListError) -> Failure {
     match error {
         ListError::Bad => Failure::Refused("bad server list"),
         ListError::Memory => Failure::Serve(ServeError::Memory),
-    }
-}
-
-/// Says on standard error how many clients can be served beside the connections to servers, where the system allows fewer open
-/// files than all may need.
-fn tell_open_files<R: Eprint>(rt: &R, servers: usize) {
-    if let Some(files) = open_files() {
-        let clients = served(served(files, OWN_FILES), servers as u64);
-        if clients <= MAX_SESSIONS as u64 {
-            // Where it cannot be said, clients are served all the same.
-            let _ = eprintln!(rt;
-                "{PROGRAM}: {files} open files: {clients} connections can be served at a time"
-            );
-        }
     }
 }
 

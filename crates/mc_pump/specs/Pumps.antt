@@ -6,7 +6,7 @@ use Rattle.mc_stream.specs.Sides.{CarriesBy}
 use Rattle.mc_pump.specs.Stretches.{Stretch}
 use Rattle.mc_pump.specs.declared.limits.TheConstants.{UNSENT_MARK}
 use Rattle.mc_stream.specs.declared.outcomes.Pumped.{Pumped}
-use Rattle.mc_stream.specs.declared.outcomes.Pumped.TheVariants.{Again, Blocked, Done, Failed}
+use Rattle.mc_stream.specs.declared.outcomes.Pumped.TheVariants.{Blocked, Done}
 
 -- nothing is left to serve or to send, and nothing more will come: the input has ended, or is read no further
 pub record IsOver (ended : Bool) (connection : Option ConnectionState) : Type 0 where
@@ -21,10 +21,9 @@ pub record IsStuck (ended : Bool) (connection : Option ConnectionState) : Type 0
 
 -- how a connection is left: done where it is over, blocked where it is stuck
 abbrev pub Leaves : Pumped → Bool → Option ConnectionState → Type 0
-Leaves Again ended connection = Unit {0}
 Leaves Blocked ended connection = IsStuck ended connection
 Leaves Done ended connection = IsOver ended connection
-Leaves Failed ended connection = Unit {0}
+Leaves other ended connection = Unit {0}
 
 -- what a pump of the connection of a number at a moment does
 pub record Pumps (number moment : ℕ) (pump : Pumped) (old new : ServerState) (unread unread' written written' : Option (List ℕ)) (ended ended' : Bool) : Type 0 where

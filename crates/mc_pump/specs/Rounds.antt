@@ -1,12 +1,11 @@
 -- What the parts of a round do.
-use Rattle.std.specs.Prelude.{◌≡◌, ℕ, ◌<◌, ◌≤◌, Bool, true, false, not, List, [], length, Option, Result, Ok, Err}
+use Rattle.std.specs.Prelude.{◌≡◌, ℕ, ◌<◌, ◌≤◌, Bool, true, false, not, List, [], length, Option, Result}
 use Rattle.mc_server.specs.ServerState.{ConnectionState, ServerState, connection_at, output_of}
 use Rattle.mc_server.specs.Turns.{waiting_of, is_closed_at}
 use Rattle.mc_stream.specs.Sides.{HowItCame, HowItWent}
 use Rattle.mc_pump.specs.Stretches.{Stretch}
 use Rattle.mc_pump.specs.declared.limits.TheConstants.{UNSENT_MARK}
 use Rattle.mc_stream.specs.declared.outcomes.Pumped.{Pumped}
-use Rattle.mc_stream.specs.declared.outcomes.Pumped.TheVariants.{Again}
 use Rattle.mc_pump.specs.declared.rounds.Stop.{Stop}
 use Rattle.mc_pump.specs.declared.rounds.Stop.TheVariants.{Idle, Closing, Marked}
 
@@ -25,8 +24,7 @@ ends_by Marked ended = false
 -- whether the input is read on
 abbrev pub reads_by : Stop → (ended : Bool) → Bool
 reads_by Idle ended = not ended
-reads_by Closing ended = false
-reads_by Marked ended = false
+reads_by other ended = false
 
 -- a connection of which some was sent: all else of it is as it was
 pub record IsSentOf (old new : Option ConnectionState) : Type 0 where
@@ -46,8 +44,3 @@ pub record Receives (number moment : ℕ) (side : Result Bool Pumped) (old new :
   pub came : List ℕ
   pub stretch : Stretch number moment old new came []
   pub how : HowItCame side unread unread' ended' came (new ≡ old)
-
--- a round that does not stop goes on as a pump that may be called again
-abbrev pub pump_of : Result (Unit {0}) Pumped → Pumped
-pump_of (Ok u) = Again
-pump_of (Err pump) = pump

@@ -2,9 +2,10 @@
 ghost use Rattle.std.specs.Prelude.{◌≡◌, ◌<◌, ◌^◌, ◌==◌, ◌&&◌, ℕ, List, [], Option, false, length, IfOk, IsSome};
 ghost use Rattle.mc_server.specs.ServerState.{connection_at, output_of};
 ghost use Rattle.mc_server.specs.Turns.{is_closed_at, waiting_of};
+ghost use Rattle.mc_stream.specs.Sides.{pump_of};
 ghost use Rattle.mc_pump.specs.Stretches.{Stretch};
 ghost use Rattle.mc_pump.specs.Pumps.{Pumps};
-ghost use Rattle.mc_pump.specs.Rounds.{Receives, Sends, StopsAt, ends_by, pump_of, reads_by};
+ghost use Rattle.mc_pump.specs.Rounds.{Receives, Sends, StopsAt, ends_by, reads_by};
 
 use crate::limits::UNSENT_MARK;
 use crate::watches::Watch;
@@ -62,28 +63,19 @@ pub fn round<S: Store + Drop, R: Read, W: Write>(
 fn is_over<S: Store + Drop>(server: &Server<S>, number: u64, stop: Stop, ended: bool) -> bool
     ensures { result ≡ ((length (output_of (connection_at server.now number)) == 0) && ends_by stop ended) }
 {
-    server.output(number).is_empty() && ends(stop, ended)
-}
-
-/// Whether nothing more will come, where the turns stopped so.
-fn ends(stop: Stop, ended: bool) -> bool
-    ensures { result ≡ ends_by stop ended }
-{
-    match stop {
+    let ends = match stop {
         Stop::Idle => ended,
         Stop::Closing => true,
         Stop::Marked => false,
-    }
+    };
+    server.output(number).is_empty() && ends
 }
 
 /// Whether the input is read on, where the turns stopped so.
 fn is_read(stop: Stop, ended: bool) -> bool
     ensures { result ≡ reads_by stop ended }
 {
-    match stop {
-        Stop::Idle => !ended,
-        Stop::Closing | Stop::Marked => false,
-    }
+    matches!(stop, Stop::Idle) && !ended
 }
 
 /// Takes turns of a connection until none waits, or until as much is unsent as the mark. The error is how the pump stops: a turn

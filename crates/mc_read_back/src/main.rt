@@ -10,18 +10,13 @@
 
 mod cases;
 
-use anyhow::bail;
 use cases::play_line;
 use std::io::{self, Read, Write};
 
-/// How many bytes are asked for at a time.
-const PIECE_LEN: usize = 65_536;
-
-/// The most reads.
-const MAX_READS: u64 = 16_777_216;
-
 fn main(rt: HostRuntime) -> anyhow::Result<()> {
-    let input = read_input(&rt)?;
+    let mut input = Vec::new(rt.alloc());
+    let mut reader = rt.reader();
+    reader.read_to_end(&mut input)?;
     let mut output = Vec::new(rt.alloc());
     for line in input.as_slice().split(|b| *b == b'\n') {
         if !line.is_empty() {
@@ -31,19 +26,4 @@ fn main(rt: HostRuntime) -> anyhow::Result<()> {
     }
     io::writer(&rt).write_all(output.as_slice())?;
     Ok(())
-}
-
-/// All that standard input has.
-fn read_input(rt: &HostRuntime) -> anyhow::Result<Vec<u8>> {
-    let mut input = Vec::new(rt.alloc());
-    let mut piece = Vec::from_elem(rt.alloc(), 0, PIECE_LEN)?;
-    let mut reader = rt.reader();
-    for _ in 0..MAX_READS {
-        let count = reader.read(&mut piece)?;
-        if count == 0 {
-            return Ok(input);
-        }
-        input.extend_from_slice(piece.get(..count).unwrap_or_default())?;
-    }
-    bail!("too much input")
 }

@@ -1,6 +1,5 @@
 -- Answers to meta commands: the flags that they give back, and how much room these need.
-use Rattle.std.proofs.Common.{◌≡◌, ℕ, ◌<◌, ◌≤◌, Bool, true, false, List, [], ◌∷◌, ◌++◌, length, codes, filter, Option, Some, None, refl, sym, ap, ◌∙◌, if◌then◌else◌, slice_index, arith, inl, inr}
-use Rattle.std.specs.Fmt.{decimal}
+use Rattle.std.proofs.Common.{◌≡◌, ℕ, ◌<◌, ◌≤◌, Bool, true, false, List, [], ◌∷◌, ◌++◌, length, codes, filter, Option, Some, None, refl, ap, ◌∙◌, if◌then◌else◌, slice_index, arith}
 use Rattle.std.specs.Option.{unwrap_or}
 use Rattle.std.proofs.lemmas.Bool.{cases_lt}
 use Rattle.std.proofs.lemmas.Bool.Decides.{nat_tests}
@@ -70,14 +69,7 @@ left_if false coded word shown rest h = rw (h refl) refl
 -- what is asked for in the canonical order is given back in it
 asked_onto : (coded : Bool) (word : List ℕ) (show : Show) (shown : Shown) (rest : List ℕ) → ShowsAsked show shown
     → flags_onto coded word shown (show_words show) rest ≡ flags_onto false [] shown canonical_flags rest
-asked_onto coded word show shown rest asked =
-    let left = word_if show.left (codes "t") in
-    let size = word_if show.size (codes "s") ++ left in
-    let flags = word_if show.flags (codes "f") ++ size in
-    cas_if show.cas coded word shown flags rest asked.cas
-    ∙ ap (λ more. number_flag_onto (codes " c") shown.cas more) (flags_if show.flags coded word shown size rest asked.flags
-    ∙ ap (λ more. number_flag_onto (codes " f") shown.flags more) (size_if show.size coded word shown left rest asked.size
-    ∙ ap (λ more. number_flag_onto (codes " s") shown.size more) (left_if show.left coded word shown rest asked.left)))
+asked_onto coded word show shown rest asked = grind (arith, codes, cas_if, flags_if, size_if, left_if)
 
 canonical_onto : (coded : Bool) (word : List ℕ) (show : Show) (shown : Shown) (flags : List (List ℕ)) (rest : List ℕ)
     → filter gives_back flags ≡ show_words show → ShowsAsked show shown
@@ -93,9 +85,7 @@ pub meta_line-canonical : (form : MetaForm (List (List ℕ))) (key : List ℕ) (
     → filter gives_back form.flags ≡ show_words show → RepliesAsked show reply → meta_line form key reply ≡ meta_spelling reply
 meta_line-canonical form key show (Meta shown None) order asked =
     ap (λ line. codes "HD" ++ line) (canonical_onto form.coded (key_word form.coded key) show shown form.flags (marks_onto shown.marks (codes "\r\n")) order asked)
-meta_line-canonical form key show (Meta shown (Some value)) order asked =
-    ap (λ line. codes "VA " ++ (decimal (length value) ++ line))
-    (canonical_onto form.coded (key_word form.coded key) show shown form.flags (marks_onto shown.marks (codes "\r\n" ++ (value ++ codes "\r\n"))) order asked)
+meta_line-canonical form key show (Meta shown (Some value)) order asked = grind (arith, codes, canonical_onto)
 meta_line-canonical form key show NotStored order asked =
     ap (λ line. codes "NS" ++ line) (canonical_onto form.coded (key_word form.coded key) show nothing_shown form.flags (codes "\r\n") order (nothing_asked show))
 meta_line-canonical form key show Exists order asked =
@@ -114,22 +104,14 @@ key_length key h = grind (arith, nat_tests)
 -- a plain word is the key that it says
 plain_word : (word : List ℕ) (b : Bool) → is_plain_key word ≡ b → is_key (unwrap_or (if b then Some word else None) []) ≡ true
     → (unwrap_or (if b then Some word else None) [] ≡ word) × (length word ≤ 336)
-plain_word word true e h =
-    let short : length word ≤ 250 = key_length word h in
-    (refl, omega arith)
+plain_word word true e h = grind (arith, key_length)
 plain_word word false e h = absurd cc
 
 -- a word in base64 is the one that its key has
 coded_word : (word : List ℕ) (said : Option (List ℕ)) → AreBytes word → coded_key word ≡ said → is_key (unwrap_or said []) ≡ true
     → (key_word true (unwrap_or said []) ≡ word) × (length word ≤ 336)
 coded_word word None are e h = absurd cc
-coded_word word (Some key) are e h = (
-  coded_of-said word key are (said_key word key e),
-  (elim (cases_lt 336 (length word)) [
-    | inl long ↦ let never : None ≡ Some key = sym (coded_key-too_long word are long) ∙ e in absurd cc
-    | inr short ↦ short
-  ]),
-)
+coded_word word (Some key) are e h = grind (arith, cases_lt, coded_of-said, said_key, coded_key-too_long)
 
 -- the word of a key that a word says is that word, and it is not too long
 pub word_of-said : (coded : Bool) (word : List ℕ) → AreBytes word → is_key (key_bytes coded word) ≡ true

@@ -63,18 +63,12 @@ mode_fits names.MetaSet read token = fits_by 0 read (valued read.mode (mode_of t
 mode_fits name read token = fits_by 0 read (valued read.direction (direction_of token)) _ (λ _ _. omega arith)
 
 flag_fits : (name : Name) (read : MetaFlags) (token : List ℕ) (flag : Flag) → Fits (given_room (suc (length token)) (Some flag)) read (by_flag name read token flag)
-flag_fits name read token Cas = fits_by 22 read (bare read.show.cas token) _ (λ now e.
-    let once = bare_once read.show.cas token now e in omega (arith, before read.show.cas 22 once.0, after now 22 once.1))
-flag_fits name read token ClientFlags = fits_by 22 read (bare read.show.flags token) _ (λ now e.
-    let once = bare_once read.show.flags token now e in omega (arith, before read.show.flags 22 once.0, after now 22 once.1))
-flag_fits name read token Size = fits_by 22 read (bare read.show.size token) _ (λ now e.
-    let once = bare_once read.show.size token now e in omega (arith, before read.show.size 22 once.0, after now 22 once.1))
-flag_fits name read token Left = fits_by 22 read (bare read.show.left token) _ (λ now e.
-    let once = bare_once read.show.left token now e in omega (arith, before read.show.left 22 once.0, after now 22 once.1))
-flag_fits name read token Key = fits_by 340 read (bare read.key token) _ (λ now e.
-    let once = bare_once read.key token now e in omega (arith, before read.key 340 once.0, after now 340 once.1))
-flag_fits name read token Opaque = fits_by (suc (length token) + 1) read (opaque_of read.opaque token) _ (λ now e.
-    let once = opaque_once read.opaque token now e in omega (arith, before read.opaque 34 once.0, after now 34 once.1, once.2))
+flag_fits name read token Cas = grind (arith, fits_by, bare_once, before, after)
+flag_fits name read token ClientFlags = grind (arith, fits_by, bare_once, before, after)
+flag_fits name read token Size = grind (arith, fits_by, bare_once, before, after)
+flag_fits name read token Left = grind (arith, fits_by, bare_once, before, after)
+flag_fits name read token Key = grind (arith, fits_by, bare_once, before, after)
+flag_fits name read token Opaque = grind (arith, fits_by, opaque_once, before, after)
 flag_fits name read token Coded = fits_by 0 read (bare read.coded token) _ (λ _ _. omega arith)
 flag_fits name read token Quiet = fits_by 0 read (bare read.quiet token) _ (λ _ _. omega arith)
 flag_fits name read token Value = fits_by 0 read (bare read.show.value token) _ (λ _ _. omega arith)

@@ -11,11 +11,11 @@ use Rattle.mc_request.specs.declared.meta.Show.{Show}
 use Rattle.mc_request.specs.declared.parts.Atom.{Atom}
 use Rattle.mc_request.specs.declared.parts.Atom.TheVariants as atoms
 use Rattle.mc_request.specs.declared.parts.StoreMode.{StoreMode}
-use Rattle.mc_request.specs.declared.parts.StoreMode.TheVariants.{Set, Add, Replace, Append, Prepend}
+use Rattle.mc_request.specs.declared.parts.StoreMode.TheVariants.{Set}
 use Rattle.mc_request.specs.declared.parts.Update.{Update}
 use Rattle.mc_request.specs.declared.parts.Update.TheVariants.{Store, Touch, Delete, Count, FlushAll}
 use Rattle.mc_reply.specs.declared.replies.Marks.{Marks}
-use Rattle.mc_reply.specs.declared.replies.Marks.TheVariants.{Plain, Won, WonStale, StaleSent, Sent}
+use Rattle.mc_reply.specs.declared.replies.Marks.TheVariants.{Plain}
 use Rattle.mc_reply.specs.declared.replies.Shown.{Shown}
 use Rattle.mc_reply.specs.declared.replies.Reply.{Reply}
 use Rattle.mc_reply.specs.declared.replies.Reply.TheVariants.{Stored, NotStored, Exists, NotFound, Deleted, Touched, Flushed, Number, Miss, Hit, Meta, Fault}
@@ -44,10 +44,7 @@ is_shown_by show shown =
 -- no mark
 abbrev pub is_unmarked : Marks → Bool
 is_unmarked Plain = true
-is_unmarked Won = false
-is_unmarked WonStale = false
-is_unmarked StaleSent = false
-is_unmarked Sent = false
+is_unmarked marks = false
 
 -- what a meta command that was done shows; only `mg` has marks
 abbrev pub is_done : Show → Shown → Option (List ℕ) → Bool
@@ -76,10 +73,7 @@ is_cas_fault fault = false
 -- whether a mode asks that its key be held, or that it be not
 abbrev pub is_conditional : StoreMode → Bool
 is_conditional Set = false
-is_conditional Add = true
-is_conditional Replace = true
-is_conditional Append = true
-is_conditional Prepend = true
+is_conditional mode = true
 
 -- the replies to a classic update: source protocol.txt, each command's section, but for the error lines, which are this
 -- project's own

@@ -2,7 +2,7 @@
 use Rattle.std.specs.Prelude.{ℕ, ◌+◌, ◌==◌, if◌then◌else◌, List, [], ◌∷◌, ◌++◌, length, slice_index_or, Option, Some, None}
 use Rattle.mc_request.specs.Hides.{hides_of}
 use Rattle.mc_request.specs.declared.parts.Request.{Request}
-use Rattle.mc_request.specs.declared.parts.Request.TheVariants.{Get, Update, Meta, MetaNoop, Version, Quit}
+use Rattle.mc_request.specs.declared.parts.Request.TheVariants.{Get, Update, Meta}
 use Rattle.mc_reply.specs.declared.replies.Reply.{Reply}
 use Rattle.mc_reply.specs.Spelling.{end_line, key_part, shown_line, shown_meta, meta_key, answer_of}
 
@@ -16,9 +16,7 @@ part_of request at None = answer_of request []
 part_of (Get keys exptime with_cas) at (Some reply) = key_part (slice_index_or keys at []) reply ++ end_after keys at
 part_of (Update update noreply) at (Some reply) = shown_line (hides_of (Update update noreply)) reply
 part_of (Meta command form) at (Some reply) = shown_meta (hides_of (Meta command form)) form (meta_key command) reply
-part_of MetaNoop at (Some reply) = []
-part_of Version at (Some reply) = []
-part_of Quit at (Some reply) = []
+part_of request at (Some reply) = []
 
 -- the parts of the replies to the commands from this number on, joined in order
 abbrev pub parts_from : Request → ℕ → List (Reply (List ℕ)) → List ℕ

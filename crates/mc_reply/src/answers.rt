@@ -52,6 +52,12 @@ impl From<AllocError> for ReplyError {
     }
 }
 
+impl From<ReplyError> for AllocError {
+    fn from(_e: ReplyError) -> AllocError {
+        AllocError
+    }
+}
+
 ghost use Rattle.mc_reply.specs.declared.answers.ReplyError.TheVariants.{Memory};
 
 /// Whether the reply to a command of this request is shown. What hides a reply of an update by `noreply` never hides an
@@ -215,17 +221,11 @@ pub fn write_part(
                 append(out, b"END\r\n");
             }
         }
-        Request::Update { .. } => {
-            if shown(request, reply) {
-                write_line(reply, out)?;
-            }
+        Request::Update { .. } if shown(request, reply) => write_line(reply, out)?,
+        Request::Meta { command, form } if shown(request, reply) => {
+            write_owned_meta(command, form, reply, out)?;
         }
-        Request::Meta { command, form } => {
-            if shown(request, reply) {
-                write_owned_meta(command, form, reply, out)?;
-            }
-        }
-        Request::MetaNoop | Request::Version | Request::Quit => {}
+        _ => {}
     }
     Ok(())
 }

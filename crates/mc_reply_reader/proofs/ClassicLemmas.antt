@@ -1,5 +1,5 @@
 -- The forms of the replies to classic commands cover their spellings.
-use Rattle.std.proofs.Common.{◌≡◌, ℕ, Bool, true, List, ◌++◌, length, Option, Some, None, codes, ℤ, refl, sym, ap, ◌∙◌}
+use Rattle.std.proofs.Common.{◌≡◌, ℕ, Bool, true, List, ◌++◌, length, Option, Some, None, codes, ℤ, refl, ap, ◌∙◌, arith}
 use Rattle.std.specs.Fmt.{decimal}
 use Rattle.std.specs.Option.{is_some}
 use Rattle.mc_forms.specs.Forms.{Or, Path, or_if}
@@ -32,19 +32,11 @@ Head = Atom (Unit {0})
 
 pub of_store_faults : (may : Answer → Bool) (spell : Answer → List ℕ) → ((fault : Fault) → is_store_fault fault ≡ true → may (replies.Fault fault) ≡ true)
     → ((fault : Fault) → spell (replies.Fault fault) ≡ reply_line (replies.Fault fault)) → (p : Path store_faults) → Holds store_faults may spell p
-of_store_faults may spell can same p =
-    of_or may spell (update_line (replies.Fault TooLarge)) (Or (update_line (replies.Fault CasUsedUp)) (update_line (replies.Fault OutOfMemory)))
-    (of_line may spell (reply_line (replies.Fault TooLarge)) (replies.Fault TooLarge) (can TooLarge refl) (same TooLarge))
-    (of_or may spell (update_line (replies.Fault CasUsedUp)) (update_line (replies.Fault OutOfMemory))
-    (of_line may spell (reply_line (replies.Fault CasUsedUp)) (replies.Fault CasUsedUp) (can CasUsedUp refl) (same CasUsedUp))
-    (of_line may spell (reply_line (replies.Fault OutOfMemory)) (replies.Fault OutOfMemory) (can OutOfMemory refl) (same OutOfMemory))) p
+of_store_faults may spell can same p = grind (arith, of_line, of_or)
 
 pub of_count_faults : (may : Answer → Bool) (spell : Answer → List ℕ) → ((fault : Fault) → is_count_fault fault ≡ true → may (replies.Fault fault) ≡ true)
     → ((fault : Fault) → spell (replies.Fault fault) ≡ reply_line (replies.Fault fault)) → (p : Path count_faults) → Holds count_faults may spell p
-of_count_faults may spell can same p =
-    of_or may spell (update_line (replies.Fault NonNumeric)) store_faults
-    (of_line may spell (reply_line (replies.Fault NonNumeric)) (replies.Fault NonNumeric) (can NonNumeric refl) (same NonNumeric))
-    (of_store_faults may spell (λ fault is. can fault (counted fault is)) same) p
+of_count_faults may spell can same p = grind (arith, of_line, of_or, of_store_faults)
   where
     counted : (fault : Fault) → is_store_fault fault ≡ true → is_count_fault fault ≡ true
     counted TooLarge is = refl
@@ -81,16 +73,7 @@ of_hit key exptime with_cas p =
     let flags = p.0 in
     let size = p.2.0 in
     let cas = of_number with_cas is_u64 (codes " ") NUMBER_LIMIT (hit_value flags size) u64_fits p.2.2 in
-    let value = cas.after.path in
-    record {
-      value = replies.Hit flags cas.number value.0;
-      means = sym cas.after.means;
-      allowed = all_three (is_u32 flags) (is_as_asked is_u64 with_cas cas.number) (is_good_block value.0) (u32_fits flags p.1) cas.shown (block_fits value.0 size p.2.1 value.1);
-      spelled = ap (λ (w : List ℕ). codes "VALUE " ++ (key ++ (codes " " ++ (decimal flags ++ (codes " " ++ w)))))
-          (ap (λ (w : List ℕ). decimal size ++ w)
-          (cas.spelled ∙ ap (number_flag_onto (codes " ") cas.number) (sym cas.after.spelled) ∙ cas_is cas.number _)
-          ∙ ap (λ (n : ℕ). decimal n ++ cas_onto cas.number (codes "\r\n" ++ (value.0 ++ codes "\r\nEND\r\n"))) (sym value.1));
-    }
+    grind (arith, codes, u32_fits, block_fits, all_three, cas_is)
 
 to_hit : (key : List ℕ) (exptime : Option ℤ) (with_cas : Bool) (flags : ℕ) (cas : Option ℕ) (value : List ℕ)
     → can_have (get_head key exptime with_cas) (replies.Hit flags cas value) ≡ true
@@ -222,10 +205,4 @@ covers_update (updates.Delete key compare invalidate) = record {
   to_path = to_delete key compare invalidate;
 }
 covers_update (updates.Count key counting) = covers_count key counting
-covers_update (updates.FlushAll delay) =
-    let head = update_head (updates.FlushAll delay) in
-    record {
-      clear = clear_lines (update_line replies.Flushed) refl;
-      of_path = of_line (can_have head) (spelling_of head) (reply_line replies.Flushed) replies.Flushed refl refl;
-      to_path = to_flush delay;
-    }
+covers_update (updates.FlushAll delay) = grind (arith, clear_lines, of_line, to_flush)

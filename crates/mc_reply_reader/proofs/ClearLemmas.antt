@@ -2,18 +2,18 @@
 -- is after each block.
 use Rattle.std.proofs.Common.{◌≡◌, ℕ, Bool, true, false, List, Option, Some, None, codes, refl, arith}
 use Rattle.mc_text.specs.declared.blocks.TheConstants.{VALUE_LIMIT}
-use Rattle.mc_forms.specs.Forms.{Form, Text, Number, Or, number_if}
+use Rattle.mc_forms.specs.Forms.{Form, Text, Number, Or}
 use Rattle.mc_forms.proofs.FormLaws.{IsClear}
 use Rattle.mc_forms.proofs.LeadLemmas.{leads, all_differ, clear_or, clear_number, clear_lines, after_number_if, IsAfter}
 use Rattle.mc_request.specs.declared.faults.Fault.TheVariants.{CasUsedUp}
 use Rattle.mc_request.specs.declared.meta.Show.{Show}
 use Rattle.mc_reply.specs.declared.replies.Marks.{Marks}
-use Rattle.mc_reply.specs.declared.replies.Marks.TheVariants.{Plain, Won, WonStale, StaleSent, Sent}
+use Rattle.mc_reply.specs.declared.replies.Marks.TheVariants.{Plain}
 use Rattle.mc_reply.specs.declared.replies.Shown.{Shown}
 use Rattle.mc_reply.specs.declared.replies.Reply.TheVariants as replies
 use Rattle.mc_reply.specs.Spelling.{end_line}
 use Rattle.mc_reply_reader.specs.ReplyForms.{Answer, line, update_line, store_faults, count_faults, store_form, number_end, number_line, count_form, hit_value, hit_size, hit, get_form}
-use Rattle.mc_reply_reader.specs.MetaForms.{code_line, left_if, mark_end, end_if, shown_by, after_line, shown_form, unmet_form, meta_get_form, meta_store_form, meta_delete_form, meta_count_form}
+use Rattle.mc_reply_reader.specs.MetaForms.{code_line, left_if, end_if, shown_by, after_line, shown_form, unmet_form, meta_get_form, meta_store_form, meta_delete_form, meta_count_form}
 use Rattle.mc_reply_reader.specs.declared.limits.TheConstants.{FLAGS_LIMIT, NUMBER_LIMIT}
 
 -- classic commands
@@ -36,12 +36,7 @@ clear_hit_value : (flags size : ℕ) (cas : Option ℕ) → IsClear (hit_value f
 clear_hit_value flags size cas = (λ value p. omega arith, λ value. tt)
 
 after_hit_size : (with_cas : Bool) (flags : ℕ) → IsAfter (hit_size with_cas flags)
-after_hit_size with_cas flags = record {
-  clear = clear_number VALUE_LIMIT (λ size. number_if with_cas (codes " ") NUMBER_LIMIT (hit_value flags size)) (omega arith)
-      (λ size. after_number_if with_cas (codes " ") NUMBER_LIMIT (hit_value flags size) refl (omega arith)
-      (λ cas. record { clear = clear_hit_value flags size cas; leads = refl }));
-  leads = refl;
-}
+after_hit_size with_cas flags = grind (arith, codes, leads, clear_number, after_number_if, clear_hit_value)
 
 clear_hit : (key : List ℕ) (with_cas : Bool) → IsClear (hit key with_cas)
 clear_hit key with_cas = clear_number FLAGS_LIMIT (hit_size with_cas) (omega arith) (after_hit_size with_cas)
@@ -60,19 +55,7 @@ after_left_if true f h = record {
 after_left_if false f h = h None
 
 after_end_if : (marked : Bool) (f : Marks → Form Answer) → ((marks : Marks) → IsClear (f marks)) → IsAfter (end_if marked f)
-after_end_if true f h =
-    let plain = Text (codes "\r\n") (f Plain) in
-    let won = Text (codes " W\r\n") (f Won) in
-    let won_stale = Text (codes " W X\r\n") (f WonStale) in
-    let stale = Text (codes " X Z\r\n") (f StaleSent) in
-    let sent = Text (codes " Z\r\n") (f Sent) in
-    record {
-      clear = clear_or plain (mark_end f) (h Plain)
-          (clear_or won (Or won_stale (Or stale sent)) (h Won)
-          (clear_or won_stale (Or stale sent) (h WonStale)
-          (clear_or stale sent (h StaleSent) (h Sent) refl) refl) refl) refl;
-      leads = refl;
-    }
+after_end_if true f h = grind (arith, codes, leads, clear_or)
 after_end_if false f h = record { clear = h Plain; leads = refl }
 
 after_shown : (marked : Bool) (show : Show) (f : Shown → Form Answer) → ((shown : Shown) → IsClear (f shown)) → IsAfter (shown_by marked show f)

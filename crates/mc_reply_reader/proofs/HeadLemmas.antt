@@ -7,8 +7,7 @@ use Rattle.mc_forms.specs.declared.unready.Unready.TheVariants.{More, Strange}
 use Rattle.mc_forms.proofs.CoverLaws.{Covers, Begins, BegunFor, read_ok, read_more, read_strange, are_apart}
 use Rattle.mc_request.specs.Parts.{meta_map, update_map}
 use Rattle.mc_request.specs.Atoms.{head_of}
-use Rattle.mc_spelling.specs.Spellings.{is_askable, is_byte_key, is_good_atom}
-use Rattle.mc_request.specs.WellFormed.{is_good_block, is_good_meta}
+use Rattle.mc_spelling.specs.Spellings.{is_askable, is_good_atom}
 use Rattle.mc_request.specs.declared.faults.Fault.TheVariants.{CasUsedUp}
 use Rattle.mc_request.specs.declared.meta.MetaCommand.{MetaCommand}
 use Rattle.mc_request.specs.declared.meta.MetaCommand.TheVariants as metas
@@ -51,12 +50,7 @@ reply_read head u x e = elim (covered head) [
 ]
 
 short_by : (head : Head) (u : List ℕ) (n wanted : ℕ) → BegunFor (can_have head) (spelling_of head) u n → length u < wanted → wanted ≤ length u + n → IsShortOf head wanted u
-short_by head u n wanted h above below = record {
-  short = above;
-  begun = λ more few.
-      let begun = h.begun more (omega (arith, length-append u more)) in
-      record { reply = begun.value; can = begun.allowed; more = begun.more; missing = begun.missing; spelled = begun.spelled };
-}
+short_by head u n wanted h above below = grind (arith, length-append)
 
 pub reply_short : (head : Head) (u : List ℕ) (n wanted : ℕ) → read_if (form_of head) u ≡ Err (More n)
     → ((0 < n) → length u < wanted) → wanted ≤ length u + n → IsShortOf head wanted u
@@ -140,10 +134,7 @@ meta_may_begin (metas.Update (updates.Touch key exptime) show) = inr (refl, λ r
 meta_may_begin (metas.Update (updates.FlushAll delay) show) = inr (refl, λ r can. absurd (cc))
 
 pub meta_begins : (command : MetaCommand (List ℕ) (Unit {0})) → is_askable command ≡ true → IsBegun (atoms.Meta command) []
-meta_begins command is = elim (meta_may_begin command) [
-  | inl begun ↦ begun
-  | inr never ↦ let clash : true ≡ false = sym is ∙ never.0 in absurd (cc)
-]
+meta_begins command is = grind (arith, meta_may_begin)
 
 -- a command without its block asks to be shown the same
 askable_head : (command : MetaCommand (List ℕ) (List ℕ)) → is_askable command ≡ true → is_askable (meta_map (λ key. key) (λ _. tt {0}) command) ≡ true
@@ -157,25 +148,17 @@ askable_head (metas.Update (updates.FlushAll delay) show) is = is
 pub atom_begins : (atom : Atom (List ℕ)) → is_good_atom atom ≡ true → IsBegun (head_of atom) []
 atom_begins (atoms.Get key exptime with_cas) is = get_begins key exptime with_cas
 atom_begins (atoms.Update update) is = update_begins (update_map (λ key. key) (λ _. tt) update)
-atom_begins (atoms.Meta command) is =
-    meta_begins (meta_map (λ key. key) (λ _. tt) command)
-    (askable_head command (two_of (is_askable command) (is_good_meta is_byte_key is_good_block command) is).0)
+atom_begins (atoms.Meta command) is = grind (arith, two_of, meta_begins, askable_head)
 
 -- before a byte has come a reply has only begun, where the command has one; so none is spelled by no bytes
 begins_if : (head : Head) (r : Answer) → can_have head r ≡ true → IsBegun head []
 begins_if (atoms.Get key exptime with_cas) r can = get_begins key exptime with_cas
 begins_if (atoms.Update update) r can = update_begins update
-begins_if (atoms.Meta command) r can = elim (meta_may_begin command) [
-  | inl begun ↦ begun
-  | inr never ↦ absurd (never.1 r can)
-]
+begins_if (atoms.Meta command) r can = grind (arith, meta_may_begin)
 
 pub not_nothing : (head : Head) (r : Answer) → can_have head r ≡ true → spelling_of head r ≢ []
 not_nothing head r can none =
     let begun = begins_if head r can in
     let both : spelling_of head r ++ spelling_of head begun.reply ≡ spelling_of head begun.reply ++ [] =
     ap (λ (bytes : List ℕ). bytes ++ spelling_of head begun.reply) none ∙ sym (append-nil (spelling_of head begun.reply)) in
-    let same : r ≡ begun.reply = (replies_apart head r begun.reply (spelling_of head begun.reply) [] can begun.can both).0 in
-    let more : begun.more ≡ [] = begun.spelled ∙ ap (λ (reply : Answer). spelling_of head reply) (sym same) ∙ none in
-    let size : length begun.more ≡ 0 = ap (λ (bytes : List ℕ). length bytes) more in
-    omega (arith, begun.missing, size)
+    grind (arith, replies_apart)

@@ -1,9 +1,8 @@
 -- The forms of the replies to meta commands cover their spellings.
-use Rattle.std.proofs.Common.{◌≡◌, ℕ, Bool, true, false, List, Option, ℤ, refl, sym, ◌∙◌}
+use Rattle.std.proofs.Common.{◌≡◌, ℕ, Bool, true, false, List, Option, ℤ, refl, arith}
 use Rattle.std.specs.Option.{is_some}
 use Rattle.mc_forms.specs.Forms.{Or, Path, or_if}
 use Rattle.mc_forms.proofs.CoverLaws.{Holds, Spells, Covers, of_line, of_or, of_or_if, to_line, to_left, to_right, to_if, to_after}
-use Rattle.mc_request.specs.WellFormed.{is_good_block}
 use Rattle.mc_request.specs.declared.faults.Fault.{Fault}
 use Rattle.mc_request.specs.declared.faults.Fault.TheVariants.{CasUsedUp}
 use Rattle.mc_request.specs.declared.meta.Counting.{Counting}
@@ -16,7 +15,7 @@ use Rattle.mc_request.specs.declared.parts.StoreMode.{StoreMode}
 use Rattle.mc_request.specs.declared.parts.Update.TheVariants as updates
 use Rattle.mc_reply.specs.declared.replies.Reply.TheVariants as replies
 use Rattle.mc_reply.specs.declared.replies.Shown.{Shown}
-use Rattle.mc_reply.specs.CanHave.{can_have, is_as_asked, is_cas_fault, is_done, is_done_unmarked, is_shown_by, is_store_fault, is_unmarked}
+use Rattle.mc_reply.specs.CanHave.{can_have, is_cas_fault, is_done, is_done_unmarked, is_store_fault, is_unmarked}
 use Rattle.mc_reply.specs.MetaSpelling.{meta_spelling}
 use Rattle.mc_reply.specs.Spelling.{reply_line, spelling_of}
 use Rattle.mc_reply_reader.specs.ReplyForms.{Answer, update_line, store_faults, count_faults}
@@ -37,18 +36,11 @@ of_shown : (head : Head) (marked : Bool) (show : Show)
     → (p : Path (shown_form marked show show.value)) → Holds (shown_form marked show show.value) (can_have head) (spelling_of head) p
 of_shown head marked show can same p =
     let m = of_meta marked show show.value p in
-    record {
-      value = replies.Meta m.shown m.value;
-      means = m.means;
-      allowed = can m.shown m.value (all_two (is_shown_by show m.shown) (is_as_asked is_good_block show.value m.value) m.fits m.has_value) m.marks;
-      spelled = m.spelled ∙ sym (same m.shown m.value);
-    }
+    grind (arith, all_two)
 
 to_shown : (marked : Bool) (show : Show) (shown : Shown) (value : Option (List ℕ)) → is_done show shown value ≡ true → may_mark marked shown.marks ≡ true
     → Spells (shown_form marked show show.value) (replies.Meta shown value) (meta_spelling (replies.Meta shown value))
-to_shown marked show shown value done marks =
-    let parts = two_of (is_shown_by show shown) (is_as_asked is_good_block show.value value) done in
-    to_meta marked show show.value shown value parts.0 marks parts.1
+to_shown marked show shown value done marks = grind (arith, two_of, to_meta)
 
 -- only `mg` has marks
 unmarked : (show : Show) (shown : Shown) (value : Option (List ℕ)) → is_done show shown value ≡ true → is_unmarked shown.marks ≡ true → is_done_unmarked show shown value ≡ true
@@ -56,17 +48,12 @@ unmarked show shown value done marks = all_two (is_unmarked shown.marks) (is_don
 
 to_unmarked : (show : Show) (shown : Shown) (value : Option (List ℕ)) → is_done_unmarked show shown value ≡ true
     → Spells (shown_form false show show.value) (replies.Meta shown value) (meta_spelling (replies.Meta shown value))
-to_unmarked show shown value can =
-    let parts = two_of (is_unmarked shown.marks) (is_done show shown value) can in
-    to_shown false show shown value parts.1 parts.0
+to_unmarked show shown value can = grind (arith, two_of, to_shown)
 
 of_unmet : (head : Head) → can_have head replies.Exists ≡ true → can_have head replies.NotFound ≡ true
     → spelling_of head replies.Exists ≡ meta_spelling replies.Exists → spelling_of head replies.NotFound ≡ meta_spelling replies.NotFound
     → (p : Path unmet_form) → Holds unmet_form (can_have head) (spelling_of head) p
-of_unmet head can can_not same same_not =
-    of_or (can_have head) (spelling_of head) (code_line replies.Exists) (code_line replies.NotFound)
-    (of_line (can_have head) (spelling_of head) (meta_spelling replies.Exists) replies.Exists can same)
-    (of_line (can_have head) (spelling_of head) (meta_spelling replies.NotFound) replies.NotFound can_not same_not)
+of_unmet head can can_not same same_not = grind (arith, of_line, of_or)
 
 -- mg
 

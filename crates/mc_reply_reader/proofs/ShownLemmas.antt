@@ -1,5 +1,5 @@
 -- What is shown: from a path of its form to its spelling, and back.
-use Rattle.std.proofs.Common.{◌≡◌, ℕ, ◌≤◌, Bool, true, false, List, ◌++◌, length, Option, Some, None, codes, inl, inr, refl, sym, ap, ◌∙◌}
+use Rattle.std.proofs.Common.{◌≡◌, ℕ, ◌≤◌, Bool, true, false, List, ◌++◌, length, Option, Some, None, codes, inl, inr, refl, sym, ap, ◌∙◌, arith}
 use Rattle.std.specs.Fmt.{decimal}
 use Rattle.mc_text.specs.declared.blocks.TheConstants.{VALUE_LIMIT}
 use Rattle.mc_forms.specs.Forms.{Form, Path, word, meant, number_if}
@@ -39,20 +39,8 @@ pub record NumberOf (asked : Bool) (test : ℕ → Bool) (text : List ℕ) (f : 
 
 pub of_number : (asked : Bool) (test : ℕ → Bool) (text : List ℕ) (most : ℕ) (f : Option ℕ → Form Answer) → ((n : ℕ) → n ≤ most → test n ≡ true)
     → (p : Path (number_if asked text most f)) → NumberOf asked test text f (meant (number_if asked text most f) p) (word (number_if asked text most f) p)
-of_number true test text most f fits p = record {
-  number = Some p.0;
-  shown = fits p.0 p.1;
-  rest = word (f (Some p.0)) p.2;
-  after = record { path = p.2; means = refl; spelled = refl };
-  spelled = refl;
-}
-of_number false test text most f fits p = record {
-  number = None;
-  shown = refl;
-  rest = word (f None) p;
-  after = record { path = p; means = refl; spelled = refl };
-  spelled = refl;
-}
+of_number true test text most f fits p = grind arith
+of_number false test text most f fits p = grind arith
 
 record LeftOf (asked : Bool) (f : Option (Option ℕ) → Form Answer) (r : Answer) (s : List ℕ) : Type 0 where
   pub left : Option (Option ℕ)
@@ -62,27 +50,9 @@ record LeftOf (asked : Bool) (f : Option (Option ℕ) → Form Answer) (r : Answ
   pub spelled : s ≡ left_onto left rest
 
 of_left : (asked : Bool) (f : Option (Option ℕ) → Form Answer) (p : Path (left_if asked f)) → LeftOf asked f (meant (left_if asked f) p) (word (left_if asked f) p)
-of_left true f (inl p) = record {
-  left = Some None;
-  shown = refl;
-  rest = word (f (Some None)) p;
-  after = record { path = p; means = refl; spelled = refl };
-  spelled = refl;
-}
-of_left true f (inr p) = record {
-  left = Some (Some p.0);
-  shown = u64_fits p.0 p.1;
-  rest = word (f (Some (Some p.0))) p.2;
-  after = record { path = p.2; means = refl; spelled = refl };
-  spelled = refl;
-}
-of_left false f p = record {
-  left = None;
-  shown = refl;
-  rest = word (f None) p;
-  after = record { path = p; means = refl; spelled = refl };
-  spelled = refl;
-}
+of_left true f (inl p) = grind arith
+of_left true f (inr p) = grind (arith, u64_fits)
+of_left false f p = grind arith
 
 record MarksOf (marked : Bool) (f : Marks → Form Answer) (r : Answer) (s : List ℕ) : Type 0 where
   pub marks : Marks
@@ -93,13 +63,7 @@ record MarksOf (marked : Bool) (f : Marks → Form Answer) (r : Answer) (s : Lis
 
 marks_of : (marked : Bool) (f : Marks → Form Answer) (marks : Marks) → may_mark marked marks ≡ true → (p : Path (f marks))
     → MarksOf marked f (meant (f marks) p) (marks_onto marks (codes "\r\n" ++ word (f marks) p))
-marks_of marked f marks shown p = record {
-  marks = marks;
-  shown = shown;
-  rest = word (f marks) p;
-  after = record { path = p; means = refl; spelled = refl };
-  spelled = refl;
-}
+marks_of marked f marks shown p = grind arith
 
 of_end : (marked : Bool) (f : Marks → Form Answer) (p : Path (end_if marked f)) → MarksOf marked f (meant (end_if marked f) p) (word (end_if marked f) p)
 of_end true f (inl p) = marks_of true f Plain refl p
@@ -125,23 +89,7 @@ of_shown marked show f p =
     let size = of_number show.size is_size (codes " s") VALUE_LIMIT _ size_fits flags.after.path in
     let left = of_left show.left _ size.after.path in
     let marks = of_end marked _ left.after.path in
-    record {
-      shown = record { cas = cas.number; flags = flags.number; size = size.number; left = left.left; marks = marks.marks };
-      fits = all_four (is_as_asked is_u64 show.cas cas.number) (is_as_asked is_u32 show.flags flags.number) (is_as_asked is_size show.size size.number)
-          (is_as_asked (is_where_some is_u64) show.left left.left) cas.shown flags.shown size.shown left.shown;
-      marks = marks.shown;
-      rest = marks.rest;
-      after = record {
-        path = marks.after.path;
-        means = marks.after.means ∙ left.after.means ∙ size.after.means ∙ flags.after.means ∙ cas.after.means;
-        spelled = marks.after.spelled;
-      };
-      spelled = cas.spelled ∙ ap (number_flag_onto (codes " c") cas.number)
-          (sym cas.after.spelled ∙ flags.spelled ∙ ap (number_flag_onto (codes " f") flags.number)
-          (sym flags.after.spelled ∙ size.spelled ∙ ap (number_flag_onto (codes " s") size.number)
-          (sym size.after.spelled ∙ left.spelled ∙ ap (left_onto left.left)
-          (sym left.after.spelled ∙ marks.spelled))));
-    }
+    grind (arith, codes, all_four)
 
 -- what a path of a meta form stands for
 pub record MetaOf (marked : Bool) (show : Show) (with_value : Bool) (p : Path (shown_form marked show with_value)) : Type 0 where
@@ -156,15 +104,7 @@ pub record MetaOf (marked : Bool) (show : Show) (with_value : Bool) (p : Path (s
 pub of_meta : (marked : Bool) (show : Show) (with_value : Bool) (p : Path (shown_form marked show with_value)) → MetaOf marked show with_value p
 of_meta marked show false p =
     let shown = of_shown marked show (after_line None) p in
-    record {
-      shown = shown.shown;
-      value = None;
-      means = sym shown.after.means;
-      fits = shown.fits;
-      marks = shown.marks;
-      has_value = refl;
-      spelled = ap (λ (w : List ℕ). codes "HD" ++ w) (shown.spelled ∙ ap (shown_onto shown.shown) (sym shown.after.spelled));
-    }
+    grind (arith, codes)
 of_meta marked show true p =
     let size = p.0 in
     let shown = of_shown marked show (after_line (Some size)) p.2 in

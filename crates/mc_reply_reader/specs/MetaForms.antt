@@ -29,14 +29,11 @@ abbrev pub left_if : Bool → (Option (Option ℕ) → Form Answer) → Form Ans
 left_if true f = Text (codes " t") (Or (Text (codes "-1") (f (Some None))) (Number NUMBER_LIMIT (λ n. f (Some (Some n)))))
 left_if false f = f None
 
--- one of the later marks and the end of the line
-abbrev pub late_mark_end : (Marks → Form Answer) → Form Answer
-late_mark_end f =
-    Or (Text (codes " W X\r\n") (f WonStale)) (Or (Text (codes " X Z\r\n") (f StaleSent)) (Text (codes " Z\r\n") (f Sent)))
-
 -- a mark and the end of the line
 abbrev pub mark_end : (Marks → Form Answer) → Form Answer
-mark_end f = Or (Text (codes " W\r\n") (f Won)) (late_mark_end f)
+mark_end f =
+    Or (Text (codes " W\r\n") (f Won)) (Or (Text (codes " W X\r\n") (f WonStale))
+    (Or (Text (codes " X Z\r\n") (f StaleSent)) (Text (codes " Z\r\n") (f Sent))))
 
 -- the end of the line, after a mark where there may be one: source protocol.txt, "Meta Get", W, X and Z
 abbrev pub end_if : Bool → (Marks → Form Answer) → Form Answer

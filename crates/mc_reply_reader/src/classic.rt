@@ -17,10 +17,10 @@ use mc_text::{Key, VALUE_LIMIT};
 pub fn get_reply<'a>(key: &[u8], with_cas: bool, unread: &'a [u8]) -> Reading<'a>
     ensures { seen_by (λ x. (bytes_seen x.0, x.1.now)) result ≡ read (get_form key.now with_cas) unread.now }
 {
-    match hit(key, with_cas, unread) {
-        Err(Unready::Strange) => line(b"END\r\n", Reply::Miss, unread),
-        other => other,
-    }
+    or!(
+        hit(key, with_cas, unread),
+        line(b"END\r\n", Reply::Miss, unread)
+    )
 }
 
 /// A hit under this key, and the end of the answer.
@@ -85,10 +85,10 @@ fn unstored(compares: bool, unread: &[u8]) -> Reading<'_>
     ensures { seen_by (λ x. (bytes_seen x.0, x.1.now)) result
         ≡ read (Or (update_line Reply.NotStored) (compared_form compares)) unread.now }
 {
-    match line(b"NOT_STORED\r\n", Reply::NotStored, unread) {
-        Err(Unready::Strange) => compared(compares, unread),
-        other => other,
-    }
+    or!(
+        line(b"NOT_STORED\r\n", Reply::NotStored, unread),
+        compared(compares, unread)
+    )
 }
 
 /// The reply to a store that stored nothing for another cause.
@@ -98,10 +98,7 @@ fn compared(compares: bool, unread: &[u8]) -> Reading<'_>
     if !compares {
         return store_fault(unread);
     }
-    match unmet(unread) {
-        Err(Unready::Strange) => store_fault(unread),
-        other => other,
-    }
+    or!(unmet(unread), store_fault(unread))
 }
 
 /// The reply to a store whose item is held under another number, or not at all.
@@ -109,10 +106,10 @@ fn unmet(unread: &[u8]) -> Reading<'_>
     ensures { seen_by (λ x. (bytes_seen x.0, x.1.now)) result
         ≡ read (Or (update_line Reply.Exists) (update_line Reply.NotFound)) unread.now }
 {
-    match line(b"EXISTS\r\n", Reply::Exists, unread) {
-        Err(Unready::Strange) => not_found(unread),
-        other => other,
-    }
+    or!(
+        line(b"EXISTS\r\n", Reply::Exists, unread),
+        not_found(unread)
+    )
 }
 
 /// The key is not held.
@@ -127,10 +124,10 @@ fn touch_reply(unread: &[u8]) -> Reading<'_>
     ensures { seen_by (λ x. (bytes_seen x.0, x.1.now)) result
         ≡ read (Or (update_line Reply.Touched) (update_line Reply.NotFound)) unread.now }
 {
-    match line(b"TOUCHED\r\n", Reply::Touched, unread) {
-        Err(Unready::Strange) => not_found(unread),
-        other => other,
-    }
+    or!(
+        line(b"TOUCHED\r\n", Reply::Touched, unread),
+        not_found(unread)
+    )
 }
 
 /// The reply to `delete`.
@@ -138,20 +135,24 @@ fn delete_reply(unread: &[u8]) -> Reading<'_>
     ensures { seen_by (λ x. (bytes_seen x.0, x.1.now)) result
         ≡ read (Or (update_line Reply.Deleted) (update_line Reply.NotFound)) unread.now }
 {
-    match line(b"DELETED\r\n", Reply::Deleted, unread) {
-        Err(Unready::Strange) => not_found(unread),
-        other => other,
-    }
+    or!(
+        line(b"DELETED\r\n", Reply::Deleted, unread),
+        not_found(unread)
+    )
 }
 
 /// The reply to a count.
 fn count_reply(unread: &[u8]) -> Reading<'_>
     ensures { seen_by (λ x. (bytes_seen x.0, x.1.now)) result ≡ read count_form unread.now }
 {
-    match number_line(unread) {
-        Err(Unready::Strange) => uncounted(unread),
-        other => other,
-    }
+    or!(number_line(unread), uncounted(unread))
+}
+
+/// The reply to a count that counted nothing.
+fn uncounted(unread: &[u8]) -> Reading<'_>
+    ensures { seen_by (λ x. (bytes_seen x.0, x.1.now)) result ≡ read (Or (update_line Reply.NotFound) count_faults) unread.now }
+{
+    or!(not_found(unread), count_fault(unread))
 }
 
 /// A number and the end of its line.
@@ -161,14 +162,4 @@ fn number_line(unread: &[u8]) -> Reading<'_>
     let (value, rest) = number(NUMBER_LIMIT, unread)?;
     let rest = text(b"\r\n", rest)?;
     Ok((Reply::Number(value), rest))
-}
-
-/// The reply to a count that counted nothing.
-fn uncounted(unread: &[u8]) -> Reading<'_>
-    ensures { seen_by (λ x. (bytes_seen x.0, x.1.now)) result ≡ read (Or (update_line Reply.NotFound) count_faults) unread.now }
-{
-    match not_found(unread) {
-        Err(Unready::Strange) => count_fault(unread),
-        other => other,
-    }
 }

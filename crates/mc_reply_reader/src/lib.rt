@@ -17,6 +17,17 @@
 //! none, and cannot fail. The other functions are worked examples: they do nothing.
 #![tactic(auto)]
 
+/// The first of some readings that is not strange, or where each is the last.
+macro_rules! or {
+    ($reading:expr) => { $reading };
+    ($reading:expr, $($others:expr),+) => {
+        match $reading {
+            Err(mc_forms::Unready::Strange) => or!($($others),+),
+            other => other,
+        }
+    };
+}
+
 mod classic;
 mod laws;
 mod limits;

@@ -1,6 +1,6 @@
 //! Lines that are the same whatever is held.
 ghost use Rattle.std.specs.Prelude.{◌≡◌};
-ghost use Rattle.mc_forms.specs.Forms.{read, Or};
+ghost use Rattle.mc_forms.specs.Forms.{read};
 ghost use Rattle.mc_forms.specs.Seen.{seen_by};
 ghost use Rattle.mc_reply.specs.Seen.{bytes_seen};
 ghost use Rattle.mc_reply_reader.specs.ReplyForms.{line, update_line, store_faults, count_faults};
@@ -31,29 +31,16 @@ pub fn fault_line(fault: Fault, unread: &[u8]) -> Reading<'_>
 pub fn store_fault(unread: &[u8]) -> Reading<'_>
     ensures { seen_by (λ x. (bytes_seen x.0, x.1.now)) result ≡ read store_faults unread.now }
 {
-    match fault_line(Fault::TooLarge, unread) {
-        Err(Unready::Strange) => late_store_fault(unread),
-        other => other,
-    }
-}
-
-/// The same, where the value is not too large.
-fn late_store_fault(unread: &[u8]) -> Reading<'_>
-    ensures { seen_by (λ x. (bytes_seen x.0, x.1.now)) result
-        ≡ read (Or (update_line (Reply.Fault Fault.CasUsedUp)) (update_line (Reply.Fault Fault.OutOfMemory))) unread.now }
-{
-    match fault_line(Fault::CasUsedUp, unread) {
-        Err(Unready::Strange) => fault_line(Fault::OutOfMemory, unread),
-        other => other,
-    }
+    or!(
+        fault_line(Fault::TooLarge, unread),
+        fault_line(Fault::CasUsedUp, unread),
+        fault_line(Fault::OutOfMemory, unread)
+    )
 }
 
 /// Why a count is refused.
 pub fn count_fault(unread: &[u8]) -> Reading<'_>
     ensures { seen_by (λ x. (bytes_seen x.0, x.1.now)) result ≡ read count_faults unread.now }
 {
-    match fault_line(Fault::NonNumeric, unread) {
-        Err(Unready::Strange) => store_fault(unread),
-        other => other,
-    }
+    or!(fault_line(Fault::NonNumeric, unread), store_fault(unread))
 }

@@ -4,9 +4,7 @@ ghost use Rattle.mc_forms.specs.Forms.{Or, Text, Number, number_if, or_if, read}
 ghost use Rattle.mc_forms.specs.Seen.{seen_by};
 ghost use Rattle.mc_reply.specs.Seen.{bytes_seen};
 ghost use Rattle.mc_reply_reader.specs.ReplyForms.{store_faults, count_faults, update_line};
-ghost use Rattle.mc_reply_reader.specs.MetaForms.{after_line, code_line, end_if, late_mark_end, left_if, mark_end, meta_count_form, meta_delete_form, meta_form, meta_get_form, meta_store_form, read_if, shown_by, shown_form, unmet_form};
-ghost use Rattle.mc_text.specs.declared.blocks.TheConstants.{VALUE_LIMIT};
-ghost use Rattle.mc_reply_reader.specs.declared.limits.TheConstants.{NUMBER_LIMIT};
+ghost use Rattle.mc_reply_reader.specs.MetaForms.{after_line, code_line, end_if, left_if, mark_end, meta_count_form, meta_delete_form, meta_form, meta_get_form, meta_store_form, read_if, shown_by, shown_form, unmet_form};
 
 use crate::limits::{FLAGS_LIMIT, NUMBER_LIMIT};
 use crate::lines::{Reading, count_fault, fault_line, line, store_fault};
@@ -34,10 +32,7 @@ pub fn meta_reply<'a>(command: &MetaCommand<Key, ()>, unread: &'a [u8]) -> Readi
 fn meta_get_reply(creates: bool, show: Show, unread: &[u8]) -> Reading<'_>
     ensures { seen_by (λ x. (bytes_seen x.0, x.1.now)) result ≡ read (meta_get_form creates show) unread.now }
 {
-    match shown(true, show, unread) {
-        Err(Unready::Strange) => unfound(creates, unread),
-        other => other,
-    }
+    or!(shown(true, show, unread), unfound(creates, unread))
 }
 
 /// The reply to `mg` that shows no item.
@@ -48,20 +43,14 @@ fn unfound(creates: bool, unread: &[u8]) -> Reading<'_>
     if !creates {
         return line(b"EN\r\n", Reply::Miss, unread);
     }
-    match store_fault(unread) {
-        Err(Unready::Strange) => line(b"EN\r\n", Reply::Miss, unread),
-        other => other,
-    }
+    or!(store_fault(unread), line(b"EN\r\n", Reply::Miss, unread))
 }
 
 /// The reply to `ms`.
 fn meta_store_reply(show: Show, unread: &[u8]) -> Reading<'_>
     ensures { seen_by (λ x. (bytes_seen x.0, x.1.now)) result ≡ read (meta_store_form show) unread.now }
 {
-    match shown(false, show, unread) {
-        Err(Unready::Strange) => unstored(unread),
-        other => other,
-    }
+    or!(shown(false, show, unread), unstored(unread))
 }
 
 /// The reply to `ms` that stored nothing.
@@ -69,40 +58,28 @@ fn unstored(unread: &[u8]) -> Reading<'_>
     ensures { seen_by (λ x. (bytes_seen x.0, x.1.now)) result
         ≡ read (Or (code_line Reply.NotStored) (Or unmet_form store_faults)) unread.now }
 {
-    match line(b"NS\r\n", Reply::NotStored, unread) {
-        Err(Unready::Strange) => unmet_or_refused(unread),
-        other => other,
-    }
-}
-
-/// The same, where nothing was in the way but the item that is held, or a fault.
-fn unmet_or_refused(unread: &[u8]) -> Reading<'_>
-    ensures { seen_by (λ x. (bytes_seen x.0, x.1.now)) result ≡ read (Or unmet_form store_faults) unread.now }
-{
-    match unmet(unread) {
-        Err(Unready::Strange) => store_fault(unread),
-        other => other,
-    }
+    or!(
+        line(b"NS\r\n", Reply::NotStored, unread),
+        unmet(unread),
+        store_fault(unread)
+    )
 }
 
 /// The item that is held has another number, or none is held.
 fn unmet(unread: &[u8]) -> Reading<'_>
     ensures { seen_by (λ x. (bytes_seen x.0, x.1.now)) result ≡ read unmet_form unread.now }
 {
-    match line(b"EX\r\n", Reply::Exists, unread) {
-        Err(Unready::Strange) => line(b"NF\r\n", Reply::NotFound, unread),
-        other => other,
-    }
+    or!(
+        line(b"EX\r\n", Reply::Exists, unread),
+        line(b"NF\r\n", Reply::NotFound, unread)
+    )
 }
 
 /// The reply to `md`.
 fn meta_delete_reply(invalidate: bool, show: Show, unread: &[u8]) -> Reading<'_>
     ensures { seen_by (λ x. (bytes_seen x.0, x.1.now)) result ≡ read (meta_delete_form invalidate show) unread.now }
 {
-    match shown(false, show, unread) {
-        Err(Unready::Strange) => undeleted(invalidate, unread),
-        other => other,
-    }
+    or!(shown(false, show, unread), undeleted(invalidate, unread))
 }
 
 /// The reply to `md` that took nothing out and left nothing stale.
@@ -113,30 +90,21 @@ fn undeleted(invalidate: bool, unread: &[u8]) -> Reading<'_>
     if !invalidate {
         return unmet(unread);
     }
-    match fault_line(Fault::CasUsedUp, unread) {
-        Err(Unready::Strange) => unmet(unread),
-        other => other,
-    }
+    or!(fault_line(Fault::CasUsedUp, unread), unmet(unread))
 }
 
 /// The reply to `ma`.
 fn meta_count_reply(show: Show, unread: &[u8]) -> Reading<'_>
     ensures { seen_by (λ x. (bytes_seen x.0, x.1.now)) result ≡ read (meta_count_form show) unread.now }
 {
-    match shown(false, show, unread) {
-        Err(Unready::Strange) => uncounted(unread),
-        other => other,
-    }
+    or!(shown(false, show, unread), uncounted(unread))
 }
 
 /// The reply to `ma` that counted nothing.
 fn uncounted(unread: &[u8]) -> Reading<'_>
     ensures { seen_by (λ x. (bytes_seen x.0, x.1.now)) result ≡ read (Or unmet_form count_faults) unread.now }
 {
-    match unmet(unread) {
-        Err(Unready::Strange) => count_fault(unread),
-        other => other,
-    }
+    or!(unmet(unread), count_fault(unread))
 }
 
 /// What a meta command that was done shows.
@@ -208,21 +176,14 @@ fn left_if(asked: bool, marked: bool, shown: Shown, size: Option<u32>, unread: &
         ≡ read (left_if asked (λ left. end_if marked (λ marks. after_line size (record shown { left = left; marks = marks })))) unread.now }
 {
     if !asked {
-        return end_if(
-            marked,
-            Shown {
-                left: None,
-                ..shown
-            },
-            size,
-            unread,
-        );
+        let left = None;
+        return end_if(marked, Shown { left, ..shown }, size, unread);
     }
     let rest = text(b" t", unread)?;
-    match endless(marked, shown, size, rest) {
-        Err(Unready::Strange) => ending(marked, shown, size, rest),
-        other => other,
-    }
+    or!(
+        endless(marked, shown, size, rest),
+        ending(marked, shown, size, rest)
+    )
 }
 
 /// After the letter of the seconds: an item that never ends.
@@ -261,33 +222,12 @@ fn mark_end(shown: Shown, size: Option<u32>, unread: &[u8]) -> Reading<'_>
     ensures { seen_by (λ x. (bytes_seen x.0, x.1.now)) result
         ≡ read (mark_end (λ marks. after_line size (record shown { marks = marks }))) unread.now }
 {
-    match end_by(b" W\r\n", Marks::Won, shown, size, unread) {
-        Err(Unready::Strange) => late_mark_end(shown, size, unread),
-        other => other,
-    }
-}
-
-/// One of the later marks and the end of the line, and what is after it.
-fn late_mark_end(shown: Shown, size: Option<u32>, unread: &[u8]) -> Reading<'_>
-    ensures { seen_by (λ x. (bytes_seen x.0, x.1.now)) result
-        ≡ read (late_mark_end (λ marks. after_line size (record shown { marks = marks }))) unread.now }
-{
-    match end_by(b" W X\r\n", Marks::WonStale, shown, size, unread) {
-        Err(Unready::Strange) => sent_end(shown, size, unread),
-        other => other,
-    }
-}
-
-/// The marks of an item that another was told to fill, the end of the line, and what is after it.
-fn sent_end(shown: Shown, size: Option<u32>, unread: &[u8]) -> Reading<'_>
-    ensures { seen_by (λ x. (bytes_seen x.0, x.1.now)) result
-        ≡ read (Or (Text (codes " X Z\r\n") (after_line size (record shown { marks = Marks.StaleSent })))
-        (Text (codes " Z\r\n") (after_line size (record shown { marks = Marks.Sent })))) unread.now }
-{
-    match end_by(b" X Z\r\n", Marks::StaleSent, shown, size, unread) {
-        Err(Unready::Strange) => end_by(b" Z\r\n", Marks::Sent, shown, size, unread),
-        other => other,
-    }
+    or!(
+        end_by(b" W\r\n", Marks::Won, shown, size, unread),
+        end_by(b" W X\r\n", Marks::WonStale, shown, size, unread),
+        end_by(b" X Z\r\n", Marks::StaleSent, shown, size, unread),
+        end_by(b" Z\r\n", Marks::Sent, shown, size, unread)
+    )
 }
 
 /// The end of a line with these marks, and what is after it.

@@ -7,7 +7,7 @@ use crate::replies::{owned, read_reply};
 use mc_forms::Unready;
 use mc_reply::ReplyError;
 use mc_request::Head;
-use mc_text::let_go;
+use mc_text::{give_back, let_go};
 use std::alloc::Global;
 use std::marker::Model;
 
@@ -92,8 +92,6 @@ impl ReplyReader {
     pub fn give_back(&mut self, kept: usize)
         ensures { self.new ≡ self.old }
     {
-        if self.buffer.is_empty() && self.buffer.capacity() > kept {
-            self.buffer.shrink_to_fit();
-        }
+        give_back(&mut self.buffer, kept);
     }
 }

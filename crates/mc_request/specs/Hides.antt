@@ -5,9 +5,9 @@ use Rattle.mc_request.specs.declared.hides.Hides.TheVariants.{Nothing, ReplyLine
 use Rattle.mc_request.specs.declared.meta.MetaCommand.{MetaCommand}
 use Rattle.mc_request.specs.declared.meta.MetaCommand.TheVariants as metas
 use Rattle.mc_request.specs.declared.parts.Update.{Update as AnUpdate}
-use Rattle.mc_request.specs.declared.parts.Update.TheVariants.{Store, Touch, Delete, Count, FlushAll}
+use Rattle.mc_request.specs.declared.parts.Update.TheVariants.{Store, Delete, Count}
 use Rattle.mc_request.specs.declared.parts.Request.{Request}
-use Rattle.mc_request.specs.declared.parts.Request.TheVariants.{Get, Update, Meta, MetaNoop, Version, Quit}
+use Rattle.mc_request.specs.declared.parts.Request.TheVariants.{Update, Meta}
 use Rattle.mc_request.specs.declared.parts.Taken.{Taken}
 use Rattle.mc_request.specs.declared.parts.Taken.TheVariants.{Whole, Faulty}
 
@@ -17,8 +17,7 @@ abbrev pub hidden_update : {K B : Type 0} → AnUpdate K B → Hides
 hidden_update (Store mode compare key flags exptime block) = Success
 hidden_update (Delete key compare invalidate) = SuccessAndMisses
 hidden_update (Count key counting) = SuccessAndMisses
-hidden_update (Touch key exptime) = Nothing
-hidden_update (FlushAll delay) = Nothing
+hidden_update update = Nothing
 
 -- what a meta command hides, quiet or not; `mg` that the key is not held: source protocol.txt, "Meta Get", flag q
 abbrev pub hidden_by : {K B : Type 0} → MetaCommand K B → Bool → Hides
@@ -29,12 +28,8 @@ hidden_by (metas.Update update show) true = hidden_update update
 -- an update with `noreply` hides the line of its reply: source protocol.txt, "Storage commands"
 abbrev pub hides_of : Request → Hides
 hides_of (Update update true) = ReplyLine
-hides_of (Update update false) = Nothing
-hides_of (Get keys exptime with_cas) = Nothing
 hides_of (Meta command form) = hidden_by command form.quiet
-hides_of MetaNoop = Nothing
-hides_of Version = Nothing
-hides_of Quit = Nothing
+hides_of request = Nothing
 
 -- what is no request hides nothing
 abbrev pub hides_taken : Taken → Hides

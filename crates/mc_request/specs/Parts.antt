@@ -1,7 +1,7 @@
 -- Commands: their keys and blocks, whatever these are kept as.
 use Rattle.std.specs.Prelude.{ℕ, Bool, true, false, List, [], Option, Some, None, if◌then◌else◌}
 use Rattle.std.specs.Borrow.{Bor}
-use Rattle.std.specs.Option.{unwrap_or}
+use Rattle.std.specs.Option.{option_map_or, unwrap_or}
 use Rattle.mc_text.specs.Keys.{is_plain_key}
 use Rattle.mc_text.specs.CodedKeys.{coded_key}
 use Rattle.mc_request.specs.declared.meta.MetaCommand.{MetaCommand}
@@ -57,13 +57,9 @@ update_said coded update = update_map (λ word. key_bytes coded word.now) (λ bl
 abbrev pub meta_said : Bool → MetaCommand (Bor (List ℕ)) (Bor (List ℕ)) → MetaCommand (List ℕ) (List ℕ)
 meta_said coded command = meta_map (λ word. key_bytes coded word.now) (λ block. block.now) command
 
--- a lent meta command, with the bytes that it is lent
-abbrev pub meta_seen : MetaCommand (Bor (List ℕ)) (Bor (List ℕ)) → MetaCommand (List ℕ) (List ℕ)
-meta_seen command = meta_map (λ key. key.now) (λ block. block.now) command
-
 -- the word of its key, and none of its bytes where it has none
 abbrev pub word_in_meta : MetaCommand (Bor (List ℕ)) (Bor (List ℕ)) → List ℕ
-word_in_meta command = unwrap_or (key_in_meta (meta_seen command)) []
+word_in_meta command = option_map_or (λ word. word.now) (key_in_meta command) []
 
 -- a storage command with this data block in the place of its own
 abbrev pub with_block : {K B C : Type 0} → Update K B → C → Update K C

@@ -75,8 +75,7 @@ command_name (metas.Get key get) = Some names.MetaGet
 command_name (metas.Update (Store mode compare key flags exptime block) show) = Some names.MetaSet
 command_name (metas.Update (Delete key compare invalidate) show) = Some names.MetaDelete
 command_name (metas.Update (Count key counting) show) = Some names.MetaArithmetic
-command_name (metas.Update (Touch key exptime) show) = None
-command_name (metas.Update (FlushAll delay) show) = None
+command_name command = None
 
 -- flag words that are those of a command
 abbrev pub has_flags : Option Name → List (List ℕ) → Bool
@@ -98,9 +97,7 @@ is_good_request (requests.Get keys exptime with_cas) =
 is_good_request (requests.Update update noreply) = is_good_update is_plain_key is_good_block update
 is_good_request (requests.Meta command form) =
     is_good_meta (is_meta_key form.coded) is_good_block command && has_flags (command_name command) form.flags
-is_good_request requests.MetaNoop = true
-is_good_request requests.Version = true
-is_good_request requests.Quit = true
+is_good_request other = true
 
 -- keys, data blocks of at most 1,048,576 bytes, numbers within their limits, flag words of their command
 abbrev pub is_well_formed : Taken → Bool

@@ -32,23 +32,16 @@ fn announced(name: Name, words: WordIter<'_>) -> Option<u32>
 fn fourth_len(mut words: WordIter<'_>) -> Option<u32>
     ensures { result ≡ fourth_len words.entry }
 {
-    let (Some(_), Some(_), Some(_), Some(len)) = (
-        words.next(),
-        words.next(),
-        words.next(),
-        words.next(),
-    ) else {
-        return None;
-    };
-    read_len(len)
+    words.next()?;
+    words.next()?;
+    words.next()?;
+    read_len(words.next()?)
 }
 
 /// The length that the second word of an `ms` says.
 fn second_len(mut words: WordIter<'_>) -> Option<u32>
     ensures { result ≡ second_len words.entry }
 {
-    let (Some(_), Some(len)) = (words.next(), words.next()) else {
-        return None;
-    };
-    read_len(len)
+    words.next()?;
+    read_len(words.next()?)
 }

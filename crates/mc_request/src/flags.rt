@@ -121,16 +121,12 @@ impl MetaFlags {
         ensures read { IfOk result (λ _. with_flag name self.old word.now ≡ Ok self.new) }
         ensures refused { IfErr result (λ fault. with_flag name self.old word.now ≡ Err fault) }
     {
-        let Some((letter, token)) = word.split_first() else {
-            return Err(Fault::InvalidFlag);
-        };
+        let (letter, token) = word.split_first().ok_or(Fault::InvalidFlag)?;
         if !has_letter(name, *letter) {
             return Err(Fault::InvalidFlag);
         }
-        match flag_of(*letter) {
-            Some(flag) => self.put(name, flag, token),
-            None => Err(Fault::InvalidFlag),
-        }
+        let flag = flag_of(*letter).ok_or(Fault::InvalidFlag)?;
+        self.put(name, flag, token)
     }
 
     /// Takes a flag with its token, which is empty where it has none.
@@ -184,13 +180,10 @@ impl MetaFlags {
             direction: self.direction.unwrap_or(Direction::Up),
             delta: self.delta.unwrap_or(1),
             compare: self.compare,
-            create: match self.create {
-                Some(exptime) => Some(Creation {
-                    exptime,
-                    initial: self.initial.unwrap_or(0),
-                }),
-                None => None,
-            },
+            create: self.create.map(|exptime| Creation {
+                exptime,
+                initial: self.initial.unwrap_or(0),
+            }),
             exptime: self.exptime,
         }
     }
@@ -291,10 +284,7 @@ fn valued<T: Copy>(given: Option<T>, said: Option<T>) -> Result<Option<T>, Fault
     if given.is_some() {
         return Err(Fault::InvalidFlag);
     }
-    match said {
-        Some(value) => Ok(Some(value)),
-        None => Err(Fault::BadToken),
-    }
+    Ok(Some(said.ok_or(Fault::BadToken)?))
 }
 
 /// An opaque, where one was given before or not.

@@ -28,11 +28,7 @@ impl Request {
         match self {
             Request::Update { noreply: true, .. } => Hides::ReplyLine,
             Request::Meta { command, form } => quiet_hides(command, form.quiet),
-            Request::Update { noreply: false, .. }
-            | Request::Get { .. }
-            | Request::MetaNoop
-            | Request::Version
-            | Request::Quit => Hides::Nothing,
+            _ => Hides::Nothing,
         }
     }
 }

@@ -2,11 +2,10 @@
 ghost use Rattle.std.specs.Prelude.{◌≡◌};
 ghost use Rattle.mc_request.specs.Requests.{stored};
 ghost use Rattle.mc_request.specs.LinesSeen.{asked_of, storing_of};
-ghost use Rattle.mc_request.specs.declared.parts.Taken.TheVariants.{Whole};
 
 use crate::faults::Fault;
 use crate::meta::{MetaCommand, MetaForm, Show};
-use crate::parts::Update;
+use crate::parts::{Taken, Update};
 use mc_text::WordIter;
 
 /// A request or fault that is lent: its keys and its data block are bytes of the text that it was read from.
@@ -68,7 +67,7 @@ pub enum CommandLine<'a> {
 impl<'a> Storing<'a> {
     /// The storage command with its data block.
     pub fn with_block(self, block: &'a [u8]) -> Asked<'a>
-        ensures { asked_of result ≡ Whole (stored (storing_of self.entry) block.now) }
+        ensures { asked_of result ≡ Taken.Whole (stored (storing_of self.entry) block.now) }
     {
         match self {
             Storing::Classic { update, noreply } => Asked::Update {

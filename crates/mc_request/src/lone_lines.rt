@@ -5,7 +5,6 @@ ghost use Rattle.mc_text.specs.Keys.{is_plain_key};
 ghost use Rattle.mc_request.specs.Names.{at_most, at_least, between, noreply_of};
 ghost use Rattle.mc_request.specs.Meanings.{meaning_from, keys_line, gat_line, touch_line, delete_line, without_zero, count_parts, count_line, flush_parts, flush_line};
 ghost use Rattle.mc_request.specs.LinesSeen.{asked_of, line_of_taken, meaning_of};
-ghost use Rattle.mc_request.specs.declared.faults.Fault.TheVariants.{UnknownCommand};
 
 use crate::faults::Fault;
 use crate::lines::{Asked, CommandLine};
@@ -17,7 +16,7 @@ use mc_text::{WordIter, are_plain_keys, is_plain_key, read_i64, read_u64};
 /// `get`, and after its exptime `gat`, by the keys. One that is none refuses the line.
 #[inline(always)]
 pub fn keys_line(exptime: Option<i64>, with_cas: bool, keys: WordIter<'_>) -> CommandLine<'_>
-    ensures { meaning_of result ≡ meaning_from None (if at_least 1 keys.entry then keys_line exptime with_cas keys.entry else Err UnknownCommand) }
+    ensures { meaning_of result ≡ meaning_from None (if at_least 1 keys.entry then keys_line exptime with_cas keys.entry else Err Fault.UnknownCommand) }
 {
     if !keys.has_next() {
         return CommandLine::Alone(Asked::Faulty(Fault::UnknownCommand));
@@ -43,7 +42,7 @@ pub fn has_plain_keys(words: &WordIter<'_>) -> bool
 /// `gat <exptime> <key>*`.
 #[inline(never)]
 pub fn gat_line(with_cas: bool, mut words: WordIter<'_>) -> CommandLine<'_>
-    ensures { meaning_of result ≡ meaning_from None (if at_least 2 words.entry then gat_line with_cas words.entry else Err UnknownCommand) }
+    ensures { meaning_of result ≡ meaning_from None (if at_least 2 words.entry then gat_line with_cas words.entry else Err Fault.UnknownCommand) }
 {
     let Some(exptime) = words.next() else {
         return CommandLine::Alone(Asked::Faulty(Fault::UnknownCommand));
@@ -60,7 +59,7 @@ pub fn gat_line(with_cas: bool, mut words: WordIter<'_>) -> CommandLine<'_>
 /// `touch <key> <exptime> [noreply]`.
 #[inline(never)]
 pub fn touch_line(mut words: WordIter<'_>) -> CommandLine<'_>
-    ensures { meaning_of result ≡ meaning_from None (if between 2 3 words.entry then touch_line words.entry else Err UnknownCommand) }
+    ensures { meaning_of result ≡ meaning_from None (if between 2 3 words.entry then touch_line words.entry else Err Fault.UnknownCommand) }
 {
     let (Some(key), Some(exptime)) = (words.next(), words.next()) else {
         return CommandLine::Alone(Asked::Faulty(Fault::UnknownCommand));
@@ -84,7 +83,7 @@ pub fn touch_line(mut words: WordIter<'_>) -> CommandLine<'_>
 /// `delete <key> [0] [noreply]`.
 #[inline(never)]
 pub fn delete_line(mut words: WordIter<'_>) -> CommandLine<'_>
-    ensures { meaning_of result ≡ meaning_from None (if between 1 3 words.entry then delete_line words.entry else Err UnknownCommand) }
+    ensures { meaning_of result ≡ meaning_from None (if between 1 3 words.entry then delete_line words.entry else Err Fault.UnknownCommand) }
 {
     let Some(key) = words.next() else {
         return CommandLine::Alone(Asked::Faulty(Fault::UnknownCommand));
@@ -108,7 +107,7 @@ pub fn delete_line(mut words: WordIter<'_>) -> CommandLine<'_>
 
 /// Whether the reply of a deletion is hidden, by what is after its key.
 fn noreply_after_zero(mut words: WordIter<'_>) -> Result<bool, Fault>
-    ensures { result ≡ (if at_most 2 words.entry then noreply_of (without_zero words.entry) else Err UnknownCommand) }
+    ensures { result ≡ (if at_most 2 words.entry then noreply_of (without_zero words.entry) else Err Fault.UnknownCommand) }
 {
     let Some(word) = words.next() else {
         return Ok(false);
@@ -129,7 +128,7 @@ fn noreply_after_zero(mut words: WordIter<'_>) -> Result<bool, Fault>
 /// `incr <key> <delta> [noreply]`, and `decr` likewise.
 #[inline(never)]
 pub fn count_line(direction: Direction, mut words: WordIter<'_>) -> CommandLine<'_>
-    ensures { meaning_of result ≡ meaning_from None (if between 2 3 words.entry then count_line direction words.entry else Err UnknownCommand) }
+    ensures { meaning_of result ≡ meaning_from None (if between 2 3 words.entry then count_line direction words.entry else Err Fault.UnknownCommand) }
 {
     let (Some(key), Some(delta)) = (words.next(), words.next()) else {
         return CommandLine::Alone(Asked::Faulty(Fault::UnknownCommand));
@@ -155,7 +154,7 @@ pub fn count_line(direction: Direction, mut words: WordIter<'_>) -> CommandLine<
 
 /// The amount of a count, and whether its reply is hidden.
 fn count_parts(key: &[u8], delta: &[u8], rest: WordIter<'_>) -> Result<(u64, bool), Fault>
-    ensures { result ≡ (if at_most 1 rest.entry then count_parts key.now delta.now rest.entry else Err UnknownCommand) }
+    ensures { result ≡ (if at_most 1 rest.entry then count_parts key.now delta.now rest.entry else Err Fault.UnknownCommand) }
 {
     let noreply = noreply_of(rest);
     if let Err(Fault::UnknownCommand) = noreply {
@@ -171,7 +170,7 @@ fn count_parts(key: &[u8], delta: &[u8], rest: WordIter<'_>) -> Result<(u64, boo
 /// `flush_all [delay] [noreply]`.
 #[inline(never)]
 pub fn flush_line(words: WordIter<'_>) -> CommandLine<'_>
-    ensures { meaning_of result ≡ meaning_from None (if at_most 2 words.entry then flush_line words.entry else Err UnknownCommand) }
+    ensures { meaning_of result ≡ meaning_from None (if at_most 2 words.entry then flush_line words.entry else Err Fault.UnknownCommand) }
 {
     match flush_parts(words) {
         Ok((delay, noreply)) => CommandLine::Alone(Asked::Update {
@@ -184,7 +183,7 @@ pub fn flush_line(words: WordIter<'_>) -> CommandLine<'_>
 
 /// The delay of a flush, and whether its reply is hidden.
 fn flush_parts(mut words: WordIter<'_>) -> Result<(i64, bool), Fault>
-    ensures { result ≡ (if at_most 2 words.entry then flush_parts words.entry else Err UnknownCommand) }
+    ensures { result ≡ (if at_most 2 words.entry then flush_parts words.entry else Err Fault.UnknownCommand) }
 {
     let Some(first) = words.next() else {
         return Ok((0, false));
@@ -207,7 +206,7 @@ fn flush_parts(mut words: WordIter<'_>) -> Result<(i64, bool), Fault>
 #[inline(never)]
 #[tactic(auto, using(crate::proofs::LineLemmas::taken_alone))]
 pub fn bare_line<'a>(asked: Asked<'a>, mut words: WordIter<'_>) -> CommandLine<'a>
-    ensures { meaning_of result ≡ meaning_from None (if at_most 0 words.entry then line_of_taken (asked_of asked.entry) else Err UnknownCommand) }
+    ensures { meaning_of result ≡ meaning_from None (if at_most 0 words.entry then line_of_taken (asked_of asked.entry) else Err Fault.UnknownCommand) }
 {
     if words.next().is_some() {
         CommandLine::Alone(Asked::Faulty(Fault::UnknownCommand))

@@ -4,7 +4,6 @@ ghost use Rattle.mc_request.specs.Names.{at_least};
 ghost use Rattle.mc_request.specs.Parts.{key_said, key_bytes};
 ghost use Rattle.mc_request.specs.Meanings.{mg_line, ms_line, ms_storing, md_line, ma_line, form_by, second_len, meaning_from};
 ghost use Rattle.mc_request.specs.LinesSeen.{storing_of, meaning_of};
-ghost use Rattle.mc_request.specs.declared.faults.Fault.TheVariants.{UnknownCommand};
 
 use crate::faults::Fault;
 use crate::flags::MetaFlags;
@@ -17,7 +16,7 @@ use mc_text::{VALUE_LIMIT, WordIter, is_coded_key, is_plain_key, read_len};
 /// `mg <key> <flags>*`.
 #[inline(never)]
 pub fn mg_line(mut words: WordIter<'_>) -> CommandLine<'_>
-    ensures { meaning_of result ≡ meaning_from None (if at_least 1 words.entry then mg_line words.entry else Err UnknownCommand) }
+    ensures { meaning_of result ≡ meaning_from None (if at_least 1 words.entry then mg_line words.entry else Err Fault.UnknownCommand) }
 {
     let Some(key) = words.next() else {
         return CommandLine::Alone(Asked::Faulty(Fault::UnknownCommand));
@@ -41,7 +40,7 @@ pub fn mg_line(mut words: WordIter<'_>) -> CommandLine<'_>
 /// `md <key> <flags>*`.
 #[inline(never)]
 pub fn md_line(mut words: WordIter<'_>) -> CommandLine<'_>
-    ensures { meaning_of result ≡ meaning_from None (if at_least 1 words.entry then md_line words.entry else Err UnknownCommand) }
+    ensures { meaning_of result ≡ meaning_from None (if at_least 1 words.entry then md_line words.entry else Err Fault.UnknownCommand) }
 {
     let Some(key) = words.next() else {
         return CommandLine::Alone(Asked::Faulty(Fault::UnknownCommand));
@@ -69,7 +68,7 @@ pub fn md_line(mut words: WordIter<'_>) -> CommandLine<'_>
 /// `ma <key> <flags>*`.
 #[inline(never)]
 pub fn ma_line(mut words: WordIter<'_>) -> CommandLine<'_>
-    ensures { meaning_of result ≡ meaning_from None (if at_least 1 words.entry then ma_line words.entry else Err UnknownCommand) }
+    ensures { meaning_of result ≡ meaning_from None (if at_least 1 words.entry then ma_line words.entry else Err Fault.UnknownCommand) }
 {
     let Some(key) = words.next() else {
         return CommandLine::Alone(Asked::Faulty(Fault::UnknownCommand));
@@ -97,7 +96,7 @@ pub fn ma_line(mut words: WordIter<'_>) -> CommandLine<'_>
 #[inline(never)]
 pub fn ms_line(mut words: WordIter<'_>) -> CommandLine<'_>
     ensures { meaning_of result ≡ meaning_from (second_len words.entry)
-        (if at_least 2 words.entry then ms_line words.entry else Err UnknownCommand) }
+        (if at_least 2 words.entry then ms_line words.entry else Err Fault.UnknownCommand) }
 {
     let (Some(key), Some(len)) = (words.next(), words.next()) else {
         return CommandLine::Alone(Asked::Faulty(Fault::UnknownCommand));

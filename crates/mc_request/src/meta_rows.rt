@@ -1,11 +1,8 @@
 //! Worked examples of meta commands, computed from the definitions alone.
 #![tactic(auto, unfolding(mc_text::specs::Words::words, mc_text::proofs::OnLiterals::coded_on_literals, crate::specs::Names::name_of))]
 
-ghost use Rattle.std.specs.Prelude.{◌≡◌, ℕ, pos, negsuc, List, [], ◌∷◌, Some, None, true, false, map, codes};
+ghost use Rattle.std.specs.Prelude.{◌≡◌, pos, negsuc, [], ◌∷◌, Some, None, true, false, map, codes};
 ghost use Rattle.mc_text.specs.Words.{words};
-ghost use Rattle.mc_request.specs.declared.names.Name.{Name};
-ghost use Rattle.mc_request.specs.declared.parts.Direction.{Direction};
-ghost use Rattle.mc_request.specs.declared.parts.StoreMode.{StoreMode};
 ghost use Rattle.mc_request.specs.Flags.{mode_of, direction_of};
 ghost use Rattle.mc_request.specs.Meanings.{Alone, Stores, Refuses, meaning, plain_counting};
 ghost use Rattle.mc_request.specs.Examples.{refused, meta, setting, nothing_shown, every_flag, without_tokens, longer_flags, taken_alone, bad_alone, invalid_alone, once_each};
@@ -73,8 +70,6 @@ pub fn faults_in_order()
     ensures few { meaning (words (codes "mg")) ≡ refused Fault.UnknownCommand }
     ensures few_set { meaning (words (codes "ms a")) ≡ refused Fault.UnknownCommand }
     ensures doubled { meaning (words (codes "mg a v v")) ≡ refused Fault.InvalidFlag }
-    ensures unknown { meaning (words (codes "mg a z")) ≡ refused Fault.InvalidFlag }
-    ensures token { meaning (words (codes "mg a Tx")) ≡ refused Fault.BadToken }
     ensures token_first { meaning (words (codes "mg a Tx z")) ≡ refused Fault.BadToken }
     ensures flag_first { meaning (words (codes "mg a z Tx")) ≡ refused Fault.InvalidFlag }
     ensures flag_before_key { meaning (words (codes "md a\tb v")) ≡ refused Fault.InvalidFlag }

@@ -7,7 +7,6 @@ ghost use Rattle.mc_request.specs.WellFormed.{is_well_formed, has_key, has_meta_
 ghost use Rattle.mc_request.specs.Parts.{update_seen, meta_said};
 ghost use Rattle.mc_request.specs.LinesSeen.{asked_of};
 
-use crate::faults::Fault;
 use crate::hides::{Hides, quiet_hides};
 use crate::keys::Keys;
 use crate::lines::Asked;
@@ -26,11 +25,7 @@ impl Asked<'_> {
         match self {
             Asked::Quit => true,
             Asked::Faulty(fault) => fault.closes(),
-            Asked::Get { .. }
-            | Asked::Update { .. }
-            | Asked::Meta { .. }
-            | Asked::MetaNoop
-            | Asked::Version => false,
+            _ => false,
         }
     }
 
@@ -41,12 +36,7 @@ impl Asked<'_> {
         match self {
             Asked::Update { noreply: true, .. } => Hides::ReplyLine,
             Asked::Meta { command, form } => quiet_hides(command, form.quiet),
-            Asked::Update { noreply: false, .. }
-            | Asked::Get { .. }
-            | Asked::MetaNoop
-            | Asked::Version
-            | Asked::Quit
-            | Asked::Faulty(_) => Hides::Nothing,
+            _ => Hides::Nothing,
         }
     }
 
@@ -165,18 +155,9 @@ pub fn keys_of(alloc: Global, mut words: WordIter<'_>) -> Result<Keys, ReadError
     ensures { IfOk result (λ keys. keys ≡ words.entry) }
 {
     let first = words.next().unwrap();
-    more_keys(alloc, first, words)
-}
-
-/// The same by the first of them.
-fn more_keys(alloc: Global, first: &[u8], more: WordIter<'_>) -> Result<Keys, ReadError>
-    requires first { is_plain_key first.now ≡ true }
-    requires more { list_all is_plain_key more ≡ true }
-    ensures { IfOk result (λ keys. keys ≡ first.now ∷ more.entry) }
-{
     let mut keys = Keys::one(alloc, Key::of_bytes(alloc, first)?);
-    keys.reserve(more.len())?;
-    for word in more {
+    keys.reserve(words.len())?;
+    for word in words {
         keys.push(Key::of_bytes(alloc, word)?)?;
     }
     Ok(keys)

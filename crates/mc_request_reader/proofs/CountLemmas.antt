@@ -1,6 +1,6 @@
 -- How many requests a text has.
-use Rattle.std.proofs.Common.{ℕ, zero, suc, ◌≤◌, Bool, true, false, if◌then◌else◌, List, [], length, drop, Option, Some, None, arith}
-use Rattle.mc_request.specs.Requests.{ends, next_request, requests_from, requests_of, requests_within}
+use Rattle.std.proofs.Common.{ℕ, zero, suc, ◌≤◌, Bool, true, false, if◌then◌else◌, List, [], length, Option, Some, None, arith}
+use Rattle.mc_request.specs.Requests.{next_request, requests_from, requests_of, requests_within}
 use Rattle.mc_request.specs.declared.parts.Taken.{Taken}
 
 -- those of what is left, or none after the last
@@ -11,9 +11,7 @@ ends_or_goes_on n false others few = few
 step_counts : (n : ℕ) (first : Option (Taken × ℕ)) (text : List ℕ) (more : List ℕ → List Taken) → ((rest : List ℕ) → length (more rest) ≤ n)
     → length (requests_from first text more) ≤ suc n
 step_counts n None text more few = omega arith
-step_counts n (Some x) text more few =
-    let others = ends_or_goes_on n (ends x.0) (more (drop x.1 text)) (few (drop x.1 text)) in
-    omega (arith, others)
+step_counts n (Some x) text more few = grind (arith, ends_or_goes_on)
 
 within_counts : (n : ℕ) (text : List ℕ) → length (requests_within n text) ≤ n
 unfolding requests_within

@@ -1,7 +1,6 @@
 -- What a reader stands for after a step.
 use Rattle.std.proofs.Common.{◌≡◌, ◌∙◌, ℕ, suc, zero, ◌+◌, ◌-◌, ◌*◌, ◌<◌, ◌≤◌, Bool, true, false, List, [], ◌∷◌, ◌++◌, length, drop, Option, Some, None, is_some, IsTrue, nat_lt, min, if◌then◌else◌, refl, sym, ap, arith, append_assoc, length-append, length-drop}
 use Rattle.std.specs.Option.{option_map}
-use Rattle.std.specs.Prelude.{unwrap_or}
 use Rattle.std.proofs.lemmas.List.{get_or_append_left, drop-drop, drop-append-le, append-nil}
 use Rattle.std.proofs.Math.Seq.{drop-append-add}
 use Rattle.mc_text.specs.Lines.{HasNoLineFeed}
@@ -36,9 +35,7 @@ shows_whole s x front unclosed none closes_is e = record {
 
 first_size : (dropping : Option (Fault × ℕ)) (unread : List ℕ) (x : Taken × ℕ) → first_by dropping unread ≡ Some x → x.1 ≤ length unread
 first_size None unread x e = (next_request-size unread x e).1
-first_size (Some d) unread x e =
-    let size : 0 ≡ x.1 = ap (λ (y : Taken × ℕ). y.1) (given (nat_lt 0 d.1) (Faulty d.0, 0) x e).1 in
-    omega arith
+first_size (Some d) unread x e = grind (arith, nat_lt, given)
 
 -- a test that gave an option
 passed : {A : Type 0} (b : Bool) (o : Option A) (y : A) → (if b then None else o) ≡ Some y → o ≡ Some y
@@ -51,9 +48,7 @@ front_at x = record { size = x.1; closes = ends x.0 }
 front_size_by : (dropping : Option (Fault × ℕ)) (unread : List ℕ) (o : Option (Taken × ℕ)) (front : Front) → first_by dropping unread ≡ o
     → option_map front_at o ≡ Some front → front.size ≤ length unread
 front_size_by dropping unread None front e is = absurd cc
-front_size_by dropping unread (Some x) front e is =
-    let size : x.1 ≡ front.size = ap (λ (o : Option Front). unwrap_or (option_map (λ (f : Front). f.size) o) 0) is in
-    omega (arith, size, first_size dropping unread x e)
+front_size_by dropping unread (Some x) front e is = grind (arith, first_size)
 
 -- what a look showed has come
 pub front_size : (s : ReaderState) (front : Front) → front_of s ≡ Some front → front.size ≤ length s.unread
@@ -62,10 +57,7 @@ front_size s front is =
 
 -- what was looked at stays so when more comes
 scanned_more : (scanned : ℕ) (u more : List ℕ) → HasNoLineFeed scanned u → HasNoLineFeed scanned (u ++ more)
-scanned_more scanned u more h = record {
-  inside = omega (arith, h.inside, length-append u more);
-  none = λ k lt is. h.none k lt (sym (get_or_append_left u more 0 k (omega (arith, lt, h.inside))) ∙ is);
-}
+scanned_more scanned u more h = grind (arith, length-append, get_or_append_left)
 
 pub searched_more : (known : Searched) (u more : List ℕ) → IsSearched known u → IsSearched known (u ++ more)
 searched_more (searches.Without count) u more h = scanned_more count u more h
@@ -87,12 +79,7 @@ from_whole (Some x) text some e = cc
 
 -- nothing is whole
 pub none_yet : (old new : ReaderState) → new ≡ old → old.closed ≡ false → old.dropping ≡ None → next_request old.unread ≡ None → HasNone old new
-none_yet old new same unclosed none e = record {
-  was_open = unclosed;
-  is_open = ap (λ (s : ReaderState). s.closed) same ∙ unclosed;
-  none = rw (unclosed, none, append-nil) (waits old.unread e);
-  rest = λ text. ap (λ (s : ReaderState). rest_of s text) same;
-}
+none_yet old new same unclosed none e = grind (arith, append-nil, waits)
 
 -- something is whole, so there is a first
 pub whole_is_first : (s : ReaderState) → s.closed ≡ false → s.dropping ≡ None → is_some (next_request s.unread) ≡ true → rest_of s [] ≡ [] → ⊥
@@ -105,10 +92,7 @@ most_open s unclosed none half = rw (unclosed, none) half
 
 -- where something is whole, they are bounded by those that are not taken
 pub little_whole : (s : ReaderState) → s.closed ≡ false → s.dropping ≡ None → s.held ≤ 2 * length s.unread → is_some (next_request s.unread) ≡ true → KeepsLittle s
-little_whole s unclosed none half some = record {
-  most = most_open s unclosed none half;
-  limit = λ e. absurd (whole_is_first s unclosed none some e);
-}
+little_whole s unclosed none half some = grind (arith, whole_is_first, most_open)
 
 pub half_of : (r : Inside) → IsUnread r → length r.buffer.items ≤ 2 * length (drop r.start r.buffer.items)
 half_of r h = omega (arith, h.half, length-drop r.start r.buffer.items)
@@ -124,23 +108,14 @@ drops : (u : List ℕ) (f : Fault) (size : ℕ) → closes f ≡ false → lengt
 drops u f size ok short h more =
     let test : nat_lt (length more) (size - length u) ≡ nat_lt (length (u ++ more)) size =
     same_test (length more) (size - length u) (length (u ++ more)) size (λ h. omega (arith, length-append u more)) (λ h. omega (arith, length-append u more)) in
-    let sizes : length u + (size - length u) ≡ size = omega arith in
-    let left : drop size (u ++ more) ≡ drop (size - length u) more = ap (λ n. drop n (u ++ more)) (sym sizes) ∙ drop-append-add u more (size - length u) in
-    requests-step (u ++ more) ∙ rw (h more, test) (elim (nat_lt (length (u ++ more)) size) as
-    (λ v. requests_from (if v then None else Some (Faulty f, size)) (u ++ more) requests_of ≡ (if v then [] else Faulty f ∷ requests_of (drop (size - length u) more))) [
-      | true ↦ refl
-      | false ↦ rw (ok, left) refl
-    ])
+    grind (arith, nat_lt, drop-append-add, requests-step)
 
 -- a block begins to be dropped
 pub rest_drops : (s new : ReaderState) (f : Fault) (size : ℕ) → s.closed ≡ false → s.dropping ≡ None → new.closed ≡ false → new.dropping ≡ Some (f, size - length s.unread) → new.unread ≡ []
     → closes f ≡ false → length s.unread < size
     → ((more : List ℕ) → next_request (s.unread ++ more) ≡ (if nat_lt (length (s.unread ++ more)) size then None else Some (Faulty f, size)))
     → KeepsRest s new
-rest_drops s new f size unclosed none new_unclosed new_dropping new_unread ok short h = record {
-  rest = λ text. rw (unclosed, none, new_unclosed, new_dropping, new_unread) (sym (drops s.unread f size ok short h text));
-  closed = new_unclosed ∙ sym unclosed;
-}
+rest_drops s new f size unclosed none new_unclosed new_dropping new_unread ok short h = grind (arith, drops)
 
 only_zero : (left n : ℕ) → (0 < left → suc n ≡ 0) → left ≡ 0
 only_zero zero n h = refl
@@ -151,15 +126,8 @@ dropped : (f : Fault) (left k : ℕ) (u piece text : List ℕ) → (0 < left →
     → rest_from false (Some (f, left - k)) (u ++ drop k piece ++ text) ≡ rest_from false (Some (f, left)) (u ++ (piece ++ text))
 dropped f left k [] piece text empty k_is =
     let cut : drop k (piece ++ text) ≡ drop k piece ++ text = drop-append-le k piece text (omega arith) in
-    let test : nat_lt (length (drop k piece ++ text)) (left - k) ≡ nat_lt (length (piece ++ text)) left =
-    same_test (length (drop k piece ++ text)) (left - k) (length (piece ++ text)) left (λ h. omega (arith, length-append piece text, length-append (drop k piece) text, length-drop k piece)) (λ h. omega (arith, length-append piece text, length-append (drop k piece) text, length-drop k piece)) in
-    let sizes : k + (left - k) ≡ left = omega arith in
-    let left_is : drop (left - k) (drop k piece ++ text) ≡ drop left (piece ++ text) = rw (← cut) (drop-drop (left - k) k (piece ++ text) ∙ rw sizes refl) in
-    rw (test, left_is) refl
-dropped f left k (b ∷ bs) piece text empty k_is =
-    let none : left ≡ 0 = only_zero left (length bs) empty in
-    let k_none : k ≡ 0 = omega arith in
-    rw (k_none, none) (ap (λ (xs : List ℕ). rest_from false (Some (f, 0)) (b ∷ xs)) (append_assoc bs piece text))
+    grind (arith, nat_lt, length-append, length-drop, drop-drop, same_test)
+dropped f left k (b ∷ bs) piece text empty k_is = grind (arith, append_assoc, only_zero)
 
 -- a piece comes while a block is dropped
 pub piece_dropped : (u new piece kept : List ℕ) (f : Fault) (left k : ℕ) (text : List ℕ) → (0 < left → length u ≡ 0) → k ≡ min left (length piece) → new ≡ u ++ kept → kept ≡ drop k piece
@@ -168,9 +136,7 @@ piece_dropped u new piece kept f left k text empty k_is new_is kept_is = rw (new
 
 ready_from : (o : Option (Taken × ℕ)) (text : List ℕ) (rest : List Taken) (b : Bool) → rest ≡ requests_from o text requests_of → b ≡ is_some o → (IsTrue b → 0 < length rest) × (0 < length rest → IsTrue b)
 ready_from None text rest b e is = (λ t. absurd cc, λ lt. let none : length rest ≡ 0 = rw e refl in absurd (omega (arith, none, lt)))
-ready_from (Some x) text rest b e is =
-    let some : length rest ≡ suc (length (if ends x.0 then [] else requests_of (drop x.1 text))) = rw e refl in
-    (λ t. omega (arith, some), λ lt. is)
+ready_from (Some x) text rest b e is = grind arith
 
 -- whether something is whole where no block is dropped
 pub ready_by : (s : ReaderState) (b : Bool) → s.closed ≡ false → s.dropping ≡ None → b ≡ is_some (next_request s.unread) → (IsTrue b → 0 < length (rest_of s [])) × (0 < length (rest_of s []) → IsTrue b)

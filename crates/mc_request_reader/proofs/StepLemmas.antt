@@ -1,5 +1,5 @@
 -- What the first line of bytes says of all texts that begin with them.
-use Rattle.std.proofs.Common.{◌≡◌, ℕ, ◌+◌, ◌-◌, if◌then◌else◌, ◌<◌, ◌≤◌, inl, inr, true, false, List, [], ◌∷◌, ◌++◌, length, take, drop, Option, Some, None, refl, sym, ap, ◌∙◌, arith, nat_lt, nat_le, is_some, length-append, length-drop}
+use Rattle.std.proofs.Common.{◌≡◌, ℕ, ◌+◌, ◌-◌, if◌then◌else◌, ◌<◌, ◌≤◌, true, false, List, [], ◌∷◌, ◌++◌, length, take, drop, Option, Some, None, refl, sym, ap, ◌∙◌, arith, nat_lt, nat_le, is_some, length-append, length-drop}
 use Rattle.std.proofs.lemmas.Bool.{cases_lt}
 use Rattle.std.proofs.lemmas.List.{drop-append-le, append-nil}
 use Rattle.mc_text.specs.Lines as lines
@@ -35,30 +35,18 @@ starts_by u content line m e means =
 
 -- where it ends
 pub line_ends : (u content : List ℕ) (line : ℕ) → first_line u ≡ lines.Whole content line → line_end u ≡ Some (line - 1)
-line_ends u content line e =
-    let parts = first_line_whole u content line e in
-    let end_is : parts.0 ≡ line - 1 = omega (arith, parts.3) in
-    rw (← end_is) parts.1
+line_ends u content line e = grind (arith, first_line_whole)
 
 -- what is there now
 pub starts_now : (u : List ℕ) (m : Meaning) (line : ℕ) → StartsBy u m line → next_request u ≡ taken_by m line (drop line u)
 starts_now u m line h = ap next_request (sym (append-nil u)) ∙ h.next [] ∙ rw append-nil refl
 
 pub same_test : (a b c d : ℕ) → (a < b → c < d) → (c < d → a < b) → nat_lt a b ≡ nat_lt c d
-same_test a b c d f g = elim (cases_lt a b) [
-  | inl h ↦ let p : nat_lt a b ≡ true = grind (arith, h) in let lt : c < d = f h in let q : nat_lt c d ≡ true = grind (arith, lt) in p ∙ sym q
-  | inr h ↦ elim (cases_lt c d) [
-    | inl lt ↦ let back : a < b = g lt in absurd (omega arith)
-    | inr le ↦ let p : nat_lt a b ≡ false = grind (arith, h) in let q : nat_lt c d ≡ false = grind (arith, le) in p ∙ sym q
-  ]
-]
+same_test a b c d f g = grind (arith, nat_lt, cases_lt)
 
 -- how much of a block has come, by all bytes and by those after the line
 block_test : (u more : List ℕ) (line len : ℕ) → (0 < line) × (line ≤ length u) → nat_lt (length (drop line u ++ more)) (len + 2) ≡ nat_lt (length (u ++ more)) (line + (len + 2))
-block_test u more line len size =
-    same_test (length (drop line u ++ more)) (len + 2) (length (u ++ more)) (line + (len + 2))
-    (λ h. omega (arith, length-drop line u, length-append u more, length-append (drop line u) more, size.1))
-    (λ h. omega (arith, length-drop line u, length-append u more, length-append (drop line u) more, size.1))
+block_test u more line len size = grind (arith, length-append, length-drop, same_test)
 
 -- a refused block
 pub refused : (u : List ℕ) (line : ℕ) (f : Fault) (len : ℕ) → StartsBy u (Refuses f len) line
@@ -67,9 +55,7 @@ refused u line f len h more = h.next more ∙ rw (block_test u more line len h.s
 
 -- a block that has not come whole, and goes on
 pub stores_short : (u : List ℕ) (line : ℕ) (s : Storing) (len : ℕ) → StartsBy u (Stores s len) line → IsShortOf (line + (len + 2)) u
-stores_short u line s len h more short =
-    let test : nat_lt (length (u ++ more)) (line + (len + 2)) ≡ true = grind (arith, short) in
-    h.next more ∙ rw (block_test u more line len h.size, test) refl
+stores_short u line s len h more short = grind (arith, nat_lt, block_test)
 
 -- a whole block
 pub stores_whole : (u : List ℕ) (line : ℕ) (s : Storing) (len : ℕ) → StartsBy u (Stores s len) line → line + (len + 2) ≤ length u
@@ -84,10 +70,7 @@ stores_waits u line s len h short =
     ap next_request (sym (append-nil u)) ∙ stores_short u line s len h [] (rw append-nil short)
 
 come_by : (o : Option (Taken × ℕ)) (n size : ℕ) → (n < size → o ≡ None) → (size ≤ n → is_some o ≡ true) → nat_le size n ≡ is_some o
-come_by o n size short whole = elim (cases_lt n size) [
-  | inl h ↦ let p : nat_le size n ≡ false = grind (arith, h) in p ∙ rw (short h) refl
-  | inr h ↦ let p : nat_le size n ≡ true = grind (arith, h) in p ∙ sym (whole h)
-]
+come_by o n size short whole = grind (arith, nat_le, cases_lt)
 
 -- whether a block has come whole, refused or not
 pub stores_come : (u : List ℕ) (line : ℕ) (s : Storing) (len : ℕ) → StartsBy u (Stores s len) line → nat_le (line + (len + 2)) (length u) ≡ is_some (next_request u)
@@ -98,9 +81,7 @@ pub refuses_come : (u : List ℕ) (line : ℕ) (f : Fault) (len : ℕ) → Start
 refuses_come u line f len h =
     let now : next_request u ≡ (if nat_lt (length u) (line + (len + 2)) then None else Some (Faulty f, line + (len + 2))) =
     ap next_request (sym (append-nil u)) ∙ refused u line f len h [] ∙ rw append-nil refl in
-    come_by (next_request u) (length u) (line + (len + 2))
-    (λ short. let test : nat_lt (length u) (line + (len + 2)) ≡ true = grind (arith, short) in now ∙ rw test refl)
-    (λ enough. let test : nat_lt (length u) (line + (len + 2)) ≡ false = grind (arith, enough) in rw (now, test) refl)
+    grind (arith, nat_lt, come_by)
 
 -- a refused block, now
 refused_now : (u : List ℕ) (line : ℕ) (f : Fault) (len : ℕ) → StartsBy u (Refuses f len) line → next_request u ≡ (if nat_lt (length u) (line + (len + 2)) then None else Some (Faulty f, line + (len + 2)))
@@ -129,9 +110,7 @@ whole_from u wanted some more enough = whole_more u more some
 
 -- a block that has not come whole is whole with its last byte
 pub stores_from : (u : List ℕ) (line : ℕ) (s : Storing) (len : ℕ) → StartsBy u (Stores s len) line → IsWholeFrom (line + (len + 2)) u
-stores_from u line s len h more enough =
-    let test : nat_lt (length (u ++ more)) (line + (len + 2)) ≡ false = grind (arith, enough) in
-    rw (h.next more, block_test u more line len h.size, test) refl
+stores_from u line s len h more enough = grind (arith, nat_lt, block_test)
 
 -- where nothing is whole, nothing is before another byte has come
 pub one_wanted : (u : List ℕ) → next_request u ≡ None → IsShortOf (length u + 1) u

@@ -2,7 +2,7 @@
 ghost use Rattle.std.specs.Prelude.{◌≡◌};
 ghost use Rattle.mc_ring.specs.declared.errors.RingError.TheVariants.{Memory};
 
-use std::alloc::{AllocError, AllocFailed};
+use std::alloc::AllocError;
 use thiserror::Error;
 
 /// Why there is no ring, or no address. Where several causes hold, the least number is answered, `Memory` last.
@@ -25,18 +25,10 @@ pub enum RingError {
     Memory,
 }
 
-impl From<AllocError> for RingError {
+impl<E: Into<AllocError> + Drop> From<E> for RingError {
     ghost from_gives = { λ _ e. e ≡ Memory };
 
-    fn from(_e: AllocError) -> RingError {
-        RingError::Memory
-    }
-}
-
-impl<T: Drop> From<AllocFailed<T>> for RingError {
-    ghost from_gives = { λ _ e. e ≡ Memory };
-
-    fn from(_e: AllocFailed<T>) -> RingError {
+    fn from(_e: E) -> RingError {
         RingError::Memory
     }
 }

@@ -1,5 +1,5 @@
 -- The commands of a request, and where they go.
-use Rattle.std.proofs.Common.{◌≡◌, ℕ, zero, suc, ℤ, ◌+◌, ◌<◌, ◌≤◌, Bool, false, Option, List, [], ◌∷◌, length, drop, map, refl, ap, ◌∙◌, add-one, arith}
+use Rattle.std.proofs.Common.{◌≡◌, ℕ, zero, suc, ℤ, ◌+◌, ◌<◌, ◌≤◌, Bool, false, Option, List, [], ◌∷◌, length, drop, map, refl, ap, add-one, arith}
 use Rattle.std.specs.List.{All}
 use Rattle.std.proofs.lemmas.List.Elements.{All-contains, All-cons}
 use Rattle.mc_request.specs.Atoms.{gets_of, atoms_of}
@@ -61,9 +61,7 @@ to_each_inside place n (server ∷ servers) atom fits =
 gets_inside : (ring : RingState) (exptime : Option ℤ) (with_cas : Bool) (keys : List (List ℕ)) → IsRing ring
     → All (λ routed. routed.server < length ring.servers) (route_of_gets ring exptime with_cas keys)
 gets_inside ring exptime with_cas [] good = λ i d below. absurd (omega arith)
-gets_inside ring exptime with_cas (key ∷ keys) good =
-    All-cons (λ (routed : Routed). routed.server < length ring.servers) (to_owner ring key (atoms.Get key exptime with_cas)) (route_of_gets ring exptime with_cas keys)
-    (owner_inside ring key good) (gets_inside ring exptime with_cas keys good)
+gets_inside ring exptime with_cas (key ∷ keys) good = grind (arith, owner_inside, gets_inside ring exptime with_cas keys good)
 
 pub route_inside : (ring : RingState) (request : Request) → IsRing ring → All (λ routed. routed.server < length ring.servers) (route_of ring request)
 route_inside ring (requests.Get keys exptime with_cas) good = gets_inside ring exptime with_cas keys good
@@ -91,8 +89,7 @@ gets_to_first ring exptime with_cas [] good one = refl
 gets_to_first ring exptime with_cas (key ∷ keys) good one =
     let first = to_first ring key (atoms.Get key exptime with_cas) good one in
     let rest = gets_to_first ring exptime with_cas keys good one in
-    ap (λ (routed : Routed). routed ∷ route_of_gets ring exptime with_cas keys) first
-    ∙ ap (λ (others : List Routed). to_place 0 (atoms.Get key exptime with_cas) ∷ others) rest
+    grind arith
 
 one_to_first : (ring : RingState) (key : List ℕ) (atom : Atom (List ℕ)) → IsRing ring → length ring.servers ≡ 1 → to_owner ring key atom ∷ [] ≡ to_place 0 atom ∷ []
 one_to_first ring key atom good one = ap (λ (routed : Routed). routed ∷ []) (to_first ring key atom good one)

@@ -4,7 +4,6 @@ use Rattle.mc_text.specs.Words.{words}
 use Rattle.mc_request.specs.Meanings.{meaning}
 use Rattle.mc_request.specs.declared.parts.Atom.{Atom}
 use Rattle.mc_request.specs.declared.parts.Atom.TheVariants as atoms
-use Rattle.mc_request.specs.declared.parts.Request.{Request}
 use Rattle.mc_request.specs.declared.parts.Taken.{Taken}
 use Rattle.mc_request.specs.declared.parts.Taken.TheVariants.{Whole, Faulty}
 use Rattle.mc_request.specs.declared.parts.Update.TheVariants.{FlushAll}
@@ -13,33 +12,21 @@ use Rattle.mc_ring.specs.Points.{pair_at}
 use Rattle.mc_ring.specs.Rings.{RingState}
 use Rattle.mc_route.specs.declared.outcomes.Outcome.{Outcome}
 use Rattle.mc_route.specs.declared.routes.Routed.{Routed}
-use Rattle.mc_route.specs.Routes.{route_of}
+use Rattle.mc_route.specs.Routes.{route_of_taken}
 use Rattle.mc_route.specs.Joins.{joined_answer}
 
--- the request of what was taken, and none where it is a fault
-abbrev pub requests_in : Taken → List Request
-requests_in (Whole request) = request ∷ []
-requests_in (Faulty fault) = []
-
--- the request that a line is, with a data block of `x` where one follows
-abbrev pub request_in : List ℕ → List Request
-request_in line = requests_in (taken_with (meaning (words line)))
-
--- where the commands of a line go; a line that is a fault has none
-abbrev pub route_in : RingState → List Request → List Routed
-route_in ring [] = []
-route_in ring (request ∷ others) = route_of ring request
-
+-- where the commands of a line go, with a data block of `x` where one follows
 abbrev pub route_to : RingState → List ℕ → List Routed
-route_to ring line = route_in ring (request_in line)
+route_to ring line = route_of_taken ring (taken_with (meaning (words line)))
 
--- the answer to a line by what became of its commands
-abbrev pub joined_in : List Request → List Outcome → List ℕ
-joined_in [] outcomes = []
-joined_in (request ∷ others) outcomes = joined_answer request outcomes
+-- the answer to what was taken by what became of its commands; none to a fault
+abbrev pub joined_in : Taken → List Outcome → List ℕ
+joined_in (Whole request) outcomes = joined_answer request outcomes
+joined_in (Faulty fault) outcomes = []
 
+-- the same of a line
 abbrev pub joined_to : List ℕ → List Outcome → List ℕ
-joined_to line outcomes = joined_in (request_in line) outcomes
+joined_to line outcomes = joined_in (taken_with (meaning (words line))) outcomes
 
 -- the first server owns what is where `abc` is, the second what is where `a` is
 abbrev pub two_servers : RingState

@@ -13,22 +13,19 @@ lost_line = codes "SERVER_ERROR link lost\r\n"
 -- whether any command was lost; one whose reply is awaited counts as lost
 abbrev pub has_lost : List Outcome → Bool
 has_lost [] = false
-has_lost (outcomes.Lost ∷ others) = true
-has_lost (outcomes.Awaited ∷ others) = true
 has_lost (outcomes.Reply reply ∷ others) = has_lost others
+has_lost (outcome ∷ others) = true
 
 -- the replies that came
 abbrev pub replies_in : List Outcome → List (Reply (List ℕ))
 replies_in [] = []
-replies_in (outcomes.Lost ∷ others) = replies_in others
-replies_in (outcomes.Awaited ∷ others) = replies_in others
 replies_in (outcomes.Reply reply ∷ others) = reply ∷ replies_in others
+replies_in (outcome ∷ others) = replies_in others
 
 -- what a key of a retrieval command adds by what became of its command
 abbrev pub outcome_part : List ℕ → Outcome → List ℕ
-outcome_part key outcomes.Lost = []
-outcome_part key outcomes.Awaited = []
 outcome_part key (outcomes.Reply reply) = key_part key reply
+outcome_part key outcome = []
 
 -- the whole answer to a request by what became of its commands: where one was lost, that alone is said, also of a request
 -- that hides its answer; else it is what one server would answer

@@ -9,9 +9,8 @@ use Rattle.mc_route.specs.declared.outcomes.Outcome.TheVariants as outcomes
 
 -- what a command adds at most: the value that its reply shows, and so many bytes beside it
 abbrev pub outcome_room : Outcome → ℕ
-outcome_room outcomes.Lost = 0
-outcome_room outcomes.Awaited = 0
 outcome_room (outcomes.Reply reply) = value_len reply + KEY_ROOM
+outcome_room outcome = 0
 
 abbrev pub outcomes_room : List Outcome → ℕ
 outcomes_room [] = 0

@@ -50,9 +50,7 @@ abbrev pub route_of : RingState → Request → List Routed
 route_of ring (requests.Get keys exptime with_cas) = route_of_gets ring exptime with_cas keys
 route_of ring (requests.Update update noreply) = route_of_update ring update
 route_of ring (requests.Meta command form) = to_owner ring (meta_key command) (atoms.Meta command) ∷ []
-route_of ring requests.MetaNoop = []
-route_of ring requests.Version = []
-route_of ring requests.Quit = []
+route_of ring other = []
 
 -- the commands of what was taken: a fault has none
 abbrev pub route_of_taken : RingState → Taken → List Routed

@@ -2,9 +2,7 @@
 ghost use Rattle.std.specs.Prelude.{◌≡◌};
 ghost use Rattle.mc_route.specs.declared.errors.RouteError.TheVariants.{Memory};
 
-use mc_reply::ReplyError;
-use mc_request::ReadError;
-use std::alloc::{AllocError, AllocFailed};
+use std::alloc::AllocError;
 use thiserror::Error;
 
 /// Why a call of this crate gave up.
@@ -15,34 +13,10 @@ pub enum RouteError {
     Memory,
 }
 
-impl From<AllocError> for RouteError {
+impl<E: Into<AllocError> + Drop> From<E> for RouteError {
     ghost from_gives = { λ _ e. e ≡ Memory };
 
-    fn from(_e: AllocError) -> RouteError {
-        RouteError::Memory
-    }
-}
-
-impl<T: Drop> From<AllocFailed<T>> for RouteError {
-    ghost from_gives = { λ _ e. e ≡ Memory };
-
-    fn from(_e: AllocFailed<T>) -> RouteError {
-        RouteError::Memory
-    }
-}
-
-impl From<ReplyError> for RouteError {
-    ghost from_gives = { λ _ e. e ≡ Memory };
-
-    fn from(_e: ReplyError) -> RouteError {
-        RouteError::Memory
-    }
-}
-
-impl From<ReadError> for RouteError {
-    ghost from_gives = { λ _ e. e ≡ Memory };
-
-    fn from(_e: ReadError) -> RouteError {
+    fn from(_e: E) -> RouteError {
         RouteError::Memory
     }
 }

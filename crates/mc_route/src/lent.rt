@@ -2,8 +2,6 @@
 ghost use Rattle.std.specs.Prelude.{◌≡◌, ◌<◌, ◌++◌, true, length, IfOk, OnOk, OnErr};
 ghost use Rattle.std.specs.List.{list_all};
 ghost use Rattle.mc_text.specs.Keys.{is_plain_key};
-ghost use Rattle.mc_request.specs.declared.parts.Request.TheVariants.{Get, Update as UpdateRequest, Meta};
-ghost use Rattle.mc_request.specs.declared.parts.Taken.TheVariants.{Whole};
 ghost use Rattle.mc_request.specs.LinesSeen.{asked_of};
 ghost use Rattle.mc_request.specs.Parts.{update_seen, meta_said};
 ghost use Rattle.mc_request.specs.WellFormed.{is_well_formed, has_key, has_meta_key};
@@ -62,8 +60,8 @@ fn route_keys(
 ) -> Result<Taken, RouteError>
     requires some { 0 < length words }
     requires plain { list_all is_plain_key words ≡ true }
-    ensures routed { OnOk result (routed.new.items ≡ routed.old.items ++ route_of ring.now (Get words.entry exptime with_cas)) }
-    ensures kept { IfOk result (λ kept. kept ≡ Whole (Get words.entry exptime with_cas)) }
+    ensures routed { OnOk result (routed.new.items ≡ routed.old.items ++ route_of ring.now (Request.Get words.entry exptime with_cas)) }
+    ensures kept { IfOk result (λ kept. kept ≡ Taken.Whole (Request.Get words.entry exptime with_cas)) }
     ensures err { OnErr result (routed.new.items ≡ routed.old.items) }
 {
     let keys = keys_of(alloc, words)?;
@@ -87,8 +85,8 @@ fn route_update(
 ) -> Result<Taken, RouteError>
     requires { has_key (update_seen update.now) ≡ true }
     ensures routed { OnOk result
-        (routed.new.items ≡ routed.old.items ++ route_of ring.now (UpdateRequest (update_seen update.now) noreply)) }
-    ensures kept { IfOk result (λ kept. kept ≡ Whole (UpdateRequest (emptied (update_seen update.now)) noreply)) }
+        (routed.new.items ≡ routed.old.items ++ route_of ring.now (Request.Update (update_seen update.now) noreply)) }
+    ensures kept { IfOk result (λ kept. kept ≡ Taken.Whole (Request.Update (emptied (update_seen update.now)) noreply)) }
     ensures err { OnErr result (routed.new.items ≡ routed.old.items) }
 {
     let sent = update.owned(alloc)?;
@@ -108,8 +106,8 @@ fn route_meta(
 ) -> Result<Taken, RouteError>
     requires { has_meta_key (meta_said form.now.coded command.now) ≡ true }
     ensures routed { OnOk result
-        (routed.new.items ≡ routed.old.items ++ route_of ring.now (Meta (meta_said form.now.coded command.now) form.now)) }
-    ensures kept { IfOk result (λ kept. kept ≡ Whole (Meta (emptied_meta (meta_said form.now.coded command.now)) form.now)) }
+        (routed.new.items ≡ routed.old.items ++ route_of ring.now (Request.Meta (meta_said form.now.coded command.now) form.now)) }
+    ensures kept { IfOk result (λ kept. kept ≡ Taken.Whole (Request.Meta (emptied_meta (meta_said form.now.coded command.now)) form.now)) }
     ensures err { OnErr result (routed.new.items ≡ routed.old.items) }
 {
     let sent = command.owned(alloc, form.coded)?;

@@ -1,8 +1,6 @@
 //! From a request to its servers.
 ghost use Rattle.std.specs.Prelude.{◌≡◌, ◌+◌, ◌≤◌, ◌++◌, ◌∷◌, [], length, IfOk, IfErr, OnOk};
 ghost use Rattle.std.specs.VecDeque.{deque_len, deque_capacity};
-ghost use Rattle.mc_request.specs.declared.parts.Atom.TheVariants.{Meta as AMeta, Update as AnUpdate};
-ghost use Rattle.mc_request.specs.declared.parts.Update.TheVariants.{FlushAll};
 ghost use Rattle.mc_reply.specs.Spelling.{meta_key};
 ghost use Rattle.mc_route.specs.Routes.{to_each, to_owner, to_place, route_of_gets, route_of_update, route_of};
 
@@ -72,10 +70,7 @@ pub fn update_count(update: &Update<Key, Block>, ring: &Ring) -> usize
 {
     match update {
         Update::FlushAll { .. } => ring.servers().len(),
-        Update::Store { .. }
-        | Update::Touch { .. }
-        | Update::Delete { .. }
-        | Update::Count { .. } => 1,
+        _ => 1,
     }
 }
 
@@ -215,8 +210,8 @@ pub fn push_update(routed: &mut VecDeque<Routed>, ring: &Ring, update: Update<Ke
 /// Puts a flush for each server after others, in the servers' order.
 #[tactic(auto, using(crate::proofs::RouteLemmas::each_steps))]
 fn push_flush(routed: &mut VecDeque<Routed>, ring: &Ring, delay: i64)
-    requires { deque_len routed.old + length (to_each 0 ring.now.servers (AnUpdate (FlushAll delay))) ≤ deque_capacity routed.old }
-    ensures { routed.new.items ≡ routed.old.items ++ to_each 0 ring.now.servers (AnUpdate (FlushAll delay)) }
+    requires { deque_len routed.old + length (to_each 0 ring.now.servers (Atom.Update (Update.FlushAll delay))) ≤ deque_capacity routed.old }
+    ensures { routed.new.items ≡ routed.old.items ++ to_each 0 ring.now.servers (Atom.Update (Update.FlushAll delay)) }
 {
     for server in 0..ring.servers().len() {
         push(routed, server, Atom::Update(Update::FlushAll { delay }));
@@ -226,7 +221,7 @@ fn push_flush(routed: &mut VecDeque<Routed>, ring: &Ring, delay: i64)
 /// Puts a meta command after others, to the owner of its key.
 pub fn push_meta(routed: &mut VecDeque<Routed>, ring: &Ring, command: MetaCommand<Key, Block>)
     requires { deque_len routed.old + 1 ≤ deque_capacity routed.old }
-    ensures { routed.new.items ≡ routed.old.items ++ to_owner ring.now (meta_key command) (AMeta command) ∷ [] }
+    ensures { routed.new.items ≡ routed.old.items ++ to_owner ring.now (meta_key command) (Atom.Meta command) ∷ [] }
 {
     let server = ring.owner_of_bytes(key_of(&command));
     push(routed, server, Atom::Meta(command));

@@ -1,8 +1,8 @@
-//! Tests over all crates of what no clause says and no script can bring about.
+//! Tests over all crates of a server of what no clause says and no script can bring about.
 //!
 //! A script of `tests/examples/` plays bytes to a server. Here is what is left: numbers used up, memory refused, output
-//! taken out in parts, answers within a limit, connections that are admitted and closed, streams that move little or fail, and sockets. What is
-//! expected is worked out by hand from the protocol's rules, and is never taken from what the program wrote.
+//! taken out in parts, answers within a limit, and streams that move little or fail. What is expected is worked out by hand from the
+//! protocol's rules, and is never taken from what the program wrote.
 #![tactic(auto)]
 
 #[cfg(test)]
@@ -10,16 +10,10 @@ mod bounds;
 #[cfg(test)]
 mod caches;
 #[cfg(test)]
-mod connections;
-#[cfg(test)]
 mod limits;
-#[cfg(test)]
-mod loopback;
 #[cfg(test)]
 mod pumps;
 #[cfg(test)]
 mod replies;
-#[cfg(test)]
-mod requests;
 #[cfg(test)]
 mod texts;

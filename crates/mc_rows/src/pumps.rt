@@ -2,12 +2,12 @@
 
 use mc_fixtures::Call::{Blocks, Fails, Moves};
 use mc_fixtures::{
-    Call, Calls, MANY, MOMENT, MeagreStore, SCRIPTS, Sides, Sink, Source, WIDE, new_server,
+    Call, Calls, MANY, MOMENT, MeagreStore, SCRIPTS, Sides, Sink, Stream, WIDE, new_server,
     with_value,
 };
 use mc_pump::{MAX_ROUNDS, Pumped, UNSENT_MARK, Watch, pump};
 use mc_server::{AnswerLimit, Server};
-use std::alloc::{AllocError, Global};
+use std::alloc::Global;
 use std::test::Fail;
 
 /// What a client sends, and what it is answered.
@@ -27,50 +27,6 @@ const EXCHANGES: [Exchange; 2] = [
     },
 ];
 
-/// Pumps a connection until it is done or failed, and says which.
-fn pumped(
-    server: &mut Server<MeagreStore>,
-    number: u64,
-    source: &mut Source,
-    sink: &mut Sink,
-) -> Pumped {
-    let mut ended = false;
-    let mut piece = [0u8; 16];
-    let mut watch = Watch::new(AnswerLimit::none());
-    for _ in 0..MANY {
-        let last = pump(
-            server, number, &mut ended, source, sink, &mut piece, MOMENT, &mut watch,
-        );
-        if last == Pumped::Done || last == Pumped::Failed {
-            return last;
-        }
-    }
-    Pumped::Again
-}
-
-/// What ends a connection: whether a write does it, and how the call goes.
-const ENDS: [(bool, Call); 3] = [(false, Fails), (true, Fails), (true, Moves(0))];
-
-/// Plays a text on a connection of its own, which is then closed. It gives the last pump, the calls that were made, and
-/// what the client was sent.
-fn play(
-    alloc: Global,
-    server: &mut Server<MeagreStore>,
-    sent: &[u8],
-    sides: Sides,
-) -> Result<(Pumped, Sides, Vec<u8>), Fail> {
-    let number = server.admit()?;
-    let mut source = Source::new(alloc, sent, sides.reads)?;
-    let mut sink = Sink::new(alloc, sides.writes);
-    let last = pumped(server, number, &mut source, &mut sink);
-    server.close(number)?;
-    let made = Sides {
-        reads: source.calls,
-        writes: sink.calls,
-    };
-    Ok((last, made, sink.taken))
-}
-
 /// What one connection stores, and what a later one is answered of it.
 const OLDER: Exchange = Exchange {
     sent: b"set older 5 0 5\r\nfirst\r\n",
@@ -82,100 +38,112 @@ const KEPT: Exchange = Exchange {
     answers: b"VALUE older 5 5\r\nfirst\r\nEND\r\n",
 };
 
-/// Whether an exchange is answered whole by a server.
-fn is_whole(
+/// Pumps a connection once.
+fn pump_once(
+    server: &mut Server<MeagreStore>,
+    number: u64,
+    ended: &mut bool,
+    stream: &mut Stream,
+    watch: &mut Watch,
+) -> Pumped {
+    let mut piece = [0u8; 16];
+    let Stream { source, sink } = stream;
+    pump(
+        server, number, ended, source, sink, &mut piece, MOMENT, watch,
+    )
+}
+
+/// Pumps a connection until it is done or failed, and says which.
+fn pumped(server: &mut Server<MeagreStore>, number: u64, stream: &mut Stream) -> Pumped {
+    let mut ended = false;
+    let mut watch = Watch::new(AnswerLimit::none());
+    for _ in 0..MANY {
+        let last = pump_once(server, number, &mut ended, stream, &mut watch);
+        if last == Pumped::Done || last == Pumped::Failed {
+            return last;
+        }
+    }
+    Pumped::Again
+}
+
+/// Plays a text on a connection of its own, which is then closed. It gives the last pump, the calls that were made, and
+/// what the client was sent.
+fn play(
+    alloc: Global,
+    server: &mut Server<MeagreStore>,
+    sent: &[u8],
+    sides: Sides,
+) -> Result<(Pumped, Sides, Vec<u8>), Fail> {
+    let number = server.admit()?;
+    let mut stream = Stream::new(alloc, sent, sides)?;
+    let last = pumped(server, number, &mut stream);
+    server.close(number)?;
+    Ok((last, stream.sides(), stream.sink.taken))
+}
+
+/// The calls that an exchange takes which is answered whole by a server, if it is.
+fn calls_of(
     alloc: Global,
     server: &mut Server<MeagreStore>,
     exchange: &Exchange,
     calm: Sides,
-) -> Result<bool, Fail> {
-    let (last, _, taken) = play(alloc, server, exchange.sent, calm)?;
-    Ok(last == Pumped::Done && taken.as_slice() == exchange.answers)
-}
-
-/// Whether an exchange, played to a server that holds an older key, by calls one of which ends its connection, fails, and
-/// what was sent until then is right; and whether the server then still holds the older key, and its next connection is
-/// served whole.
-fn fails_alone(
-    alloc: Global,
-    exchange: &Exchange,
-    next: &Exchange,
-    calm: Sides,
-    sides: Sides,
-) -> Result<bool, Fail> {
-    let mut server = new_server(alloc, WIDE)?;
-    let is_stored = is_whole(alloc, &mut server, &OLDER, calm)?;
-    let (failed, _, before) = play(alloc, &mut server, exchange.sent, sides)?;
-    let is_kept = is_whole(alloc, &mut server, &KEPT, calm)?;
-    let is_served = is_whole(alloc, &mut server, next, calm)?;
-    let has_failed = failed == Pumped::Failed && exchange.answers.starts_with(before.as_slice());
-    Ok(is_stored && has_failed && is_kept && is_served)
-}
-
-/// The calls that an exchange takes which is answered whole by a server of its own, if it is.
-fn calls_of(alloc: Global, exchange: &Exchange, calm: Sides) -> Result<Option<Sides>, Fail> {
-    let mut server = new_server(alloc, WIDE)?;
-    let (last, made, taken) = play(alloc, &mut server, exchange.sent, calm)?;
+) -> Result<Option<Sides>, Fail> {
+    let (last, made, taken) = play(alloc, server, exchange.sent, calm)?;
     let is_whole = last == Pumped::Done && taken.as_slice() == exchange.answers;
     Ok(is_whole.then_some(made))
 }
 
-/// Whether an exchange fails alone, whichever of these calls ends its connection.
-fn fail_alone(
+/// Whether an exchange, played to a server that holds an older key, by calls one of which ends its connection, fails, and
+/// what was sent until then is right; and whether the server then still holds the older key, and its next connection, which
+/// is sent the first exchange, is served whole.
+fn fails_alone(
     alloc: Global,
     exchange: &Exchange,
-    next: &Exchange,
     calm: Sides,
-    made: Sides,
+    sides: Sides,
 ) -> Result<bool, Fail> {
+    let [next, _] = &EXCHANGES;
+    let mut server = new_server(alloc, WIDE)?;
+    let is_stored = calls_of(alloc, &mut server, &OLDER, calm)?.is_some();
+    let (failed, _, before) = play(alloc, &mut server, exchange.sent, sides)?;
+    let is_kept = calls_of(alloc, &mut server, &KEPT, calm)?.is_some();
+    let is_served = calls_of(alloc, &mut server, next, calm)?.is_some();
+    let has_failed = failed == Pumped::Failed && exchange.answers.starts_with(before.as_slice());
+    Ok(is_stored && has_failed && is_kept && is_served)
+}
+
+/// What ends a connection: whether a write does it, and how the call goes.
+const ENDS: [(bool, Call); 3] = [(false, Fails), (true, Fails), (true, Moves(0))];
+
+/// Whether an exchange is answered whole, and fails alone whichever of its calls ends its connection.
+fn is_pumped(alloc: Global, exchange: &Exchange, calm: Sides) -> Result<bool, Fail> {
+    let Some(made) = calls_of(alloc, &mut new_server(alloc, WIDE)?, exchange, calm)? else {
+        return Ok(false);
+    };
     let mut is_so = true;
     for (is_write, call) in ENDS {
-        let calls = if is_write { made.writes } else { made.reads };
-        for number in 0..calls.made {
-            let sides = calm.with(is_write, number, call);
-            is_so &= fails_alone(alloc, exchange, next, calm, sides)?;
+        for number in 0..made.made(is_write) {
+            is_so &= fails_alone(alloc, exchange, calm, calm.with(is_write, number, call))?;
         }
     }
     Ok(is_so)
 }
 
 /// Each exchange is answered whole under each pair of scripts. Then each single call of such a run ends the connection, a
-/// write alone too: what an older connection stored is still there, and the next one of the same server, which is sent the
-/// first exchange, is answered as if nothing had been.
+/// write alone too: what an older connection stored is still there, and the next one of the same server is answered as if
+/// nothing had been.
 #[test]
 fn pump_never_works(rt: HostRuntime) -> Result<(), Fail> {
-    let alloc = rt.alloc();
-    let [first, _] = &EXCHANGES;
     for exchange in &EXCHANGES {
-        for (reads, writes) in &SCRIPTS {
-            let calm = Sides {
-                reads: Calls::new(reads, None),
-                writes: Calls::new(writes, None),
-            };
-            let is_so = match calls_of(alloc, exchange, calm)? {
-                Some(made) => fail_alone(alloc, exchange, first, calm, made)?,
-                None => false,
-            };
-            assert!(rt; is_so);
+        for scripts in SCRIPTS {
+            assert!(rt; is_pumped(rt.alloc(), exchange, Sides::new(scripts))?);
         }
     }
     Ok(())
 }
 
-/// A client that asks so many times for a value.
-fn asking(alloc: Global, times: usize) -> Result<Source, AllocError> {
-    let mut bytes = Vec::new(alloc);
-    for _ in 0..times {
-        bytes.extend_from_slice(b"get a\r\n")?;
-    }
-    Source::new(alloc, &bytes, Calls::new(&[Moves(7)], None))
-}
-
-/// Whether some bytes are a text so many times.
-fn are_repeated(bytes: &[u8], text: &[u8], times: usize) -> bool {
-    bytes.len() == text.len().saturating_mul(times)
-        && bytes.chunks(text.len().max(1)).all(|part| part == text)
-}
+/// Calls that move all there is.
+const ALL: &[Call] = &[Moves(usize::MAX)];
 
 /// 500,000 bytes.
 const SIXTEENS: usize = 31_250;
@@ -184,11 +152,12 @@ const SIXTEENS: usize = 31_250;
 fn server_with_value(alloc: Global) -> Result<Server<MeagreStore>, Fail> {
     let mut server = new_server(alloc, WIDE)?;
     let stored = with_value(alloc, b"set a 0 0 500000\r\n", SIXTEENS, b"\r\n")?;
-    let calm = Sides {
-        reads: Calls::new(&[Moves(usize::MAX)], None),
-        writes: Calls::new(&[Moves(usize::MAX)], None),
-    };
-    play(alloc, &mut server, stored.as_slice(), calm)?;
+    play(
+        alloc,
+        &mut server,
+        stored.as_slice(),
+        Sides::new((ALL, ALL)),
+    )?;
     Ok(server)
 }
 
@@ -196,14 +165,10 @@ fn server_with_value(alloc: Global) -> Result<Server<MeagreStore>, Fail> {
 fn unsent_after_a_pump(
     server: &mut Server<MeagreStore>,
     number: u64,
-    source: &mut Source,
-    sink: &mut Sink,
+    stream: &mut Stream,
 ) -> usize {
-    let mut piece = [0u8; 16];
     let mut watch = Watch::new(AnswerLimit::none());
-    let _ = pump(
-        server, number, &mut false, source, sink, &mut piece, MOMENT, &mut watch,
-    );
+    let _ = pump_once(server, number, &mut false, stream, &mut watch);
     server.output(number).len()
 }
 
@@ -213,18 +178,24 @@ fn unsent_after_a_pump(
 fn unsent_answers_stop_reads(rt: HostRuntime) -> Result<(), Fail> {
     let alloc = rt.alloc();
     let answer = with_value(alloc, b"VALUE a 0 500000\r\n", SIXTEENS, b"\r\nEND\r\n")?;
-    let mut source = asking(alloc, 20)?;
-    let mut sink = Sink::new(alloc, Calls::new(&[Blocks], None));
+    let asked = b"get a\r\n".repeat(alloc, 20)?;
+    let mut stream = Stream::new(alloc, &asked, Sides::new((&[Moves(7)], &[Blocks])))?;
     let mut server = server_with_value(alloc)?;
     let number = server.admit()?;
-    let unsent = unsent_after_a_pump(&mut server, number, &mut source, &mut sink);
-    let still = unsent_after_a_pump(&mut server, number, &mut source, &mut sink);
+    let unsent = unsent_after_a_pump(&mut server, number, &mut stream);
+    let still = unsent_after_a_pump(&mut server, number, &mut stream);
     let nine = answer.len().saturating_mul(9);
     let are_unsent = unsent == nine && still == nine && nine >= UNSENT_MARK;
-    let is_stopped = are_unsent && source.calls.made == 9;
-    sink.calls = Calls::new(&[Moves(100_000), Blocks], None);
-    let last = pumped(&mut server, number, &mut source, &mut sink);
-    let is_done = last == Pumped::Done && are_repeated(&sink.taken, &answer, 20);
+    let is_stopped = are_unsent && stream.source.calls.made == 9;
+    let Stream { source, sink } = stream;
+    let sink = Sink {
+        taken: sink.taken,
+        calls: Calls::new(&[Moves(100_000), Blocks]),
+    };
+    let mut stream = Stream { source, sink };
+    let last = pumped(&mut server, number, &mut stream);
+    let is_done = last == Pumped::Done
+        && stream.sink.taken.as_slice() == answer.repeat(alloc, 20)?.as_slice();
     assert!(rt; is_stopped && is_done);
     Ok(())
 }
@@ -232,48 +203,25 @@ fn unsent_answers_stop_reads(rt: HostRuntime) -> Result<(), Fail> {
 /// A pump of a client that always sends ends after its rounds, so that others are served.
 #[test]
 fn a_pump_ends_though_more_comes(rt: HostRuntime) -> Result<(), Fail> {
-    let alloc = rt.alloc();
-    let mut server = new_server(alloc, WIDE)?;
+    let mut server = new_server(rt.alloc(), WIDE)?;
     let number = server.admit()?;
-    let mut source = Source::new(alloc, &[b'x'; 1_000], Calls::new(&[Moves(1)], None))?;
-    let mut sink = Sink::new(alloc, Calls::new(&[Moves(1)], None));
-    let mut piece = [0u8; 16];
+    let sides = Sides::new((&[Moves(1)], &[Moves(1)]));
+    let mut stream = Stream::new(rt.alloc(), &[b'x'; 1_000], sides)?;
     let mut watch = Watch::new(AnswerLimit::none());
-    let last = pump(
-        &mut server,
-        number,
-        &mut false,
-        &mut source,
-        &mut sink,
-        &mut piece,
-        MOMENT,
-        &mut watch,
-    );
-    assert!(rt; last == Pumped::Again && source.calls.made == MAX_ROUNDS as usize);
+    let last = pump_once(&mut server, number, &mut false, &mut stream, &mut watch);
+    assert!(rt; last == Pumped::Again && stream.source.calls.made == MAX_ROUNDS as usize);
     Ok(())
 }
 
 /// A request whose answer may be larger than the limit is not taken, nor any after it: those before it are served.
 #[test]
 fn larger_answers_fail_a_pump(rt: HostRuntime) -> Result<(), Fail> {
-    let alloc = rt.alloc();
-    let mut server = server_with_value(alloc)?;
+    let mut server = server_with_value(rt.alloc())?;
     let number = server.admit()?;
     let sent = b"get b\r\nget a\r\nset a 0 0 1\r\nx\r\n";
-    let mut source = Source::new(alloc, sent, Calls::new(&[Moves(usize::MAX)], None))?;
-    let mut sink = Sink::new(alloc, Calls::new(&[Moves(usize::MAX)], None));
-    let mut piece = [0u8; 64];
+    let mut stream = Stream::new(rt.alloc(), sent, Sides::new((ALL, ALL)))?;
     let mut watch = Watch::new(AnswerLimit { bytes: 500_000 });
-    let last = pump(
-        &mut server,
-        number,
-        &mut false,
-        &mut source,
-        &mut sink,
-        &mut piece,
-        MOMENT,
-        &mut watch,
-    );
+    let last = pump_once(&mut server, number, &mut false, &mut stream, &mut watch);
     let is_refused = last == Pumped::Failed && server.bound(number)? == 501_024;
     let is_one = watch.tally.requests == 1 && server.output(number) == b"END\r\n".as_slice();
     assert!(rt; is_refused && is_one);

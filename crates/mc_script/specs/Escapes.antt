@@ -81,10 +81,7 @@ completed Lost b = []
 -- a text ends after a whole byte
 abbrev pub at_end : Place → Option (List ℕ)
 at_end Between = Some []
-at_end Backslash = None
-at_end NoDigit = None
-at_end (OneDigit high) = None
-at_end Lost = None
+at_end place = None
 
 -- what a text stands for, from a place on
 unfoldable pub text_from : Place → List ℕ → Option (List ℕ)

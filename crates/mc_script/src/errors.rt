@@ -3,7 +3,7 @@ ghost use Rattle.std.specs.Prelude.{◌≡◌};
 ghost use Rattle.mc_script.specs.declared.errors.SimError.TheVariants.{Memory};
 ghost use Rattle.mc_script.specs.Statuses.{status_of};
 
-use std::alloc::{AllocError, AllocFailed};
+use std::alloc::AllocError;
 use thiserror::Error;
 
 /// Why a script was not run to its end.
@@ -42,18 +42,10 @@ impl SimError {
     }
 }
 
-impl From<AllocError> for SimError {
+impl<E: Into<AllocError> + Drop> From<E> for SimError {
     ghost from_gives = { λ _ e. e ≡ Memory };
 
-    fn from(_e: AllocError) -> SimError {
-        SimError::Memory
-    }
-}
-
-impl<T: Drop> From<AllocFailed<T>> for SimError {
-    ghost from_gives = { λ _ e. e ≡ Memory };
-
-    fn from(_e: AllocFailed<T>) -> SimError {
+    fn from(_e: E) -> SimError {
         SimError::Memory
     }
 }

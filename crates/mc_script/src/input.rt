@@ -1,6 +1,5 @@
 //! All that a reader gives.
 ghost use Rattle.std.specs.Prelude.{◌≡◌, ℕ, IfOk, IfSome, IsErrOf};
-ghost use Rattle.mc_script.specs.declared.errors.Side.TheVariants.{Output};
 
 use crate::errors::{Side, SimError};
 use std::alloc::Global;
@@ -17,7 +16,7 @@ const MAX_READS: u64 = 16_777_216;
 pub fn read_input<R: Read>(alloc: Global, reader: &mut R) -> Result<Vec<u8>, SimError>
     ensures input { IfOk result (λ input. IfSome (R.remaining reader.old) (λ bytes. input.items ≡ bytes)) }
     ensures never_bad_line { (line : ℕ) → ¬ IsErrOf result (SimError.BadLine line) }
-    ensures never_output { ¬ IsErrOf result (SimError.Stream Output) }
+    ensures never_output { ¬ IsErrOf result (SimError.Stream Side.Output) }
 {
     let mut input = Vec::new(alloc);
     let mut piece = [0; PIECE_LEN];

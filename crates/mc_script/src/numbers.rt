@@ -13,10 +13,7 @@ pub fn read_limit(word: &[u8], most: u64) -> Option<u64>
     ensures small { IfSome result (λ limit. limit ≤ most) }
     ensures some { IfSome result (λ limit. 1 ≤ limit) }
 {
-    match read_u64(word) {
-        Some(limit) if limit >= 1 && limit <= most => Some(limit),
-        _ => None,
-    }
+    read_u64(word).filter(|limit| *limit >= 1 && *limit <= most)
 }
 
 /// The number of something that is there, where so many are, counted from 0.
@@ -24,10 +21,7 @@ pub fn read_place(word: &[u8], count: u64) -> Option<u64>
     ensures place { result ≡ place_of count word.now }
     ensures inside { IfSome result (λ place. place < count) }
 {
-    match read_u64(word) {
-        Some(place) if place < count => Some(place),
-        _ => None,
-    }
+    read_u64(word).filter(|place| *place < count)
 }
 
 /// A moment: a number below 2^63.
@@ -35,8 +29,5 @@ pub fn read_moment(word: &[u8]) -> Option<u64>
     ensures value { result ≡ moment_read word.now }
     ensures small { IfSome result (λ moment. moment < 2 ^ 63) }
 {
-    match read_u64(word) {
-        Some(moment) if moment <= MAX_MOMENT => Some(moment),
-        _ => None,
-    }
+    read_u64(word).filter(|moment| *moment <= MAX_MOMENT)
 }

@@ -54,9 +54,7 @@ fn opened_server(alloc: Global, script: &Script) -> Result<ScriptServer, SimErro
     ensures server { IfOk result (λ server. server ≡ opened (cache_of (script_seen script.now)) script.now.connections) }
     ensures only_memory { IsOkUnless result SimError.Memory }
 {
-    let Ok(store) = LruStore::new(alloc, script.items) else {
-        return Err(SimError::Memory);
-    };
+    let store = LruStore::new(alloc, script.items).map_err(|_| SimError::Memory)?;
     let cache = Cache::new(
         alloc,
         store,

@@ -65,11 +65,7 @@ fn read_server(line: &[u8]) -> Option<(u64, u64, usize)>
     let connections = read_limit(connections, MAX_CONNECTIONS as u64)?;
     let budget = read_limit(budget, MAX_BUDGET)?;
     let items = read_limit(items, MAX_ITEMS as u64)?;
-    if command == b"server".as_slice() {
-        Some((connections, budget, items as usize))
-    } else {
-        None
-    }
+    (command == b"server".as_slice()).then_some((connections, budget, items as usize))
 }
 
 /// The event of a line, where so many connections are there.

@@ -4,7 +4,6 @@ ghost use Rattle.std.specs.Io.KnownBytes.{Appends};
 ghost use Rattle.mc_script.specs.Texts.{IsTextOf};
 ghost use Rattle.mc_script.specs.ScriptSeen.{Explains};
 ghost use Rattle.mc_script.specs.Scripts.{script_of};
-ghost use Rattle.mc_script.specs.declared.errors.Side.TheVariants.{Output};
 
 use crate::errors::{Side, SimError};
 use crate::outputs::{played_server, push_output_lines};
@@ -32,7 +31,7 @@ pub fn text_of_script(alloc: Global, input: &[u8]) -> Result<Vec<u8>, SimError>
 /// Writes a text. Where that fails, a part of it may have been written.
 pub fn write_text<W: Write>(writer: &mut W, text: &[u8]) -> Result<(), SimError>
     ensures written { OnOk result (Appends (W.contents writer.old) (W.contents writer.new) text.now) }
-    ensures only_output { IsOkUnless result (SimError.Stream Output) }
+    ensures only_output { IsOkUnless result (SimError.Stream Side.Output) }
 {
     writer
         .write_all(text)

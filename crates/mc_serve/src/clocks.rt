@@ -51,24 +51,15 @@ impl<'a, R: Clock> Seconds for SystemSeconds<'a, R> {
         ensures told { result ≡ self.new }
         ensures never_back { self.old ≤ result }
     {
-        moment_after(self.start, self.stopwatch.millis(self.rt) / 1000)
+        let passed = self.stopwatch.millis(self.rt) / 1000;
+        self.start.saturating_add(passed).min(i64::MAX as u64)
     }
-}
-
-/// The moment so many seconds after a start.
-fn moment_after(start: u64, passed: u64) -> u64
-    ensures { result ≡ moment_after start passed }
-{
-    start.saturating_add(passed).min(i64::MAX as u64)
 }
 
 /// The wall clock: whole seconds since 1970; 0 where it is before 1970, or cannot be read.
 fn wall_clock<R: Clock>(rt: &R) -> u64 {
-    let Ok(time) = SystemTime::now(rt) else {
-        return 0;
-    };
-    match time.duration_since(UNIX_EPOCH) {
-        Ok(since) => since.as_secs(),
-        Err(_) => 0,
-    }
+    let since = SystemTime::now(rt)
+        .ok()
+        .and_then(|time| time.duration_since(UNIX_EPOCH).ok());
+    since.map_or(0, |since| since.as_secs())
 }

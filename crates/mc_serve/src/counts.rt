@@ -1,10 +1,12 @@
 //! What a store has done.
 
 use std::cell::Cell;
+use std::fmt;
+use std::fmt::{Display, Formatter};
 
 /// What a store has done since it was made, as far as its operator asks. Whoever holds it sets the moment, by which an item is
 /// dead or not. Each number begins again at 0 after 2^64 - 1.
-#[derive(Drop)]
+#[derive(Default, Drop)]
 pub struct Counts {
     moment: Cell<u64>,
     hits: Cell<u64>,
@@ -17,20 +19,6 @@ pub struct Counts {
 }
 
 impl Counts {
-    /// The counts of a store that has done nothing and holds nothing.
-    pub fn new() -> Counts {
-        Counts {
-            moment: Cell::new(0),
-            hits: Cell::new(0),
-            misses: Cell::new(0),
-            stores: Cell::new(0),
-            evictions: Cell::new(0),
-            expired: Cell::new(0),
-            items: Cell::new(0),
-            used: Cell::new(0),
-        }
-    }
-
     /// Sets the moment.
     pub fn come_to(&self, moment: u64) {
         self.moment.set(moment);
@@ -71,40 +59,18 @@ impl Counts {
         self.items.set(items);
         self.used.set(used);
     }
+}
 
-    /// The keys of retrievals that were held.
-    pub fn hits(&self) -> u64 {
-        self.hits.get()
-    }
-
-    /// The keys of retrievals that were not held.
-    pub fn misses(&self) -> u64 {
-        self.misses.get()
-    }
-
-    /// How often a value was stored.
-    pub fn stores(&self) -> u64 {
-        self.stores.get()
-    }
-
-    /// How many items were evicted.
-    pub fn evictions(&self) -> u64 {
-        self.evictions.get()
-    }
-
-    /// How many items were found dead.
-    pub fn expired(&self) -> u64 {
-        self.expired.get()
-    }
-
-    /// How many items there are.
-    pub fn items(&self) -> usize {
-        self.items.get()
-    }
-
-    /// What the items cost.
-    pub fn used(&self) -> u64 {
-        self.used.get()
+impl Display for Counts {
+    fn fmt<W: fmt::Write>(&self, f: &mut Formatter<W>) -> fmt::Result {
+        let (hits, misses, stores) = (self.hits.get(), self.misses.get(), self.stores.get());
+        let (evictions, expired) = (self.evictions.get(), self.expired.get());
+        let (items, bytes) = (self.items.get(), self.used.get());
+        write!(f, "hits={hits} misses={misses} stores={stores}")?;
+        write!(
+            f,
+            " evictions={evictions} expired={expired} items={items} bytes={bytes}"
+        )
     }
 }
 

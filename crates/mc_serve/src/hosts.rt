@@ -5,7 +5,6 @@ use crate::clocks::Seconds;
 use crate::counts::Counts;
 use crate::handlers::ServerHandler;
 use crate::options::PROGRAM;
-use crate::reports::ServerReport;
 use crate::settings::Service;
 use mc_clients::{Clients, Rounds, patience};
 use mc_server::{MAX_CONNECTIONS, Server};
@@ -57,13 +56,13 @@ impl<S: Store + Drop> Host<S> {
         })
     }
 
-    /// What it has done, where so many connections were accepted.
-    fn report(&self, accepted: u64) -> ServerReport<'_> {
+    /// Says on standard error what it has done, and its store, where so many connections were accepted.
+    fn report<R: Eprint>(&self, rt: &R, accepted: u64) {
         let uptime = self.moment.saturating_sub(self.start);
-        ServerReport {
-            clients: self.clients.report(uptime, accepted, self.handler.tally()),
-            counts: &self.counts,
-        }
+        let clients = self.clients.report(uptime, accepted, self.handler.tally());
+        let counts = &*self.counts;
+        // Where it cannot be said, all are served all the same.
+        let _ = eprintln!(rt; "{PROGRAM}: {clients} {counts}");
     }
 }
 
@@ -105,9 +104,7 @@ impl<R: Eprint, C: Seconds, S: Store + Drop> Rounds<R, C> for Host<S> {
         self.rested = self.moment;
         self.clients.rest(&mut self.handler, self.moment);
         if self.pace.comes(self.moment) {
-            let report = self.report(accepted);
-            // Where it cannot be said, all are served all the same.
-            let _ = eprintln!(rt; "{PROGRAM}: {report}");
+            self.report(rt, accepted);
         }
     }
 

@@ -19,7 +19,6 @@ mod counts;
 mod handlers;
 mod hosts;
 mod options;
-mod reports;
 mod serving;
 mod settings;
 

@@ -1,5 +1,4 @@
 //! Serving a listener.
-ghost use Rattle.std.specs.Prelude.{◌≡◌};
 
 use crate::clocks::Seconds;
 use crate::counted::Counted;
@@ -32,9 +31,7 @@ pub fn serve<R: Net + RandomSource + Wait + Eprint, C: Seconds>(
     settings: &Settings,
     clock: &mut C,
 ) -> Result<(), ServeError> {
-    let Ok(counts) = Rc::new(alloc, Counts::new()) else {
-        return Err(ServeError::Memory);
-    };
+    let counts = Rc::new(alloc, Counts::default()).map_err(|_| ServeError::Memory)?;
     let server = new_server(rt, alloc, settings, counts.clone()?)?;
     let service = settings.service;
     let mut host = Host::new(alloc, server, counts, service, clock.now())?;

@@ -7,7 +7,7 @@
 use mc_program::{Failure, Terms, exit_status, read_words};
 use mc_serve::{Options, PROGRAM, Service, SystemSeconds, bind, command, serve};
 use mc_server::MAX_CONNECTIONS;
-use mc_watch::{OWN_FILES, open_files, served};
+use mc_watch::{OWN_FILES, tell_open_files};
 use std::net::Net;
 use std::process::ExitCode;
 use std::random::RandomSource;
@@ -37,7 +37,7 @@ where
         return check(rt, &options);
     }
     let listener = bind(rt, options.listen)?;
-    tell_open_files(rt);
+    tell_open_files(rt, PROGRAM, OWN_FILES, MAX_CONNECTIONS);
     // Whom the line does not reach is served all the same.
     let _ = println!(rt; "listening {}", options.listen);
     serve(
@@ -65,17 +65,4 @@ fn check<R: Print>(rt: &R, options: &Options<'_>) -> Result<(), Failure> {
         "listen {listen} budget {budget} items {items} accept {accept} answer {answer} idle {idle} report {report}"
     );
     written.map_err(|_| Failure::Output)
-}
-
-/// Says on standard error how many connections can be served, where the system allows fewer open files than all may need.
-fn tell_open_files<R: Eprint>(rt: &R) {
-    if let Some(files) = open_files() {
-        let connections = served(files, OWN_FILES);
-        if connections <= MAX_CONNECTIONS as u64 {
-            // Where it cannot be said, clients are served all the same.
-            let _ = eprintln!(rt;
-                "{PROGRAM}: {files} open files: {connections} connections can be served at a time"
-            );
-        }
-    }
 }

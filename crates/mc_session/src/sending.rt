@@ -101,10 +101,7 @@ fn is_up_at(links: &[Link], place: usize) -> bool
     ensures up { result ≡ (link_at (states links.now) place).up }
     ensures inside { result ≡ true → place < length links.now }
 {
-    match links.get(place) {
-        Some(link) => link.is_up(),
-        None => false,
-    }
+    links.get(place).is_some_and(Link::is_up)
 }
 
 /// Makes room on the links of the commands that are up, so that the commands can be sent without memory.

@@ -11,7 +11,7 @@ use mc_link::{Link, Tag};
 use mc_request_reader::{Peek, Reader};
 use mc_ring::Ring;
 use mc_route::{Outcome, Routed, goes_to, route};
-use mc_text::let_go;
+use mc_text::{give_back, let_go};
 use std::alloc::Global;
 use std::collections::VecDeque;
 use std::marker::Model;
@@ -216,9 +216,7 @@ impl Session {
         ensures { self.new ≡ self.old }
     {
         self.reader.give_back(kept);
-        if self.output.is_empty() && self.output.capacity() > kept {
-            self.output.shrink_to_fit();
-        }
+        give_back(&mut self.output, kept);
         if self.unanswered.is_empty() && self.unanswered.capacity() > kept {
             self.unanswered.shrink_to_fit();
         }

@@ -2,8 +2,8 @@
 use Rattle.std.specs.Prelude.{ℕ, List, Option}
 use Rattle.std.specs.Io.KnownBytes.{Appends, Keeps}
 use Rattle.mc_script.specs.declared.errors.SimError.{SimError}
-use Rattle.mc_script.specs.declared.errors.SimError.TheVariants.{BadLine, Stream, Memory}
-use Rattle.mc_script.specs.declared.errors.Side.TheVariants.{Input, Output}
+use Rattle.mc_script.specs.declared.errors.SimError.TheVariants.{BadLine, Stream}
+use Rattle.mc_script.specs.declared.errors.Side.TheVariants.{Output}
 use Rattle.mc_pool_script.specs.Kinds.{is_of_pool}
 use Rattle.mc_sim.specs.Printed.{ExplainsFor, IsTextFor}
 use Rattle.mc_sim.specs.declared.texts.Printed.{Printed}
@@ -16,13 +16,10 @@ pub record Prints (printed : Printed) (input : List ℕ) (old new : Option (List
 
 -- whatever stops a run but a failed write stops it before anything is written
 abbrev pub StopsBeforeWriting : SimError → Option (List ℕ) → Option (List ℕ) → Type 0
-StopsBeforeWriting (BadLine n) old new = Keeps old new
-StopsBeforeWriting (Stream Input) old new = Keeps old new
 StopsBeforeWriting (Stream Output) old new = Unit {0}
-StopsBeforeWriting Memory old new = Keeps old new
+StopsBeforeWriting other old new = Keeps old new
 
 -- where a run stopped at a bad line, that is the first one of the input
 abbrev pub IsBadLineOf : SimError → List ℕ → Type 0
 IsBadLineOf (BadLine n) input = ExplainsFor (is_of_pool input) (BadLine n) input
-IsBadLineOf (Stream side) input = Unit {0}
-IsBadLineOf Memory input = Unit {0}
+IsBadLineOf other input = Unit {0}

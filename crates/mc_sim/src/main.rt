@@ -39,31 +39,14 @@ where
     let words = read_words(rt)?;
     let matches = command(alloc)?.try_get_matches_from(words.as_slice())?;
     let options = Options::of(&matches);
-    if options.trace {
-        return play_traced(rt, &options);
+    let mut writer = io::writer(rt);
+    if !options.trace {
+        run(alloc, options.printed, &mut rt.reader(), &mut writer)?;
+        return Ok(());
     }
-    run(
-        alloc,
-        options.printed,
-        &mut rt.reader(),
-        &mut io::writer(rt),
-    )?;
-    Ok(())
-}
-
-/// The same of a script that is read first, so that each line can be told.
-fn play_traced<R>(rt: &R, options: &Options) -> Result<(), Ending>
-where
-    R: Input + Print + Eprint + AllocGlobal,
-{
-    let alloc = rt.alloc();
+    // The script is read first, so that each line can be told.
     let input = read_input(alloc, &mut rt.reader())?;
     trace(rt, alloc, input.as_slice())?;
-    run(
-        alloc,
-        options.printed,
-        &mut input.as_slice(),
-        &mut io::writer(rt),
-    )?;
+    run(alloc, options.printed, &mut input.as_slice(), &mut writer)?;
     Ok(())
 }

@@ -20,25 +20,11 @@ pub fn trace<R: Eprint>(rt: &R, alloc: Global, input: &[u8]) -> Result<(), SimEr
 
 /// Says it of the last lines, one for each step.
 fn tell_all<R: Eprint>(rt: &R, input: &[u8], steps: &[Step]) {
-    let before = count(input).saturating_sub(steps.len());
-    let mut place: usize = 0;
-    for (number, line) in lines_of(input) {
-        if place >= before
-            && let Some(step) = steps.get(place - before)
-        {
-            tell(rt, number, line, *step);
-        }
-        place = place.saturating_add(1);
+    let lines = lines_of(input).fold(0_usize, |count, _| count.saturating_add(1));
+    let before = lines.saturating_sub(steps.len());
+    for ((number, line), step) in lines_of(input).skip(before).zip(steps) {
+        tell(rt, number, line, *step);
     }
-}
-
-/// How many lines there are that are not empty.
-fn count(input: &[u8]) -> usize {
-    let mut count: usize = 0;
-    for _ in lines_of(input) {
-        count = count.saturating_add(1);
-    }
-    count
 }
 
 /// Says it of a line. Whom that does not reach is served all the same.

@@ -1,6 +1,6 @@
 -- What is done with a client after its pump. All of it is this project's own.
 use Rattle.mc_stream.specs.declared.outcomes.Pumped.{Pumped}
-use Rattle.mc_stream.specs.declared.outcomes.Pumped.TheVariants.{Again, Blocked, Done, Failed}
+use Rattle.mc_stream.specs.declared.outcomes.Pumped.TheVariants.{Again, Blocked}
 use Rattle.mc_socket.specs.declared.steps.Step.{Step}
 use Rattle.mc_socket.specs.declared.steps.Step.TheVariants.{GoOn, Wait, Close}
 
@@ -8,5 +8,4 @@ use Rattle.mc_socket.specs.declared.steps.Step.TheVariants.{GoOn, Wait, Close}
 abbrev pub step_after : Pumped → Step
 step_after Again = GoOn
 step_after Blocked = Wait
-step_after Done = Close
-step_after Failed = Close
+step_after other = Close

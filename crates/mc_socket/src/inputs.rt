@@ -27,12 +27,9 @@ impl Edge {
 
     /// Notes what an event says of the stream.
     pub fn note(&mut self, event: &Event) {
-        if event.is_readable() || event.is_read_closed() || event.is_error() {
-            self.drained = false;
-        }
-        if event.is_read_closed() || event.is_error() {
-            self.to_the_end = true;
-        }
+        let ended = event.is_read_closed() || event.is_error();
+        self.drained &= !ended && !event.is_readable();
+        self.to_the_end |= ended;
     }
 }
 
@@ -61,15 +58,8 @@ impl<R: Read> Read for Input<R> {
             return Err(io::Error::from(ErrorKind::WouldBlock));
         }
         let count = self.stream.read(piece)?;
-        self.edge.drained = is_drained(count, piece.len(), self.edge.to_the_end);
+        // While the end is still to be read, the stream is not emptied: no further event may tell of it.
+        self.edge.drained = count < piece.len() && !self.edge.to_the_end;
         Ok(count)
     }
-}
-
-/// Whether a read that gave so many bytes of those that were asked for has emptied its stream. While the end is still to be
-/// read, none has: no further event may tell of it.
-fn is_drained(count: usize, asked: usize, to_the_end: bool) -> bool
-    ensures { result ≡ (nat_lt count asked && not to_the_end) }
-{
-    count < asked && !to_the_end
 }

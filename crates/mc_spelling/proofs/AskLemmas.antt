@@ -1,5 +1,5 @@
 -- What the flags of each meta command may ask to be shown.
-use Rattle.std.proofs.Common.{◌≡◌, ℕ, ◌==◌, Bool, true, false, cond, if◌then◌else◌, List, [], ◌∷◌, Option, Some, None, Result, Ok, Err, refl, subst}
+use Rattle.std.proofs.Common.{◌≡◌, ℕ, ◌==◌, Bool, true, false, cond, if◌then◌else◌, List, [], ◌∷◌, Option, Some, None, Result, Ok, Err, refl, subst, arith}
 use Prim.Native.Char.{code}
 use Rattle.std.proofs.lemmas.Bool.{and_parts, eqb-true}
 use Rattle.std.specs.List.{list_all}
@@ -85,19 +85,14 @@ mode_asks name read token h = after (Asks name) (valued read.direction (directio
 
 flag_asks : (name : Name) (read : MetaFlags) (token : List ℕ) (flag : Flag) → may_ask name flag ≡ true → Asks name read → Whenever (Asks name) (by_flag name read token flag)
 flag_asks name read token Coded may h = after (Asks name) (bare read.coded token) _ (λ _ _. h)
-flag_asks name read token Cas may h = after (Asks name) (bare read.show.cas token) _ (λ cas _.
-    record { cas = λ off. clash _ cas may off; flags = h.flags; size = h.size; left = h.left; value = h.value })
-flag_asks name read token ClientFlags may h = after (Asks name) (bare read.show.flags token) _ (λ flags _.
-    record { cas = h.cas; flags = λ off. clash _ flags may off; size = h.size; left = h.left; value = h.value })
+flag_asks name read token Cas may h = grind (arith, after, clash)
+flag_asks name read token ClientFlags may h = grind (arith, after, clash)
 flag_asks name read token Key may h = after (Asks name) (bare read.key token) _ (λ _ _. h)
 flag_asks name read token Opaque may h = after (Asks name) (opaque_of read.opaque token) _ (λ _ _. h)
 flag_asks name read token Quiet may h = after (Asks name) (bare read.quiet token) _ (λ _ _. h)
-flag_asks name read token Size may h = after (Asks name) (bare read.show.size token) _ (λ size _.
-    record { cas = h.cas; flags = h.flags; size = λ off. clash _ size may off; left = h.left; value = h.value })
-flag_asks name read token Left may h = after (Asks name) (bare read.show.left token) _ (λ left _.
-    record { cas = h.cas; flags = h.flags; size = h.size; left = λ off. clash _ left may off; value = h.value })
-flag_asks name read token Value may h = after (Asks name) (bare read.show.value token) _ (λ value _.
-    record { cas = h.cas; flags = h.flags; size = h.size; left = h.left; value = λ off. clash _ value may off })
+flag_asks name read token Size may h = grind (arith, after, clash)
+flag_asks name read token Left may h = grind (arith, after, clash)
+flag_asks name read token Value may h = grind (arith, after, clash)
 flag_asks name read token Exptime may h = after (Asks name) (valued read.exptime (read_i64 token)) _ (λ _ _. h)
 flag_asks name read token Compare may h = after (Asks name) (valued read.compare (read_u64 token)) _ (λ _ _. h)
 flag_asks name read token StoredFlags may h = after (Asks name) (valued read.flags (read_flags token)) _ (λ _ _. h)

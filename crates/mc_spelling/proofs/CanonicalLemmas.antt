@@ -1,9 +1,9 @@
 -- What is asked for by a spelled command is answered by canonical spellings.
-use Rattle.std.proofs.Common.{◌≡◌, ℕ, ℤ, ◌&&◌, Bool, true, false, not, List, [], ◌∷◌, ◌++◌, filter, Option, Some, None, decimal, codes, refl, append-nil, ◌∙◌}
+use Rattle.std.proofs.Common.{◌≡◌, ℕ, ℤ, ◌&&◌, Bool, true, false, not, List, [], ◌∷◌, ◌++◌, filter, Option, Some, None, decimal, codes, refl, append-nil, arith}
 use Rattle.std.proofs.lemmas.Bool.{and_parts, not-true}
 use Rattle.std.specs.Fmt.{signed_decimal}
 use Rattle.mc_spelling.specs.Spellings.{word_if as put_if, number_if, signed_if, mode_word, direction_word, creation_words, mg_flags, ms_flags, md_flags, ma_flags, flag_words, request_of, is_askable, is_byte_key, is_good_atom}
-use Rattle.mc_request.specs.WellFormed.{is_good_block, is_good_meta, is_u64, is_where_some}
+use Rattle.mc_request.specs.WellFormed.{is_good_block, is_good_meta}
 use Rattle.mc_request.specs.declared.meta.Counting.{Counting}
 use Rattle.mc_request.specs.declared.meta.Creation.{Creation}
 use Rattle.mc_request.specs.declared.meta.MetaCommand.{MetaCommand}
@@ -18,7 +18,7 @@ use Rattle.mc_request.specs.declared.parts.StoreMode.{StoreMode}
 use Rattle.mc_request.specs.declared.parts.StoreMode.TheVariants.{Set, Add, Replace, Append, Prepend}
 use Rattle.mc_request.specs.declared.parts.Update.TheVariants.{Store, Touch, Delete, Count, FlushAll}
 use Rattle.mc_spelling.proofs.SpelledTextLemmas.{one_atom}
-use Rattle.mc_reply.specs.CanHave.{can_have, can_have_meta, is_as_asked, is_done, is_shown_by, is_size, is_u32, is_unmarked}
+use Rattle.mc_reply.specs.CanHave.{can_have, can_have_meta, is_as_asked, is_done, is_shown_by, is_unmarked}
 use Rattle.mc_reply.specs.Canonical.{IsCanonical, RepliesAsked, ShowsAsked, gives_back, show_of, show_words, word_if}
 use Rattle.mc_reply.specs.Spelling.{answer_of, is_shown, spelling_of}
 use Rattle.mc_reply.specs.declared.replies.Reply.{Reply}
@@ -70,41 +70,29 @@ direction_passed Up = refl
 direction_passed Down = refl
 
 gives-mg : (get : MetaGet) → filter gives_back (mg_flags get) ≡ show_words get.show
-gives-mg get =
-    (passed (codes "b") refl (given get.show.cas (codes "c") refl (given get.show.flags (codes "f") refl (given get.show.size (codes "s") refl (given get.show.left (codes "t") refl
-    (passed_where get.show.value (codes "v") refl (passed_signed 84 get.exptime (λ token. refl) (passed_signed 78 get.create (λ token. refl) (passed_number 82 get.recache (λ token. refl) nothing_given))))))))).is
-    ∙ rw append-nil refl
+gives-mg get = grind (arith, codes, append-nil, nothing_given, given, passed, passed_where, passed_number, passed_signed)
 
 gives-ms : (mode : StoreMode) (compare : Option ℕ) (flags : ℕ) (exptime : ℤ) (show : Show) → show.flags ≡ false → show.left ≡ false
     → filter gives_back (ms_flags mode compare flags exptime show) ≡ show_words show
-gives-ms mode compare flags exptime show f l = rw (f, l)
-    (passed (codes "b") refl (given show.cas (codes "c") refl (given show.size (codes "s") refl (passed (codes "T" ++ signed_decimal exptime) refl (passed (codes "F" ++ decimal flags) refl
-    (passed_number 67 compare (λ token. refl) (passed (mode_word mode) (mode_passed mode) nothing_given))))))).is
+gives-ms mode compare flags exptime show f l = grind (arith, decimal, codes, nothing_given, given, passed, passed_number, mode_passed)
 
 gives-md : (compare : Option ℕ) (invalidate : Bool) (show : Show) → show.cas ≡ false → show.flags ≡ false → show.size ≡ false → show.left ≡ false
     → filter gives_back (md_flags compare invalidate) ≡ show_words show
-gives-md compare invalidate show c f s l = rw (c, f, s, l)
-    (passed (codes "b") refl (passed_number 67 compare (λ token. refl) (passed_where invalidate (codes "I") refl nothing_given))).is
+gives-md compare invalidate show c f s l = grind (arith, codes, nothing_given, passed, passed_where, passed_number)
 
 gives-ma : (counting : Counting) (show : Show) → show.flags ≡ false → show.size ≡ false → filter gives_back (ma_flags counting show) ≡ show_words show
-gives-ma counting show f s = rw (f, s)
-    ((passed (codes "b") refl (given show.cas (codes "c") refl (given show.left (codes "t") refl (passed_where show.value (codes "v") refl (passed_signed 84 counting.exptime (λ token. refl)
-    (passed_number 67 counting.compare (λ token. refl) (passed_creation counting.create (passed (codes "D" ++ decimal counting.delta) refl
-    (passed (direction_word counting.direction) (direction_passed counting.direction) nothing_given))))))))).is ∙ rw append-nil refl)
+gives-ma counting show f s =
+    grind (arith, decimal, codes, append-nil, nothing_given, given, passed, passed_where, passed_number, passed_signed, passed_creation, direction_passed)
 
 -- what the flags of a spelled command give back is what it asks to be shown
 gives : (command : MetaCommand (List ℕ) (List ℕ)) → is_askable command ≡ true → filter gives_back (flag_words command) ≡ show_words (show_of command)
 gives (metas.Get key get) asks = gives-mg get
 gives (metas.Update (Store mode compare key flags exptime block) show) asks =
     let x = and_parts (not show.flags && not show.left) (not show.value) asks in
-    let y = and_parts (not show.flags) (not show.left) x.0 in
-    gives-ms mode compare flags exptime show (not-true show.flags y.0) (not-true show.left y.1)
+    grind (arith, and_parts, not-true, gives-ms)
 gives (metas.Update (Delete key compare invalidate) show) asks =
     let w = and_parts (not show.cas && not show.flags && not show.size && not show.left) (not show.value) asks in
-    let x = and_parts (not show.cas && not show.flags && not show.size) (not show.left) w.0 in
-    let y = and_parts (not show.cas && not show.flags) (not show.size) x.0 in
-    let z = and_parts (not show.cas) (not show.flags) y.0 in
-    gives-md compare invalidate show (not-true show.cas z.0) (not-true show.flags z.1) (not-true show.size y.1) (not-true show.left x.1)
+    grind (arith, and_parts, not-true, gives-md)
 gives (metas.Update (Count key counting) show) asks =
     let x = and_parts (not show.flags) (not show.size) asks in
     gives-ma counting show (not-true show.flags x.0) (not-true show.size x.1)
@@ -118,16 +106,7 @@ unasked test false (Some part) h off = absurd cc
 unasked test false None h off = refl
 
 shows_by : (show : Show) (shown : Shown) → is_shown_by show shown ≡ true → ShowsAsked show shown
-shows_by show shown h =
-    let a = and_parts (is_as_asked is_u64 show.cas shown.cas && is_as_asked is_u32 show.flags shown.flags && is_as_asked is_size show.size shown.size) (is_as_asked (is_where_some is_u64) show.left shown.left) h in
-    let b = and_parts (is_as_asked is_u64 show.cas shown.cas && is_as_asked is_u32 show.flags shown.flags) (is_as_asked is_size show.size shown.size) a.0 in
-    let c = and_parts (is_as_asked is_u64 show.cas shown.cas) (is_as_asked is_u32 show.flags shown.flags) b.0 in
-    record {
-      cas = unasked is_u64 show.cas shown.cas c.0;
-      flags = unasked is_u32 show.flags shown.flags c.1;
-      size = unasked is_size show.size shown.size b.1;
-      left = unasked (is_where_some is_u64) show.left shown.left a.1;
-    }
+shows_by show shown h = grind (arith, and_parts, unasked)
 
 done_shows : (show : Show) (shown : Shown) (value : Option (List ℕ)) → is_done show shown value ≡ true → ShowsAsked show shown
 done_shows show shown value h = shows_by show shown (and_parts (is_shown_by show shown) (is_as_asked is_good_block show.value value) h).0

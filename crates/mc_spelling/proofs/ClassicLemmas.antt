@@ -1,5 +1,5 @@
 -- The lines of classic commands that are spelled are read as those commands.
-use Rattle.std.proofs.Common.{◌≡◌, ℕ, ℤ, pos, negsuc, ◌&&◌, Bool, true, false, List, [], ◌∷◌, ◌++◌, length, Option, Some, None, is_none, nat_lt, decimal, codes, refl, arith}
+use Rattle.std.proofs.Common.{◌≡◌, ℕ, ℤ, pos, negsuc, Bool, true, false, List, [], ◌∷◌, ◌++◌, length, Option, Some, None, is_none, nat_lt, decimal, codes, refl, arith}
 use Rattle.std.proofs.lemmas.Bool.{and_parts}
 use Rattle.std.proofs.lemmas.Bool.Decides.{nat_tests}
 use Rattle.std.proofs.lemmas.Slice.Eq.{bytes_eq-Decides}
@@ -26,7 +26,7 @@ use Rattle.mc_request.specs.declared.parts.Update.TheVariants.{Store, Touch, Del
 use Rattle.mc_request.specs.Meanings.{Classic, Alone, Stores, meaning, plain_counting}
 use Rattle.mc_request.specs.Names.{name_of, is_noreply}
 use Rattle.mc_spelling.specs.Spellings.{get_words, number_if, store_name, count_name, spelling_of_atom, request_of, is_plain_count, is_classic}
-use Rattle.mc_request.specs.WellFormed.{is_i64, is_u64, is_where_some, is_good_block, is_good_counting, is_good_update}
+use Rattle.mc_request.specs.WellFormed.{is_i64, is_u64, is_where_some, is_good_block, is_good_update}
 
 -- a number with a sign is read as itself
 pub read_i64-signed : (z : ℤ) → is_i64 z ≡ true → read_i64 (signed_decimal z) ≡ Some z
@@ -79,10 +79,7 @@ meaning-count Down key word n k rn = rw (k, rn) refl
 -- a number is another word than `noreply`
 not_noreply : (word : List ℕ) (b : Bool) (e : ℤ) → read_i64 word ≡ Some e → is_noreply word ≡ b → is_noreply word ≡ false
 not_noreply word false e re is = is
-not_noreply word true e re is =
-    let same : word ≡ codes "noreply" = (bytes_eq-Decides word (codes "noreply")).0 is in
-    let none : read_i64 (codes "noreply") ≡ Some e = rw same at re in
-    absurd cc
+not_noreply word true e re is = grind (arith, codes, bytes_eq-Decides)
 
 meaning-flush : (word : List ℕ) (e : ℤ) → read_i64 word ≡ Some e → meaning (codes "flush_all" ∷ word ∷ []) ≡ Alone (Whole (requests.Update (FlushAll e) false))
 unfolding name_of
@@ -124,14 +121,7 @@ number_word (Some n) h = one_word (decimal n) (is_word-decimal n (grind (arith, 
 store_line_words : (mode : StoreMode) (compare : Option ℕ) (key : List ℕ) (flags : ℕ) (exptime : ℤ) (block : List ℕ)
     → AreStoreParts is_plain_key compare key flags exptime block → AreWords 20 (store_name mode compare ∷ store_words compare key flags exptime block)
 store_line_words mode compare key flags exptime block are =
-    let fits = are.flags_fit in
-    let size = are.size in
-    as_many 20 (omega arith)
-    (one_word (store_name mode compare) (store_name_word mode compare)
-    (one_word key (is_word-key key are.valid)
-    (one_word (decimal flags) (is_word-decimal flags (omega arith))
-    (one_word (signed_decimal exptime) (is_word-signed exptime are.time)
-    (one_word (decimal (length block)) (is_word-decimal (length block) (omega arith)) (number_word compare are.number))))))
+    grind (arith, decimal, is_word-key, is_word-decimal, one_word, as_many, is_word-signed, store_name_word, number_word)
 
 -- what is said of the text of each command: it is its text's first request
 abbrev pub IsFirst : Atom (List ℕ) → Type 0
@@ -166,13 +156,7 @@ same_count direction delta compare create exptime c n e = rw (c, n, e) refl
 
 -- a count that has nothing but a direction and a delta
 plain_count : (counting : Counting) → is_plain_count counting ≡ true → plain_counting counting.direction counting.delta ≡ counting
-plain_count counting h =
-    let a = and_parts (is_none counting.compare && is_none counting.create) (is_none counting.exptime) h in
-    let b = and_parts (is_none counting.compare) (is_none counting.create) a.0 in
-    let compare = none_is counting.compare b.0 in
-    let create = none_is counting.create b.1 in
-    let exptime = none_is counting.exptime a.1 in
-    same_count counting.direction counting.delta counting.compare counting.create counting.exptime compare create exptime
+plain_count counting h = grind (arith, is_none, and_parts, none_is, same_count)
 
 count_name_word : (direction : Direction) → is_word (count_name direction) ≡ true
 count_name_word Up = refl
@@ -202,9 +186,7 @@ first-update (Delete key None false) classic good more =
     (as_many 20 (omega arith) (one_word (codes "delete") refl (one_word key (is_word-key key parts.0) no_words))) (meaning-delete key parts.0)
 first-update (Delete key None true) classic good more = absurd cc
 first-update (Delete key (Some number) invalidate) classic good more = absurd cc
-first-update (Count key counting) classic good more =
-    let parts = and_parts (is_plain_key key) (is_good_counting counting) good in
-    first-count key counting classic parts.0 (count_parts counting parts.1).delta more
+first-update (Count key counting) classic good more = grind (arith, and_parts, count_parts, first-count)
 first-update (FlushAll delay) classic good more =
     next_alone (codes "flush_all") (signed_decimal delay ∷ []) (requests.Update (FlushAll delay) false) more
     (as_many 20 (omega arith) (one_word (codes "flush_all") refl (one_word (signed_decimal delay) (is_word-signed delay good) no_words)))

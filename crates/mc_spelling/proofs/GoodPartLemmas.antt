@@ -1,5 +1,5 @@
 -- The parts of commands that are good.
-use Rattle.std.proofs.Common.{◌≡◌, ℕ, ℤ, ◌<◌, ◌≤◌, ◌^◌, ◌&&◌, Bool, true, List, length, nat_lt, Option, Some, refl, arith}
+use Rattle.std.proofs.Common.{◌≡◌, ℕ, ℤ, ◌<◌, ◌≤◌, ◌^◌, Bool, true, List, length, nat_lt, Option, Some, refl, arith}
 use Rattle.std.proofs.lemmas.Bool.{and_parts, and_from, lt-ltb, le-leb}
 use Rattle.std.proofs.lemmas.Bool.Decides.{nat_tests}
 use Rattle.mc_request.specs.declared.meta.Counting.{Counting}
@@ -20,14 +20,7 @@ pub record AreStoreParts (test : List ℕ → Bool) (compare : Option ℕ) (key 
 
 pub store_parts : (test : List ℕ → Bool) (mode : StoreMode) (compare : Option ℕ) (key : List ℕ) (flags : ℕ) (exptime : ℤ) (block : List ℕ)
     → is_good_update test is_good_block (Store mode compare key flags exptime block) ≡ true → AreStoreParts test compare key flags exptime block
-store_parts test mode compare key flags exptime block h =
-    let a = and_parts (test key && is_where_some is_u64 compare && nat_lt flags (2 ^ 32) && is_i64 exptime) (is_good_block block) h in
-    let b = and_parts (test key && is_where_some is_u64 compare && nat_lt flags (2 ^ 32)) (is_i64 exptime) a.0 in
-    let c = and_parts (test key && is_where_some is_u64 compare) (nat_lt flags (2 ^ 32)) b.0 in
-    let d = and_parts (test key) (is_where_some is_u64 compare) c.0 in
-    let small = c.1 in
-    let short = a.1 in
-    record { valid = d.0; number = d.1; flags_fit = grind (arith, nat_tests, small); time = b.1; size = grind (arith, nat_tests, short) }
+store_parts test mode compare key flags exptime block h = grind (arith, nat_lt, and_parts, nat_tests)
 
 -- of a count
 pub record AreCountParts (counting : Counting) : Type 0 where
@@ -37,11 +30,7 @@ pub record AreCountParts (counting : Counting) : Type 0 where
   pub exptime : is_where_some is_i64 counting.exptime ≡ true
 
 pub count_parts : (counting : Counting) → is_good_counting counting ≡ true → AreCountParts counting
-count_parts counting h =
-    let a = and_parts (is_u64 counting.delta && is_where_some is_u64 counting.compare && is_where_some is_good_creation counting.create) (is_where_some is_i64 counting.exptime) h in
-    let b = and_parts (is_u64 counting.delta && is_where_some is_u64 counting.compare) (is_where_some is_good_creation counting.create) a.0 in
-    let c = and_parts (is_u64 counting.delta) (is_where_some is_u64 counting.compare) b.0 in
-    record { delta = c.0; compare = c.1; create = b.1; exptime = a.1 }
+count_parts counting h = grind (arith, and_parts)
 
 -- of what `mg` does
 pub record AreGetParts (get : MetaGet) : Type 0 where
@@ -50,19 +39,12 @@ pub record AreGetParts (get : MetaGet) : Type 0 where
   pub recache : is_where_some is_u64 get.recache ≡ true
 
 pub get_parts : (get : MetaGet) → is_good_get get ≡ true → AreGetParts get
-get_parts get h =
-    let a = and_parts (is_where_some is_i64 get.exptime && is_where_some is_i64 get.create) (is_where_some is_u64 get.recache) h in
-    let b = and_parts (is_where_some is_i64 get.exptime) (is_where_some is_i64 get.create) a.0 in
-    record { exptime = b.0; create = b.1; recache = a.1 }
+get_parts get h = grind (arith, and_parts)
 
 -- an update is good by another test where its key passes that one too
 pub another_test : (p q : List ℕ → Bool) (update : Update (List ℕ) (List ℕ)) → ((key : List ℕ) → key_in update ≡ Some key → p key ≡ true → q key ≡ true)
     → is_good_update p is_good_block update ≡ true → is_good_update q is_good_block update ≡ true
-another_test p q (Store mode compare key flags exptime block) passes h =
-    let are = store_parts p mode compare key flags exptime block h in
-    let fits = lt-ltb flags (2 ^ 32) are.flags_fit in
-    let short = le-leb (length block) 1048576 are.size in
-    rw (passes key refl are.valid, are.number, fits, are.time, short) refl
+another_test p q (Store mode compare key flags exptime block) passes h = grind (arith, lt-ltb, le-leb, store_parts)
 another_test p q (Touch key exptime) passes h =
     let both = and_parts (p key) (is_i64 exptime) h in and_from (q key) (is_i64 exptime) (passes key refl both.0) both.1
 another_test p q (Delete key compare invalidate) passes h =

@@ -1,10 +1,9 @@
 -- The lines of meta commands that are spelled are read as those commands.
-use Rattle.std.proofs.Common.{◌≡◌, ℕ, ℤ, suc, ◌<◌, ◌≤◌, ◌^◌, ◌&&◌, Bool, true, false, not, List, ◌∷◌, length, Option, Some, None, Ok, nat_lt, decimal, codes, refl, subst, ap, ◌∙◌, arith}
+use Rattle.std.proofs.Common.{◌≡◌, ℕ, ℤ, suc, ◌<◌, ◌≤◌, ◌^◌, Bool, true, false, not, List, ◌∷◌, length, Option, Some, None, Ok, nat_lt, decimal, codes, refl, ap, ◌∙◌, arith}
 use Rattle.std.proofs.lemmas.Bool.{and_parts, not-true}
 use Rattle.std.proofs.lemmas.Bool.Decides.{nat_tests}
 use Rattle.std.specs.Fmt.{signed_decimal}
 use Rattle.mc_text.specs.CodedKeys.{coded_key, coded_of}
-use Rattle.mc_text.specs.Keys.{is_key}
 use Rattle.mc_text.specs.Numbers.{read_len}
 use Rattle.mc_text.proofs.ByteLemmas.{all_bytes, bytes_all}
 use Rattle.mc_text.proofs.CodedLemmas.{read-coded_of}
@@ -32,7 +31,7 @@ use Rattle.mc_request.specs.Meanings.{Alone, Stores, meaning, form_by, ms_storin
 use Rattle.mc_request.specs.Names.{name_of}
 use Rattle.mc_request.specs.Parts.{key_said}
 use Rattle.mc_spelling.specs.Spellings.{mode_word, direction_word, creation_words, mg_flags, ms_flags, md_flags, ma_flags, is_askable, is_byte_key, request_of}
-use Rattle.mc_request.specs.WellFormed.{is_i64, is_u64, is_where_some, is_good_block, is_good_creation, is_good_counting, is_good_get, is_good_meta}
+use Rattle.mc_request.specs.WellFormed.{is_i64, is_u64, is_where_some, is_good_block, is_good_creation, is_good_meta}
 use Rattle.mc_spelling.proofs.SpellingLemmas.{AreWords, no_words, one_word, as_many, word_where, number_where, signed_where, is_word-lettered_signed, next_alone, next_stored}
 use Rattle.mc_spelling.proofs.ClassicLemmas.{IsFirst}
 use Rattle.mc_spelling.proofs.GoodPartLemmas.{AreCountParts, AreGetParts, store_parts, count_parts, get_parts}
@@ -65,9 +64,7 @@ record IsCoded (key : List ℕ) : Type 0 where
   word : is_word (coded_of key) ≡ true
 
 coded : (key : List ℕ) → is_byte_key key ≡ true → IsCoded key
-coded key h =
-    let parts = and_parts (is_key key) (all_bytes key) h in
-    record { said = read-coded_of key (bytes_all key parts.1) parts.0; word = is_word-coded key parts.0 parts.1 }
+coded key h = grind (arith, and_parts, all_bytes, bytes_all, read-coded_of, is_word-coded)
 
 -- `mg`
 mg_words : (get : MetaGet) → AreGetParts get → AreWords 9 (mg_flags get)
@@ -102,7 +99,6 @@ first-ms : (mode : StoreMode) (compare : Option ℕ) (key : List ℕ) (flags : �
     → flags < 2 ^ 32 → is_i64 exptime ≡ true → length block ≤ 1048576 → IsFirst (atoms.Meta (metas.Update (Store mode compare key flags exptime block) (shown cas false size false false)))
 first-ms mode compare key flags exptime block cas size is c f e small more =
     let show = shown cas false size false false in
-    let ws = ms_flags mode compare flags exptime show in
     let read = ms_read show (Some exptime) (Some flags) compare (Some mode) in
     let words : AreWords 20 (codes "ms" ∷ coded_of key ∷ decimal (length block) ∷ ms_flags mode compare flags exptime show) =
     as_many 20 (omega arith) (one_word (codes "ms") refl (one_word (coded_of key) is.word (one_word (decimal (length block)) (is_word-decimal (length block) (omega arith)) (ms_words mode compare flags exptime show c f e)))) in
@@ -172,30 +168,11 @@ none_shown : (cas flags size left value : Bool) → cas ≡ false → flags ≡ 
 none_shown cas flags size left value c f s l v = rw (c, f, s, l, v) refl
 
 pub first-meta : (command : MetaCommand (List ℕ) (List ℕ)) → is_askable command ≡ true → is_good_meta is_byte_key is_good_block command ≡ true → IsFirst (atoms.Meta command)
-first-meta (metas.Get key get) asks good =
-    let parts = and_parts (is_byte_key key) (is_good_get get) good in
-    first-mg key get (coded key parts.0) (get_parts get parts.1)
+first-meta (metas.Get key get) asks good = grind (arith, and_parts, get_parts, coded, first-mg)
 first-meta (metas.Update (Store mode compare key flags exptime block) show) asks good =
-    let x = and_parts (not show.flags && not show.left) (not show.value) asks in
-    let y = and_parts (not show.flags) (not show.left) x.0 in
-    let are = store_parts is_byte_key mode compare key flags exptime block good in
-    let first = first-ms mode compare key flags exptime block show.cas show.size (coded key are.valid) are.number are.flags_fit are.time are.size in
-    let show_is = shown_by_ms show.cas show.flags show.size show.left show.value (not-true show.flags y.0) (not-true show.left y.1) (not-true show.value x.1) in
-    subst (λ (s : Show). IsFirst (atoms.Meta (metas.Update (Store mode compare key flags exptime block) s))) show_is first
-first-meta (metas.Update (Delete key compare invalidate) show) asks good =
-    let w = and_parts (not show.cas && not show.flags && not show.size && not show.left) (not show.value) asks in
-    let x = and_parts (not show.cas && not show.flags && not show.size) (not show.left) w.0 in
-    let y = and_parts (not show.cas && not show.flags) (not show.size) x.0 in
-    let z = and_parts (not show.cas) (not show.flags) y.0 in
-    let parts = and_parts (is_byte_key key) (is_where_some is_u64 compare) good in
-    let first = first-md key compare invalidate (coded key parts.0) parts.1 in
-    let show_is = none_shown show.cas show.flags show.size show.left show.value (not-true show.cas z.0) (not-true show.flags z.1) (not-true show.size y.1) (not-true show.left x.1) (not-true show.value w.1) in
-    subst (λ (s : Show). IsFirst (atoms.Meta (metas.Update (Delete key compare invalidate) s))) show_is first
+    grind (arith, and_parts, not-true, store_parts, coded, first-ms, shown_by_ms)
+first-meta (metas.Update (Delete key compare invalidate) show) asks good = grind (arith, and_parts, not-true, coded, first-md, none_shown)
 first-meta (metas.Update (Count key counting) show) asks good =
-    let x = and_parts (not show.flags) (not show.size) asks in
-    let parts = and_parts (is_byte_key key) (is_good_counting counting) good in
-    let first = first-ma key counting show.cas show.left show.value (coded key parts.0) (count_parts counting parts.1) in
-    let show_is = shown_by_ma show.cas show.flags show.size show.left show.value (not-true show.flags x.0) (not-true show.size x.1) in
-    subst (λ (s : Show). IsFirst (atoms.Meta (metas.Update (Count key counting) s))) show_is first
+    grind (arith, and_parts, not-true, count_parts, coded, first-ma, shown_by_ma)
 first-meta (metas.Update (Touch key exptime) show) asks good = absurd cc
 first-meta (metas.Update (FlushAll delay) show) asks good = absurd cc

@@ -31,17 +31,7 @@ pub four_digits : (n : ℕ) → 1000 ≤ n → n < 10000 → length (decimal n) 
 four_digits n large small = omega (arith, digits_by_ten n (omega arith) (omega arith), three_digits (n / 10) (omega arith) (omega arith))
 
 pub digits_by_four : (n : ℕ) → 10000 ≤ n → n < 2 ^ 64 → length (decimal n) ≡ length (decimal (n / 10000)) + 4
-digits_by_four n large fits =
-    let a = n / 10 in let b = a / 10 in let c = b / 10 in
-    let same : c / 10 ≡ n / 10000 = omega arith in
-    let ha : 1000 ≤ a = omega arith in
-    let hb : 100 ≤ b = omega arith in
-    let hc : 10 ≤ c = omega arith in
-    let fa : a < 2 ^ 64 = omega arith in
-    let fb : b < 2 ^ 64 = omega arith in
-    let fc : c < 2 ^ 64 = omega arith in
-    let d : length (decimal (c / 10)) ≡ length (decimal (n / 10000)) = ap (λ (k : ℕ). length (decimal k)) same in
-    omega (arith, d, digits_by_ten n (omega arith) fits, digits_by_ten a (omega arith) fa, digits_by_ten b (omega arith) fb, digits_by_ten c hc fc)
+digits_by_four n large fits = grind (arith, digits_by_ten)
 
 pub digits_bound : (n : ℕ) → n < 2 ^ 64 → length (decimal n) ≤ 20
 digits_bound n fits = length-decimal-le 20 n (omega arith) (omega arith) fits
@@ -75,12 +65,7 @@ mg_flags_are get = simp (after_word_if, after_signed_if, after_number_if, append
 
 pub mg_flags_length : (get : MetaGet) → length (after_spaces (mg_flags get))
     ≡ length (mg_show_pieces get.show) + length (signed_piece (codes " T") get.exptime) + length (signed_piece (codes " N") get.create) + length (number_piece (codes " R") get.recache)
-mg_flags_length get =
-    let shown = mg_show_pieces get.show in
-    let exptime = signed_piece (codes " T") get.exptime in
-    let create = signed_piece (codes " N") get.create in
-    let recache = number_piece (codes " R") get.recache in
-    omega (arith, ap length (mg_flags_are get), length-append shown (exptime ++ (create ++ recache)), length-append exptime (create ++ recache), length-append create recache)
+mg_flags_length get = grind (arith, codes, length-append, mg_flags_are)
 
 pub ms_flags_are : (mode : StoreMode) (compare : Option ℕ) (flags : ℕ) (exptime : ℤ) (show : Show) → after_spaces (ms_flags mode compare flags exptime show)
     ≡ ms_show_pieces show ++ ((codes " T" ++ signed_decimal exptime) ++ ((codes " F" ++ decimal flags) ++ (number_piece (codes " C") compare ++ (codes " " ++ mode_word mode))))
@@ -88,20 +73,7 @@ ms_flags_are mode compare flags exptime show = simp (after_word_if, after_number
 
 pub ms_flags_length : (mode : StoreMode) (compare : Option ℕ) (flags : ℕ) (exptime : ℤ) (show : Show) → length (after_spaces (ms_flags mode compare flags exptime show))
     ≡ length (ms_show_pieces show) + 4 + length (signed_decimal exptime) + length (decimal flags) + length (number_piece (codes " C") compare) + length (codes " " ++ mode_word mode)
-ms_flags_length mode compare flags exptime show =
-    let shown = ms_show_pieces show in
-    let until = codes " T" ++ signed_decimal exptime in
-    let stored = codes " F" ++ decimal flags in
-    let compared = number_piece (codes " C") compare in
-    let word = codes " " ++ mode_word mode in
-    omega (
-      arith,
-      ap length (ms_flags_are mode compare flags exptime show),
-      length-append shown (until ++ (stored ++ (compared ++ word))),
-      length-append until (stored ++ (compared ++ word)),
-      length-append stored (compared ++ word),
-      length-append compared word,
-    )
+ms_flags_length mode compare flags exptime show = grind (arith, codes, length-append, ms_flags_are)
 
 pub ma_flags_are : (counting : Counting) (show : Show) → after_spaces (ma_flags counting show)
     ≡ ma_show_pieces show ++ (signed_piece (codes " T") counting.exptime ++ (number_piece (codes " C") counting.compare
@@ -111,22 +83,7 @@ ma_flags_are counting show = simp (after_word_if, after_number_if, after_signed_
 pub ma_flags_length : (counting : Counting) (show : Show) → length (after_spaces (ma_flags counting show))
     ≡ length (ma_show_pieces show) + length (signed_piece (codes " T") counting.exptime) + length (number_piece (codes " C") counting.compare)
     + length (creation_piece counting.create) + 2 + length (decimal counting.delta) + length (codes " " ++ direction_word counting.direction)
-ma_flags_length counting show =
-    let shown = ma_show_pieces show in
-    let until = signed_piece (codes " T") counting.exptime in
-    let compared = number_piece (codes " C") counting.compare in
-    let made = creation_piece counting.create in
-    let delta = codes " D" ++ decimal counting.delta in
-    let word = codes " " ++ direction_word counting.direction in
-    omega (
-      arith,
-      ap length (ma_flags_are counting show),
-      length-append shown (until ++ (compared ++ (made ++ (delta ++ word)))),
-      length-append until (compared ++ (made ++ (delta ++ word))),
-      length-append compared (made ++ (delta ++ word)),
-      length-append made (delta ++ word),
-      length-append delta word,
-    )
+ma_flags_length counting show = grind (arith, codes, length-append, ma_flags_are)
 
 -- the line of each meta command: its name and its key, and the flag words after them
 pub mg_line_is : (key : List ℕ) (get : MetaGet) → spaced (meta_words (metas.Get key get)) ≡ (codes "mg " ++ coded_of key) ++ after_spaces (mg_flags get)
@@ -147,11 +104,7 @@ mg_line_length key get = omega (arith, ap length (mg_line_is key get), length-ap
 pub ms_line_length : (mode : StoreMode) (compare : Option ℕ) (key : List ℕ) (flags : ℕ) (exptime : ℤ) (block : List ℕ) (show : Show)
     → length (spaced (meta_words (metas.Update (updates.Store mode compare key flags exptime block) show)))
     ≡ 4 + length (coded_of key) + length (decimal (length block)) + length (after_spaces (ms_flags mode compare flags exptime show))
-ms_line_length mode compare key flags exptime block show =
-    let name = codes "ms " ++ coded_of key in
-    let size = codes " " ++ decimal (length block) in
-    let words = after_spaces (ms_flags mode compare flags exptime show) in
-    omega (arith, ap length (ms_line_is mode compare key flags exptime block show), length-append name (size ++ words), length-append size words)
+ms_line_length mode compare key flags exptime block show = grind (arith, codes, length-append, ms_line_is)
 
 pub ma_line_length : (key : List ℕ) (counting : Counting) (show : Show)
     → length (spaced (meta_words (metas.Update (updates.Count key counting) show))) ≡ 3 + length (coded_of key) + length (after_spaces (ma_flags counting show))

@@ -1,5 +1,5 @@
 -- What a client's lines can say can be spelled.
-use Rattle.std.proofs.Common.{◌≡◌, ℕ, zero, suc, ℤ, ◌+◌, ◌<◌, ◌&&◌, Bool, true, false, cond, if◌then◌else◌, nat_lt, List, [], ◌∷◌, length, take, drop, codes, bytes_eq, Option, Some, None, Result, Ok, Err, refl, ap, ◌∙◌}
+use Rattle.std.proofs.Common.{◌≡◌, ℕ, zero, suc, ℤ, ◌+◌, ◌<◌, ◌&&◌, Bool, true, false, cond, if◌then◌else◌, nat_lt, List, [], ◌∷◌, length, drop, codes, bytes_eq, Option, Some, None, Result, Ok, Err, refl, ap, ◌∙◌, arith}
 use Rattle.std.proofs.lemmas.Bool.{and_parts, and_from}
 use Rattle.std.specs.List.{All, list_all}
 use Rattle.std.proofs.lemmas.List.Sums.{list_all-from_AllPass}
@@ -39,7 +39,7 @@ use Rattle.mc_request.specs.Parts as parts
 use Rattle.mc_request.specs.Parts.{key_in, key_in_meta, key_said}
 use Rattle.mc_request.specs.Requests.{stored, with_block, taken_by, next_by, next_request, ends, requests_from, requests_within, requests_of}
 use Rattle.mc_spelling.specs.Spellings.{can_be_spelled, is_askable, is_byte_key, is_classic, is_good_atom}
-use Rattle.mc_request.specs.WellFormed.{is_good_block, is_good_get, is_good_meta, is_good_update, is_i64, is_meta_key, is_well_formed, is_where_some}
+use Rattle.mc_request.specs.WellFormed.{is_good_block, is_good_meta, is_good_update, is_i64, is_meta_key, is_well_formed, is_where_some}
 use Rattle.mc_spelling.proofs.AskLemmas.{Whenever, after, choice, asked, where_read}
 use Rattle.mc_spelling.proofs.GoodPartLemmas.{another_test}
 use Rattle.mc_request.proofs.WellFormedLemmas.{requests_good}
@@ -115,9 +115,7 @@ store_says mode [] = tt
 store_says mode (key ∷ []) = tt
 store_says mode (key ∷ flags ∷ []) = tt
 store_says mode (key ∷ flags ∷ exptime ∷ []) = tt
-store_says mode (key ∷ flags ∷ exptime ∷ len ∷ more) =
-    after SaysLine (after_length false more) _ (λ rest is. after SaysLine (storage_parts key flags exptime (read_len len)) _ (λ read _.
-    rw (where_read (λ (rest : Option ℕ × Bool). rest.0 ≡ None) (after_length false more) rest (none_compared more) is) (uncompared mode key read.0 read.1 tt)))
+store_says mode (key ∷ flags ∷ exptime ∷ len ∷ more) = grind (arith, after, where_read, uncompared, none_compared)
 
 cas_says : (ws : List (List ℕ)) → Whenever SaysLine (store_line Set true ws)
 cas_says [] = tt
@@ -149,9 +147,7 @@ key_bytes coded word key are is = said_bytes coded word key are (part_is (key_sa
 -- lines of meta commands
 mg_says : (ws : List (List ℕ)) → list_all all_bytes ws ≡ true → Whenever SaysLine (mg_line ws)
 mg_says [] are = tt
-mg_says (key ∷ ws) are =
-    after SaysLine (flags_from names.MetaGet fresh_flags ws) _ (λ read _. after SaysLine (meta_key read.coded key) _ (λ said is.
-    (refl, key_bytes read.coded key said (and_parts (all_bytes key) (list_all all_bytes ws) are).0 is)))
+mg_says (key ∷ ws) are = grind (arith, and_parts, all_bytes, after, key_bytes)
 
 md_says : (ws : List (List ℕ)) → list_all all_bytes ws ≡ true → Whenever SaysLine (md_line ws)
 md_says [] are = tt
@@ -265,9 +261,7 @@ come false taken n h = h
 taken_says : (m : Meaning) (line : ℕ) (rest : List ℕ) → SaysMeaning m → SaysFirst (taken_by m line rest)
 taken_says (Alone taken) line rest h = h
 taken_says (Refuses fault len) line rest h = come (nat_lt (length rest) (len + 2)) (Faulty fault) (line + (len + 2)) tt
-taken_says (Stores storing len) line rest h =
-    come (nat_lt (length rest) (len + 2)) (with_block storing (take len rest) (take 2 (drop len rest))) (line + (len + 2))
-    (ended (bytes_eq (take 2 (drop len rest)) (codes "\r\n")) storing (take len rest) h)
+taken_says (Stores storing len) line rest h = grind (arith, nat_lt, codes, bytes_eq, ended, come)
 
 next_says_by : (l : FirstLine) (text : List ℕ) → first_line text ≡ l → all_bytes text ≡ true → SaysFirst (next_by l text)
 next_says_by lines.Partial text is are = tt
@@ -319,9 +313,7 @@ byte_key coded key h are = and_from (is_key key) (all_bytes key) (valid coded ke
 
 meta_good : (coded : Bool) (command : MetaCommand (List ℕ) (List ℕ)) → HasBytes (key_in_meta command)
     → is_good_meta (is_meta_key coded) is_good_block command ≡ true → is_good_meta is_byte_key is_good_block command ≡ true
-meta_good coded (metas.Get key get) are h =
-    let both = and_parts (is_meta_key coded key) (is_good_get get) h in
-    and_from (is_byte_key key) (is_good_get get) (byte_key coded key both.0 are) both.1
+meta_good coded (metas.Get key get) are h = grind (arith, and_parts, and_from, byte_key)
 meta_good coded (metas.Update update show) are h =
     another_test (is_meta_key coded) is_byte_key update (λ key is good. byte_key coded key good (rw is at are)) h
 
@@ -330,15 +322,10 @@ alone true h = refl
 alone false h = absurd cc
 
 taken_good : (taken : Taken) → SaysTaken taken → is_well_formed taken ≡ true → can_be_spelled taken ≡ true
-taken_good (Whole (requests.Get keys exptime with_cas)) h good =
-    let a = and_parts (nat_lt 0 (length keys) && list_all is_plain_key keys) (is_where_some is_i64 exptime) good in
-    let b = and_parts (nat_lt 0 (length keys)) (list_all is_plain_key keys) a.0 in
-    gets_good keys exptime with_cas b.1 a.1
+taken_good (Whole (requests.Get keys exptime with_cas)) h good = grind (arith, nat_lt, and_parts, gets_good)
 taken_good (Whole (requests.Update update noreply)) h good =
     alone (is_good_atom (atoms.Update update)) (and_from (is_classic update) (is_good_update is_plain_key is_good_block update) h good)
-taken_good (Whole (requests.Meta command form)) h good =
-    let both = and_parts (is_good_meta (is_meta_key form.coded) is_good_block command) _ good in
-    alone (is_good_atom (atoms.Meta command)) (and_from (is_askable command) (is_good_meta is_byte_key is_good_block command) h.0 (meta_good form.coded command h.1 both.0))
+taken_good (Whole (requests.Meta command form)) h good = grind (arith, and_parts, and_from, meta_good, alone)
 taken_good (Whole requests.MetaNoop) h good = refl
 taken_good (Whole requests.Version) h good = refl
 taken_good (Whole requests.Quit) h good = refl
@@ -352,6 +339,4 @@ all_good (taken ∷ more) h good =
 
 -- each command of a text of bytes can be spelled
 pub requests_can_be_spelled : (text : List ℕ) → All (λ b. b < 256) text → list_all can_be_spelled (requests_of text) ≡ true
-requests_can_be_spelled text bytes =
-    let are : all_bytes text ≡ true = list_all-from_AllPass is_byte text (λ k d inside. lt-ltb _ 256 (bytes k d inside)) in
-    all_good (requests_of text) (requests_say text are) (requests_good text)
+requests_can_be_spelled text bytes = grind (arith, list_all-from_AllPass, lt-ltb, is_byte, all_bytes, requests_good, requests_say, all_good)

@@ -1,5 +1,5 @@
 -- The words of a line that is spelled, and the request that it is read as.
-use Rattle.std.proofs.Common.{◌≡◌, ℕ, ◌*◌, ◌≤◌, ◌&&◌, ◌==◌, Bool, true, false, List, [], ◌∷◌, length, filter, nat_lt, nat_le, refl, ap, ◌∙◌, arith, length-append}
+use Rattle.std.proofs.Common.{◌≡◌, ℕ, ◌*◌, ◌≤◌, ◌==◌, Bool, true, false, List, [], ◌∷◌, length, filter, nat_lt, nat_le, refl, ap, ◌∙◌, arith, length-append}
 use Rattle.std.proofs.lemmas.Bool.{and_parts, and_from}
 use Rattle.std.proofs.lemmas.Bool.Decides.{nat_tests}
 use Rattle.std.proofs.lemmas.List.Folds.{list_all-append}
@@ -19,11 +19,7 @@ is_run word = nat_lt 0 (length word)
 
 -- the parts of a word
 word_parts : (word : List ℕ) → is_word word ≡ true → (nat_lt 0 (length word) ≡ true) × (length word ≤ 336) × (list_all is_word_byte word ≡ true)
-word_parts word h =
-    let parts = and_parts (nat_lt 0 (length word) && nat_le (length word) 336) (list_all is_word_byte word) h in
-    let size = and_parts (nat_lt 0 (length word)) (nat_le (length word) 336) parts.0 in
-    let short = size.1 in
-    (size.0, grind (arith, nat_tests, short), parts.1)
+word_parts word h = grind (arith, nat_lt, nat_le, and_parts, nat_tests, is_word_byte)
 
 -- no byte of a word is a space
 no_spaces : (word : List ℕ) → is_word word ≡ true → All (λ b. is_space b ≡ false) word

@@ -1,9 +1,8 @@
 -- Texts of spelled commands, and what is read of them.
-use Rattle.std.proofs.Common.{◌≡◌, ℕ, true, false, List, [], ◌∷◌, ◌++◌, length, drop, map, Some, codes, refl, sym, ap, ◌∙◌, append_assoc}
+use Rattle.std.proofs.Common.{◌≡◌, ℕ, true, false, List, [], ◌∷◌, ◌++◌, length, drop, map, Some, codes, refl, sym, ap, ◌∙◌, append_assoc, arith}
 use Rattle.std.proofs.Math.Seq.{drop-append_seam}
 use Rattle.std.proofs.lemmas.Bool.{and_parts}
 use Rattle.std.specs.List.{list_all}
-use Rattle.mc_text.specs.Keys.{is_plain_key}
 use Rattle.mc_text.specs.Lines.{line_end, first_line}
 use Rattle.mc_text.specs.Words.{words}
 use Rattle.mc_request.specs.declared.parts.Atom.{Atom}
@@ -15,8 +14,7 @@ use Rattle.mc_request.specs.declared.parts.Taken.TheVariants.{Whole}
 use Rattle.mc_request.specs.Atoms.{atoms_of}
 use Rattle.mc_request.specs.Names.{name_of}
 use Rattle.mc_request.specs.Requests.{next_request, ends, requests_within, requests_of}
-use Rattle.mc_spelling.specs.Spellings.{spelling_of_atom, spellings_of, request_of, is_classic, is_askable, is_byte_key, is_good_atom}
-use Rattle.mc_request.specs.WellFormed.{is_good_block, is_good_meta, is_good_update, is_i64, is_where_some}
+use Rattle.mc_spelling.specs.Spellings.{spelling_of_atom, spellings_of, request_of, is_good_atom}
 use Rattle.mc_request.proofs.RequestLemmas.{requests-step}
 use Rattle.mc_spelling.proofs.ClassicLemmas.{first-get, first-update}
 use Rattle.mc_spelling.proofs.MetaSpellingLemmas.{first-meta}
@@ -24,15 +22,9 @@ use Rattle.mc_spelling.proofs.MetaSpellingLemmas.{first-meta}
 -- each spelling is the first request of its text
 pub first_spelled : (atom : Atom (List ℕ)) (more : List ℕ) → is_good_atom atom ≡ true
     → next_request (spelling_of_atom atom ++ more) ≡ Some (Whole (request_of atom), length (spelling_of_atom atom))
-first_spelled (atoms.Get key exptime with_cas) more h =
-    let parts = and_parts (is_plain_key key) (is_where_some is_i64 exptime) h in
-    first-get key exptime with_cas parts.0 parts.1 more
-first_spelled (atoms.Update update) more h =
-    let parts = and_parts (is_classic update) (is_good_update is_plain_key is_good_block update) h in
-    first-update update parts.0 parts.1 more
-first_spelled (atoms.Meta command) more h =
-    let parts = and_parts (is_askable command) (is_good_meta is_byte_key is_good_block command) h in
-    first-meta command parts.0 parts.1 more
+first_spelled (atoms.Get key exptime with_cas) more h = grind (arith, and_parts, first-get)
+first_spelled (atoms.Update update) more h = grind (arith, and_parts, first-update)
+first_spelled (atoms.Meta command) more h = grind (arith, and_parts, first-meta)
 
 goes_on : (atom : Atom (List ℕ)) → ends (Whole (request_of atom)) ≡ false
 goes_on (atoms.Get key exptime with_cas) = refl

@@ -66,7 +66,6 @@ next_by_words : (word : List ℕ) (more : List (List ℕ)) (rest : List ℕ) →
 next_by_words word more rest are =
     let content : List ℕ = spaced (word ∷ more) in
     let size = length-spaced (word ∷ more) are.each in
-    let few = are.few in
     let whole = first_line-spelled content rest (bytes_of_spaced (word ∷ more) are.each) (omega arith) in
     by_first_line (content ++ (13 ∷ 10 ∷ rest)) (lines.Whole content (length content + 2)) whole
     ∙ rw (words-spaced word more are.each, drop-append-add content (13 ∷ 10 ∷ rest) 2) refl
@@ -79,10 +78,7 @@ after_line content block more = append_assoc content (13 ∷ 10 ∷ block) more
 pub next_alone : (word : List ℕ) (others : List (List ℕ)) (request : Request) (more : List ℕ) → AreWords 20 (word ∷ others) → meaning (word ∷ others) ≡ Alone (Whole request)
     → next_request ((spaced (word ∷ others) ++ (codes "\r\n" ++ block_lines None)) ++ more)
     ≡ Some (Whole request, length (spaced (word ∷ others) ++ (codes "\r\n" ++ block_lines None)))
-next_alone word others request more are means =
-    let content : List ℕ = spaced (word ∷ others) in
-    let size : length content + 2 ≡ length (content ++ (13 ∷ 10 ∷ [])) = omega (arith, length-append content (13 ∷ 10 ∷ [])) in
-    rw (after_line content [] more, next_by_words word others more are, means, size) refl
+next_alone word others request more are means = grind (arith, length-append, next_by_words, after_line)
 
 -- a data block and its end, before what follows
 block_ends : (block more : List ℕ) → (block ++ codes "\r\n") ++ more ≡ block ++ (13 ∷ 10 ∷ more)
@@ -90,25 +86,11 @@ block_ends block more = append_assoc block (13 ∷ 10 ∷ []) more
 
 stored_by : (s : Storing) (block more : List ℕ) (line : ℕ)
     → taken_by (Stores s (length block)) line (block ++ (13 ∷ 10 ∷ more)) ≡ Some (Whole (stored s block), line + (length block + 2))
-stored_by s block more line =
-    let size = length-append block (13 ∷ 10 ∷ more) in
-    let come : nat_lt (length (block ++ (13 ∷ 10 ∷ more))) (length block + 2) ≡ false = grind (arith, nat_tests, size) in
-    rw (come, take-append_seam block (13 ∷ 10 ∷ more), drop-append_seam block (13 ∷ 10 ∷ more)) refl
+stored_by s block more line = grind (arith, nat_lt, length-append, take-append_seam, drop-append_seam, nat_tests)
 
 -- a line with its data block
 pub next_stored : (word : List ℕ) (others : List (List ℕ)) (s : Storing) (block more : List ℕ) → AreWords 20 (word ∷ others)
     → meaning (word ∷ others) ≡ Stores s (length block)
     → next_request ((spaced (word ∷ others) ++ (codes "\r\n" ++ block_lines (Some block))) ++ more)
     ≡ Some (Whole (stored s block), length (spaced (word ∷ others) ++ (codes "\r\n" ++ block_lines (Some block))))
-next_stored word others s block more are means =
-    let content : List ℕ = spaced (word ∷ others) in
-    let size : (length content + 2) + (length block + 2) ≡ length (content ++ (13 ∷ 10 ∷ (block ++ (13 ∷ 10 ∷ [])))) =
-    omega (arith, length-append content (13 ∷ 10 ∷ (block ++ (13 ∷ 10 ∷ []))), length-append block (13 ∷ 10 ∷ [])) in
-    rw (
-      after_line content (block ++ codes "\r\n") more,
-      block_ends block more,
-      next_by_words word others (block ++ (13 ∷ 10 ∷ more)) are,
-      means,
-      stored_by s block more (length content + 2),
-      size,
-    ) refl
+next_stored word others s block more are means = grind (arith, codes, length-append, next_by_words, after_line, block_ends, stored_by)

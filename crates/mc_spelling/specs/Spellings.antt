@@ -119,8 +119,7 @@ flag_words (metas.Get key get) = mg_flags get
 flag_words (metas.Update (Store mode compare key flags exptime block) show) = ms_flags mode compare flags exptime show
 flag_words (metas.Update (Delete key compare invalidate) show) = md_flags compare invalidate
 flag_words (metas.Update (Count key counting) show) = ma_flags counting show
-flag_words (metas.Update (Touch key exptime) show) = []
-flag_words (metas.Update (FlushAll delay) show) = []
+flag_words command = []
 
 -- the words of a meta command: its key is sent in base64; what has no meta form has none
 -- source: protocol.txt, "Meta Get", "Meta Set", "Meta Delete", "Meta Arithmetic"
@@ -130,8 +129,7 @@ meta_words (metas.Update (Store mode compare key flags exptime block) show) =
     codes "ms" ∷ coded_of key ∷ decimal (length block) ∷ ms_flags mode compare flags exptime show
 meta_words (metas.Update (Delete key compare invalidate) show) = codes "md" ∷ coded_of key ∷ md_flags compare invalidate
 meta_words (metas.Update (Count key counting) show) = codes "ma" ∷ coded_of key ∷ ma_flags counting show
-meta_words (metas.Update (Touch key exptime) show) = []
-meta_words (metas.Update (FlushAll delay) show) = []
+meta_words command = []
 
 -- the words of a command's line
 abbrev pub line_words : Atom (List ℕ) → List (List ℕ)
@@ -148,10 +146,7 @@ spaced (word ∷ other ∷ words) = word ++ (codes " " ++ spaced (other ∷ word
 -- the data block of an update, where it has one
 abbrev pub block_in : {K B : Type 0} → Update K B → Option B
 block_in (Store mode compare key flags exptime block) = Some block
-block_in (Touch key exptime) = None
-block_in (Delete key compare invalidate) = None
-block_in (Count key counting) = None
-block_in (FlushAll delay) = None
+block_in update = None
 
 -- the data block of a command, likewise
 abbrev pub block_of_atom : {B : Type 0} → Atom B → Option B
@@ -189,10 +184,7 @@ is_plain_count counting = is_none counting.compare && is_none counting.create &&
 -- nothing that only flags say
 abbrev pub is_classic : {K B : Type 0} → Update K B → Bool
 is_classic (Store Set compare key flags exptime block) = true
-is_classic (Store Add compare key flags exptime block) = is_none compare
-is_classic (Store Replace compare key flags exptime block) = is_none compare
-is_classic (Store Append compare key flags exptime block) = is_none compare
-is_classic (Store Prepend compare key flags exptime block) = is_none compare
+is_classic (Store mode compare key flags exptime block) = is_none compare
 is_classic (Touch key exptime) = true
 is_classic (Delete key compare invalidate) = is_none compare && not invalidate
 is_classic (Count key counting) = is_plain_count counting
@@ -204,8 +196,7 @@ is_askable (metas.Get key get) = true
 is_askable (metas.Update (Store mode compare key flags exptime block) show) = not show.flags && not show.left && not show.value
 is_askable (metas.Update (Delete key compare invalidate) show) = not show.cas && not show.flags && not show.size && not show.left && not show.value
 is_askable (metas.Update (Count key counting) show) = not show.flags && not show.size
-is_askable (metas.Update (Touch key exptime) show) = false
-is_askable (metas.Update (FlushAll delay) show) = false
+is_askable command = false
 
 -- a key of any bytes
 abbrev pub is_byte_key : List ℕ → Bool

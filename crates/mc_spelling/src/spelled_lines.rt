@@ -8,7 +8,7 @@ use crate::spelled_words::{
     append_number, append_number_if, append_signed, append_word, digits_len, number_len_if,
     signed_len,
 };
-use mc_request::{Counting, Direction, StoreMode, Update};
+use mc_request::{Direction, StoreMode, Update};
 use mc_text::{Block, Key, append};
 
 /// The name of a storage command.
@@ -148,7 +148,11 @@ pub fn append_update(out: &mut Vec<u8>, update: &Update<Key, Block>)
             append_signed(out, b" ", *exptime);
         }
         Update::Delete { key, .. } => append_named(out, b"delete ", key.as_bytes()),
-        Update::Count { key, counting } => append_count(out, key, counting),
+        Update::Count { key, counting } => {
+            append(out, count_name(counting.direction));
+            append_word(out, key.as_bytes());
+            append_number(out, b" ", counting.delta);
+        }
         Update::FlushAll { delay } => append_signed(out, b"flush_all ", *delay),
     }
 }
@@ -174,17 +178,4 @@ fn append_stored(
     append_signed(out, b" ", exptime);
     append_number(out, b" ", block.len() as u64);
     append_number_if(out, b" ", compare);
-}
-
-/// Appends the line of a count.
-fn append_count(out: &mut Vec<u8>, key: &Key, counting: &Counting)
-    requires { vec_len out.old + 6 + length key.now + length (decimal counting.now.delta) ≤ vec_capacity out.old }
-    ensures items { out.new.items ≡ out.old.items
-        ++ (count_name counting.now.direction ++ (codes " " ++ (key.now ++ (codes " " ++ decimal counting.now.delta)))) }
-    ensures len { vec_len out.new ≡ vec_len out.old + 6 + length key.now + length (decimal counting.now.delta) }
-    ensures room { vec_capacity out.old ≤ vec_capacity out.new }
-{
-    append(out, count_name(counting.direction));
-    append_word(out, key.as_bytes());
-    append_number(out, b" ", counting.delta);
 }

@@ -1,10 +1,7 @@
 //! The line of a meta command: how long it is, and how it is appended where there is room for it.
 ghost use Rattle.std.specs.Prelude.{◌≡◌, ◌+◌, ◌≤◌, ◌<◌, ◌++◌, ◌∷◌, [], length, vec_len, vec_capacity, codes};
-ghost use Rattle.std.specs.Fmt.{decimal};
-ghost use Rattle.mc_text.specs.CodedKeys.{coded_of};
 ghost use Rattle.mc_spelling.specs.Spellings.{mode_word, direction_word, mg_flags, ms_flags, md_flags, ma_flags, meta_words, spaced};
 ghost use Rattle.mc_spelling.specs.SpelledPieces.{after_spaces, mg_show_pieces, ms_show_pieces, ma_show_pieces};
-ghost use Rattle.mc_request.specs.declared.meta.MetaCommand.TheVariants.{Update as MUpdate};
 
 use crate::spelled_words::{
     append_coded, append_creation, append_if, append_number, append_number_if, append_signed,
@@ -52,7 +49,7 @@ pub fn meta_len(command: &MetaCommand<Key, Block>) -> usize
 
 /// How many bytes the line of a meta update has.
 fn meta_update_len(update: &Update<Key, Block>, show: &Show) -> usize
-    ensures len { result ≡ length (spaced (meta_words (MUpdate update.now show.now))) }
+    ensures len { result ≡ length (spaced (meta_words (MetaCommand.Update update.now show.now))) }
     ensures bound { result ≤ 900 }
 {
     match update {
@@ -161,9 +158,9 @@ pub fn append_meta(out: &mut Vec<u8>, command: &MetaCommand<Key, Block>)
 
 /// Appends the line of a meta update.
 fn append_meta_update(out: &mut Vec<u8>, update: &Update<Key, Block>, show: &Show)
-    requires { vec_len out.old + length (spaced (meta_words (MUpdate update.now show.now))) ≤ vec_capacity out.old }
-    ensures items { out.new.items ≡ out.old.items ++ spaced (meta_words (MUpdate update.now show.now)) }
-    ensures len { vec_len out.new ≡ vec_len out.old + length (spaced (meta_words (MUpdate update.now show.now))) }
+    requires { vec_len out.old + length (spaced (meta_words (MetaCommand.Update update.now show.now))) ≤ vec_capacity out.old }
+    ensures items { out.new.items ≡ out.old.items ++ spaced (meta_words (MetaCommand.Update update.now show.now)) }
+    ensures len { vec_len out.new ≡ vec_len out.old + length (spaced (meta_words (MetaCommand.Update update.now show.now))) }
     ensures room { vec_capacity out.old ≤ vec_capacity out.new }
 {
     match update {

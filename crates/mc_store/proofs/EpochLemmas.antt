@@ -1,5 +1,5 @@
 -- The live ones of entries of several epochs.
-use Rattle.std.proofs.Common.{◌≡◌, ◌≢◌, ℕ, zero, suc, ◌+◌, ◌-◌, ◌<◌, ◌≤◌, true, false, cond, List, [], ◌∷◌, ◌++◌, length, take, drop, Option, Some, None, refl, sym, ap, ◌∙◌, subst, arith, append_assoc}
+use Rattle.std.proofs.Common.{◌≡◌, ◌≢◌, ℕ, zero, suc, ◌+◌, ◌-◌, ◌<◌, ◌≤◌, List, [], ◌∷◌, ◌++◌, length, take, drop, Option, Some, None, refl, sym, ap, ◌∙◌, subst, arith, append_assoc}
 use Rattle.std.specs.Str.{bytes_eq}
 use Rattle.std.specs.Map.{lookup, lookup_entry, remove_entry, set_value}
 use Rattle.std.specs.Option.{option_map}
@@ -17,20 +17,14 @@ dead_cut : (key : List ℕ) (epoch : ℕ) (entries : Entries) → AreDead epoch 
 dead_cut key epoch [] dead = tt
 dead_cut key epoch (entry ∷ entries) dead =
     let again : AreDead epoch (cut key entries) = dead_cut key epoch entries dead.1 in
-    elim (bytes_eq entry.0 key) as (λ v. AreDead epoch (cond v entries (entry ∷ cut key entries))) [
-      | true ↦ dead.1
-      | false ↦ (dead.0, again)
-    ]
+    grind (arith, cut)
 
 -- what is held by dead entries is dead
 dead_held : (key : List ℕ) (epoch : ℕ) (entries : Entries) (held : Held) → AreDead epoch entries → held_at key entries ≡ Some held → held.epoch < epoch
 dead_held key epoch [] held dead at = absurd cc
 dead_held key epoch (entry ∷ entries) held dead at =
     let again : held_at key entries ≡ Some held → held.epoch < epoch = dead_held key epoch entries held dead.1 in
-    (elim (bytes_eq entry.0 key) as (λ v. cond v (Some entry.1) (held_at key entries) ≡ Some held → held.epoch < epoch) [
-      | true ↦ λ first. let its : entry.1 ≡ held = cc in subst (λ (h : Held). h.epoch < epoch) its dead.0
-      | false ↦ λ further. again further
-    ]) at
+    grind (arith, held_at)
 
 -- the front of dead entries
 dead_front : (epoch : ℕ) (front gone : Entries) → AreDead epoch (front ++ gone) → AreDead epoch front
@@ -50,9 +44,7 @@ dead_next epoch next (entry ∷ entries) dead is = (omega (arith, dead.0), dead_
 pub all_dead : (epoch count next : ℕ) (entries : Entries) → IsParted epoch count entries → next ≡ epoch + 1 → AreDead next entries
 all_dead epoch zero next entries parted is = dead_next epoch next entries parted is
 all_dead epoch (suc count) next [] parted is = tt
-all_dead epoch (suc count) next (entry ∷ entries) parted is =
-    let now : entry.1.epoch ≡ epoch = parted.0 in
-    (omega arith, all_dead epoch count next entries parted.1 is)
+all_dead epoch (suc count) next (entry ∷ entries) parted is = grind (arith, all_dead epoch count next entries parted.1 is)
 
 -- there are so many live ones
 pub length-live : (epoch count : ℕ) (entries : Entries) → IsParted epoch count entries → length (live count entries) ≡ count
@@ -91,11 +83,7 @@ parted_cut key epoch (suc count) [] parted absent = absurd parted
 parted_cut key epoch (suc count) (entry ∷ entries) parted absent =
     let again : body_at key (live count entries) ≡ None → IsParted epoch count (cut key entries) × (live count (cut key entries) ≡ live count entries) =
     parted_cut key epoch count entries parted.1 in
-    (elim (bytes_eq entry.0 key) as (λ v. cond v (Some entry.1.body) (body_at key (live count entries)) ≡ None
-    → IsParted epoch (suc count) (cond v entries (entry ∷ cut key entries)) × (live (suc count) (cond v entries (entry ∷ cut key entries)) ≡ (entry.0, entry.1.body) ∷ live count entries)) [
-      | true ↦ λ found. absurd cc
-      | false ↦ λ further. let rest = again further in ((parted.0, rest.0), ap (λ (is : Items). (entry.0, entry.1.body) ∷ is) rest.1)
-    ]) absent
+    grind (arith, cut)
 
 -- what is not held is not live
 absent_is : (key : List ℕ) (count : ℕ) (entries : Entries) → held_at key entries ≡ None → body_at key (live count entries) ≡ None
@@ -103,10 +91,7 @@ absent_is key zero entries none = refl
 absent_is key (suc count) [] none = refl
 absent_is key (suc count) (entry ∷ entries) none =
     let again : held_at key entries ≡ None → body_at key (live count entries) ≡ None = absent_is key count entries in
-    (elim (bytes_eq entry.0 key) as (λ v. cond v (Some entry.1) (held_at key entries) ≡ None → cond v (Some entry.1.body) (body_at key (live count entries)) ≡ None) [
-      | true ↦ λ found. absurd cc
-      | false ↦ λ further. again further
-    ]) none
+    grind (arith, held_at)
 
 -- nor is what was put in another epoch
 dead_is : (key : List ℕ) (epoch count : ℕ) (entries : Entries) (held : Held) → IsParted epoch count entries → held_at key entries ≡ Some held
@@ -115,10 +100,7 @@ dead_is key epoch zero entries held parted at other = refl
 dead_is key epoch (suc count) [] held parted at other = absurd parted
 dead_is key epoch (suc count) (entry ∷ entries) held parted at other =
     let again : held_at key entries ≡ Some held → body_at key (live count entries) ≡ None = λ further. dead_is key epoch count entries held parted.1 further other in
-    (elim (bytes_eq entry.0 key) as (λ v. cond v (Some entry.1) (held_at key entries) ≡ Some held → cond v (Some entry.1.body) (body_at key (live count entries)) ≡ None) [
-      | true ↦ λ first. let its : entry.1 ≡ held = cc in absurd (other (ap (λ (h : Held). h.epoch) (sym its) ∙ parted.0))
-      | false ↦ λ further. again further
-    ]) at
+    grind (arith, held_at)
 
 -- a live entry, and what is left without it
 pub record IsLiveAt (key : List ℕ) (epoch count : ℕ) (entries : Entries) (held : Held) : Type 0 where
@@ -135,16 +117,7 @@ live_is key epoch zero entries held parted at now = absurd (omega (arith, dead_h
 live_is key epoch (suc count) [] held parted at now = absurd parted
 live_is key epoch (suc count) (entry ∷ entries) held parted at now =
     let again : held_at key entries ≡ Some held → IsLiveAt key epoch count entries held = λ further. live_is key epoch count entries held parted.1 further now in
-    let parts = (elim (bytes_eq entry.0 key) as (λ v. cond v (Some entry.1) (held_at key entries) ≡ Some held
-    → (others : ℕ) × (suc count ≡ suc others) × (cond v (Some entry.1.body) (body_at key (live count entries)) ≡ Some held.body)
-    × IsParted epoch others (cond v entries (entry ∷ cut key entries))
-    × (live others (cond v entries (entry ∷ cut key entries)) ≡ cond v (live count entries) ((entry.0, entry.1.body) ∷ without key (live count entries)))
-    × (drop others (cond v entries (entry ∷ cut key entries)) ≡ drop count entries)) [
-      | true ↦ λ first. let its : entry.1 ≡ held = cc in (count, refl, ap (λ (h : Held). Some h.body) its, parted.1, refl, refl)
-      | false ↦ λ further. let rest : IsLiveAt key epoch count entries held = again further in
-          (suc rest.others, ap suc rest.one_more, rest.body, (parted.0, rest.parted), ap (λ (is : Items). (entry.0, entry.1.body) ∷ is) rest.left, rest.dead)
-    ]) at in
-    record { others = parts.0; one_more = parts.1; body = parts.2; parted = parts.3; left = parts.4; dead = parts.5 }
+    grind (arith, held_at, cut)
 
 -- what a look-up tells of the live ones
 pub looks_live : (key : List ℕ) (epoch count : ℕ) (entries : Entries) (held : Held) → IsParted epoch count entries
@@ -161,10 +134,7 @@ looks_none key count entries none = absent_is key count entries (sym (lookup_is 
 -- what letting entries go leaves
 pub leaves : (epoch count price : ℕ) (old new : Entries) → IsParted epoch count old → IsLetGo price count old new
     → IsParted epoch count new × (live count new ≡ live count old)
-leaves epoch count price old new parted go =
-    let rest : IsParted epoch count new × (live count new ≡ live count (new ++ go.gone)) =
-    parted_front epoch count new go.gone (subst (λ (es : Entries). IsParted epoch count es) go.parts parted) go.stay in
-    (rest.0, rest.1 ∙ ap (λ (es : Entries). live count es) (sym go.parts))
+leaves epoch count price old new parted go = grind (arith, parted_front)
 
 -- what a write to a live body leaves
 pub record IsWritten (key : List ℕ) (epoch count : ℕ) (old new : Entries) (before after : Body) : Type 0 where
@@ -181,13 +151,7 @@ pub writes : (key : List ℕ) (epoch count : ℕ) (old : Entries) (held after : 
 writes key epoch count old held after parted found now still =
     let at : held_at key old ≡ Some held = sym (found ∙ lookup_is key old) in
     let there : IsLiveAt key epoch count old held = live_is key epoch count old held parted at now in
-    let first : written key old after ≡ (key, after) ∷ cut key old = set_is key old held after at in
-    record {
-      parted = rw (first, there.one_more) (still, there.parted);
-      held = there.body;
-      items = rw (first) (subst (λ (n : ℕ). live n ((key, after) ∷ cut key old) ≡ (key, after.body) ∷ without key (live count old)) (sym there.one_more) (ap (λ (is : Items). (key, after.body) ∷ is) there.left));
-      dead = rw (first) (subst (λ (n : ℕ). drop n ((key, after) ∷ cut key old) ≡ drop count old) (sym there.one_more) there.dead);
-    }
+    grind (arith, cut, set_is)
 
 -- what it leaves, once others were let go
 pub record IsReplaced (key : List ℕ) (epoch count price : ℕ) (old new : Entries) (before after : Body) : Type 0 where
@@ -223,12 +187,7 @@ lets_go key epoch count old new held parted found other is =
 -- what taking the entry out leaves
 found_is : (key : List ℕ) (old : Entries) (entry : List ℕ × Held) → lookup_entry (bytes_eq key) old ≡ Some entry
     → (entry.0 ≡ key) × (held_at key old ≡ Some entry.1)
-found_is key old entry found =
-    let at : option_map (λ (held : Held). (key, held)) (held_at key old) ≡ Some entry = sym (entry_is key old) ∙ found in
-    (elim (held_at key old) as (λ (o : Option Held). option_map (λ (held : Held). (key, held)) o ≡ Some entry → (entry.0 ≡ key) × (o ≡ Some entry.1)) [
-      | None ↦ λ none. absurd cc
-      | Some held ↦ λ some. let its : (key, held) ≡ entry = cc in (sym (ap (λ (e : List ℕ × Held). e.0) its), ap (λ (e : List ℕ × Held). Some e.1) its)
-    ]) at
+found_is key old entry found = grind (arith, held_at, entry_is)
 
 pub record IsTaken (key : List ℕ) (epoch count less : ℕ) (old new : Entries) (entry : List ℕ × Held) : Type 0 where
   pub some : 0 < count
@@ -243,10 +202,7 @@ pub takes : (key : List ℕ) (epoch count less : ℕ) (old new : Entries) (entry
 takes key epoch count less old new entry parted found is now one_less =
     let there = found_is key old entry found in
     let at : IsLiveAt key epoch count old entry.1 = live_is key epoch count old entry.1 parted there.1 now in
-    let more : count ≡ suc at.others = at.one_more in
-    let next : less ≡ at.others = omega arith in
-    let cuts : new ≡ cut key old = is ∙ remove_is key old in
-    record { some = omega arith; own = there.0; body = at.body; parted = rw (next, cuts) at.parted; left = rw (next, cuts) at.left }
+    grind (arith, cut, remove_is)
 
 pub takes_dead : (key : List ℕ) (epoch count : ℕ) (old new : Entries) (entry : List ℕ × Held) → IsParted epoch count old
     → lookup_entry (bytes_eq key) old ≡ Some entry → new ≡ remove_entry (bytes_eq key) old → entry.1.epoch ≢ epoch
@@ -321,16 +277,7 @@ pub pops : (epoch count less : ℕ) (old new : Entries) (last : List ℕ × Held
 pops epoch count less old new last parted all ends one_less =
     let whole : IsParted epoch (length (new ++ last ∷ [])) (new ++ last ∷ []) =
     subst (λ (es : Entries). IsParted epoch (length es) es) ends (subst (λ (n : ℕ). IsParted epoch n old) (sym all) parted) in
-    let parts = pops_live epoch new last whole in
-    let many : length old ≡ length (new ++ last ∷ []) = ap length ends in
-    let next : length new ≡ less = omega (arith, many, length_push new last) in
-    record {
-      some = omega (arith, many, length_push new last);
-      parted = subst (λ (n : ℕ). IsParted epoch n new) next parts.0;
-      ends = subst (λ (n : ℕ). live n old ≡ live less new ++ (last.0, last.1.body) ∷ []) all
-          (subst (λ (es : Entries). live (length es) es ≡ live less new ++ (last.0, last.1.body) ∷ []) (sym ends)
-          (subst (λ (n : ℕ). live (length (new ++ last ∷ [])) (new ++ last ∷ []) ≡ live n new ++ (last.0, last.1.body) ∷ []) next parts.1));
-    }
+    grind (arith, length_push, pops_live)
 
 -- one more entry that goes from the back
 pub goes_one : (initial old new out : Entries) (last : List ℕ × Held) → initial ≡ old ++ out → old ≡ new ++ last ∷ []
@@ -353,8 +300,4 @@ leaves_all epoch count old new parted is =
 -- where none is left
 pub pops_none : (epoch count : ℕ) (old new : Entries) → IsParted epoch count old → old ≡ [] → new ≡ []
     → IsParted epoch count new × (live count new ≡ []) × (live count old ≡ [])
-pops_none epoch count old new parted nothing still =
-    let few : count ≤ length old = count-fits epoch count old parted in
-    let size : length old ≡ 0 = ap length nothing in
-    let zeros : count ≡ 0 = omega arith in
-    (rw (zeros, still) tt, rw zeros refl, rw zeros refl)
+pops_none epoch count old new parted nothing still = grind (arith, count-fits)

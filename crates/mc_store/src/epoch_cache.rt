@@ -66,9 +66,7 @@ impl<H: BuildHasher> EpochCache<H> {
     pub fn peek(&self, key: &[u8]) -> Option<&Body>
         ensures { option_copied result ≡ body_at key.now self.now.items }
     {
-        let Some(held) = self.cache.peek(KeyBytes { bytes: key }) else {
-            return None;
-        };
+        let held = self.cache.peek(KeyBytes { bytes: key })?;
         if self.epoch != held.epoch {
             return None;
         }
@@ -82,10 +80,8 @@ impl<H: BuildHasher> EpochCache<H> {
         if self.count == 0 {
             return None;
         }
-        match self.cache.peek_mru() {
-            Some((_, held)) => Some(&held.body),
-            None => None,
-        }
+        let (_, held) = self.cache.peek_mru()?;
+        Some(&held.body)
     }
 
     /// Moves the key's item to the front, and says whether there is one.

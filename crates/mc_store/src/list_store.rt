@@ -64,17 +64,13 @@ impl Store for ListStore {
     }
 
     fn peek(&self, key: &[u8]) -> Option<&Body> {
-        match place_of(self.entries.as_slice(), key) {
-            Some(place) => Some(&self.entries[place].1),
-            None => None,
-        }
+        let place = place_of(self.entries.as_slice(), key)?;
+        Some(&self.entries[place].1)
     }
 
     fn front(&self) -> Option<&Body> {
-        match self.entries.first() {
-            Some(entry) => Some(&entry.1),
-            None => None,
-        }
+        let entry = self.entries.first()?;
+        Some(&entry.1)
     }
 
     fn bring(&mut self, key: &[u8]) -> bool {
@@ -101,13 +97,9 @@ impl Store for ListStore {
     }
 
     fn take(&mut self, key: &[u8]) -> Option<Body> {
-        match taken_out(&mut self.entries, key) {
-            Some((own, body)) => {
-                self.used -= cost(&own, &body);
-                Some(body)
-            }
-            None => None,
-        }
+        let (own, body) = taken_out(&mut self.entries, key)?;
+        self.used -= cost(&own, &body);
+        Some(body)
     }
 
     fn replace(&mut self, key: &[u8], body: Body) -> Result<Body, Body> {
@@ -123,23 +115,17 @@ impl Store for ListStore {
 
     fn put_front(&mut self, key: Key, body: Body) -> Result<(), (Key, Body)> {
         let price = cost(&key, &body);
-        match self.entries.insert(0, (key, body)) {
-            Ok(()) => {
-                self.used += price;
-                Ok(())
-            }
-            Err(failed) => Err(failed.value),
+        if let Err(failed) = self.entries.insert(0, (key, body)) {
+            return Err(failed.value);
         }
+        self.used += price;
+        Ok(())
     }
 
     fn drop_last(&mut self) -> Option<(Key, Body)> {
-        match self.entries.pop() {
-            Some(last) => {
-                self.used -= cost(&last.0, &last.1);
-                Some(last)
-            }
-            None => None,
-        }
+        let last = self.entries.pop()?;
+        self.used -= cost(&last.0, &last.1);
+        Some(last)
     }
 
     fn clear(&mut self) {
@@ -183,10 +169,8 @@ fn taken_out(entries: &mut Vec<(Key, Body)>, key: &[u8]) -> Option<(Key, Body)>
     ensures cost { IfSome result (λ item. item_cost item + cost_sum entries.new.items ≡ cost_sum entries.old.items) }
     ensures unchanged { IfNone result (entries.new.items ≡ entries.old.items) }
 {
-    match place_of(entries.as_slice(), key) {
-        Some(place) => Some(entries.remove(place)),
-        None => None,
-    }
+    let place = place_of(entries.as_slice(), key)?;
+    Some(entries.remove(place))
 }
 
 /// Where the key's item is.

@@ -148,14 +148,10 @@ impl<H: BuildHasher> Store for LruStore<H> {
     }
 
     fn take(&mut self, key: &[u8]) -> Option<Body> {
-        match self.cache.take(key) {
-            Some(item) => {
-                self.sums
-                    .take_away(cost(&item.0, &item.1), item.1.value.len());
-                Some(body_of(item))
-            }
-            None => None,
-        }
+        let item = self.cache.take(key)?;
+        self.sums
+            .take_away(cost(&item.0, &item.1), item.1.value.len());
+        Some(body_of(item))
     }
 
     fn replace(&mut self, key: &[u8], body: Body) -> Result<Body, Body> {
@@ -174,24 +170,16 @@ impl<H: BuildHasher> Store for LruStore<H> {
     fn put_front(&mut self, key: Key, body: Body) -> Result<(), (Key, Body)> {
         let price = cost(&key, &body);
         let length = body.value.len();
-        match self.cache.put_front(key, body) {
-            Ok(()) => {
-                self.sums.add(price, length);
-                Ok(())
-            }
-            Err(back) => Err(back),
-        }
+        self.cache.put_front(key, body)?;
+        self.sums.add(price, length);
+        Ok(())
     }
 
     fn drop_last(&mut self) -> Option<(Key, Body)> {
-        match self.cache.drop_last() {
-            Some(last) => {
-                self.sums
-                    .take_away(cost(&last.0, &last.1), last.1.value.len());
-                Some(last)
-            }
-            None => None,
-        }
+        let last = self.cache.drop_last()?;
+        self.sums
+            .take_away(cost(&last.0, &last.1), last.1.value.len());
+        Some(last)
     }
 
     fn clear(&mut self) {

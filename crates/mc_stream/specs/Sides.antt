@@ -3,7 +3,7 @@
 use Rattle.std.specs.Prelude.{◌≡◌, ℕ, ◌≤◌, ◌⊎◌, Bool, true, false, List, ◌++◌, length, take, Option, Some, None, Result, Ok, Err}
 use Rattle.std.specs.Io.KnownBytes.{Appends, Consumes, Keeps}
 use Rattle.mc_stream.specs.declared.outcomes.Pumped.{Pumped}
-use Rattle.mc_stream.specs.declared.outcomes.Pumped.TheVariants.{Again, Blocked, Done, Failed}
+use Rattle.mc_stream.specs.declared.outcomes.Pumped.TheVariants.{Again, Failed}
 
 -- bytes that came are all that the reader had, where that is known
 abbrev pub IsAll : Option (List ℕ) → List ℕ → Type 0
@@ -20,17 +20,19 @@ pub record Carries (unread unread' written written' : Option (List ℕ)) (ended 
 
 -- The same by how a pump ends. Where it failed, bytes that the reader gave may be lost: those that came are the first of them.
 abbrev pub CarriesBy : Pumped → Option (List ℕ) → Option (List ℕ) → Option (List ℕ) → Option (List ℕ) → Bool → Bool → List ℕ → List ℕ → Type 0
-CarriesBy Again unread unread' written written' ended ended' came went = Carries unread unread' written written' ended ended' came went
-CarriesBy Blocked unread unread' written written' ended ended' came went = Carries unread unread' written written' ended ended' came went
-CarriesBy Done unread unread' written written' ended ended' came went = Carries unread unread' written written' ended ended' came went
 CarriesBy Failed unread unread' written written' ended ended' came went = (lost : List ℕ) × Carries unread unread' written written' ended ended' (came ++ lost) went
+CarriesBy other unread unread' written written' ended ended' came went = Carries unread unread' written written' ended ended' came went
 
 -- how a side stops the pump: it was interrupted, or it failed
 abbrev pub IsStopOfSide : Pumped → Type 0
 IsStopOfSide Again = Unit {0}
-IsStopOfSide Blocked = ⊥
-IsStopOfSide Done = ⊥
 IsStopOfSide Failed = Unit {0}
+IsStopOfSide other = ⊥
+
+-- a round, or a part of one, that does not stop goes on as a pump that may be called again
+abbrev pub pump_of : {T : Type 0} → Result T Pumped → Pumped
+pump_of (Ok value) = Again
+pump_of (Err pump) = pump
 
 -- an error of a side moves nothing
 abbrev pub MovesNothing : Result ℕ Pumped → Type 0
@@ -45,9 +47,8 @@ pub record Brings (unread unread' : Option (List ℕ)) (ended' : Bool) (came : L
 -- what a read carried that stops the pump; where something failed, what it brought may be lost
 abbrev pub StopsRead : Pumped → (unread unread' : Option (List ℕ)) (ended' : Bool) (came : List ℕ) → Type 0
 StopsRead Again unread unread' ended' came = Brings unread unread' ended' came
-StopsRead Blocked unread unread' ended' came = ⊥
-StopsRead Done unread unread' ended' came = ⊥
 StopsRead Failed unread unread' ended' came = (lost : List ℕ) × Brings unread unread' ended' (came ++ lost)
+StopsRead other unread unread' ended' came = ⊥
 
 -- how a write went: whether the writer took anything, or how it stops the pump
 abbrev pub HowItWent : Result Bool Pumped → (written written' : Option (List ℕ)) (went : List ℕ) (unmoved : Type 0) → Type 0

@@ -1,5 +1,5 @@
 -- All numbers up to their count: one more, one brought to the front, one taken out.
-use Rattle.std.proofs.Common.{◌≡◌, ℕ, suc, ◌<◌, ◌≤◌, ◌⊎◌, inl, inr, List, [], ◌∷◌, ◌++◌, length, refl, sym, ap, ◌∙◌, subst, arith}
+use Rattle.std.proofs.Common.{◌≡◌, ℕ, suc, ◌<◌, ◌≤◌, ◌⊎◌, inl, inr, List, [], ◌∷◌, ◌++◌, length, refl, sym, ap, subst, arith}
 use Rattle.std.proofs.lemmas.Bool.{cases_eq}
 use Rattle.mc_table.specs.Places.{Member, Apart, AllApart, UpTo, left_out, AreAll}
 use Rattle.mc_table.proofs.PlaceLemmas.{AllApart-between, AllApart-out, Apart-out, Apart-beyond, Member-out, Member-in, UpTo-front, UpTo-back, UpTo-both, UpTo-more, UpTo-less, SplitAt, split_at, UpTo-member}
@@ -73,7 +73,6 @@ other_out xs p ys us n vs all last differ cut =
     let again : length (us ++ p ∷ vs) ≡ suc (length (us ++ vs)) = length_mid us p vs in
     let top : n ≡ suc (length (us ++ p ∷ vs)) = omega arith in
     let own = UpTo-mid (length (xs ++ p ∷ ys)) xs p ys all.within in
-    let ownle : p ≤ length (xs ++ p ∷ ys) = own.1 in
     let ple : p ≤ length (us ++ p ∷ vs) = omega arith in
     let outer : UpTo (length (xs ++ p ∷ ys)) (xs ++ ys) = UpTo-out (length (xs ++ p ∷ ys)) xs p ys all.within in
     let moved : UpTo (length (xs ++ p ∷ ys)) (us ++ n ∷ vs) = subst (λ (l : List ℕ). UpTo (length (xs ++ p ∷ ys)) l) cut outer in
@@ -106,9 +105,7 @@ other_out xs p ys us n vs all last differ cut =
 pub last_held : (ps : List ℕ) (p : ℕ) → AreAll ps → Member p ps → Member (length ps) ps
 last_held ps p all held =
     let bounds = UpTo-member (length ps) p ps all.within held in
-    let low : 0 < p = bounds.0 in
-    let high : p ≤ length ps = bounds.1 in
-    all.all (length ps) (omega arith) (omega arith)
+    grind arith
 
 -- what is left where another than the last is taken out falls apart at the last
 pub split_last : (p : ℕ) (ps : List ℕ) → AreAll ps → SplitAt p ps → (p ≡ length ps → ⊥) → SplitAt (length ps) (left_out p ps)
@@ -121,14 +118,9 @@ split_last p ps all cut differ =
 
 -- the last one taken out
 pub AreAll-last_out : (p : ℕ) (ps : List ℕ) → AreAll ps → SplitAt p ps → p ≡ length ps → AreAll (left_out p ps)
-AreAll-last_out p ps all cut last =
-    let all2 : AreAll (cut.front ++ p ∷ cut.back) = subst (λ (l : List ℕ). AreAll l) cut.is all in
-    let count : length ps ≡ suc (length (cut.front ++ cut.back)) = ap length cut.is ∙ length_mid cut.front p cut.back in
-    subst (λ (l : List ℕ). AreAll l) (sym cut.others) (last_out cut.front p cut.back all2 (last ∙ count))
+AreAll-last_out p ps all cut last = grind (arith, length_mid, last_out)
 
 -- another taken out
 pub AreAll-other_out : (p : ℕ) (ps : List ℕ) → AreAll ps → SplitAt p ps → (p ≡ length ps → ⊥) → (rest : SplitAt (length ps) (left_out p ps))
     → AreAll (rest.front ++ p ∷ rest.back)
-AreAll-other_out p ps all cut differ rest =
-    let all2 : AreAll (cut.front ++ p ∷ cut.back) = subst (λ (l : List ℕ). AreAll l) cut.is all in
-    other_out cut.front p cut.back rest.front (length ps) rest.back all2 (ap length cut.is) differ (sym cut.others ∙ rest.is)
+AreAll-other_out p ps all cut differ rest = grind (arith, other_out)

@@ -88,18 +88,10 @@ none_is (Some x) is = absurd cc
 
 none_passes : {K V : Type 0} (test : K → Bool) (es : List (K × V)) → None ≡ lookup test es → IsNowhere test es
 none_passes test [] none other e is = absurd cc
-none_passes {K} {V} test (x ∷ es) none zero e is =
-    let same : x ≡ e = cc in
-    (elim (test x.0) as (λ v. test x.0 ≡ v → None ≡ cond v (Some x.1) (lookup test es) → test e.0 ≡ false) [
-      | true ↦ λ t found. absurd cc
-      | false ↦ λ t found. subst (λ (y : K × V). test y.0 ≡ false) same t
-    ]) refl none
+none_passes {K} {V} test (x ∷ es) none zero e is = grind arith
 none_passes {K} {V} test (x ∷ es) none (suc other) e is =
     let again : None ≡ lookup test es → test e.0 ≡ false = λ found. none_passes test es found other e is in
-    (elim (test x.0) as (λ v. None ≡ cond v (Some x.1) (lookup test es) → test e.0 ≡ false) [
-      | true ↦ λ found. absurd cc
-      | false ↦ λ found. again found
-    ]) none
+    grind arith
 
 apart_head : {K V : Type 0} (eq : K → K → Bool) (k : K) (es : List (K × V)) (j : ℕ) (b : K × V) → AllByRecursion (λ y. eq k y ≡ false) (keys_of es) → slice_get es j ≡ Some b → eq k b.0 ≡ false
 apart_head eq k [] j b all is = absurd cc
@@ -164,11 +156,7 @@ in_order-cons es p ps x is = rw is refl
 
 pub in_order-append : {X : Type 0} (es : List X) (xs ys : List ℕ) → in_order es (xs ++ ys) ≡ in_order es xs ++ in_order es ys
 in_order-append es [] ys = refl
-in_order-append {X} es (x ∷ xs) ys =
-    elim (slice_get es (x - 1)) as (λ o. put_some o (in_order es (xs ++ ys)) ≡ put_some o (in_order es xs) ++ in_order es ys) [
-      | None ↦ in_order-append es xs ys
-      | Some e ↦ ap (λ (l : List X). e ∷ l) (in_order-append es xs ys)
-    ]
+in_order-append {X} es (x ∷ xs) ys = grind (arith, in_order-append es xs ys)
 
 -- entries that agree at the places are the same in their order
 pub in_order-same : {X : Type 0} (es fs : List X) (ps : List ℕ) → ((p : ℕ) → Member p ps → slice_get fs (p - 1) ≡ slice_get es (p - 1)) → in_order fs ps ≡ in_order es ps
@@ -220,11 +208,7 @@ remove_found {K} {V} test es i at (p ∷ ps) within held =
 
 pub entry_none : {K V : Type 0} (test : K → Bool) (es : List (K × V)) (ps : List ℕ) → IsNowhere test es → lookup_entry test (in_order es ps) ≡ None
 entry_none test es [] nowhere = refl
-entry_none {K} {V} test es (p ∷ ps) nowhere =
-    (elim (slice_get es (p - 1)) as (λ o. slice_get es (p - 1) ≡ o → lookup_entry test (put_some o (in_order es ps)) ≡ None) [
-      | None ↦ λ e. entry_none test es ps nowhere
-      | Some x ↦ λ e. rw (nowhere (p - 1) x e) (entry_none test es ps nowhere)
-    ]) refl
+entry_none {K} {V} test es (p ∷ ps) nowhere = grind (arith, entry_none test es ps nowhere)
 
 pub remove_none : {K V : Type 0} (test : K → Bool) (es : List (K × V)) → lookup_entry test es ≡ None → remove_entry test es ≡ es
 remove_none test [] none = refl
@@ -237,11 +221,7 @@ remove_none {K} {V} test (e ∷ es) none =
 -- a value is that of the entry
 pub lookup_by_entry : {K V : Type 0} (test : K → Bool) (es : List (K × V)) → lookup test es ≡ option_map (λ (e : K × V). e.1) (lookup_entry test es)
 lookup_by_entry test [] = refl
-lookup_by_entry {K} {V} test (e ∷ es) =
-    elim (test e.0) as (λ v. cond v (Some e.1) (lookup test es) ≡ option_map (λ (x : K × V). x.1) (cond v (Some e) (lookup_entry test es))) [
-      | true ↦ refl
-      | false ↦ lookup_by_entry test es
-    ]
+lookup_by_entry {K} {V} test (e ∷ es) = grind (arith, lookup_by_entry test es)
 
 -- one taken out
 
@@ -252,29 +232,13 @@ length-renumbered from to (p ∷ ps) = ap suc (length-renumbered from to ps)
 in_order-renumbered : {X : Type 0} (es fs : List X) (from to : ℕ) (ps : List ℕ) → ((p : ℕ) → Member p ps → slice_get fs (cond (eqb p from) to p - 1) ≡ slice_get es (p - 1))
     → in_order fs (renumbered from to ps) ≡ in_order es ps
 in_order-renumbered es fs from to [] same = refl
-in_order-renumbered {X} es fs from to (p ∷ ps) same =
-    ap (λ (o : Option X). put_some o (in_order fs (renumbered from to ps))) (same p (inl refl))
-    ∙ ap (λ (l : List X). put_some (slice_get es (p - 1)) l) (in_order-renumbered es fs from to ps (λ q held. same q (inr held)))
+in_order-renumbered {X} es fs from to (p ∷ ps) same = grind (arith, in_order-renumbered es fs from to ps)
 
 -- the last takes the place of the one that goes
 swapped : {X : Type 0} (es : List X) (i : ℕ) (d : X) (p : ℕ) → i < length es → 0 < p → p ≤ length es → (p ≡ suc i → ⊥)
     → slice_get (swap_remove es i d) (cond (eqb p (length es)) (suc i) p - 1) ≡ slice_get es (p - 1)
 swapped {X} es i d p within positive most apart =
-    let written : List X = set es i (get_or es (length es - 1) d) in
-    elim (cases_eq p (length es)) as (λ _. slice_get (swap_remove es i d) (cond (eqb p (length es)) (suc i) p - 1) ≡ slice_get es (p - 1)) [
-      | inl last ↦
-          let here : cond (eqb p (length es)) (suc i) p - 1 ≡ i = rw (test_same p (length es) last) (omega arith) in
-          let less : i < length es - 1 = omega arith in
-          let below : length es - 1 < length es = omega arith in
-          let end : length es - 1 ≡ p - 1 = omega arith in
-          ap (λ (n : ℕ). slice_get (swap_remove es i d) n) here ∙ got-take (length es - 1) written i less ∙ got-set_same es i (get_or es (length es - 1) d) within
-          ∙ sym (got_or es (length es - 1) d below) ∙ ap (λ (n : ℕ). slice_get es n) end
-      | inr other ↦
-          let here : cond (eqb p (length es)) (suc i) p - 1 ≡ p - 1 = rw (test_apart p (length es) other) refl in
-          let less : p - 1 < length es - 1 = omega arith in
-          let differ : p - 1 ≡ i → ⊥ = λ same. omega arith in
-          ap (λ (n : ℕ). slice_get (swap_remove es i d) n) here ∙ got-take (length es - 1) written (p - 1) less ∙ got-set_other es i (p - 1) (get_or es (length es - 1) d) differ
-    ]
+    grind (arith, eqb, set, get_or, cases_eq, test_same, test_apart, got_or, got-take, got-set_other, got-set_same)
 
 pub in_order-removed : {X : Type 0} (es fs : List X) (i : ℕ) (d : X) (ps : List ℕ) → i < length es → UpTo (length es) ps → Apart (suc i) ps → fs ≡ swap_remove es i d
     → in_order fs (renumbered (length es) (suc i) ps) ≡ in_order es ps
@@ -283,12 +247,7 @@ in_order-removed {X} es fs i d ps within all apart is =
     ∙ in_order-renumbered es (swap_remove es i d) (length es) (suc i) ps (λ p held. swapped es i d p within (UpTo-member (length es) p ps all held).0 (UpTo-member (length es) p ps all held).1 (λ same. member_apart (suc i) p ps apart held same))
 
 pub length-swap_remove : {X : Type 0} (es fs : List X) (i : ℕ) (d : X) → i < length es → fs ≡ swap_remove es i d → length es ≡ suc (length fs)
-length-swap_remove {X} es fs i d within is =
-    let written : List X = set es i (get_or es (length es - 1) d) in
-    let size : length written ≡ length es = length-set es i (get_or es (length es - 1) d) in
-    let taken : length (take (length es - 1) written) ≡ length es - 1 = length-take-le (length es - 1) written (omega arith) in
-    let same : length fs ≡ length (take (length es - 1) written) = ap length is in
-    omega arith
+length-swap_remove {X} es fs i d within is = grind (arith, set, get_or, length-set, length-take-le)
 
 -- the last
 

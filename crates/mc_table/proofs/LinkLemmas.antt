@@ -1,5 +1,5 @@
 -- What links say after two places are joined.
-use Rattle.std.proofs.Common.{◌≡◌, ◌≢◌, ℕ, ◌<◌, inl, inr, List, length, set, sym, ap, ◌∙◌, subst, get_or-set_other, get_or-set_same}
+use Rattle.std.proofs.Common.{◌≡◌, ◌≢◌, ℕ, ◌<◌, List, length, set, ap, ◌∙◌, get_or-set_other, get_or-set_same, arith}
 use Rattle.std.proofs.lemmas.Bool.{cases_eq}
 use Rattle.std.proofs.lemmas.List.{length-set}
 use Rattle.mc_table.specs.declared.links.Link.{Link}
@@ -21,20 +21,10 @@ before-with_before links place previous within = ap (λ (l : Link). l.before) (w
 
 -- a write of the one side leaves the other as it is
 before-with_after : (links : List Link) (place next other : ℕ) → place < length links → (link_at (with_after links place next) other).before ≡ (link_at links other).before
-before-with_after links place next other within =
-    let link : Link = record { before = (link_at links place).before; after = next } in
-    elim (cases_eq other place) as (λ _. (link_at (with_after links place next) other).before ≡ (link_at links other).before) [
-      | inl same ↦ subst (λ (k : ℕ). (link_at (with_after links place next) k).before ≡ (link_at links k).before) (sym same) (ap (λ (l : Link). l.before) (written_same links place link within))
-      | inr apart ↦ ap (λ (l : Link). l.before) (written_other links place other link apart)
-    ]
+before-with_after links place next other within = grind (arith, cases_eq, written_same, written_other)
 
 after-with_before : (links : List Link) (place previous other : ℕ) → place < length links → (link_at (with_before links place previous) other).after ≡ (link_at links other).after
-after-with_before links place previous other within =
-    let link : Link = record { before = previous; after = (link_at links place).after } in
-    elim (cases_eq other place) as (λ _. (link_at (with_before links place previous) other).after ≡ (link_at links other).after) [
-      | inl same ↦ subst (λ (k : ℕ). (link_at (with_before links place previous) k).after ≡ (link_at links k).after) (sym same) (ap (λ (l : Link). l.after) (written_same links place link within))
-      | inr apart ↦ ap (λ (l : Link). l.after) (written_other links place other link apart)
-    ]
+after-with_before links place previous other within = grind (arith, cases_eq, written_same, written_other)
 
 after-with_after_other : (links : List Link) (place next other : ℕ) → other ≢ place → (link_at (with_after links place next) other).after ≡ (link_at links other).after
 after-with_after_other links place next other apart = ap (λ (l : Link). l.after) (written_other links place other (record { before = (link_at links place).before; after = next }) apart)
@@ -65,21 +55,15 @@ length-linked_before links place next =
 
 pub after-joined : (links : List Link) (b a : ℕ) → b < length links → a < length links → (link_at (joined links b a) b).after ≡ a
 unfolding joined
-after-joined links b a lb la =
-    let la2 : a < length (with_after links b a) = rw length-with_after la in
-    after-with_before (with_after links b a) a b b la2 ∙ after-with_after links b a lb
+after-joined links b a lb la = grind (arith, after-with_after, after-with_before, length-with_after)
 
 pub after-joined_other : (links : List Link) (b a other : ℕ) → b < length links → a < length links → other ≢ b → (link_at (joined links b a) other).after ≡ (link_at links other).after
 unfolding joined
-after-joined_other links b a other lb la apart =
-    let la2 : a < length (with_after links b a) = rw length-with_after la in
-    after-with_before (with_after links b a) a b other la2 ∙ after-with_after_other links b a other apart
+after-joined_other links b a other lb la apart = grind (arith, after-with_before, after-with_after_other, length-with_after)
 
 pub before-joined : (links : List Link) (b a : ℕ) → b < length links → a < length links → (link_at (joined links b a) a).before ≡ b
 unfolding joined
-before-joined links b a lb la =
-    let la2 : a < length (with_after links b a) = rw length-with_after la in
-    before-with_before (with_after links b a) a b la2
+before-joined links b a lb la = grind (arith, before-with_before, length-with_after)
 
 pub before-joined_other : (links : List Link) (b a other : ℕ) → b < length links → a < length links → other ≢ a → (link_at (joined links b a) other).before ≡ (link_at links other).before
 unfolding joined

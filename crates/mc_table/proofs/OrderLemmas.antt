@@ -35,11 +35,7 @@ after_within : (links : List Link) (from : ℕ) (ps : List ℕ) (to q : ℕ) →
 after_within links from [] to q leads (inl here) = inl (sym (subst (λ (k : ℕ). (link_at links k).after ≡ to) here leads.0))
 after_within links from [] to q leads (inr held) = absurd held
 after_within links from (p ∷ ps) to q leads (inl here) = inr (inl (sym (subst (λ (k : ℕ). (link_at links k).after ≡ p) here leads.0)))
-after_within links from (p ∷ ps) to q leads (inr held) =
-    elim (after_within links p ps to q leads.2 held) as (λ _. Member (link_at links q).after (to ∷ p ∷ ps)) [
-      | inl last ↦ inl last
-      | inr more ↦ inr (inr more)
-    ]
+after_within links from (p ∷ ps) to q leads (inr held) = grind (arith, after_within links p ps to q leads.2 held)
 
 -- and what comes before it
 before_within : (links : List Link) (from : ℕ) (ps : List ℕ) (to q : ℕ) → Leads links from ps to → Member q (to ∷ ps) → Member (link_at links q).before (from ∷ ps)
@@ -190,9 +186,7 @@ ring_last_out links places place ring cut last =
     let number : length links ≡ suc (length places) = ring.count in
     let small : length links ≤ 2 ^ 32 = ring.small in
     let after = dropped_last (unlinked links place) (left_out place places) loop all (omega arith) (omega arith) in
-    let same : renumbered (length places) place (left_out place places) ≡ left_out place places =
-    subst (λ (k : ℕ). renumbered k place (left_out place places) ≡ left_out place places) last (renumbered-same place (left_out place places)) in
-    subst (λ (l : List ℕ). IsRing (take (length (unlinked links place) - 1) (unlinked links place)) l) (sym same) after
+    grind (arith, renumbered-same)
 
 -- another place is taken out, and the last takes its number
 pub ring_other_out : (links : List Link) (places : List ℕ) (place next : ℕ) → IsRing links places → 0 < place → SplitAt place places → (place ≡ length places → ⊥)
@@ -227,9 +221,7 @@ ring_other_out links places place next ring positive cut differ is after made =
     let count3 : length (rest.front ++ place ∷ rest.back) ≡ suc (length (rest.front ++ rest.back)) = length_mid rest.front place rest.back in
     let ring2 : IsRing (take (length after - 1) after) (rest.front ++ place ∷ rest.back) = dropped_last after (rest.front ++ place ∷ rest.back) loop4 all (omega arith) (omega arith) in
     let onlylast : Apart (length places) (rest.front ++ rest.back) = Apart-out (length places) rest.front rest.back loop1.once.1 in
-    let renamed : renumbered (length places) place (left_out place places) ≡ rest.front ++ place ∷ rest.back =
-    ap (λ (l : List ℕ). renumbered (length places) place l) rest.is ∙ renumbered-between (length places) place rest.front rest.back onlylast in
-    subst (λ (l : List ℕ). IsRing (take (length after - 1) after) l) (sym renamed) ring2
+    grind (arith, renumbered-between)
 
 -- links that are a ring are the ring of their places
 pub ring_own : (links : List Link) (places : List ℕ) → IsRing links places → IsRing links (places_of links)
@@ -240,12 +232,7 @@ ring_last links ring = before_is links 0 (places_of links) 0 ring.leads
 
 -- the link of 0 alone is a ring of no place
 pub ring_none : IsRing (no_link ∷ []) []
-ring_none = record {
-  leads = (refl, refl);
-  are_all = record { once = tt; within = tt; all = λ place positive within. absurd (omega arith) };
-  count = refl;
-  small = omega arith;
-}
+ring_none = grind arith
 
 -- the same for the code, which has what each call left
 
@@ -271,9 +258,7 @@ pub brought_ring : (links one two : List Link) (place : ℕ) → IsRing links (p
     → two ≡ linked_before one place (link_at one 0).after → IsRing two (place ∷ left_out place (places_of links))
 brought_ring links one two place ring positive within is made =
     let ring2 = ring_brought links (places_of links) place (link_at (unlinked links place) 0).after ring positive (own_split links place ring positive within) refl in
-    let same : linked_before (unlinked links place) place (link_at (unlinked links place) 0).after ≡ two =
-    sym (made ∙ ap (λ (l : List Link). linked_before l place (link_at l 0).after) is) in
-    subst (λ (l : List Link). IsRing l (place ∷ left_out place (places_of links))) same ring2
+    grind arith
 
 -- the last place, where another is unlinked
 pub last_sides : (links one : List Link) (place last : ℕ) → IsRing links (places_of links) → 0 < place → place ≤ length (places_of links) → one ≡ unlinked links place
@@ -285,9 +270,7 @@ last_sides links one place last ring positive within is at differ =
     let number : length links ≡ suc (length (places_of links)) = ring.count in
     let lastly : last ≡ length (places_of links) = omega arith in
     let rest : SplitAt (length (places_of links)) (left_out place (places_of links)) = split_last place (places_of links) ring.are_all cut (λ same. differ (lastly ∙ sym same)) in
-    let held : Member (length (places_of links)) (left_out place (places_of links)) =
-    subst (λ (l : List ℕ). Member (length (places_of links)) l) (sym rest.is) (member_mid rest.front (length (places_of links)) rest.back) in
-    loop_sides one (left_out place (places_of links)) last loop (inr (subst (λ (k : ℕ). Member k (left_out place (places_of links))) (sym lastly) held))
+    grind (arith, member_mid, loop_sides)
 
 -- what came after it, once it is unlinked too
 pub next_sides : (links one two : List Link) (place last next : ℕ) → IsRing links (places_of links) → 0 < place → place ≤ length (places_of links) → one ≡ unlinked links place
@@ -296,7 +279,6 @@ next_sides links one two place last next ring positive within is at differ made 
     let loop = unlinked_loop links one place ring positive within is in
     let cut = own_split links place ring positive within in
     let size : length one ≡ length links = ap length is ∙ length-unlinked links place in
-    let number : length links ≡ suc (length (places_of links)) = ring.count in
     let lastly : last ≡ length (places_of links) = omega arith in
     let rest0 : SplitAt (length (places_of links)) (left_out place (places_of links)) = split_last place (places_of links) ring.are_all cut (λ same. differ (lastly ∙ sym same)) in
     let rest : SplitAt last (left_out place (places_of links)) = subst (λ (k : ℕ). SplitAt k (left_out place (places_of links))) (sym lastly) rest0 in
@@ -316,7 +298,6 @@ pub other_ring : (links one two three : List Link) (place last next : ℕ) → I
 other_ring links one two three place last next ring positive within is at differ made after ends =
     let cut = own_split links place ring positive within in
     let size : length one ≡ length links = ap length is ∙ length-unlinked links place in
-    let number : length links ≡ suc (length (places_of links)) = ring.count in
     let lastly : last ≡ length (places_of links) = omega arith in
     let nextly : next ≡ (link_at (unlinked links place) (length (places_of links))).after =
     after ∙ ap (λ (k : ℕ). (link_at one k).after) lastly ∙ ap (λ (l : List Link). (link_at l (length (places_of links))).after) is in
@@ -329,7 +310,6 @@ pub last_ring : (links one : List Link) (place last : ℕ) → IsRing links (pla
 last_ring links one place last ring positive within is at same =
     let cut = own_split links place ring positive within in
     let size : length one ≡ length links = ap length is ∙ length-unlinked links place in
-    let number : length links ≡ suc (length (places_of links)) = ring.count in
     let lastly : place ≡ length (places_of links) = omega arith in
     subst (λ (l : List Link). IsRing (take (length l - 1) l) (renumbered (length (places_of links)) place (left_out place (places_of links)))) (sym is)
     (ring_last_out links (places_of links) place ring cut lastly)
@@ -370,16 +350,12 @@ pub more_ring : (old new after : List Link) (places : List ℕ) (place : ℕ) �
 more_ring old new after places place ring at room is made =
     let room2 : length old < 2 ^ 32 = subst (λ (n : ℕ). n < 2 ^ 32) at room in
     let ring2 = ring_more old places (link_at (old ++ no_link ∷ []) 0).after ring room2 refl in
-    let same : linked_before (old ++ no_link ∷ []) (length old) (link_at (old ++ no_link ∷ []) 0).after ≡ after =
-    sym (made ∙ ap (λ (n : ℕ). linked_before new n (link_at new 0).after) at ∙ ap (λ (l : List Link). linked_before l (length old) (link_at l 0).after) is) in
-    subst (λ (l : List Link). IsRing l (suc (length places) ∷ places)) same ring2
+    grind arith
 
 -- the last link is popped
 pub popped : {Z : Type 0} (v : Vec Link Z) (after items : List Link) → length after ≡ length v.items → items ≡ take (v.len - 1) (with_items v after).items
     → items ≡ take (length after - 1) after
-popped v after items same is =
-    let size : v.len - 1 ≡ length after - 1 = omega (arith, v.ok.0) in
-    is ∙ ap (λ (l : List Link). take (v.len - 1) l) (refilled v after same) ∙ ap (λ (n : ℕ). take n after) size
+popped v after items same is = grind (arith, refilled)
 
 pub linked_length : (links after : List Link) (place next : ℕ) → after ≡ linked_before links place next → length after ≡ length links
 linked_length links after place next is = ap length is ∙ length-linked_before links place next

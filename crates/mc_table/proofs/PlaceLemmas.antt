@@ -115,10 +115,7 @@ Apart-zero n (p ∷ ps) within = (λ same. omega (arith, within.0), Apart-zero n
 -- without the greatest number all are below it
 pub UpTo-less : (n : ℕ) (ps : List ℕ) → UpTo (suc n) ps → Apart (suc n) ps → UpTo n ps
 UpTo-less n [] within apart = tt
-UpTo-less n (p ∷ ps) within apart =
-    let other : p ≡ suc n → ⊥ = apart.0 in
-    let most : p ≤ suc n = within.1 in
-    (within.0, omega arith, UpTo-less n ps within.2 apart.1)
+UpTo-less n (p ∷ ps) within apart = grind (arith, UpTo-less n ps within.2 apart.1)
 
 -- how places fall apart at one of them
 pub record SplitAt (place : ℕ) (places : List ℕ) : Type 0 where
@@ -129,12 +126,7 @@ pub record SplitAt (place : ℕ) (places : List ℕ) : Type 0 where
 
 pub split_at : (place : ℕ) (places : List ℕ) → AllApart places → Member place places → SplitAt place places
 split_at place [] apart held = absurd held
-split_at place (p ∷ ps) apart (inl here) = record {
-  front = [];
-  back = ps;
-  is = ap (λ (k : ℕ). k ∷ ps) here;
-  others = ap (λ (v : Bool). cond v ps (p ∷ left_out place ps)) (test_same p place here);
-}
+split_at place (p ∷ ps) apart (inl here) = grind (arith, test_same)
 split_at place (p ∷ ps) apart (inr held) =
     let rest = split_at place ps apart.1 held in
     let other : p ≡ place → ⊥ = λ same. member_apart p place ps apart.0 held (sym same) in
@@ -154,11 +146,7 @@ renumbered-none from to (p ∷ ps) apart =
 -- to the number that they have
 pub renumbered-same : (n : ℕ) (ps : List ℕ) → renumbered n n ps ≡ ps
 renumbered-same n [] = refl
-renumbered-same n (p ∷ ps) =
-    elim (cases_eq p n) as (λ _. renumbered n n (p ∷ ps) ≡ p ∷ ps) [
-      | inl same ↦ ap (λ (v : Bool). cond v n p ∷ renumbered n n ps) (test_same p n same) ∙ (ap (λ (k : ℕ). k ∷ renumbered n n ps) (sym same) ∙ ap (λ (l : List ℕ). p ∷ l) (renumbered-same n ps))
-      | inr apart ↦ ap (λ (v : Bool). cond v n p ∷ renumbered n n ps) (test_apart p n apart) ∙ ap (λ (l : List ℕ). p ∷ l) (renumbered-same n ps)
-    ]
+renumbered-same n (p ∷ ps) = grind (arith, cases_eq, test_same, test_apart, renumbered-same n ps)
 
 -- in the midst of others
 pub renumbered-between : (from to : ℕ) (xs ys : List ℕ) → Apart from (xs ++ ys) → renumbered from to (xs ++ from ∷ ys) ≡ xs ++ to ∷ ys

@@ -1,5 +1,5 @@
 -- Rings: what unlinking a place and linking it before another leave.
-use Rattle.std.proofs.Common.{◌≡◌, ℕ, ◌-◌, ◌<◌, inl, inr, List, [], ◌∷◌, ◌++◌, length, refl, sym, ap, ◌∙◌, subst, arith}
+use Rattle.std.proofs.Common.{◌≡◌, ℕ, ◌<◌, inl, inr, List, [], ◌∷◌, ◌++◌, length, refl, sym, ap, ◌∙◌, subst, arith}
 use Rattle.std.proofs.lemmas.List.{append-nil}
 use Rattle.mc_table.specs.declared.links.Link.{Link}
 use Rattle.mc_table.specs.Places.{Member, Apart, AllApart, first_of, last_from}
@@ -46,13 +46,9 @@ before_held links from (p ∷ ps) to leads = inr (before_held links p ps to lead
 -- joined to another place, they lead there
 pub Leads-to : (links : List Link) (b a from : ℕ) (ps : List ℕ) (to : ℕ) → (link_at links to).before ≡ b → b < length links → a < length links
     → AllApart (from ∷ ps) → Apart a ps → Leads links from ps to → Leads (joined links b a) from ps a
-Leads-to links b a from [] to is lb la apart other leads =
-    let same : b ≡ from = sym is ∙ leads.1 in
-    (subst (λ (k : ℕ). (link_at (joined links b a) k).after ≡ a) same (after-joined links b a lb la), before-joined links b a lb la ∙ same)
+Leads-to links b a from [] to is lb la apart other leads = grind (arith, after-joined, before-joined)
 Leads-to links b a from (p ∷ ps) to is lb la apart other leads =
-    let held : Member b (p ∷ ps) = subst (λ (k : ℕ). Member k (p ∷ ps)) is (before_held links p ps to leads.2) in
-    let differs : from ≡ b → ⊥ = λ same. member_apart from b (p ∷ ps) apart.0 held (sym same) in
-    (after-joined_other links b a from lb la differs ∙ leads.0, before-joined_other links b a p lb la other.0 ∙ leads.1, Leads-to links b a p ps to is lb la apart.1 other.1 leads.2)
+    grind (arith, after-joined_other, before-joined_other, member_apart, before_held, Leads-to links b a p ps to is lb la apart.1 other.1 leads.2)
 
 -- each place, and 0, has a link
 abbrev pub HaveLinks : List Link → List ℕ → Type 0
@@ -81,10 +77,7 @@ Leads-unlinked links xs p [] apart have leads =
     let lb : b < length links = have b (member_first b (0 ∷ xs) (p ∷ []) held) in
     let la : a < length links = subst (λ (k : ℕ). k < length links) (sym is) (have 0 (inl refl)) in
     let fronts : AllApart (0 ∷ xs) = AllApart-front (0 ∷ xs) (p ∷ []) apart in
-    let other : Apart a xs = subst (λ (k : ℕ). Apart k xs) (sym is) fronts.0 in
-    let all : Leads (joined links b a) 0 xs a = Leads-to links b a 0 xs p refl lb la fronts other front in
-    let ends : Leads (joined links b a) 0 xs 0 = subst (λ (k : ℕ). Leads (joined links b a) 0 xs k) is all in
-    subst (λ (l : List ℕ). Leads (joined links b a) 0 l 0) (sym (append-nil xs)) ends
+    grind (arith, append-nil, Leads-to)
 Leads-unlinked links xs p (y ∷ ys) apart have leads =
     let front = Leads-front links 0 xs p (y ∷ ys) 0 leads in
     let back = Leads-back links 0 xs p (y ∷ ys) 0 leads in
@@ -99,10 +92,7 @@ Leads-unlinked links xs p (y ∷ ys) apart have leads =
     let other : Apart y (0 ∷ xs) = AllApart-cross_back y (0 ∷ xs) (p ∷ y ∷ ys) apart second in
     let cross : Apart b (p ∷ y ∷ ys) = AllApart-cross b (0 ∷ xs) (p ∷ y ∷ ys) apart held in
     let ly : y < length links = have y (inr (member_mid_at xs p y ys)) in
-    let la : a < length links = subst (λ (k : ℕ). k < length links) (sym is) ly in
-    let first : Leads (joined links b y) 0 xs y = Leads-to links b y 0 xs p refl lb ly fronts other.1 front in
-    let rest : Leads (joined links b y) y ys 0 = Leads-joined links b y y ys 0 lb ly cross.1.0 cross.1.1 backs.1.0 other.0 back.2 in
-    subst (λ (k : ℕ). Leads (joined links b k) 0 (xs ++ y ∷ ys) 0) (sym is) (Leads-both (joined links b y) 0 xs y ys 0 first rest)
+    grind (arith, Leads-joined, Leads-both, Leads-to)
   where
     member_mid_at : (xs : List ℕ) (p y : ℕ) (ys : List ℕ) → Member y (xs ++ p ∷ y ∷ ys)
     member_mid_at [] p y ys = inr (inl refl)
@@ -116,18 +106,7 @@ Leads-linked links xs p [] apart0 have0 lp positive new0 leads0 =
     let nil : xs ++ [] ≡ xs = append-nil xs in
     let apart : AllApart (0 ∷ xs) = subst (λ (l : List ℕ). AllApart (0 ∷ l)) nil apart0 in
     let have : HaveLinks links xs = subst (λ (l : List ℕ). HaveLinks links l) nil have0 in
-    let new : Apart p xs = subst (λ (l : List ℕ). Apart p l) nil new0 in
-    let leads : Leads links 0 xs 0 = subst (λ (l : List ℕ). Leads links 0 l 0) nil leads0 in
-    let b : ℕ = (link_at links 0).before in
-    let held : Member b (0 ∷ xs) = before_held links 0 xs 0 leads in
-    let lb : b < length links = have b held in
-    let l0 : 0 < length links = have 0 (inl refl) in
-    let one : List Link = joined links b p in
-    let lp1 : p < length one = subst (λ (n : ℕ). p < n) (sym (length-joined links b p)) lp in
-    let l01 : 0 < length one = subst (λ (n : ℕ). 0 < n) (sym (length-joined links b p)) l0 in
-    let first : Leads one 0 xs p = Leads-to links b p 0 xs 0 refl lb lp apart new leads in
-    let again : Leads (joined one p 0) 0 xs p = Leads-joined one p 0 0 xs p lp1 l01 (λ same. positive (sym same)) new apart.0 positive first in
-    Leads-both (joined one p 0) 0 xs p [] 0 again (after-joined one p 0 lp1 l01, before-joined one p 0 lp1 l01)
+    grind (arith, length-joined, after-joined, before-joined, Leads-joined, Leads-both, before_held, Leads-to)
 Leads-linked links xs p (y ∷ ys) apart have lp positive new leads =
     let front = Leads-front links 0 xs y ys 0 leads in
     let back = Leads-back links 0 xs y ys 0 leads in
@@ -141,14 +120,7 @@ Leads-linked links xs p (y ∷ ys) apart have lp positive new leads =
     let cross : Apart b (y ∷ ys) = AllApart-cross b (0 ∷ xs) (y ∷ ys) apart held in
     let newf : Apart p xs = Apart-front p xs (y ∷ ys) new in
     let newb : Apart p (y ∷ ys) = Apart-back p xs (y ∷ ys) new in
-    let one : List Link = joined links b p in
-    let lp1 : p < length one = subst (λ (n : ℕ). p < n) (sym (length-joined links b p)) lp in
-    let ly1 : y < length one = subst (λ (n : ℕ). y < n) (sym (length-joined links b p)) ly in
-    let first : Leads one 0 xs p = Leads-to links b p 0 xs y refl lb lp fronts newf front in
-    let rest : Leads one y ys 0 = Leads-joined links b p y ys 0 lb lp cross.0 cross.1 newb.1 (λ same. positive (sym same)) back in
-    let again : Leads (joined one p y) 0 xs p = Leads-joined one p y 0 xs p lp1 ly1 (λ same. positive (sym same)) newf other.1 (λ same. newb.0 (sym same)) first in
-    let more : Leads (joined one p y) y ys 0 = Leads-joined one p y y ys 0 lp1 ly1 newb.0 newb.1 backs.0 other.0 rest in
-    Leads-both (joined one p y) 0 xs p (y ∷ ys) 0 again (after-joined one p y lp1 ly1, before-joined one p y lp1 ly1, more)
+    grind (arith, length-joined, after-joined, before-joined, Leads-joined, Leads-both, Leads-to)
 
 -- links that agree below a bound lead alike
 pub Leads-same : (links others : List Link) (from : ℕ) (ps : List ℕ) (to : ℕ) → link_at others from ≡ link_at links from → link_at others to ≡ link_at links to
@@ -169,6 +141,4 @@ walk_is links from (p ∷ ps) to leads =
 -- the places of a ring are its places
 pub ring_places : (links : List Link) (places : List ℕ) → IsRing links places → places_of links ≡ places
 unfolding places_of
-ring_places links places ring =
-    let count : length links - 1 ≡ length places = omega (arith, ring.count) in
-    ap (λ (n : ℕ). walk links n 0) count ∙ walk_is links 0 places 0 ring.leads
+ring_places links places ring = grind (arith, walk_is)

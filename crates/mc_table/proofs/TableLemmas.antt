@@ -1,5 +1,5 @@
 -- Tables: what each call leaves of the entries in their order.
-use Rattle.std.proofs.Common.{◌≡◌, ℕ, zero, suc, ◌+◌, ◌-◌, ◌<◌, ◌≤◌, ◌^◌, inl, inr, Bool, true, false, cond, List, [], ◌∷◌, ◌++◌, length, drop, Option, Some, None, refl, sym, ap, ◌∙◌, subst, arith}
+use Rattle.std.proofs.Common.{◌≡◌, ℕ, zero, suc, ◌+◌, ◌-◌, ◌<◌, ◌≤◌, ◌^◌, inl, inr, Bool, true, List, [], ◌∷◌, ◌++◌, length, drop, Option, Some, None, refl, sym, ap, ◌∙◌, subst, arith}
 use Rattle.std.specs.Prelude.{slice_get, IfSome, IfNone}
 use Rattle.std.specs.Option.{option_map, option_map_or}
 use Rattle.std.specs.Map.{values_of, lookup, lookup_entry, remove_entry, set_value}
@@ -34,8 +34,7 @@ pub peek_found : {K V : Type 0} (test : K → Bool) (es : List (K × V)) (ps : L
     → slice_get (values_of es) i ≡ Some value → Some value ≡ lookup test (in_order es ps)
 peek_found {K} {V} test es ps i value table at is =
     let entry : lookup_entry test (in_order es ps) ≡ Some at.entry = entry_found test es i at ps (table_within es ps table) (table_member es ps i table at.within) in
-    let found : lookup test (in_order es ps) ≡ Some at.entry.1 = lookup_by_entry test (in_order es ps) ∙ ap (λ (o : Option (K × V)). option_map (λ (e : K × V). e.1) o) entry in
-    sym is ∙ got-values es i at.entry at.is ∙ sym found
+    grind (arith, lookup_by_entry, got-values)
 
 pub peek_none : {K V : Type 0} (test : K → Bool) (es : List (K × V)) (ps : List ℕ) → IsNowhere test es → None ≡ lookup test (in_order es ps)
 peek_none {K} {V} test es ps nowhere =
@@ -55,9 +54,7 @@ promoted_found {K} {V} test es ps i place table at same =
 
 -- a place of a table
 pub table_split : {X : Type 0} (es : List X) (ps : List ℕ) (place : ℕ) → IsTable es ps → 0 < place → place ≤ length es → SplitAt place ps
-table_split es ps place table positive within =
-    let same : length ps ≡ length es = table.same in
-    split_at place ps table.all.once (table.all.all place positive (omega arith))
+table_split es ps place table positive within = grind (arith, split_at)
 
 pub left_length : (place : ℕ) (ps : List ℕ) → SplitAt place ps → length ps ≡ suc (length (left_out place ps))
 left_length place ps cut = ap length cut.is ∙ length_mid cut.front place cut.back ∙ ap (λ (l : List ℕ). suc (length l)) (sym cut.others)
@@ -91,26 +88,14 @@ AreAll-renumbered place ps all cut =
 pub table_removed : {X : Type 0} (es fs : List X) (ps : List ℕ) (i place : ℕ) (d : X) → IsTable es ps → i < length es → place ≡ suc i → fs ≡ swap_remove es i d
     → IsTable fs (renumbered (length ps) place (left_out place ps))
 table_removed es fs ps i place d table within same is =
-    let cut = table_split es ps place table (omega arith) (omega arith) in
-    let count : length ps ≡ suc (length (left_out place ps)) = left_length place ps cut in
-    let size : length es ≡ suc (length fs) = length-swap_remove es fs i d within is in
-    let kept : length (renumbered (length ps) place (left_out place ps)) ≡ length (left_out place ps) = length-renumbered (length ps) place (left_out place ps) in
-    record {
-      all = AreAll-renumbered place ps table.all cut;
-      same = omega (arith, table.same);
-      small = omega (arith, table.small);
-    }
+    grind (arith, length-renumbered, length-swap_remove, table_split, left_length, AreAll-renumbered)
 
 pub removed_order : {X : Type 0} (es fs : List X) (ps : List ℕ) (i place : ℕ) (d : X) → IsTable es ps → i < length es → place ≡ suc i → fs ≡ swap_remove es i d
     → in_order fs (renumbered (length ps) place (left_out place ps)) ≡ in_order es (left_out place ps)
 removed_order {X} es fs ps i place d table within same is =
     let cut = table_split es ps place table (omega arith) (omega arith) in
     let all : UpTo (length es) (place ∷ left_out place ps) = front_within in
-    let apart : Apart place (left_out place ps) = out_apart place ps table.all.once cut in
-    let apart2 : Apart (suc i) (left_out place ps) = subst (λ (k : ℕ). Apart k (left_out place ps)) same apart in
-    ap (λ (n : ℕ). in_order fs (renumbered n place (left_out place ps))) table.same
-    ∙ ap (λ (n : ℕ). in_order fs (renumbered (length es) n (left_out place ps))) same
-    ∙ in_order-removed es fs i d (left_out place ps) within all.2 apart2 is
+    grind (arith, out_apart, in_order-removed)
   where
     front_within : UpTo (length es) (place ∷ left_out place ps)
     front_within = let front = table_front es ps place table (omega arith) (omega arith) in subst (λ (n : ℕ). UpTo n (place ∷ left_out place ps)) front.same front.all.within
@@ -157,19 +142,13 @@ table_last {X} es (p ∷ ps) place table is some =
 
 pub last_taken : {X : Type 0} (es after : List X) (ps : List ℕ) (place : ℕ) (r : Option X) → HasLast es ps place → r ≡ slice_get es (place - 1)
     → after ≡ in_order es (left_out (suc (place - 1)) ps) → IfSome r (λ x. in_order es ps ≡ after ++ x ∷ [])
-last_taken {X} es after ps place r last is left =
-    let P : Option X → Type 0 = λ o. IfSome o (λ x. in_order es ps ≡ after ++ x ∷ []) in
-    let same : suc (place - 1) ≡ place = next last.positive in
-    let others : after ≡ in_order es (left_out place ps) = left ∙ ap (λ (n : ℕ). in_order es (left_out n ps)) same in
-    subst P (sym (is ∙ last.is)) (last.ends ∙ ap (λ (l : List X). l ++ last.entry ∷ []) (sym others))
+last_taken {X} es after ps place r last is left = grind arith
   where
     next : 0 < place → suc (place - 1) ≡ place
     next low = omega arith
 
 pub last_there : {X : Type 0} (es : List X) (ps : List ℕ) (place : ℕ) (r : Option X) (Q : Type 0) → HasLast es ps place → r ≡ slice_get es (place - 1) → IfNone r Q
-last_there {X} es ps place r Q last is =
-    let P : Option X → Type 0 = λ o. IfNone o Q in
-    subst P (sym (is ∙ last.is)) tt
+last_there {X} es ps place r Q last is = grind arith
 
 -- a table of no entry
 pub table_empty : {X : Type 0} (es : List X) (ps : List ℕ) → IsTable es ps → last_of ps ≡ 0 → ps ≡ []
@@ -196,13 +175,7 @@ table_first es [] place table is some = absurd (some is)
 table_first {X} es (p ∷ ps) place table is some =
     let within = table_within es (p ∷ ps) table in
     let x = got es (p - 1) (less within.0 within.1) in
-    subst (λ (k : ℕ). HasFirst es (p ∷ ps) k) (sym is) (record {
-      positive = within.0;
-      within = within.1;
-      entry = x.0;
-      is = x.1;
-      begins = in_order-cons es p ps x.0 x.1 ∙ ap (λ (l : List ℕ). x.0 ∷ in_order es l) (sym (left_out-head p ps));
-    })
+    grind (arith, left_out-head, in_order-cons)
   where
     less : 0 < p → p ≤ length es → p - 1 < length es
     less low high = omega arith
@@ -212,9 +185,7 @@ first_is {X} es ps place first = first.is ∙ sym (ap (λ (l : List X). slice_ge
 
 pub first_left : {X : Type 0} (es after : List X) (ps : List ℕ) (place : ℕ) → HasFirst es ps place → after ≡ in_order es (left_out (suc (place - 1)) ps)
     → after ≡ drop 1 (in_order es ps)
-first_left {X} es after ps place first left =
-    let same : suc (place - 1) ≡ place = next first.positive in
-    left ∙ ap (λ (n : ℕ). in_order es (left_out n ps)) same ∙ sym (ap (λ (l : List X). drop 1 l) first.begins)
+first_left {X} es after ps place first left = grind arith
   where
     next : 0 < place → suc (place - 1) ≡ place
     next low = omega arith
@@ -255,11 +226,7 @@ pub undone : (n : ℕ) (ps : List ℕ) → renumbered n n (left_out n (n ∷ ps)
 undone n ps = renumbered-same n (left_out n (n ∷ ps)) ∙ left_out-head n ps
 
 pub undone_by : (new ps after : List ℕ) (first : ℕ) → new ≡ suc (length ps) ∷ ps → first ≡ first_of new → after ≡ renumbered (length new) first (left_out first new) → after ≡ ps
-undone_by new ps after first is head made =
-    let number : first ≡ suc (length ps) = head ∙ ap first_of is in
-    made ∙ ap (λ (l : List ℕ). renumbered (length l) first (left_out first l)) is
-    ∙ ap (λ (n : ℕ). renumbered (suc (length ps)) n (left_out n (suc (length ps) ∷ ps))) number
-    ∙ undone (suc (length ps)) ps
+undone_by new ps after first is head made = grind (arith, undone)
 
 -- what writing to the value of an entry leaves
 
@@ -278,11 +245,7 @@ got-written_other (x ∷ es) (suc i) (suc j) w apart = got-written_other es i j 
 pub table_written : {K V : Type 0} (es : List (K × V)) (ps : List ℕ) (i : ℕ) (w : V) → IsTable es ps → IsTable (set_value_at es i w) ps
 table_written es ps i w table =
     let size : length (set_value_at es i w) ≡ length es = length-set_value_at es i w in
-    record {
-      all = table.all;
-      same = table.same ∙ sym size;
-      small = table.small;
-    }
+    grind arith
 
 pub written_order : {K V : Type 0} (test : K → Bool) (es : List (K × V)) (ps after : List ℕ) (i place : ℕ) (w : V) → IsTable es ps → IsAt test es i → place ≡ suc i
     → after ≡ place ∷ left_out place ps → in_order (set_value_at es i w) after ≡ set_value test (promoted test (in_order es ps)) w
@@ -314,26 +277,14 @@ entry_passes : {K V : Type 0} (test : K → Bool) (es : List (K × V)) (e : K ×
 entry_passes test [] e is = absurd cc
 entry_passes {K} {V} test (x ∷ es) e is =
     let again : lookup_entry test es ≡ Some e → test e.0 ≡ true = entry_passes test es e in
-    (elim (test x.0) as (λ v. test x.0 ≡ v → cond v (Some x) (lookup_entry test es) ≡ Some e → test e.0 ≡ true) [
-      | true ↦ λ t found. let same : x ≡ e = cc in subst (λ (y : K × V). test y.0 ≡ true) same t
-      | false ↦ λ t found. again found
-    ]) refl is
+    grind arith
 
 entry_is_none : {K V : Type 0} (test : K → Bool) (es : List (K × V)) → lookup test es ≡ None → lookup_entry test es ≡ None
-entry_is_none {K} {V} test es none =
-    (elim (lookup_entry test es) as (λ o. lookup_entry test es ≡ o → o ≡ None) [
-      | None ↦ λ is. refl
-      | Some e ↦ λ is. let found : lookup test es ≡ Some e.1 = lookup_by_entry test es ∙ ap (λ (o : Option (K × V)). option_map (λ (x : K × V). x.1) o) is in absurd cc
-    ]) refl
+entry_is_none {K} {V} test es none = grind (arith, lookup_by_entry)
 
 pub put_held : {K V : Type 0} (eq : K → K → Bool) (es : List (K × V)) (k : K) (v before : V) → Some before ≡ lookup (eq k) es
     → set_value (eq k) (promoted (eq k) es) v ≡ put_entry eq k v es
-put_held {K} {V} eq es k v before held =
-    (elim (lookup_entry (eq k) es) as (λ o. lookup_entry (eq k) es ≡ o
-    → set_value (eq k) (option_map_or (λ (e : K × V). e ∷ remove_entry (eq k) es) o es) v ≡ option_map_or (λ (e : K × V). (e.0, v) ∷ remove_entry (eq k) es) o ((k, v) ∷ es)) [
-      | None ↦ λ is. let none : lookup (eq k) es ≡ None = lookup_by_entry (eq k) es ∙ ap (λ (o : Option (K × V)). option_map (λ (x : K × V). x.1) o) is in absurd cc
-      | Some e ↦ λ is. rw (entry_passes (eq k) es e is) refl
-    ]) refl
+put_held {K} {V} eq es k v before held = grind (arith, lookup_by_entry, entry_passes)
 
 pub put_new : {K V : Type 0} (eq : K → K → Bool) (es : List (K × V)) (k : K) (v : V) → None ≡ lookup (eq k) es → put_entry eq k v es ≡ (k, v) ∷ es
 put_new {K} {V} eq es k v none =

@@ -1,12 +1,12 @@
 -- What a word of bytes says in base64 is bytes.
-use Rattle.std.proofs.Common.{◌≡◌, ℕ, zero, suc, ◌+◌, ◌*◌, ◌/◌, ◌%◌, ◌<◌, true, List, [], ◌∷◌, length, drop, slice_index, Option, Some, None, refl, ◌∙◌, ◌⊎◌, arith, inl, inr}
+use Rattle.std.proofs.Common.{◌≡◌, ℕ, zero, suc, ◌+◌, ◌*◌, ◌<◌, true, List, [], ◌∷◌, length, drop, slice_index, Option, Some, None, refl, ◌∙◌, ◌⊎◌, arith, inl, inr}
 use Rattle.std.proofs.lemmas.Bool.{and_parts, and_from, lt-ltb}
 use Rattle.std.proofs.lemmas.Bool.Decides.{nat_tests}
 use Rattle.std.proofs.lemmas.List.Folds.{list_all-append}
 use Rattle.std.specs.Result.{result_ok}
 use Rattle.std.specs.declared.result.Result.{Result}
 use Rattle.std.specs.declared.result.Result.TheVariants.{Ok, Err}
-use Rattle.base64.specs.Decode.{IsDecodeTable, decode_error, decode_group, decode_outcome, decoded_bytes, group_bytes, group_error, groups_before_last, groups_bytes, groups_error, lone_error, no_leftover, or_else, push_leftover, scan_bytes, scan_last, scan_steps, suffix_bytes, symbol_error}
+use Rattle.base64.specs.Decode.{IsDecodeTable, decode_error, decode_group, decode_outcome, decoded_bytes, group_bytes, group_error, groups_before_last, groups_bytes, groups_error, lone_error, no_leftover, or_else, push_leftover, scan_bytes, scan_last, scan_steps, symbol_error}
 use Rattle.base64.specs.Engines.{standard}
 use Rattle.base64.specs.GeneralPurpose.{IsBytes, decode_of, decoded_of}
 use Rattle.base64.specs.declared.decode.DecodeError.{DecodeError}
@@ -19,11 +19,7 @@ use Rattle.mc_text.proofs.CodedLemmas.{are_bytes, said_key}
 
 -- four values of six bits are three bytes
 group_small : (m0 m1 m2 m3 : ℕ) → m0 < 64 → m1 < 64 → m2 < 64 → m3 < 64 → all_bytes (decode_group m0 m1 m2 m3) ≡ true
-group_small m0 m1 m2 m3 l0 l1 l2 l3 =
-    let one = lt-ltb (m0 * 4 + m1 / 16) 256 (omega arith) in
-    let two = lt-ltb (m1 % 16 * 16 + m2 / 4) 256 (omega arith) in
-    let three = lt-ltb (m2 % 4 * 64 + m3) 256 (omega arith) in
-    rw (one, two, three) refl
+group_small m0 m1 m2 m3 l0 l1 l2 l3 = grind (arith, lt-ltb)
 
 -- both of two errors that are none
 neither : (x y : Option DecodeError) → or_else x y ≡ None → (x ≡ None) × (y ≡ None)
@@ -32,10 +28,7 @@ neither (Some e) y h = cc h
 
 -- a byte with no error says a value of six bits
 value_small : (dec s : List ℕ) (i : ℕ) → IsDecodeTable dec → IsBytes s → symbol_error dec s i ≡ None → slice_index dec (slice_index s i) < 64
-value_small dec s i table bytes none = elim (table (slice_index s i) (bytes i)) [
-  | inl bad ↦ cc (rw bad at none)
-  | inr small ↦ small
-]
+value_small dec s i table bytes none = grind (arith, slice_index)
 
 groups_small : (dec s : List ℕ) (q : ℕ) → IsDecodeTable dec → IsBytes s → groups_error dec s q ≡ None → all_bytes (groups_bytes dec s q) ≡ true
 unfolding groups_error groups_bytes
@@ -78,8 +71,7 @@ zeros_below (suc (suc (suc (suc k)))) = omega arith
 scanned_small : (r : Result _ DecodeError) → ((st : _) → r ≡ Ok st → (n : ℕ) × IsLeftover st n) → all_bytes (scan_bytes r) ≡ true
 scanned_small (Ok st) h =
     let held = (h st refl).1 in
-    list_all-take is_byte _ (decode_group (slice_index st.morsels 0) (slice_index st.morsels 1) (slice_index st.morsels 2) (slice_index st.morsels 3))
-    (group_small _ _ _ _ (held.3 0) (held.3 1) (held.3 2) (held.3 3))
+    grind (arith, slice_index, is_byte, list_all-take, group_small)
 scanned_small (Err e) h = refl
 
 outcome : (error : Option DecodeError) (bytes said : List ℕ) → decode_outcome error bytes ≡ Ok said → (error ≡ None) × (bytes ≡ said)
@@ -96,8 +88,7 @@ decoded_small e word said are h =
     let groups = neither (groups_error e.decode_table word q) _ after.1 in
     let last = scanned_small (scan_last e.decode_table e.padding.value (4 * q) word) (λ st scanned.
     leftover_small e.decode_table e.padding.value (4 * q) (drop (4 * q) word) no_leftover st 0 table (list_all-drop is_byte (4 * q) word are) (omega arith, omega arith, omega arith, zeros_below) scanned) in
-    rw (← parts.1) (list_all-append is_byte (groups_bytes e.decode_table word q) (suffix_bytes e.decode_table e.padding.value (4 * q) word)
-    ∙ and_from _ _ (groups_small e.decode_table word q table bytes groups.0) last)
+    grind (arith, and_from, list_all-append, is_byte, groups_small)
 
 ok_of : {E : Type 0} (r : Result (List ℕ) E) (bytes : List ℕ) → result_ok r ≡ Some bytes → r ≡ Ok bytes
 ok_of (Ok x) bytes e = cc e

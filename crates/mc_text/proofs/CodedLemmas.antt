@@ -1,16 +1,14 @@
 -- Keys in base64: one word for one key.
-use Rattle.std.proofs.Common.{◌≡◌, ℕ, ◌+◌, ◌*◌, ◌/◌, ◌<◌, true, false, cond, List, [], length, replicate, Option, Some, None, refl, sym, ap, ◌∙◌, arith, inl, inr}
+use Rattle.std.proofs.Common.{◌≡◌, ℕ, ◌+◌, ◌*◌, ◌/◌, ◌<◌, true, List, [], length, replicate, Option, Some, None, refl, sym, ap, ◌∙◌, arith}
 use Rattle.std.specs.List.{All}
 use Rattle.std.specs.Option.{option_and_then}
 use Rattle.std.specs.Result.{result_ok}
 use Rattle.std.specs.declared.result.Result.{Result}
 use Rattle.std.specs.declared.result.Result.TheVariants.{Ok, Err}
 use Rattle.std.proofs.lemmas.List.{length-append, length-replicate, get_or_past}
-use Rattle.std.proofs.lemmas.List.Elements.{All-get_or}
 use Rattle.std.proofs.lemmas.Bool.{cases_lt}
 use Rattle.std.proofs.lemmas.Bool.Decides.{nat_tests}
 use Rattle.base64.specs.Engines.{standard}
-use Rattle.base64.specs.Rfc4648.{encode_symbols, padding_len}
 use Rattle.base64.specs.GeneralPurpose.{IsBytes, decode_of, decoded_of}
 use Rattle.base64.proofs.EngineFacts.{decode_of_strict, decode_of-encode_of}
 use Rattle.base64.proofs.OnLiterals.{base64_on_literals}
@@ -26,10 +24,7 @@ ok_of (Err x) bytes e = absurd cc
 
 -- bytes, as the encoding asks for them
 pub are_bytes : (word : List ℕ) → All (λ b. b < 256) word → IsBytes word
-are_bytes word bytes i = elim (cases_lt i (length word)) [
-  | inl inside ↦ All-get_or (λ b. b < 256) word i 0 inside bytes
-  | inr outside ↦ rw (get_or_past word i 0 outside) (omega arith)
-]
+are_bytes word bytes i = grind (arith, get_or_past, cases_lt)
 
 -- a word is the one that its bytes have
 pub coded_of-said : (word bytes : List ℕ) → IsBytes word → bytes_of_base64 word ≡ Some bytes → coded_of bytes ≡ word
@@ -44,10 +39,7 @@ said-coded_of bytes are = ap result_ok (decode_of-encode_of standard bytes refl 
 -- four bytes for each three that are begun
 pub length-coded_of : (bytes : List ℕ) → length (coded_of bytes) ≡ (length bytes + 2) / 3 * 4
 unfolding coded_of
-length-coded_of bytes =
-    let symbols : List ℕ = encode_symbols standard.encode_table bytes in
-    let padding : List ℕ = replicate (padding_len (length bytes)) 61 in
-    omega (arith, length-append symbols padding, length-encode_symbols standard.encode_table bytes, length-replicate {A = ℕ} (padding_len (length bytes)) 61)
+length-coded_of bytes = grind (arith, replicate, length-append, length-replicate, length-encode_symbols)
 
 -- no byte is said by the empty word
 pub said-nil : bytes_of_base64 [] ≡ Some []
@@ -61,11 +53,7 @@ length-said word bytes are said = ap length (sym (coded_of-said word bytes are s
 -- the key that is read is the one that is said
 coded_key-is : (said : Option (List ℕ)) (key : List ℕ) → option_and_then where_key said ≡ Some key → (said ≡ Some key) × (is_key key ≡ true)
 coded_key-is None key e = absurd cc
-coded_key-is (Some bytes) key e =
-    (elim (is_key bytes) as (λ v. is_key bytes ≡ v → cond v (Some bytes) None ≡ Some key → (Some bytes ≡ Some key) × (is_key key ≡ true)) [
-      | true ↦ λ valid is. let own : bytes ≡ key = cc is in (is, ap is_key (sym own) ∙ valid)
-      | false ↦ λ invalid is. absurd cc
-    ]) refl e
+coded_key-is (Some bytes) key e = grind arith
 
 pub said_key : (word key : List ℕ) → coded_key word ≡ Some key → bytes_of_base64 word ≡ Some key
 unfolding coded_key

@@ -1,11 +1,11 @@
 -- The words of keys in base64 are words.
-use Rattle.std.proofs.Common.{◌≡◌, ℕ, zero, suc, ◌+◌, ◌*◌, ◌/◌, ◌%◌, ◌<◌, ◌≤◌, true, List, [], ◌∷◌, length, replicate, slice_index, nat_lt, nat_le, refl, ◌∙◌, arith}
+use Rattle.std.proofs.Common.{◌≡◌, ℕ, zero, suc, ◌+◌, ◌*◌, ◌/◌, ◌%◌, ◌<◌, true, List, [], ◌∷◌, replicate, slice_index, nat_lt, nat_le, refl, arith}
 use Rattle.std.proofs.lemmas.Bool.{and_parts, and_from}
 use Rattle.std.proofs.lemmas.Bool.Decides.{nat_tests}
 use Rattle.std.proofs.lemmas.List.Folds.{list_all-append}
 use Rattle.std.specs.List.{list_all}
 use Rattle.base64.specs.Engines.{standard}
-use Rattle.base64.specs.Rfc4648.{encode_symbols, padding_len}
+use Rattle.base64.specs.Rfc4648.{encode_symbols}
 use Rattle.mc_text.specs.CodedKeys.{coded_of}
 use Rattle.mc_text.specs.Keys.{is_key}
 use Rattle.mc_text.proofs.ByteLemmas.{is_byte, all_bytes, list_all-at}
@@ -22,18 +22,8 @@ byte b bs h = let parts = and_parts (is_byte b) (all_bytes bs) h in let small = 
 symbols_of_bytes : (t bytes : List ℕ) → AreSymbols t → all_bytes bytes ≡ true → list_all is_word_byte (encode_symbols t bytes) ≡ true
 unfolding encode_symbols
 symbols_of_bytes t [] are h = refl
-symbols_of_bytes t (a ∷ []) are h =
-    let x = byte a [] h in
-    let one = are (a / 4) (omega (arith, x.0)) in
-    let two = are (a % 4 * 16) (omega arith) in
-    rw (one, two) refl
-symbols_of_bytes t (a ∷ b ∷ []) are h =
-    let x = byte a (b ∷ []) h in
-    let y = byte b [] x.1 in
-    let one = are (a / 4) (omega (arith, x.0)) in
-    let two = are (a % 4 * 16 + b / 16) (omega (arith, y.0)) in
-    let three = are (b % 16 * 4) (omega arith) in
-    rw (one, two, three) refl
+symbols_of_bytes t (a ∷ []) are h = grind (arith, byte)
+symbols_of_bytes t (a ∷ b ∷ []) are h = grind (arith, byte)
 symbols_of_bytes t (a ∷ b ∷ c ∷ rest) are h =
     let x = byte a (b ∷ c ∷ rest) h in
     let y = byte b (c ∷ rest) x.1 in
@@ -55,13 +45,7 @@ coded_bytes : (key : List ℕ) → all_bytes key ≡ true → list_all is_word_b
 unfolding coded_of
 coded_bytes key are =
     let symbols = symbols_of_bytes standard.encode_table key standard_symbols are in
-    let padding = padding_bytes (padding_len (length key)) in
-    list_all-append is_word_byte (encode_symbols standard.encode_table key) (replicate (padding_len (length key)) 61) ∙ and_from _ _ symbols padding
+    grind (arith, replicate, and_from, list_all-append, is_word_byte, padding_bytes)
 
 pub is_word-coded : (key : List ℕ) → is_key key ≡ true → all_bytes key ≡ true → is_word (coded_of key) ≡ true
-is_word-coded key valid are =
-    let size = and_parts (nat_lt 0 (length key)) (nat_le (length key) 250) valid in
-    let some : 0 < length key = grind (arith, nat_tests, size.0) in
-    let few : length key ≤ 250 = grind (arith, nat_tests, size.1) in
-    let is = length-coded_of key in
-    is_word-by (coded_of key) (omega arith) (omega arith) (coded_bytes key are)
+is_word-coded key valid are = grind (arith, nat_lt, nat_le, and_parts, nat_tests, length-coded_of, is_word-by, coded_bytes)

@@ -1,5 +1,5 @@
 -- Digits that are read one by one.
-use Rattle.std.proofs.Common.{◌≡◌, ℕ, suc, ◌+◌, ◌*◌, ◌<◌, ◌≤◌, ◌^◌, Bool, true, false, ◌&&◌, List, [], ◌∷◌, length, drop, get_or, Some, None, ◌==◌, nat_lt, refl, sym, ap, ◌∙◌, arith, drop-cons}
+use Rattle.std.proofs.Common.{◌≡◌, ℕ, ◌+◌, ◌*◌, ◌<◌, ◌≤◌, ◌^◌, Bool, true, false, ◌&&◌, List, [], ◌∷◌, length, drop, get_or, Some, None, ◌==◌, nat_lt, refl, sym, ◌∙◌, arith, drop-cons}
 use Rattle.std.specs.Char.{is_ascii_digit, digit_value}
 use Rattle.std.specs.List.{list_all}
 use Rattle.std.specs.Str.Parse.{digits_value, digits_value_after}
@@ -26,34 +26,19 @@ stops : (value byte : ℕ) (rest : List ℕ) (is under : Bool) → nat_lt (value
     → ((is && list_all is_ascii_digit rest) && nat_lt (digits_value_after 10 (value * 10 + digit_value byte) rest) (2 ^ 64)) ≡ false
 stops value byte rest true true f h = absurd cc
 stops value byte rest false under f h = refl
-stops value byte rest true false f h =
-    let large : 2 ^ 64 ≤ value * 10 + digit_value byte = ltb-false (value * 10 + digit_value byte) (2 ^ 64) f in
-    let more = goes_on (value * 10 + digit_value byte) rest in
-    let out : nat_lt (digits_value_after 10 (value * 10 + digit_value byte) rest) (2 ^ 64) ≡ false =
-    le-ltb _ (2 ^ 64) (omega (arith, large, more)) in
-    both_out (list_all is_ascii_digit rest) _ out
+stops value byte rest true false f h = grind (arith, nat_lt, le-ltb, ltb-false, goes_on, both_out)
 
 -- where a byte is no digit, or the number is too large with it, there is none
 pub stopped : (most : ℕ) (word : List ℕ) (value i : ℕ) → 0 < length word → length word ≤ most → i < length word
     → list_all is_ascii_digit (drop i word) ≡ list_all is_ascii_digit word → digits_value_after 10 value (drop i word) ≡ digits_value 10 word
     → with_digit value (get_or word i 0) ≡ None → number most (2 ^ 64) word ≡ None
-stopped most word value i some fits inside all is none =
-    let b = get_or word i 0 in
-    let cut = drop-cons word i 0 inside in
-    let under = nat_lt (value * 10 + digit_value b) (2 ^ 64) in
-    let out = stops value b (drop (suc i) word) (is_ascii_digit b) under refl (no_digit value b (is_ascii_digit b) under refl refl none) in
-    let whole : (list_all is_ascii_digit word && nat_lt (digits_value 10 word) (2 ^ 64)) ≡ false = rw (← all, ← is, cut) out in
-    rw (lt-ltb 0 (length word) some, le-leb (length word) most fits, whole) refl
+stopped most word value i some fits inside all is none = grind (arith, get_or, nat_lt, drop-cons, lt-ltb, le-leb, no_digit, stops)
 
 -- a word that was read to its end
 pub read_whole : (most : ℕ) (word : List ℕ) (value i : ℕ) → 0 < length word → length word ≤ most → length word ≤ i → value < 2 ^ 64
     → list_all is_ascii_digit (drop i word) ≡ list_all is_ascii_digit word → digits_value_after 10 value (drop i word) ≡ digits_value 10 word
     → Some value ≡ number most (2 ^ 64) word
-read_whole most word value i some fits end below all is =
-    let none = drop_all i word end in
-    let digits : list_all is_ascii_digit word ≡ true = sym all ∙ ap (list_all is_ascii_digit) none in
-    let same : digits_value 10 word ≡ value = sym is ∙ ap (digits_value_after 10 value) none in
-    rw (lt-ltb 0 (length word) some, le-leb (length word) most fits, digits, same, lt-ltb value (2 ^ 64) below) refl
+read_whole most word value i some fits end below all is = grind (arith, drop_all, lt-ltb, le-leb)
 
 pub not_empty : (n : ℕ) (empty : Bool) → empty ≡ (n == 0) → empty ≡ false → 0 < n
 not_empty n empty is e = let other = eqb-false n 0 (sym is ∙ e) in omega (arith, other)

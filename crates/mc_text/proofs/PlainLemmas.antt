@@ -61,11 +61,7 @@ run_plain b bs = rw (run_is b bs) refl
 runs_plain : (parts : List (List ℕ)) → list_all is_plain_key (filter is_run parts) ≡ (list_all are_key_bytes parts && list_all is_short (filter is_run parts))
 runs_plain [] = refl
 runs_plain ([] ∷ parts) = runs_plain parts
-runs_plain ((b ∷ bs) ∷ parts) =
-    let more = filter is_run parts in
-    ap (list_all is_plain_key) (run_kept b bs parts) ∙ ap (λ (v : Bool). v && list_all is_plain_key more) (run_plain b bs)
-    ∙ regrouped (is_short (b ∷ bs)) (are_key_bytes (b ∷ bs)) (list_all are_key_bytes parts) (list_all is_short more) (list_all is_plain_key more) (runs_plain parts)
-    ∙ ap (λ (ws : List (List ℕ)). list_all are_key_bytes ((b ∷ bs) ∷ parts) && list_all is_short ws) (sym (run_kept b bs parts))
+runs_plain ((b ∷ bs) ∷ parts) = grind (arith, filter, regrouped, run_kept, run_plain, runs_plain parts)
 
 -- the words of a text are plain keys where its bytes may be on such a line, and no word is too long
 pub words_plain : (text : List ℕ) → list_all is_plain_key (words text) ≡ (list_all is_line_byte text && list_all is_short (words text))
@@ -99,21 +95,15 @@ within_onto n b part h = le-leb (length (b ∷ part)) (suc n) (omega (arith, leb
 
 all_more : (n : ℕ) (parts : List (List ℕ)) → list_all (within n) parts ≡ true → list_all (within (suc n)) parts ≡ true
 all_more n [] h = refl
-all_more n (part ∷ parts) h =
-    and_true (within (suc n) part) (list_all (within (suc n)) parts) (within_more n part (and_left (within n part) (list_all (within n) parts) h))
-    (all_more n parts (and_right (within n part) (list_all (within n) parts) h))
+all_more n (part ∷ parts) h = grind (arith, and_true, and_left, and_right, within_more, all_more n parts)
 
 onto_more : (n b : ℕ) (parts : List (List ℕ)) → list_all (within n) parts ≡ true → list_all (within (suc n)) (onto_first b parts) ≡ true
 onto_more n b [] h = and_true (within (suc n) (b ∷ [])) true (le-leb 1 (suc n) (omega arith)) refl
-onto_more n b (part ∷ parts) h =
-    and_true (within (suc n) (b ∷ part)) (list_all (within (suc n)) parts) (within_onto n b part (and_left (within n part) (list_all (within n) parts) h))
-    (all_more n parts (and_right (within n part) (list_all (within n) parts) h))
+onto_more n b (part ∷ parts) h = grind (arith, and_true, and_left, and_right, within_onto, all_more)
 
 split_within : (n : ℕ) (b : ℕ) (bs : List ℕ) (v : Bool) → eqb b 32 ≡ v → list_all (within n) (slice_split is_space bs) ≡ true
     → list_all (within (suc n)) (slice_split is_space (b ∷ bs)) ≡ true
-split_within n b bs true is h =
-    rw (slice_split-cons_yes is_space b bs is)
-    (and_true (within (suc n) []) (list_all (within (suc n)) (slice_split is_space bs)) (le-leb 0 (suc n) (omega arith)) (all_more n (slice_split is_space bs) h))
+split_within n b bs true is h = grind (arith, le-leb, slice_split-cons_yes, and_true, all_more)
 split_within n b bs false is h = rw (slice_split-cons_no is_space b bs is) (onto_more n b (slice_split is_space bs) h)
 
 -- no part of a text is longer than the text
@@ -125,10 +115,7 @@ parts_within (b ∷ bs) (suc n) few = split_within n b bs (eqb b 32) refl (parts
 filter_all : (n : ℕ) (parts : List (List ℕ)) → list_all (within n) parts ≡ true → list_all (within n) (filter is_run parts) ≡ true
 filter_all n [] h = refl
 filter_all n ([] ∷ parts) h = filter_all n parts (and_right (within n []) (list_all (within n) parts) h)
-filter_all n ((b ∷ bs) ∷ parts) h =
-    ap (list_all (within n)) (run_kept b bs parts)
-    ∙ and_true (within n (b ∷ bs)) (list_all (within n) (filter is_run parts)) (and_left (within n (b ∷ bs)) (list_all (within n) parts) h)
-    (filter_all n parts (and_right (within n (b ∷ bs)) (list_all (within n) parts) h))
+filter_all n ((b ∷ bs) ∷ parts) h = grind (arith, filter, run_kept, and_true, and_left, and_right, filter_all n parts)
 
 -- a text of no more bytes than a key has no word that is too long
 pub short_words : (text : List ℕ) → length text ≤ 250 → list_all is_short (words text) ≡ true
@@ -142,13 +129,8 @@ onto_append x (part ∷ parts) more some = refl
 split_onto : (x : ℕ) (xs : List ℕ) (y : ℕ) (ys : List ℕ) (v : Bool) → eqb x 32 ≡ v
     → slice_split is_space (xs ++ y ∷ ys) ≡ slice_split is_space xs ++ slice_split is_space ys
     → slice_split is_space (x ∷ (xs ++ y ∷ ys)) ≡ slice_split is_space (x ∷ xs) ++ slice_split is_space ys
-split_onto x xs y ys true is h =
-    slice_split-cons_yes is_space x (xs ++ y ∷ ys) is ∙ ap (λ (ps : List (List ℕ)). [] ∷ ps) h
-    ∙ ap (λ (ps : List (List ℕ)). ps ++ slice_split is_space ys) (sym (slice_split-cons_yes is_space x xs is))
-split_onto x xs y ys false is h =
-    slice_split-cons_no is_space x (xs ++ y ∷ ys) is ∙ ap (onto_first x) h
-    ∙ onto_append x (slice_split is_space xs) (slice_split is_space ys) (omega (arith, length-slice_split is_space xs))
-    ∙ ap (λ (ps : List (List ℕ)). ps ++ slice_split is_space ys) (sym (slice_split-cons_no is_space x xs is))
+split_onto x xs y ys true is h = grind (arith, slice_split-cons_yes)
+split_onto x xs y ys false is h = grind (arith, slice_split-cons_no, length-slice_split, onto_append)
 
 -- what is between spaces, where a text is cut at one
 split_append : (xs : List ℕ) (y : ℕ) (ys : List ℕ) → eqb y 32 ≡ true → slice_split is_space (xs ++ y ∷ ys) ≡ slice_split is_space xs ++ slice_split is_space ys

@@ -1,5 +1,5 @@
 -- The lines and words of a text of bytes are bytes.
-use Rattle.std.proofs.Common.{◌≡◌, ℕ, ◌-◌, ◌==◌, Bool, true, false, cond, List, [], ◌∷◌, length, take, filter, slice_index, refl}
+use Rattle.std.proofs.Common.{◌≡◌, ℕ, ◌-◌, ◌==◌, Bool, true, false, cond, List, [], ◌∷◌, length, take, filter, slice_index, refl, arith}
 use Rattle.std.proofs.lemmas.Bool.{and_parts, and_from}
 use Rattle.std.specs.List.{list_all, onto_first, slice_split}
 use Rattle.std.specs.Str.Lines.{strip_carriage_return}
@@ -40,6 +40,4 @@ bytes_stripped line are =
     chosen is_byte (slice_index line (length line - 1) == 13) (take (length line - 1) line) line (list_all-take is_byte (length line - 1) line are) are
 
 pub bytes_of_line : (text content : List ℕ) (taken : ℕ) → all_bytes text ≡ true → first_line text ≡ Whole content taken → all_bytes content ≡ true
-bytes_of_line text content taken are is =
-    let parts = first_line_whole text content taken is in
-    rw parts.2 (bytes_stripped (take parts.0 text) (list_all-take is_byte parts.0 text are))
+bytes_of_line text content taken are is = grind (arith, is_byte, list_all-take, first_line_whole, bytes_stripped)

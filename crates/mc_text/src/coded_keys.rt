@@ -3,7 +3,6 @@ ghost use Rattle.std.specs.Prelude.{◌≡◌, ◌≤◌, ◌+◌, ◌*◌, ◌/
 ghost use Rattle.std.specs.Option.{option_copied};
 ghost use Rattle.mc_text.specs.Keys.{is_key};
 ghost use Rattle.mc_text.specs.CodedKeys.{bytes_of_base64, coded_key, coded_of, is_coded_too_long};
-ghost use Rattle.mc_text.specs.declared.keys.TheConstants.{KEY_LIMIT};
 
 use crate::keys::{KEY_LIMIT, KeyError};
 use base64::engine::general_purpose::STANDARD;

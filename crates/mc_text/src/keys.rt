@@ -8,7 +8,6 @@ ghost use Rattle.std.proofs.lemmas.Cmp.{nat_list_eq_equiv};
 ghost use Rattle.mc_text.specs.Words.{words};
 ghost use Rattle.mc_text.specs.Keys.{is_key, is_key_byte, is_line_byte, is_plain_key, is_short};
 ghost use Rattle.mc_text.specs.CodedKeys.{bytes_of_base64, coded_key, is_coded_too_long};
-ghost use Rattle.mc_text.specs.declared.keys.TheConstants.{KEY_LIMIT};
 ghost use Rattle.mc_text.specs.declared.coded_keys.TheConstants.{CODED_LIMIT};
 ghost use Rattle.mc_text.specs.declared.keys.KeyError.TheVariants.{Memory};
 

@@ -1,9 +1,9 @@
 //! Runs of a pool on threads.
 
 use crate::lent::{Meeting, Ticks};
-use mc_ring::{Address, Point, Ring};
+use mc_ring::{Address, Ring, RingError};
 use mc_threads::{Clock, PoolConfig, Ran, ThreadsError, run_threads};
-use std::alloc::Global;
+use std::alloc::{AllocError, Global};
 use std::sync::Wait;
 use std::sync::atomic::Ordering;
 use std::test::Fail;
@@ -24,44 +24,13 @@ const ASKED: &[u8] =
 const ANSWERED: &[u8] =
     b"STORED\r\nNOT_STORED\r\nSTORED\r\nNOT_STORED\r\nVALUE a 0 2\r\nxz\r\nEND\r\nDELETED\r\nNOT_FOUND\r\n";
 
-/// The first so many addresses.
-fn addresses(alloc: Global, servers: usize) -> Result<Vec<Address>, Fail> {
+/// A ring of the first so many addresses.
+fn ring_of(alloc: Global, servers: usize) -> Result<Ring, RingError> {
     let mut all = Vec::new(alloc);
     for address in ADDRESSES.iter().take(servers) {
-        match Address::new(alloc, address) {
-            Ok(address) => all.push(address)?,
-            Err(_) => return Err("address".into()),
-        }
+        all.push(Address::new(alloc, address)?)?;
     }
-    Ok(all)
-}
-
-/// A ring of so many servers, by their addresses.
-fn ring_of(alloc: Global, servers: usize) -> Result<Ring, Fail> {
-    let addresses = addresses(alloc, servers)?;
-    match Ring::new(alloc, addresses.as_slice()) {
-        Ok(ring) => Ok(ring),
-        Err(_) => Err("ring".into()),
-    }
-}
-
-/// A ring of two servers, the first of which owns `abc` and the second `a`.
-fn parted_ring(alloc: Global) -> Result<Ring, Fail> {
-    let addresses = addresses(alloc, 2)?;
-    let points = [
-        Point {
-            point: 0x9850_0190,
-            place: 0,
-        },
-        Point {
-            point: 0xb975_c10c,
-            place: 1,
-        },
-    ];
-    match Ring::of_points(alloc, addresses.as_slice(), points.as_slice()) {
-        Ok(ring) => Ok(ring),
-        Err(_) => Err("ring".into()),
-    }
+    Ring::new(alloc, all.as_slice())
 }
 
 /// So many clocks that give this moment.
@@ -82,12 +51,12 @@ fn inputs(
     clients: usize,
     pieces: usize,
     piece: &[u8],
-) -> Result<Vec<Vec<Vec<u8>>>, Fail> {
+) -> Result<Vec<Vec<Vec<u8>>>, AllocError> {
     let mut all = Vec::new(alloc);
     for _ in 0..clients {
         let mut text = Vec::new(alloc);
         for _ in 0..pieces {
-            text.push(Vec::from_slice(alloc, piece)?)?;
+            text.push(piece.to_vec(alloc)?)?;
         }
         all.push(text)?;
     }
@@ -111,28 +80,21 @@ fn run<R: Threads + Wait + Time + Sync>(
     run_threads(rt, alloc, &config, inputs.as_slice(), clocks, gate)
 }
 
-/// A run that ends well.
+/// A run over so many servers that ends well.
 fn ran<R: Threads + Wait + Time + Sync>(
     rt: &R,
     alloc: Global,
-    ring: Ring,
-    inputs: &Vec<Vec<Vec<u8>>>,
     servers: usize,
+    inputs: &Vec<Vec<Vec<u8>>>,
     gate: &Meeting,
 ) -> Result<Ran<Ticks>, Fail> {
     let clocks = clocks(alloc, servers, Some(100))?;
-    match run(rt, alloc, ring, inputs, clocks, gate) {
-        Ok(ran) => Ok(ran),
-        Err(_) => Err("the run was refused".into()),
-    }
+    Ok(run(rt, alloc, ring_of(alloc, servers)?, inputs, clocks, gate)?)
 }
 
-/// Whether a client was answered so.
-fn is_answered(ran: &Ran<Ticks>, client: usize, answer: &[u8]) -> bool {
-    match ran.outputs.get(client) {
-        Some(output) => output.as_slice() == answer,
-        None => false,
-    }
+/// Whether the first client was answered so.
+fn is_answered(ran: &Ran<Ticks>, answer: &[u8]) -> bool {
+    matches!(ran.outputs.first(), Some(output) if output.as_slice() == answer)
 }
 
 /// How many moments the clocks gave in all.
@@ -148,10 +110,9 @@ fn moments(ran: &Ran<Ticks>) -> usize {
 fn a_dialogue_over_servers(rt: HostRuntime) -> Result<(), Fail> {
     let alloc = rt.alloc();
     for servers in [1usize, 2, 5] {
-        let ring = ring_of(alloc, servers)?;
         let asked = inputs(alloc, 1, 1, ASKED)?;
-        let ran = ran(&rt, alloc, ring, &asked, servers, &Meeting::of(1, true))?;
-        assert!(rt; is_answered(&ran, 0, ANSWERED));
+        let ran = ran(&rt, alloc, servers, &asked, &Meeting::of(1, true))?;
+        assert!(rt; is_answered(&ran, ANSWERED));
         assert_eq!(rt; moments(&ran), servers.saturating_add(7));
     }
     Ok(())
@@ -181,9 +142,8 @@ fn numbers_in(alloc: Global, output: &[u8]) -> Result<Vec<u32>, Fail> {
 #[test]
 fn three_clients_count(rt: HostRuntime) -> Result<(), Fail> {
     let alloc = rt.alloc();
-    let ring = ring_of(alloc, 1)?;
     let asked = inputs(alloc, 3, 100, b"ma n N0 J1 v\r\n")?;
-    let ran = ran(&rt, alloc, ring, &asked, 1, &Meeting::of(1, true))?;
+    let ran = ran(&rt, alloc, 1, &asked, &Meeting::of(1, true))?;
     let mut all = Vec::new(alloc);
     for output in &ran.outputs {
         let numbers = numbers_in(alloc, output.as_slice())?;
@@ -201,29 +161,15 @@ fn three_clients_count(rt: HostRuntime) -> Result<(), Fail> {
     Ok(())
 }
 
-/// The first server waits for the second to take its request, and the second for the first: workers that run one after another, on one
-/// thread or on fewer than there are servers, miss each other.
+/// Each server waits for each other one to take its first request: workers that run one after another, on one thread or on fewer
+/// than there are servers, miss each other, and threads that always refuse do not come so far.
 #[test]
-fn workers_one_after_another(rt: HostRuntime) -> Result<(), Fail> {
-    let alloc = rt.alloc();
-    let gate = Meeting::of(2, true);
-    let asked = inputs(alloc, 1, 1, b"get a abc\r\n")?;
-    let ran = ran(&rt, alloc, parted_ring(alloc)?, &asked, 2, &gate)?;
-    assert!(rt; is_answered(&ran, 0, b"END\r\n"));
-    assert_eq!(rt; gate.missed.load(Ordering::SeqCst), 0);
-    assert_eq!(rt; gate.came_to(0), 2);
-    assert_eq!(rt; gate.came_to(1), 2);
-    Ok(())
-}
-
-/// Five servers meet, and the run ends well: threads that always refuse do not come so far.
-#[test]
-fn threads_always_refuse(rt: HostRuntime) -> Result<(), Fail> {
+fn five_servers_meet(rt: HostRuntime) -> Result<(), Fail> {
     let alloc = rt.alloc();
     let gate = Meeting::of(5, true);
     let asked = inputs(alloc, 1, 1, b"flush_all\r\n")?;
-    let ran = ran(&rt, alloc, ring_of(alloc, 5)?, &asked, 5, &gate)?;
-    assert!(rt; is_answered(&ran, 0, b"OK\r\n"));
+    let ran = ran(&rt, alloc, 5, &asked, &gate)?;
+    assert!(rt; is_answered(&ran, b"OK\r\n"));
     assert_eq!(rt; gate.missed.load(Ordering::SeqCst), 0);
     for server in 0..5 {
         assert_eq!(rt; gate.came_to(server), 2);
@@ -231,20 +177,17 @@ fn threads_always_refuse(rt: HostRuntime) -> Result<(), Fail> {
     Ok(())
 }
 
-/// Why a run of one request gives up.
+/// Why a run of one request gives up, with a clock that gives this moment and a gate that is open or not.
 fn refused<R: Threads + Wait + Time + Sync>(
     rt: &R,
     alloc: Global,
-    servers: usize,
-    clients: usize,
-    clock_count: usize,
     moment: Option<u32>,
-    gate: &Meeting,
+    is_open: bool,
 ) -> Result<ThreadsError, Fail> {
-    let ring = ring_of(alloc, servers)?;
-    let asked = inputs(alloc, clients, 1, b"get a\r\n")?;
-    let clocks = clocks(alloc, clock_count, moment)?;
-    match run(rt, alloc, ring, &asked, clocks, gate) {
+    let asked = inputs(alloc, 1, 1, b"get a\r\n")?;
+    let clocks = clocks(alloc, 1, moment)?;
+    let gate = Meeting::of(1, is_open);
+    match run(rt, alloc, ring_of(alloc, 1)?, &asked, clocks, &gate) {
         Ok(_) => Err("the run was not refused".into()),
         Err(error) => Ok(error),
     }
@@ -252,20 +195,9 @@ fn refused<R: Threads + Wait + Time + Sync>(
 
 #[test]
 fn runs_that_give_up(rt: HostRuntime) -> Result<(), Fail> {
-    let alloc = rt.alloc();
-    let open = Meeting::of(1, true);
-    let few = refused(&rt, alloc, 2, 1, 1, Some(100), &open)?;
-    assert_eq!(rt; few, ThreadsError::ClockCount);
-    let many = refused(&rt, alloc, 2, 1_025, 2, Some(100), &open)?;
-    assert_eq!(rt; many, ThreadsError::TooManyClients);
-    let unkept = refused(&rt, alloc, 2, 1, 2, None, &open)?;
+    let unkept = refused(&rt, rt.alloc(), None, true)?;
     assert_eq!(rt; unkept, ThreadsError::Memory);
-    Ok(())
-}
-
-#[test]
-fn a_gate_that_stays_shut(rt: HostRuntime) -> Result<(), Fail> {
-    let shut = refused(&rt, rt.alloc(), 1, 1, 1, Some(100), &Meeting::of(1, false))?;
+    let shut = refused(&rt, rt.alloc(), Some(100), false)?;
     assert_eq!(rt; shut, ThreadsError::GateShut);
     Ok(())
 }

@@ -6,7 +6,7 @@ use Rattle.std.specs.declared.alloc.Global.{Global}
 use Rattle.mc_request.specs.Requests.{requests_of}
 use Rattle.mc_ring.specs.Rings.{RingState}
 use Rattle.mc_route.specs.declared.outcomes.Outcome.{Outcome}
-use Rattle.mc_route.specs.declared.outcomes.Outcome.TheVariants.{Awaited, Lost, Reply}
+use Rattle.mc_route.specs.declared.outcomes.Outcome.TheVariants.{Reply}
 use Rattle.mc_cache.specs.CacheState.{CacheState}
 use Rattle.mc_account.specs.Orders.{AreInOrder, Entry as Asked, IsSized, Order, answers_of, commands_to, entries_of, taken_of}
 use Rattle.mc_history.specs.Histories.{IsLegal, tag_in}
@@ -34,9 +34,8 @@ outs_of outputs = at (map (λ output. output.items) outputs)
 
 -- whether an outcome is a reply
 abbrev pub is_reply : Outcome → Bool
-is_reply Awaited = false
-is_reply Lost = false
 is_reply (Reply reply) = true
+is_reply other = false
 
 -- What a run of threads gives account of, by an order in which all requests were taken: the clients' texts, what was put out to them,
 -- the servers' histories, and what the servers' clocks had given before the run and after it, all by number.

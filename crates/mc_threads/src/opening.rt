@@ -1,5 +1,5 @@
 //! The proxy of a run, before its first round.
-ghost use Rattle.std.specs.Prelude.{◌≡◌, ℕ, [], length, IfOk, OnOk};
+ghost use Rattle.std.specs.Prelude.{◌≡◌, [], length, IfOk, OnOk};
 ghost use Rattle.mc_threads.specs.Accounts.{joined, texts_of};
 ghost use Rattle.mc_threads.specs.Talks.{HasAdmitted, HasFed, Talks};
 

@@ -3,7 +3,7 @@ ghost use Rattle.std.specs.Prelude.{◌≡◌, ℕ, ◌<◌, ◌++◌, vec_len, 
 ghost use Rattle.rtrb.specs.Ring.{sent, received};
 ghost use Rattle.mc_threads.specs.Links.{SameEnds};
 ghost use Rattle.mc_threads.specs.Starts.{Each2};
-ghost use Rattle.mc_threads.specs.Talks.{HasAnswered, HasCarried, HasQuit, HasRound, IsAnswered, IsQuiet, IsSilent, StillTalks};
+ghost use Rattle.mc_threads.specs.Talks.{HasAnswered, HasCarried, HasEnded, HasQuit, HasRound, IsAnswered, IsQuiet, IsSilent, StillTalks};
 
 use crate::errors::Ended;
 use crate::links::{Ends, answer_some, ask_some, exchange, move_out, take_replies};
@@ -62,18 +62,14 @@ fn round(
 {
     ask_all(proxy, outputs.len())?;
     carry_all(proxy, ends, buffer)?;
-    answer_all(proxy, outputs)?;
-    Ok(())
+    answer_all(proxy, outputs)
 }
 
 /// Whether all that came of a client is answered.
 fn is_answered(proxy: &Proxy, client: u64) -> bool
     ensures { IsTrue result → IsAnswered proxy.now client }
 {
-    if proxy.ready(client) || proxy.unanswered(client) != 0 {
-        return false;
-    }
-    proxy.output(client).is_empty()
+    !proxy.ready(client) && proxy.unanswered(client) == 0 && proxy.output(client).is_empty()
 }
 
 /// Whether all that came of all clients is answered.
@@ -92,10 +88,7 @@ fn are_answered(proxy: &Proxy, clients: usize) -> bool
 fn is_silent(proxy: &Proxy, place: usize) -> bool
     ensures { IsTrue result → IsSilent proxy.now place }
 {
-    if proxy.waiting(place) != 0 {
-        return false;
-    }
-    proxy.link_output(place).is_empty()
+    proxy.waiting(place) == 0 && proxy.link_output(place).is_empty()
 }
 
 /// Whether nothing is to be sent to any server, and nothing is awaited from any.
@@ -114,13 +107,10 @@ fn are_silent(proxy: &Proxy, servers: usize) -> bool
 fn is_quiet(proxy: &Proxy, clients: usize, servers: usize) -> bool
     ensures { IsTrue result → IsQuiet clients servers proxy.now }
 {
-    if !are_answered(proxy, clients) {
-        return false;
-    }
-    are_silent(proxy, servers)
+    are_answered(proxy, clients) && are_silent(proxy, servers)
 }
 
-/// Rounds until all is answered.
+/// Rounds until all is answered, then `quit` to each server.
 pub fn talk<R: Wait>(
     rt: &R,
     stop: &AtomicBool,
@@ -131,8 +121,7 @@ pub fn talk<R: Wait>(
 ) -> Result<(), Ended>
     ensures lens { (vec_len ends.new ≡ vec_len ends.old) × (vec_len outputs.new ≡ vec_len outputs.old) }
     ensures rings { OnOk result (Each2 SameEnds (vec_len ends.old) ends.old.items ends.new.items) }
-    ensures talked { OnOk result (HasRound outputs.old.items outputs.new.items ends.old.items ends.new.items proxy.old proxy.new) }
-    ensures quiet { OnOk result (IsQuiet (vec_len outputs.old) (vec_len ends.old) proxy.new) }
+    ensures ended { OnOk result (HasEnded outputs.old.items outputs.new.items ends.old.items ends.new.items proxy.old proxy.new) }
 {
     let mut buffer = piece(alloc)?;
     'rounds: for _ in rt.forever() {
@@ -141,6 +130,7 @@ pub fn talk<R: Wait>(
         }
         round(proxy, ends, outputs, &mut buffer)?;
         if is_quiet(proxy, outputs.len(), ends.len()) {
+            close_all(rt, stop, ends)?;
             return Ok(());
         }
         thread::yield_now();
@@ -167,7 +157,7 @@ fn close_one<R: Wait>(rt: &R, stop: &AtomicBool, ends: &mut Ends) -> Result<(), 
 }
 
 /// Sends `quit` to each server.
-pub fn close_all<R: Wait>(rt: &R, stop: &AtomicBool, ends: &mut Vec<Ends>) -> Result<(), Ended>
+fn close_all<R: Wait>(rt: &R, stop: &AtomicBool, ends: &mut Vec<Ends>) -> Result<(), Ended>
     ensures len { vec_len ends.new ≡ vec_len ends.old }
     ensures rings { OnOk result (Each2 SameEnds (vec_len ends.old) ends.old.items ends.new.items) }
     ensures quit { OnOk result (HasQuit (vec_len ends.old) ends.old.items ends.new.items) }

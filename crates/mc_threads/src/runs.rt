@@ -1,21 +1,18 @@
 //! A run: one server on each thread, and the proxy on the caller's.
-ghost use Rattle.std.specs.Prelude.{◌≡◌, ℕ, ◌≢◌, ◌<◌, ◌↔◌, [], length, vec_len, map, IfOk, OnOk, IsErrOf};
+ghost use Rattle.std.specs.Prelude.{◌≡◌, ℕ, ◌≢◌, ◌<◌, ◌↔◌, [], length, vec_len, map, IfOk, IsErrOf};
 ghost use Rattle.mc_cache.specs.CacheState.{IsWithinBounds, opening_cache};
 ghost use Rattle.mc_proxy.specs.declared.limits.TheConstants.{MAX_SESSIONS};
 ghost use Rattle.mc_threads.specs.Accounts.{Account, at, outs_of, texts_of};
-ghost use Rattle.mc_threads.specs.Links.{SameEnds};
-ghost use Rattle.mc_threads.specs.Starts.{Each2};
-ghost use Rattle.mc_threads.specs.Talks.{HasEnded};
 
 use crate::errors::{Ended, ThreadsError, error_of};
 use crate::joins::{join_all, join_failed};
 use crate::links::Ends;
 use crate::opening::opened_proxy;
-use crate::rounds::{close_all, talk};
+use crate::rounds::talk;
 use crate::start::{add, start_all};
 use crate::traits::{Clock, Gate};
 use crate::worker::Bounds;
-use mc_proxy::{MAX_SESSIONS, Proxy};
+use mc_proxy::MAX_SESSIONS;
 use mc_ring::Ring;
 use std::alloc::Global;
 use std::sync::Wait;
@@ -54,24 +51,6 @@ fn empty_outputs(alloc: Global, clients: usize) -> Result<Vec<Vec<u8>>, Ended>
         add(&mut outputs, Vec::new(alloc))?;
     }
     Ok(outputs)
-}
-
-/// Rounds until all is answered, then `quit` to each server.
-fn talk_all<R: Wait>(
-    rt: &R,
-    stop: &AtomicBool,
-    alloc: Global,
-    proxy: &mut Proxy,
-    ends: &mut Vec<Ends>,
-    outputs: &mut Vec<Vec<u8>>,
-) -> Result<(), Ended>
-    ensures lens { (vec_len ends.new ≡ vec_len ends.old) × (vec_len outputs.new ≡ vec_len outputs.old) }
-    ensures rings { OnOk result (Each2 SameEnds (vec_len ends.old) ends.old.items ends.new.items) }
-    ensures ended { OnOk result (HasEnded outputs.old.items outputs.new.items ends.old.items ends.new.items proxy.old proxy.new) }
-{
-    talk(rt, stop, alloc, proxy, ends, outputs)?;
-    close_all(rt, stop, ends)?;
-    Ok(())
 }
 
 /// A run inside the scope of its threads.
@@ -115,7 +94,7 @@ fn run_in<'s, E: 's, C: Clock + Send + Drop + 's, G: Gate + Sync, R: Threads + W
         stop.store(true, Ordering::SeqCst);
         return Err(join_failed(rt, children, ended));
     }
-    match talk_all(rt, stop, alloc, &mut proxy, &mut ends, &mut outputs) {
+    match talk(rt, stop, alloc, &mut proxy, &mut ends, &mut outputs) {
         Ok(()) => {
             let clocks = join_all(rt, alloc, children, &mut ends)?;
             Ok(Ran { outputs, clocks })
@@ -172,8 +151,5 @@ pub fn run_threads<C: Clock + Send + Drop, G: Gate + Sync, R: Threads + Wait + T
             ensures clocks { IfOk result (λ ran. vec_len ran.clocks ≡ vec_len clocks) }
         { run_in(rt, scope, alloc, config, inputs, clocks, gate, shared) },
     );
-    match ran {
-        Ok(ran) => Ok(ran),
-        Err(ended) => Err(error_of(ended)),
-    }
+    ran.map_err(error_of)
 }

@@ -19,6 +19,20 @@ pub fn open_files() -> Option<u64> {
     Some(limit.rlim_cur)
 }
 
+/// Says on standard error, as the program of a name, how many connections can be served at a time beside so many other files, where
+/// the system allows no more open files than `most` connections may need.
+pub fn tell_open_files<R: Eprint>(rt: &R, program: &str, others: u64, most: usize) {
+    if let Some(files) = open_files() {
+        let connections = served(files, others);
+        if connections <= most as u64 {
+            // Where it cannot be said, clients are served all the same.
+            let _ = eprintln!(rt;
+                "{program}: {files} open files: {connections} connections can be served at a time"
+            );
+        }
+    }
+}
+
 /// How many connections can be served at a time where so many files may be open, and so many are open beside them.
 pub fn served(open_files: u64, others: u64) -> u64
     ensures { result ≡ open_files - others }

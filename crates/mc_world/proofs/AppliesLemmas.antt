@@ -227,12 +227,12 @@ pub came_back : (place : ℕ) (proxy proxy' : ProxyState) (sites : List SiteStat
     → LinkReturns place (pool_of proxy sites) (pool_of proxy' (slice_set sites place now))
 came_back place proxy proxy' sites site now at inside generation can back is = record {
   site = site;
+  now = now;
   at = at;
   inside = inside;
   can = can;
-  closed = back.closed;
-  sites = ap (λ (s : SiteState). slice_set sites place s)
-      (back.all_else ∙ ap (λ (n : ℕ). record site { server = with_fresh site.server; generation = n + 1; connection = site.server.admitted; ahead = 0 }) generation);
+  back = subst (λ (n : ℕ). ComesBack (n + 1) site now) generation back;
+  sites = refl;
   proxy = is;
 }
 
@@ -249,35 +249,20 @@ same_way generation i ways found way at = same_Some way found.way (sym at ∙ fo
 -- bytes of a lost generation arrived
 pub reached_late : (place i count generation : ℕ) (proxy : ProxyState) (sites : List SiteState) (site now : SiteState) → slice_get sites place ≡ Some site
     → FoundWay generation site.lost i → ArrivesLate i count site now
-    → (j : ℕ) × (h : LateBytes place j count (pool_of proxy sites) (pool_of proxy (slice_set sites place now))) × (h.way.generation ≡ generation)
+    → (j : ℕ) × (h : LateBytes place j count (pool_of proxy sites) (pool_of proxy (slice_set sites place now))) × (h.arrives.way.generation ≡ generation)
 reached_late place i count generation proxy sites site now at found h = (
   i,
-  record { site = site; now = now; way = h.way; at = at; way_at = h.way_at; steps = h.steps; now_is = h.all_else; sites = refl; proxy = refl },
+  record { there = record { site = site; now = now; at = at; sites = refl; proxy = refl }; arrives = h },
   ap (λ (w : WayState). w.generation) (same_way generation i site.lost found h.way h.way_at) ∙ found.is,
 )
 
 -- a server took a request of it
 pub served_late : (place i moment generation : ℕ) (proxy : ProxyState) (sites : List SiteState) (site now : SiteState) → slice_get sites place ≡ Some site
     → FoundWay generation site.lost i → EntersLate i moment site now
-    → (j : ℕ) × (h : LateTurn place j moment (pool_of proxy sites) (pool_of proxy (slice_set sites place now))) × (h.way.generation ≡ generation)
+    → (j : ℕ) × (h : LateTurn place j moment (pool_of proxy sites) (pool_of proxy (slice_set sites place now))) × (h.enters.way.generation ≡ generation)
 served_late place i moment generation proxy sites site now at found h = (
   i,
-  record {
-    site = site;
-    now = now;
-    way = h.way;
-    tag = h.tag;
-    tags = h.tags;
-    reply = h.reply;
-    at = at;
-    way_at = h.way_at;
-    untaken = h.untaken;
-    steps = h.steps;
-    appended = h.appended;
-    now_is = h.all_else;
-    sites = refl;
-    proxy = refl;
-  },
+  record { there = record { site = site; now = now; at = at; sites = refl; proxy = refl }; enters = h },
   ap (λ (w : WayState). w.generation) (same_way generation i site.lost found h.way h.way_at) ∙ found.is,
 )
 
@@ -294,20 +279,10 @@ late_serves_if place generation i pool site way at first way_at can =
 -- its end was seen
 pub saw_end : (place i generation : ℕ) (proxy : ProxyState) (sites : List SiteState) (site now : SiteState) → slice_get sites place ≡ Some site
     → FoundWay generation site.lost i → Ends i site now
-    → (j : ℕ) × (h : EndSeen place j (pool_of proxy sites) (pool_of proxy (slice_set sites place now))) × (h.way.generation ≡ generation)
+    → (j : ℕ) × (h : EndSeen place j (pool_of proxy sites) (pool_of proxy (slice_set sites place now))) × (h.ends.way.generation ≡ generation)
 saw_end place i generation proxy sites site now at found h = (
   i,
-  record {
-    site = site;
-    server = now.server;
-    way = h.way;
-    at = at;
-    way_at = h.way_at;
-    closes = h.closes;
-    not_open = h.not_open;
-    sites = ap (λ (s : SiteState). slice_set sites place s) h.all_else;
-    proxy = refl;
-  },
+  record { there = record { site = site; now = now; at = at; sites = refl; proxy = refl }; ends = h },
   ap (λ (w : WayState). w.generation) (same_way generation i site.lost found h.way h.way_at) ∙ found.is,
 )
 

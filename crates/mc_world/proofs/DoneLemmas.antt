@@ -1,5 +1,5 @@
 -- A course holds after each event that is done.
-use Rattle.std.proofs.Common.{◌≡◌, ◌≢◌, ◌∙◌, ⊎_elim, ℕ, ◌<◌, inl, inr, List, [], ◌∷◌, ◌++◌, length, map, take, drop, Option, Some, None, refl, sym, ap, subst, append_assoc, append-nil, arith}
+use Rattle.std.proofs.Common.{◌≡◌, ◌≢◌, ◌∙◌, ⊎_elim, ℕ, ◌<◌, inl, inr, List, [], ◌∷◌, ◌++◌, length, map, take, Option, Some, refl, sym, ap, subst, append_assoc, append-nil, arith}
 use Rattle.std.specs.Prelude.{All}
 use Rattle.std.proofs.lemmas.Bool.{cases_lt}
 use Rattle.std.proofs.lemmas.Bool.Decides.{eqb_tells}
@@ -16,7 +16,7 @@ use Rattle.mc_session.specs.SessionState.{SessionState, link_at}
 use Rattle.mc_session.specs.Turns.{IsFed, IsTurn}
 use Rattle.mc_session.specs.declared.turns.Emit.TheVariants as emits
 use Rattle.mc_session.specs.declared.turns.Turn.TheVariants as turns
-use Rattle.mc_proxy.specs.ProxyState.{ProxyState, Sessions, output_of, sent_by, session_at, without}
+use Rattle.mc_proxy.specs.ProxyState.{ProxyState, Sessions, output_of, sent_by, session_at}
 use Rattle.mc_proxy.specs.Turns.{Alone}
 use Rattle.mc_account.specs.Lanes.{Lane, fresh_lane}
 use Rattle.mc_account.specs.Orders.{Order, note, note_all}
@@ -47,16 +47,7 @@ pub stood_as : (ring : RingState) (opening : CacheState) (order : Order) (lanes 
 stood_as ring opening order lanes new texts sent outs text_is sent_is out_is pool log numbered generations =
     let text_same : texts ≡ text_of new = λ i n. text_is n i in
     let sent_same : sent ≡ taken_by new = λ i n. sent_is n i in
-    let out_same : outs ≡ put_out_of new = λ i n. out_is n i in
-    record {
-      order = order;
-      lanes = lanes;
-      pool = subst (λ (f : ℕ → List ℕ). PoolHolds opening f (taken_by new) order lanes new.pool) text_same
-          (subst (λ (f : ℕ → List ℕ). PoolHolds opening texts f order lanes new.pool) sent_same pool);
-      log = subst (λ (f : ℕ → List ℕ). LogHolds ring order f new.log new.pool) out_same log;
-      numbered = numbered;
-      generations = generations;
-    }
+    grind arith
 
 -- where the clients are the same, and as much is put out to each and not taken
 pub same_clients : (ring : RingState) (opening : CacheState) (order : Order) (lanes : ℕ → Lane) (old new : CourseState)
@@ -75,20 +66,11 @@ same_clients ring opening order lanes old new same outputs admitted numbered poo
 -- a client whose session is open is there
 pub is_there : (ring : RingState) (opening : CacheState) (c : CourseState) (client : ℕ) (session : SessionState) → CourseHolds ring opening c
     → session_at c.pool.proxy client ≡ Some session → client < length c.clients
-is_there ring opening c client session h at =
-    ⊎_elim
-    (λ below. omega (arith, below, h.numbered))
-    (λ above. let none : session_at c.pool.proxy client ≡ None = (h.pool.proxy.unused client above).not_open in
-    let clash : Some session ≡ None = sym at ∙ none in absurd cc)
-    (cases_lt client c.pool.proxy.admitted)
+is_there ring opening c client session h at = grind (arith, cases_lt)
 
 -- what stays where nothing is written
 changed-same : (f : ℕ → List ℕ) (k n : ℕ) → changed k (f k) f n ≡ f n
-changed-same f k n =
-    ⊎_elim
-    (λ e. subst (λ (m : ℕ). changed k (f k) f m ≡ f m) e.1 (changed-own k (f k) f))
-    (λ e. changed-other k n (f k) f e.1)
-    (eqb_tells k n)
+changed-same f k n = grind (arith, eqb_tells, changed-other, changed-own)
 
 -- a client has sent more bytes
 pub heard : (ring : RingState) (opening : CacheState) (order : Order) (lanes : ℕ → Lane) (old new : CourseState) (client : ℕ) (bytes : List ℕ)
@@ -99,7 +81,6 @@ pub heard : (ring : RingState) (opening : CacheState) (order : Order) (lanes : �
     → PoolHolds opening (grown client bytes (text_of old)) (taken_by old) order lanes new.pool → LogHolds ring order (put_out_of old) new.log new.pool
     → HaveOneGeneration new.pool → CourseHolds ring opening new
 heard ring opening order lanes old new client bytes inside is outputs admitted numbered pool log generations =
-    let now : ClientState = record (client_at old.clients client) { text = (client_at old.clients client).text ++ bytes } in
     let taken_is : (n : ℕ) → taken_by old n ≡ taken_by new n = λ n.
     sym (ap (λ (cs : List ClientState). (client_at cs n).taken) is
     ∙ read_changed (λ (c : ClientState). c.taken) client (record (client_at old.clients client) { text = (client_at old.clients client).text ++ bytes }) old.clients inside n
@@ -148,17 +129,7 @@ logged ring order outs pool log log' is h = subst (λ (l : Log). LogHolds ring o
 -- a client that goes takes all that was put out first, and then goes
 gone_as : (client : ℕ) (old new : PoolState) → (e : ClientGoes client old new)
     → ClientGoes client (record { proxy = sent_by client (length (output_of (session_at old.proxy client))) (session_at old.proxy client) old.proxy; sites = old.sites }) new
-gone_as client old new e = record {
-  proxy = e.proxy ∙ (elim (session_at old.proxy client) as (λ o. session_at old.proxy client ≡ o
-      → record old.proxy { sessions = without client old.proxy.sessions }
-      ≡ record (sent_by client (length (output_of o)) o old.proxy) { sessions = without client (sent_by client (length (output_of o)) o old.proxy).sessions }) [
-        | None ↦ λ is. refl
-        | Some s ↦ λ is. ap (λ (ss : Sessions). record old.proxy { sessions = ss })
-            (sym (without_updated client (record s { output = drop (length s.output) s.output }) old.proxy.sessions))
-      ]) refl;
-  not_open = e.not_open;
-  sites = e.sites;
-}
+gone_as client old new e = grind (arith, without_updated)
 
 -- each event that is done
 pub course_done : (ring : RingState) (opening : CacheState) (event : Event (List ℕ)) (old new : CourseState) → CourseHolds ring opening old → IsDone event old new → CourseHolds ring opening new
@@ -180,10 +151,7 @@ course_done ring opening (ClientBytes client bytes) old new h e =
     (generations_stay (ClientBytes client bytes) old.pool new.pool e.pool h.generations)
 course_done ring opening (ClientGone client) old new h e =
     let goes = e.pool.1 in
-    let out : List ℕ = output_of (session_at old.pool.proxy client) in
-    let count : ℕ = length (output_of (session_at old.pool.proxy client)) in
     let inside = is_there ring opening old client e.pool.0.0 h e.pool.0.1 in
-    let mid : PoolState = record { proxy = sent_by client (length (output_of (session_at old.pool.proxy client))) (session_at old.pool.proxy client) old.pool.proxy; sites = old.pool.sites } in
     let whole : take (length (output_of (session_at old.pool.proxy client))) (output_of (session_at old.pool.proxy client)) ≡ output_of (session_at old.pool.proxy client) =
     take_all (length (output_of (session_at old.pool.proxy client))) (output_of (session_at old.pool.proxy client)) (omega arith) in
     let taken = pool_client_takes opening (text_of old) (taken_by old) h.order h.lanes client (length (output_of (session_at old.pool.proxy client))) old.pool
@@ -220,7 +188,7 @@ course_done ring opening (ToServer server generation count) old new h e = elim e
       (generations_stay (ToServer server generation count) old.pool new.pool e.pool h.generations)
   | inr late ↦
       same_clients ring opening h.order h.lanes old new e.clients
-      (λ n. ap (λ (p : ProxyState). unsent p.sessions n) late.1.proxy) (ap (λ (p : ProxyState). p.admitted) late.1.proxy) h.numbered
+      (λ n. ap (λ (p : ProxyState). unsent p.sessions n) late.1.there.proxy) (ap (λ (p : ProxyState). p.admitted) late.1.there.proxy) h.numbered
       (pool_late_bytes opening (text_of old) (taken_by old) h.order h.lanes server late.0 count old.pool new.pool late.1 h.pool)
       (logged ring h.order (put_out_of old) new.pool (old.log ++ Happened (ToServer server generation count) ∷ []) new.log e.log
       (log_late_bytes ring h.order (put_out_of old) old.log server generation count late.0 count old.pool new.pool late.1 h.log))
@@ -236,7 +204,7 @@ course_done ring opening (ServerTurn server generation moment) old new h e = eli
       (generations_stay (ServerTurn server generation moment) old.pool new.pool e.pool h.generations)
   | inr late ↦
       same_clients ring opening h.order h.lanes old new e.clients
-      (λ n. ap (λ (p : ProxyState). unsent p.sessions n) late.1.proxy) (ap (λ (p : ProxyState). p.admitted) late.1.proxy) h.numbered
+      (λ n. ap (λ (p : ProxyState). unsent p.sessions n) late.1.there.proxy) (ap (λ (p : ProxyState). p.admitted) late.1.there.proxy) h.numbered
       (pool_late_turn opening (text_of old) (taken_by old) h.order h.lanes server late.0 moment old.pool new.pool late.1 e.pool.0 h.pool)
       (logged ring h.order (put_out_of old) new.pool (old.log ++ Happened (ServerTurn server generation moment) ∷ []) new.log e.log
       (log_late_turn ring h.order (put_out_of old) old.log server generation late.0 moment old.pool new.pool late.1 h.log))
@@ -309,7 +277,7 @@ course_done ring opening (LinkBack server) old new h e =
 course_done ring opening (ServerSeesEnd server generation) old new h e =
     let ends = e.pool.1 in
     same_clients ring opening h.order h.lanes old new e.clients
-    (λ n. ap (λ (p : ProxyState). unsent p.sessions n) ends.proxy) (ap (λ (p : ProxyState). p.admitted) ends.proxy) h.numbered
+    (λ n. ap (λ (p : ProxyState). unsent p.sessions n) ends.there.proxy) (ap (λ (p : ProxyState). p.admitted) ends.there.proxy) h.numbered
     (pool_end_seen opening (text_of old) (taken_by old) h.order h.lanes server e.pool.0 old.pool new.pool ends h.pool)
     (logged ring h.order (put_out_of old) new.pool (old.log ++ Happened (ServerSeesEnd server generation) ∷ []) new.log e.log
     (log_end_seen ring h.order (put_out_of old) old.log server generation e.pool.0 old.pool new.pool ends h.log))

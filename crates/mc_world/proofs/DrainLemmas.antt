@@ -44,14 +44,14 @@ pub done_less : (ring : RingState) (opening : CacheState) (act : Act) (moment : 
     → IsDone (event_of act moment old.pool) old new → work_left new.pool < work_left old.pool
 done_less ring opening (SeeEnd place) moment old new h applies done =
     let ended = done.pool in
-    ended_less place ended.0 old.pool new.pool (linked ring opening old h place ended.1.site ended.1.at) ended.1
+    ended_less place ended.0 old.pool new.pool (linked ring opening old h place ended.1.there.site ended.1.there.at) ended.1
 done_less ring opening (TakeRequest client) moment old new h applies done = took_less client old.pool new.pool done.pool
 done_less ring opening (ReachServer place) moment old new h applies done =
     let some : 0 < length (link_at old.pool.proxy.links place).output = ⊎_elim (λ own. own.1.1.0) (λ late. late.1.moves.0) applies in
     ⊎_elim
     (λ living. reached_less place (length (link_at old.pool.proxy.links place).output) old.pool new.pool (linked ring opening old h place living.0.there.site living.0.there.at) refl some living.0)
     (λ late. (elim (link_at old.pool.proxy.links place).up as (λ v. (link_at old.pool.proxy.links place).up ≡ v → work_left new.pool < work_left old.pool) [
-      | true ↦ λ up. absurd (late.3 (record { site = late.1.site; at = late.1.at; is = sym (ap generation_of late.1.at); up = up }))
+      | true ↦ λ up. absurd (late.3 (record { site = late.1.there.site; at = late.1.there.at; is = sym (ap generation_of late.1.there.at); up = up }))
       | false ↦ λ down. let none : length (link_at old.pool.proxy.links place).output ≡ 0 = ap (λ (bytes : List ℕ). length bytes) (down_none ring opening old h place down) in absurd (omega (arith, some, none))
     ]) refl)
     done.pool
@@ -59,8 +59,8 @@ done_less ring opening (Serve place) moment old new h applies done =
     ⊎_elim
     (λ living. served_less place moment old.pool new.pool (linked ring opening old h place living.0.there.site living.0.there.at) living.0)
     (λ late. (elim (link_at old.pool.proxy.links place).up as (λ v. (link_at old.pool.proxy.links place).up ≡ v → work_left new.pool < work_left old.pool) [
-      | true ↦ λ up. absurd (late.3 (record { site = late.1.site; at = late.1.at; is = sym (ap generation_of late.1.at); up = up }))
-      | false ↦ λ down. late_less place late.0 moment old.pool new.pool (linked ring opening old h place late.1.site late.1.at) down late.1
+      | true ↦ λ up. absurd (late.3 (record { site = late.1.there.site; at = late.1.there.at; is = sym (ap generation_of late.1.there.at); up = up }))
+      | false ↦ λ down. late_less place late.0 moment old.pool new.pool (linked ring opening old h place late.1.there.site late.1.there.at) down late.1
     ]) refl)
     done.pool.1
 done_less ring opening (ReachProxy place) moment old new h applies done =

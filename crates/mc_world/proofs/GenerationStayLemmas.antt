@@ -77,16 +77,11 @@ back_stays place old new e h other s at =
     ap (λ (ls : List LinkState). (link_at ls place).generation) links_are
     ∙ ap (λ (l : LinkState). l.generation) (link_own place (up_link ((link_at old.proxy.links place).generation + 1)) old.proxy.links e.inside) in
     ⊎_elim
-    (λ own. ap (λ (x : SiteState). x.generation) own.1 ∙ sym own_link ∙ ap (λ (p : ℕ). (link_at new.proxy.links p).generation) own.0)
+    (λ own. ap (λ (x : SiteState). x.generation) (own.1 ∙ e.back.all_else) ∙ sym own_link ∙ ap (λ (p : ℕ). (link_at new.proxy.links p).generation) own.0)
     (λ elsewhere. h other s elsewhere.1
     ∙ sym (ap (λ (ls : List LinkState). (link_at ls other).generation) links_are
     ∙ ap (λ (l : LinkState). l.generation) (link_other place other (up_link ((link_at old.proxy.links place).generation + 1)) old.proxy.links elsewhere.0)))
-    (set_site old.sites place (record e.site {
-      server = with_fresh e.site.server;
-      generation = (link_at old.proxy.links place).generation + 1;
-      connection = e.site.server.admitted;
-      ahead = 0;
-    }) other s (ap (λ (ss : List SiteState). slice_get ss other) (sym e.sites) ∙ at))
+    (set_site old.sites place e.now other s (ap (λ (ss : List SiteState). slice_get ss other) (sym e.sites) ∙ at))
 
 -- each event that happens
 pub generations_stay : (event : Event (List ℕ)) (old new : PoolState) → Happens event old new → HaveOneGeneration old → HaveOneGeneration new
@@ -104,16 +99,16 @@ generations_stay (ToServer server generation count) old new e h = elim e [
       (one_link server (record (link_at old.proxy.links server) { output = drop count (link_at old.proxy.links server).output }) old.proxy.links new.proxy.links here.0.there.up refl
       (ap (λ (p : ProxyState). p.links) here.0.proxy)) h
   | inr late ↦
-      one_site server late.1.site late.1.now old new late.1.at (ap (λ (s : SiteState). s.generation) late.1.now_is) late.1.sites
-      (same_links old.proxy.links new.proxy.links (ap (λ (p : ProxyState). p.links) late.1.proxy)) h
+      one_site server late.1.there.site late.1.there.now old new late.1.there.at (ap (λ (s : SiteState). s.generation) late.1.arrives.all_else) late.1.there.sites
+      (same_links old.proxy.links new.proxy.links (ap (λ (p : ProxyState). p.links) late.1.there.proxy)) h
 ]
 generations_stay (ServerTurn server generation moment) old new e h = elim e.1 [
   | inl here ↦
       there_stays server old new here.0.there (ap (λ (s : SiteState). s.generation) here.0.enters.all_else)
       (same_links old.proxy.links new.proxy.links (ap (λ (p : ProxyState). p.links) here.0.proxy)) h
   | inr late ↦
-      one_site server late.1.site late.1.now old new late.1.at (ap (λ (s : SiteState). s.generation) late.1.now_is) late.1.sites
-      (same_links old.proxy.links new.proxy.links (ap (λ (p : ProxyState). p.links) late.1.proxy)) h
+      one_site server late.1.there.site late.1.there.now old new late.1.there.at (ap (λ (s : SiteState). s.generation) late.1.enters.all_else) late.1.there.sites
+      (same_links old.proxy.links new.proxy.links (ap (λ (p : ProxyState). p.links) late.1.there.proxy)) h
 ]
 generations_stay (ToProxy server count) old new e h =
     there_stays server old new e.there (ap (λ (s : SiteState). s.generation) e.leaves)
@@ -132,4 +127,4 @@ generations_stay (LinkLost server) old new e h =
     (one_link server (down_link (link_at old.proxy.links server).generation) old.proxy.links new.proxy.links e.there.up refl (ap (λ (p : ProxyState). p.links) e.proxy)) h
 generations_stay (LinkBack server) old new e h = back_stays server old new e h
 generations_stay (ServerSeesEnd server generation) old new e h =
-    one_site server e.1.site (record e.1.site { server = e.1.server; lost = remove e.1.site.lost e.0 }) old new e.1.at refl e.1.sites (same_links old.proxy.links new.proxy.links (ap (λ (p : ProxyState). p.links) e.1.proxy)) h
+    one_site server e.1.there.site e.1.there.now old new e.1.there.at (ap (λ (s : SiteState). s.generation) e.1.ends.all_else) e.1.there.sites (same_links old.proxy.links new.proxy.links (ap (λ (p : ProxyState). p.links) e.1.there.proxy)) h

@@ -211,31 +211,31 @@ closed_moves closing number old new closes not_open =
 -- the end of a lost generation was seen
 pub ended_less : (place i : ℕ) (old new : PoolState) → place < length old.proxy.links → EndSeen place i old new → work_left new < work_left old
 ended_less place i old new inside h =
-    let site = h.site in
-    let there : SiteState = record site { server = h.server; lost = remove site.lost i } in
+    let site = h.there.site in
+    let there : SiteState = record site { server = h.there.now.server; lost = remove site.lost i } in
     let link = link_at old.proxy.links place in
     let now : work_left new ≡ work_of_sessions old.proxy.ring old.proxy.sessions + work_of_sites old.proxy.links (slice_set old.sites place there) =
     left_as new old.proxy.ring old.proxy.sessions old.proxy.links (slice_set old.sites place there)
-    (ap (λ (p : ProxyState). p.ring) h.proxy) (ap (λ (p : ProxyState). p.sessions) h.proxy) (ap (λ (p : ProxyState). p.links) h.proxy) h.sites in
+    (ap (λ (p : ProxyState). p.ring) h.there.proxy) (ap (λ (p : ProxyState). p.sessions) h.there.proxy) (ap (λ (p : ProxyState). p.links) h.there.proxy) (h.there.sites ∙ ap (λ (s : SiteState). slice_set old.sites place s) h.ends.all_else) in
     let less : work_of_link link there ≤ work_of_link link site =
     (elim link.up as (λ v. link.up ≡ v → work_of_link link there ≤ work_of_link link site) [
-      | true ↦ λ up. omega (arith, up_work link there up, up_work link site up, closed_moves h.way.connection site.connection site.server h.server h.closes h.not_open)
+      | true ↦ λ up. omega (arith, up_work link there up, up_work link site up, closed_moves h.ends.way.connection site.connection site.server h.there.now.server h.ends.closes h.ends.not_open)
       | false ↦ λ down. omega (arith, down_work link there down, down_work link site down)
     ]) refl in
-    omega (arith, now, less, ways_removed site.lost i h.way h.way_at, site_changed old.proxy.links old.sites place site there h.at inside)
+    omega (arith, now, less, ways_removed site.lost i h.ends.way h.ends.way_at, site_changed old.proxy.links old.sites place site there h.there.at inside)
 
 -- a server took a request of a lost generation, where its link is down
 pub late_less : (place i moment : ℕ) (old new : PoolState) → place < length old.proxy.links → (link_at old.proxy.links place).up ≡ false
     → LateTurn place i moment old new → work_left new < work_left old
 late_less place i moment old new inside down h =
-    let site = h.site in
-    let there = h.now in
+    let site = h.there.site in
+    let there = h.there.now in
     let link = link_at old.proxy.links place in
     let now : work_left new ≡ work_of_sessions old.proxy.ring old.proxy.sessions + work_of_sites old.proxy.links (slice_set old.sites place there) =
     left_as new old.proxy.ring old.proxy.sessions old.proxy.links (slice_set old.sites place there)
-    (ap (λ (p : ProxyState). p.ring) h.proxy) (ap (λ (p : ProxyState). p.sessions) h.proxy) (ap (λ (p : ProxyState). p.links) h.proxy) h.sites in
-    let ways : work_of_ways there.lost ≡ work_of_ways (slice_set site.lost i (record h.way { untaken = h.tags })) = ap (λ (s : SiteState). work_of_ways s.lost) h.now_is in
-    let one : length h.way.untaken ≡ suc (length h.tags) = ap (λ (ts : List Tag). length ts) h.untaken in
+    (ap (λ (p : ProxyState). p.ring) h.there.proxy) (ap (λ (p : ProxyState). p.sessions) h.there.proxy) (ap (λ (p : ProxyState). p.links) h.there.proxy) h.there.sites in
+    let ways : work_of_ways there.lost ≡ work_of_ways (slice_set site.lost i (record h.enters.way { untaken = h.enters.tags })) = ap (λ (s : SiteState). work_of_ways s.lost) h.enters.all_else in
+    let one : length h.enters.way.untaken ≡ suc (length h.enters.tags) = ap (λ (ts : List Tag). length ts) h.enters.untaken in
     omega (
       arith,
       now,
@@ -243,6 +243,6 @@ late_less place i moment old new inside down h =
       one,
       down_work link there down,
       down_work link site down,
-      ways_changed site.lost i h.way (record h.way { untaken = h.tags }) h.way_at,
-      site_changed old.proxy.links old.sites place site there h.at inside,
+      ways_changed site.lost i h.enters.way (record h.enters.way { untaken = h.enters.tags }) h.enters.way_at,
+      site_changed old.proxy.links old.sites place site there h.there.at inside,
     )

@@ -1,5 +1,5 @@
 -- A log still leaves a pool so after each event of which it tells little: one lemma for each.
-use Rattle.std.proofs.Common.{◌≡◌, ◌≢◌, ◌∙◌, ⊎_elim, ℕ, ◌+◌, ◌<◌, Bool, true, false, if◌then◌else◌, List, [], ◌∷◌, ◌++◌, length, drop, take, map, refl, sym, ap, subst, arith}
+use Rattle.std.proofs.Common.{◌≡◌, ◌≢◌, ◌∙◌, ⊎_elim, ℕ, ◌+◌, ◌<◌, Bool, true, false, if◌then◌else◌, List, [], ◌∷◌, ◌++◌, length, drop, take, map, slice_set, refl, sym, ap, subst, arith}
 use Rattle.std.specs.Prelude.{remove}
 use Rattle.std.proofs.lemmas.Bool.Decides.{eqb_tells}
 use Rattle.std.proofs.lemmas.List.{length-set}
@@ -115,24 +115,24 @@ log_reaches_proxy opening order outs log place count moved old new e h =
 pub log_late_bytes : (opening : RingState) (order : Order) (outs : ℕ → List ℕ) (log : Log) (place generation count i moved : ℕ) (old new : PoolState)
     → LateBytes place i moved old new → LogHolds opening order outs log old → LogHolds opening order outs (log ++ Happened (ToServer place generation count) ∷ []) new
 log_late_bytes opening order outs log place generation count i moved old new e h =
-    let r = same_proxy old new e.proxy in
+    let r = same_proxy old new e.there.proxy in
     log_quiet opening order outs log (Happened (ToServer place generation count)) old new
     (record { event = tt; takes = λ c. refl; puts = λ c. refl; moments = λ p. refl }) (λ p up. refl)
-    (still_at old new place e.site e.now r.ring r.links (open_as_many old.proxy new.proxy r.answered) e.at e.sites
-    (ap (λ (s : SiteState). s.history) e.now_is)
-    (λ tag has. untaken_fewer e.site.lost i e.way (record e.way { going = drop moved e.way.going }) tag e.way_at (λ j at. (j, at))
-    (subst (λ (s : SiteState). HasUntaken s.lost tag) e.now_is has)))
+    (still_at old new place e.there.site e.there.now r.ring r.links (open_as_many old.proxy new.proxy r.answered) e.there.at e.there.sites
+    (ap (λ (s : SiteState). s.history) e.arrives.all_else)
+    (λ tag has. untaken_fewer e.there.site.lost i e.arrives.way (record e.arrives.way { going = drop moved e.arrives.way.going }) tag e.arrives.way_at (λ j at. (j, at))
+    (subst (λ (s : SiteState). HasUntaken s.lost tag) e.arrives.all_else has)))
     r.ups h
 
 -- ServerSeesEnd
 pub log_end_seen : (opening : RingState) (order : Order) (outs : ℕ → List ℕ) (log : Log) (place generation i : ℕ) (old new : PoolState)
     → EndSeen place i old new → LogHolds opening order outs log old → LogHolds opening order outs (log ++ Happened (ServerSeesEnd place generation) ∷ []) new
 log_end_seen opening order outs log place generation i old new e h =
-    let r = same_proxy old new e.proxy in
+    let r = same_proxy old new e.there.proxy in
     log_quiet opening order outs log (Happened (ServerSeesEnd place generation)) old new
     (record { event = tt; takes = λ c. refl; puts = λ c. refl; moments = λ p. refl }) (λ p up. refl)
-    (still_at old new place e.site (record e.site { server = e.server; lost = remove e.site.lost i }) r.ring r.links (open_as_many old.proxy new.proxy r.answered) e.at e.sites
-    refl (λ tag has. untaken_removed e.site.lost i tag has))
+    (still_at old new place e.there.site (record e.there.site { server = e.there.now.server; lost = remove e.there.site.lost i }) r.ring r.links (open_as_many old.proxy new.proxy r.answered) e.there.at (e.there.sites ∙ ap (λ (s : SiteState). slice_set old.sites place s) e.ends.all_else)
+    refl (λ tag has. untaken_removed e.there.site.lost i tag has))
     r.ups h
 
 -- a link that is another, as an event of its place says; those of other places are as they were
@@ -150,13 +150,9 @@ pub log_returns : (opening : RingState) (order : Order) (outs : ℕ → List ℕ
     → LinkReturns place old new → LogHolds opening order outs log old → LogHolds opening order outs (log ++ Happened (LinkBack place) ∷ []) new
 log_returns opening order outs log place old new e h =
     let others : (other : ℕ) (up : Bool) → place ≢ other → up_by other (Happened (LinkBack place)) up ≡ up = λ other up differ. ap (λ (v : Bool). if v then true else up) (other_number place other differ) in
-    let still = still_at old new place e.site (record e.site {
-      server = with_fresh e.site.server;
-      generation = (link_at old.proxy.links place).generation + 1;
-      connection = e.site.server.admitted;
-      ahead = 0;
-    }) (ap (λ (p : ProxyState). p.ring) e.proxy) (ap (λ (p : ProxyState). length p.links) e.proxy ∙ length-set old.proxy.links place (up_link ((link_at old.proxy.links place).generation + 1)))
-    (open_as_many old.proxy new.proxy (λ n. ap (λ (p : ProxyState). answered_at p n) e.proxy)) e.at e.sites refl (λ tag has. has) in
+    let still = still_at old new place e.site e.now (ap (λ (p : ProxyState). p.ring) e.proxy) (ap (λ (p : ProxyState). length p.links) e.proxy ∙ length-set old.proxy.links place (up_link ((link_at old.proxy.links place).generation + 1)))
+    (open_as_many old.proxy new.proxy (λ n. ap (λ (p : ProxyState). answered_at p n) e.proxy)) e.at e.sites (ap (λ (s : SiteState). s.history) e.back.all_else)
+    (λ tag has. subst (λ (s : SiteState). HasUntaken s.lost tag) e.back.all_else has) in
     log_links opening order outs log (Happened (LinkBack place)) old new
     (record { event = tt; takes = λ c. refl; puts = λ c. refl; moments = λ p. refl }) still
     (servers_go opening log (Happened (LinkBack place)) old new tt still.alike

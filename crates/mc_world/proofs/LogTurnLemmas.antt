@@ -9,8 +9,8 @@ use Rattle.mc_route.specs.declared.routes.Routed.{Routed}
 use Rattle.mc_link.specs.LinkState.{LinkState, Waiting}
 use Rattle.mc_link.specs.declared.turns.Tag.{Tag}
 use Rattle.mc_cache.specs.CacheState.{CacheState}
-use Rattle.mc_session.specs.Sending.{handed, handed_to, tag_of}
-use Rattle.mc_session.specs.SessionState.{link_at, with_link}
+use Rattle.mc_session.specs.Sending.{handed}
+use Rattle.mc_session.specs.SessionState.{link_at}
 use Rattle.mc_session.specs.declared.turns.Turn.TheVariants as turns
 use Rattle.mc_proxy.specs.ProxyState.{ProxyState}
 use Rattle.mc_account.specs.Answered.{answered_at}
@@ -74,9 +74,7 @@ received_stays cs link =
 
 as_many_links : (session request at : ℕ) (routes : List Routed) (links : List LinkState) → length (handed session request at routes links) ≡ length links
 as_many_links session request at [] links = refl
-as_many_links session request at (c ∷ cs) links =
-    as_many_links session request (suc at) cs (with_link c.server (handed_to (tag_of session request at) c.atom (link_at links c.server)) links)
-    ∙ length-set links c.server (handed_to (tag_of session request at) c.atom (link_at links c.server))
+as_many_links session request at (c ∷ cs) links = grind (arith, length-set, as_many_links session request (suc at) cs)
 
 -- ProxyTurn
 pub log_takes : (opening : RingState) (order : Order) (outs : ℕ → List ℕ) (log : Log) (client : ℕ) (old new : PoolState)
@@ -114,12 +112,7 @@ record HasServed (old new : PoolState) (place : ℕ) (entry : Entry) : Type 0 wh
 
 served : (old new : PoolState) (place : ℕ) (site now : SiteState) (entry : Entry) → slice_get old.sites place ≡ Some site → new.sites ≡ slice_set old.sites place now
     → now.history ≡ site.history ++ entry ∷ [] → HasServed old new place entry
-served old new place site now entry at is history = record {
-  own = ap (λ (ss : List SiteState). histories_of ss place) is ∙ history_own old.sites place site now at ∙ history
-      ∙ ap (λ (es : List Entry). es ++ entry ∷ []) (sym (history_at old.sites place site at));
-  others = λ other differ. ap (λ (ss : List SiteState). histories_of ss other) is ∙ history_other old.sites place now other differ;
-  as_many = ap (λ (ss : List SiteState). length ss) is ∙ length-set old.sites place now;
-}
+served old new place site now entry at is history = grind (arith, length-set, history_at, history_other, history_own)
 
 -- a turn of a server, where the proxy is as it was
 log_serves : (opening : RingState) (order : Order) (outs : ℕ → List ℕ) (log : Log) (place generation : ℕ) (entry : Entry) (old new : PoolState) → new.proxy ≡ old.proxy
@@ -149,12 +142,12 @@ pub log_server_takes : (ring : RingState) (opening : CacheState) (texts sent : �
 log_server_takes ring opening texts sent order lanes outs log place generation moment old new e pool h =
     let holds : SiteHolds place order (lanes place) (link_at old.proxy.links place) opening e.there.site = pool.sites place e.there.site e.there.at in
     let lane = (pool.proxy.links place).0 e.there.up in
-    let next = takes_next place order (lanes place) (link_at old.proxy.links place) opening e.there.site e.there.now.server moment e.there.up e.enters.steps holds lane in
+    let next = takes_next place order (lanes place) (link_at old.proxy.links place) opening e.there.site e.there.now.server moment e.there.up e.enters.on.steps holds lane in
     let tag_is : e.tag ≡ next.next.command.1 = same_tag (slice_get (map (λ (w : Waiting). w.1) (link_at old.proxy.links place).waiting) e.there.site.ahead) e.tag next.next.command.1 e.next
     (waits_next place order (lanes place) (link_at old.proxy.links place) opening e.there.site e.there.up holds next.next.command next.next.past lane next.next.is) in
     let waits = waits_at ring (length old.sites) texts sent order lanes outs log old place e.there.site.ahead e.tag pool.proxy h.requests h.answers h.commands e.there.up e.next in
-    log_serves ring order outs log place generation (entry_of_tag e.tag moment e.enters.steps.step.1.served.0 e.enters.reply) old new e.proxy
-    (served old new place e.there.site e.there.now (entry_of_tag e.tag moment e.enters.steps.step.1.served.0 e.enters.reply) e.there.at e.there.sites (ap (λ (s : SiteState). s.history) e.enters.all_else))
+    log_serves ring order outs log place generation (entry_of_tag e.tag moment e.enters.on.steps.step.1.served.0 e.enters.on.reply) old new e.proxy
+    (served old new place e.there.site e.there.now (entry_of_tag e.tag moment e.enters.on.steps.step.1.served.0 e.enters.on.reply) e.there.at e.there.sites e.enters.on.history)
     (λ other tag has. untaken_still old.sites place e.there.site e.there.now e.there.at
     (λ t k. subst (λ (ways : List WayState). HasUntaken ways t) (ap (λ (s : SiteState). s.lost) e.enters.all_else) k) other tag
     (subst (λ (ss : List SiteState). HasUntakenAt ss other tag) e.there.sites has))
@@ -169,14 +162,14 @@ log_server_takes ring opening texts sent order lanes outs log place generation m
 pub log_late_turn : (opening : RingState) (order : Order) (outs : ℕ → List ℕ) (log : Log) (place generation i moment : ℕ) (old new : PoolState)
     → (e : LateTurn place i moment old new) → LogHolds opening order outs log old → LogHolds opening order outs (log ++ Happened (ServerTurn place generation moment) ∷ []) new
 log_late_turn opening order outs log place generation i moment old new e h =
-    let first : slice_get e.way.untaken 0 ≡ Some e.tag = ap (λ (ts : List Tag). slice_get ts 0) e.untaken in
-    let untaken = h.commands.untaken place i 0 e.site e.way e.tag e.at e.way_at first in
-    log_serves opening order outs log place generation (entry_of_tag e.tag moment e.steps.step.1.served.0 e.reply) old new e.proxy
-    (served old new place e.site e.now (entry_of_tag e.tag moment e.steps.step.1.served.0 e.reply) e.at e.sites (ap (λ (s : SiteState). s.history) e.now_is))
-    (λ other tag has. untaken_still old.sites place e.site e.now e.at
-    (λ t k. untaken_fewer e.site.lost i e.way (record e.way { untaken = e.tags }) t e.way_at (λ j at. (suc j, ap (λ (ts : List Tag). slice_get ts (suc j)) e.untaken ∙ at))
-    (subst (λ (ways : List WayState). HasUntaken ways t) (ap (λ (s : SiteState). s.lost) e.now_is) k)) other tag
-    (subst (λ (ss : List SiteState). HasUntakenAt ss other tag) e.sites has))
-    (record { taken = outcome_taken opening (length old.sites) order log e.tag Lost h.requests untaken.lost; answered = inl untaken.lost })
+    let first : slice_get e.enters.way.untaken 0 ≡ Some e.enters.tag = ap (λ (ts : List Tag). slice_get ts 0) e.enters.untaken in
+    let untaken = h.commands.untaken place i 0 e.there.site e.enters.way e.enters.tag e.there.at e.enters.way_at first in
+    log_serves opening order outs log place generation (entry_of_tag e.enters.tag moment e.enters.on.steps.step.1.served.0 e.enters.on.reply) old new e.there.proxy
+    (served old new place e.there.site e.there.now (entry_of_tag e.enters.tag moment e.enters.on.steps.step.1.served.0 e.enters.on.reply) e.there.at e.there.sites e.enters.on.history)
+    (λ other tag has. untaken_still old.sites place e.there.site e.there.now e.there.at
+    (λ t k. untaken_fewer e.there.site.lost i e.enters.way (record e.enters.way { untaken = e.enters.tags }) t e.enters.way_at (λ j at. (suc j, ap (λ (ts : List Tag). slice_get ts (suc j)) e.enters.untaken ∙ at))
+    (subst (λ (ways : List WayState). HasUntaken ways t) (ap (λ (s : SiteState). s.lost) e.enters.all_else) k)) other tag
+    (subst (λ (ss : List SiteState). HasUntakenAt ss other tag) e.there.sites has))
+    (record { taken = outcome_taken opening (length old.sites) order log e.enters.tag Lost h.requests untaken.lost; answered = inl untaken.lost })
     (λ j d at same. inr (inl untaken.lost))
     untaken.sent h

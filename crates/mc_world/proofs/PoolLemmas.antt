@@ -1,5 +1,5 @@
 -- A pool holds after each thing that happens: one lemma for each.
-use Rattle.std.proofs.Common.{◌≡◌, ◌≢◌, ◌∙◌, ⊎_elim, ℕ, zero, suc, ◌+◌, ◌-◌, ◌^◌, ◌<◌, ◌&&◌, ◌⊎◌, inl, inr, Bool, true, false, not, List, [], ◌∷◌, ◌++◌, length, map, drop, take, Option, Some, None, slice_get, slice_set, refl, sym, ap, subst, append_assoc, arith}
+use Rattle.std.proofs.Common.{◌≡◌, ◌≢◌, ◌∙◌, ℕ, zero, suc, ◌+◌, ◌-◌, ◌^◌, ◌<◌, ◌&&◌, ◌⊎◌, inl, inr, Bool, true, not, List, [], ◌∷◌, ◌++◌, length, map, drop, take, Option, Some, None, slice_get, slice_set, refl, sym, ap, subst, append_assoc, arith}
 use Rattle.std.specs.Prelude.{nat_lt, remove}
 use Rattle.std.specs.Prelude.{All}
 use Rattle.std.proofs.lemmas.Bool.{cases_Bool}
@@ -17,7 +17,7 @@ use Rattle.mc_session.specs.Sending.{handed}
 use Rattle.mc_session.specs.SessionState.{SessionState, link_at, with_link}
 use Rattle.mc_proxy.specs.ProxyState.{ProxyState, output_of as output_at, sent_by, session_at}
 use Rattle.mc_account.specs.Lanes.{Lane, LaneHolds, LinkHolds, told, fresh_lane}
-use Rattle.mc_account.specs.Orders.{Entry as Asked, Order, commands_from, commands_to, note, note_all, note_in}
+use Rattle.mc_account.specs.Orders.{Entry as Asked, Order, commands_to, note, note_all, note_in}
 use Rattle.mc_account.specs.Holds.{ProxyHolds, SessionHolds, SessionHoldsAt, changed, grown}
 use Rattle.mc_account.proofs.HandingLemmas.{handed_at, received_down}
 use Rattle.mc_account.proofs.LaneLemmas.{lane_fresh, link_other, link_own, up_is_there}
@@ -38,6 +38,7 @@ use Rattle.mc_route.specs.Routes.{to_place}
 use Rattle.mc_history.proofs.OutcomeLemmas.{NoNews, command_note, news_all_lost, news_elsewhere, note_back, taken_fresh}
 use Rattle.mc_history.proofs.NamedLemmas.{Keeps, keeps_note, keeps_note_all}
 use Rattle.mc_world.proofs.SiteLemmas.{site_fed, site_turned}
+use Rattle.mc_world.proofs.TurnLemmas.{entered_site, late_site}
 use Rattle.mc_account.specs.Lookups.{command_at}
 
 -- what is at a place where the site of one place is another
@@ -48,47 +49,26 @@ set_site [] i now (suc j) s e = absurd (none-some s e)
 set_site (x ∷ xs) zero now zero s e = inl (refl, sym (same_Some now s e))
 set_site (x ∷ xs) zero now (suc j) s e = inr (λ same. omega (arith, same), e)
 set_site (x ∷ xs) (suc i) now zero s e = inr (λ same. omega (arith, same), e)
-set_site (x ∷ xs) (suc i) now (suc j) s e = elim (set_site xs i now j s e) [
-  | inl h ↦ inl (ap suc h.0, h.1)
-  | inr h ↦ inr (λ same. h.0 (omega (arith, same)), h.1)
-]
+set_site (x ∷ xs) (suc i) now (suc j) s e = grind (arith, set_site xs i now j s e)
 
 -- the sites hold, where the one of a place does and the others do
 sites_with : (opening : CacheState) (order : Order) (lanes : ℕ → Lane) (old new : PoolState) (place : ℕ) (now : SiteState) → new.sites ≡ slice_set old.sites place now
     → SiteHolds place order (lanes place) (link_at new.proxy.links place) opening now
     → ((other : ℕ) (site : SiteState) → place ≢ other → slice_get old.sites other ≡ Some site → SiteHolds other order (lanes other) (link_at new.proxy.links other) opening site)
     → (other : ℕ) (site : SiteState) → slice_get new.sites other ≡ Some site → SiteHolds other order (lanes other) (link_at new.proxy.links other) opening site
-sites_with opening order lanes old new place now is own others other site at =
-    elim (set_site old.sites place now other site (ap (λ (sites : List SiteState). slice_get sites other) (sym is) ∙ at)) [
-      | inl h ↦ subst (λ (p : ℕ). SiteHolds p order (lanes p) (link_at new.proxy.links p) opening site) h.0
-          (subst (λ (s : SiteState). SiteHolds place order (lanes place) (link_at new.proxy.links place) opening s) (sym h.1) own)
-      | inr h ↦ others other site h.0 h.1
-    ]
+sites_with opening order lanes old new place now is own others other site at = grind (arith, slice_get, set_site)
 
 -- a proxy is where the link of one place, and what passed over it, are others
 relinked : (texts sent : ℕ → List ℕ) (order : Order) (lanes : ℕ → Lane) (place : ℕ) (lane : Lane) (link : LinkState) (old : ProxyState) → place < length old.links
     → LinkHolds place order lane link → ProxyHolds texts sent order lanes old → ProxyHolds texts sent order (changed place lane lanes) (record old { links = with_link place link old.links })
-relinked texts sent order lanes place lane link old inside own h = record {
-  sized = h.sized;
-  numbered = h.numbered;
-  sessions = h.sessions;
-  unused = h.unused;
-  links = λ other. ⊎_elim
-      (λ e. subst (λ (p : ℕ). LinkHolds p order (changed place lane lanes p) (link_at (with_link place link old.links) p)) e.1
-      (subst (λ (l : Lane). LinkHolds place order l (link_at (with_link place link old.links) place)) (sym (changed-own place lane lanes))
-      (subst (λ (l : LinkState). LinkHolds place order lane l) (sym (link_own place link old.links inside)) own)))
-      (λ e. subst (λ (l : Lane). LinkHolds other order l (link_at (with_link place link old.links) other)) (sym (changed-other place other lane lanes e.1))
-      (subst (λ (l : LinkState). LinkHolds other order (lanes other) l) (sym (link_other place other link old.links e.1)) (h.links other)))
-      (eqb_tells place other);
-}
+relinked texts sent order lanes place lane link old inside own h =
+    grind (arith, eqb_tells, link_other, link_own, changed-other, changed-own)
 
 -- all sites, where the links are the same
 same_sites : (opening : CacheState) (order : Order) (lanes : ℕ → Lane) (old new : PoolState) → new.sites ≡ old.sites → new.proxy.links ≡ old.proxy.links
     → ((place : ℕ) (site : SiteState) → slice_get old.sites place ≡ Some site → SiteHolds place order (lanes place) (link_at old.proxy.links place) opening site)
     → (place : ℕ) (site : SiteState) → slice_get new.sites place ≡ Some site → SiteHolds place order (lanes place) (link_at new.proxy.links place) opening site
-same_sites opening order lanes old new sites links h place site at =
-    subst (λ (ls : List LinkState). SiteHolds place order (lanes place) (link_at ls place) opening site) (sym links)
-    (h place site (ap (λ (ss : List SiteState). slice_get ss place) (sym sites) ∙ at))
+same_sites opening order lanes old new sites links h place site at = grind (arith, slice_get)
 
 -- ClientBytes
 pub pool_hears : (opening : CacheState) (texts sent : ℕ → List ℕ) (order : Order) (lanes : ℕ → Lane) (client : ℕ) (piece : List ℕ) (old new : PoolState)
@@ -112,19 +92,11 @@ pool_puts opening texts sent order lanes client old new e h = record {
 -- ProxyTurn
 still_up : (place session request : ℕ) (e : Asked) (links now : List LinkState) → now ≡ handed session request 0 (route_of_taken e.ring e.what) links
     → (link_at now place).up ≡ true → (link_at links place).up ≡ true
-still_up place session request e links now is up =
-    ⊎_elim
-    (λ (on : (link_at links place).up ≡ true). on)
-    (λ (off : (link_at links place).up ≡ false).
-    let same : link_at now place ≡ link_at links place = ap (λ (ls : List LinkState). link_at ls place) is ∙ handed_at place session request 0 (route_of_taken e.ring e.what) links
-    ∙ received_down (commands_from place session request 0 (route_of_taken e.ring e.what)) (link_at links place) off in
-    ap (λ (l : LinkState). l.up) (sym same) ∙ up)
-    (cases_Bool (link_at links place).up)
+still_up place session request e links now is up = grind (arith, cases_Bool, handed_at, received_down)
 
 pub pool_takes : (opening : CacheState) (texts sent : ℕ → List ℕ) (order : Order) (lanes : ℕ → Lane) (client : ℕ) (old new : PoolState)
     → (e : TakesRequest client old new) → PoolHolds opening texts sent order lanes old → PoolHolds opening texts sent (order ++ entry_taken e.steps ∷ []) lanes new
 pool_takes opening texts sent order lanes client old new e h =
-    let asked : Asked = entry_taken e.steps in
     let stood : SessionHolds client order (texts client) (sent client) e.steps.before =
     subst (λ (s : Option SessionState). SessionHoldsAt client order (texts client) (sent client) s) e.steps.was (h.proxy.sessions client) in
     let good = taken_is_good client order (texts client) (sent client) e.steps.before e.steps.after e.steps.step.0 (h.bytes client) stood e.steps.step.1.first in
@@ -145,16 +117,13 @@ other_link : (opening : CacheState) (order order' : Order) (lanes lanes' : ℕ �
     → Keeps order order' → NoNews other order order' → commands_to other order' ≡ commands_to other order → commands_of_lane other order' (lanes other) ≡ commands_of_lane other order (lanes other)
     → SiteHolds other order (lanes other) (link_at links other) opening site → SiteHolds other order' (lanes' other) (link_at links' other) opening site
 other_link opening order order' lanes lanes' place other links links' site link_is lane_is keeps news commands sent h =
-    subst (λ (l : LinkState). SiteHolds other order' (lanes' other) l opening site) (sym link_is)
-    (subst (λ (l : Lane). SiteHolds other order' l (link_at links other) opening site) (sym lane_is)
-    (site_kept other order order' (lanes other) (lanes other) (link_at links other) (link_at links other) opening site keeps news commands (λ up. up) (λ _. (sent, refl, refl, refl)) h))
+    grind (arith, site_kept)
 
 -- ToServer, of the living generation
 pub pool_reaches_server : (opening : CacheState) (texts sent : ℕ → List ℕ) (order : Order) (lanes : ℕ → Lane) (place count : ℕ) (old new : PoolState)
     → ReachesServer place count old new → PoolHolds opening texts sent order lanes old
     → PoolHolds opening texts sent order (changed place (record (lanes place) { out = (lanes place).out ++ take count (link_at old.proxy.links place).output }) lanes) new
 pool_reaches_server opening texts sent order lanes place count old new e h =
-    let link : LinkState = link_at old.proxy.links place in
     let piece : List ℕ = take count (link_at old.proxy.links place).output in
     let after : LinkState = record (link_at old.proxy.links place) { output = drop count (link_at old.proxy.links place).output } in
     let lane : Lane = record (lanes place) { out = (lanes place).out ++ take count (link_at old.proxy.links place).output } in
@@ -190,14 +159,14 @@ pub pool_server_takes : (opening : CacheState) (texts sent : ℕ → List ℕ) (
     → PoolHolds opening texts sent order lanes new
 pool_server_takes opening texts sent order lanes place moment old new e below h =
     let holds = (h.proxy.links place).0 e.there.up in
-    let site = site_turned place order (lanes place) (link_at old.proxy.links place) opening e.there.site e.there.now.server moment e.tag e.enters.reply e.there.up e.enters.steps e.next e.enters.appended below holds
+    let site = site_turned place order (lanes place) (link_at old.proxy.links place) opening e.there.site e.there.now.server moment e.tag e.enters.on.reply e.there.up e.enters.on.steps e.next e.enters.on.appended below holds
     (h.sites place e.there.site e.there.at) in
     let links_are : new.proxy.links ≡ old.proxy.links = ap (λ (p : ProxyState). p.links) e.proxy in
     record {
       proxy = subst (λ (p : ProxyState). ProxyHolds texts sent order lanes p) (sym e.proxy) h.proxy;
       sites = sites_with opening order lanes old new place e.there.now e.there.sites
           (subst (λ (l : LinkState). SiteHolds place order (lanes place) l opening e.there.now) (sym (ap (λ (ls : List LinkState). link_at ls place) links_are))
-          (subst (λ (s : SiteState). SiteHolds place order (lanes place) (link_at old.proxy.links place) opening s) (sym e.enters.all_else) site))
+          (subst (λ (s : SiteState). SiteHolds place order (lanes place) (link_at old.proxy.links place) opening s) (sym (entered_site moment e.tag e.there.site e.there.now e.enters)) site))
           (λ other s differ at. other_link opening order order lanes lanes place other old.proxy.links new.proxy.links s
           (ap (λ (ls : List LinkState). link_at ls other) links_are) refl (λ _ _ k. k) (λ _ _ _ is known. (is, known)) refl refl (h.sites other s at));
       bytes = h.bytes;
@@ -312,14 +281,14 @@ pool_loses opening texts sent order lanes place old new e h =
 pub pool_late_bytes : (opening : CacheState) (texts sent : ℕ → List ℕ) (order : Order) (lanes : ℕ → Lane) (place i count : ℕ) (old new : PoolState)
     → LateBytes place i count old new → PoolHolds opening texts sent order lanes old → PoolHolds opening texts sent order lanes new
 pool_late_bytes opening texts sent order lanes place i count old new e h =
-    let site = site_late_fed place order (lanes place) (link_at old.proxy.links place) opening e.site e.now.server i e.way (take count e.way.going) (drop count e.way.going) e.way_at
-    (sym (take-append-drop count e.way.going)) e.steps (h.sites place e.site e.at) in
-    let links_are : new.proxy.links ≡ old.proxy.links = ap (λ (p : ProxyState). p.links) e.proxy in
+    let site = site_late_fed place order (lanes place) (link_at old.proxy.links place) opening e.there.site e.there.now.server i e.arrives.way (take count e.arrives.way.going) (drop count e.arrives.way.going) e.arrives.way_at
+    (sym (take-append-drop count e.arrives.way.going)) e.arrives.steps (h.sites place e.there.site e.there.at) in
+    let links_are : new.proxy.links ≡ old.proxy.links = ap (λ (p : ProxyState). p.links) e.there.proxy in
     record {
-      proxy = subst (λ (p : ProxyState). ProxyHolds texts sent order lanes p) (sym e.proxy) h.proxy;
-      sites = sites_with opening order lanes old new place e.now e.sites
-          (subst (λ (l : LinkState). SiteHolds place order (lanes place) l opening e.now) (sym (ap (λ (ls : List LinkState). link_at ls place) links_are))
-          (subst (λ (s : SiteState). SiteHolds place order (lanes place) (link_at old.proxy.links place) opening s) (sym e.now_is) site))
+      proxy = subst (λ (p : ProxyState). ProxyHolds texts sent order lanes p) (sym e.there.proxy) h.proxy;
+      sites = sites_with opening order lanes old new place e.there.now e.there.sites
+          (subst (λ (l : LinkState). SiteHolds place order (lanes place) l opening e.there.now) (sym (ap (λ (ls : List LinkState). link_at ls place) links_are))
+          (subst (λ (s : SiteState). SiteHolds place order (lanes place) (link_at old.proxy.links place) opening s) (sym e.arrives.all_else) site))
           (λ other s differ at. other_link opening order order lanes lanes place other old.proxy.links new.proxy.links s
           (ap (λ (ls : List LinkState). link_at ls other) links_are) refl (λ _ _ k. k) (λ _ _ _ is known. (is, known)) refl refl (h.sites other s at));
       bytes = h.bytes;
@@ -329,14 +298,14 @@ pool_late_bytes opening texts sent order lanes place i count old new e h =
 pub pool_late_turn : (opening : CacheState) (texts sent : ℕ → List ℕ) (order : Order) (lanes : ℕ → Lane) (place i moment : ℕ) (old new : PoolState)
     → (e : LateTurn place i moment old new) → moment < 2 ^ 63 → PoolHolds opening texts sent order lanes old → PoolHolds opening texts sent order lanes new
 pool_late_turn opening texts sent order lanes place i moment old new e below h =
-    let site = site_late_turned place order (lanes place) (link_at old.proxy.links place) opening e.site e.now.server moment i e.way e.tag e.tags e.reply e.way_at
-    e.untaken e.steps e.appended below (h.sites place e.site e.at) in
-    let links_are : new.proxy.links ≡ old.proxy.links = ap (λ (p : ProxyState). p.links) e.proxy in
+    let site = site_late_turned place order (lanes place) (link_at old.proxy.links place) opening e.there.site e.there.now.server moment i e.enters.way e.enters.tag e.enters.tags e.enters.on.reply e.enters.way_at
+    e.enters.untaken e.enters.on.steps e.enters.on.appended below (h.sites place e.there.site e.there.at) in
+    let links_are : new.proxy.links ≡ old.proxy.links = ap (λ (p : ProxyState). p.links) e.there.proxy in
     record {
-      proxy = subst (λ (p : ProxyState). ProxyHolds texts sent order lanes p) (sym e.proxy) h.proxy;
-      sites = sites_with opening order lanes old new place e.now e.sites
-          (subst (λ (l : LinkState). SiteHolds place order (lanes place) l opening e.now) (sym (ap (λ (ls : List LinkState). link_at ls place) links_are))
-          (subst (λ (s : SiteState). SiteHolds place order (lanes place) (link_at old.proxy.links place) opening s) (sym e.now_is) site))
+      proxy = subst (λ (p : ProxyState). ProxyHolds texts sent order lanes p) (sym e.there.proxy) h.proxy;
+      sites = sites_with opening order lanes old new place e.there.now e.there.sites
+          (subst (λ (l : LinkState). SiteHolds place order (lanes place) l opening e.there.now) (sym (ap (λ (ls : List LinkState). link_at ls place) links_are))
+          (subst (λ (s : SiteState). SiteHolds place order (lanes place) (link_at old.proxy.links place) opening s) (sym (late_site i moment e.there.site e.there.now e.enters)) site))
           (λ other s differ at. other_link opening order order lanes lanes place other old.proxy.links new.proxy.links s
           (ap (λ (ls : List LinkState). link_at ls other) links_are) refl (λ _ _ k. k) (λ _ _ _ is known. (is, known)) refl refl (h.sites other s at));
       bytes = h.bytes;
@@ -354,11 +323,11 @@ pool_returns opening texts sent order lanes place old new e h =
     let known = ((h.proxy.links place).1 off).outcomes in
     let proxy = relinked texts sent order lanes place lane after old.proxy e.inside (λ _. lane_fresh place ((link_at old.proxy.links place).generation + 1) order known, λ down. absurd (down refl)) h.proxy in
     let links_are : new.proxy.links ≡ with_link place after old.proxy.links = ap (λ (p : ProxyState). p.links) e.proxy in
-    let site = site_back place order (lanes place) (link_at old.proxy.links place) after opening e.site ((link_at old.proxy.links place).generation + 1) e.closed (h.sites place e.site e.at) in
+    let site = site_back place order (lanes place) (link_at old.proxy.links place) after opening e.site ((link_at old.proxy.links place).generation + 1) e.back.closed (h.sites place e.site e.at) in
     let now : SiteState = record e.site { server = with_fresh e.site.server; generation = (link_at old.proxy.links place).generation + 1; connection = e.site.server.admitted; ahead = 0 } in
     record {
       proxy = subst (λ (p : ProxyState). ProxyHolds texts sent order (changed place lane lanes) p) (sym e.proxy) proxy;
-      sites = sites_with opening order (changed place lane lanes) old new place now e.sites
+      sites = sites_with opening order (changed place lane lanes) old new place now (e.sites ∙ ap (λ (s : SiteState). slice_set old.sites place s) e.back.all_else)
           (subst (λ (l : LinkState). SiteHolds place order (changed place lane lanes place) l opening now) (sym (ap (λ (ls : List LinkState). link_at ls place) links_are ∙ link_own place after old.proxy.links e.inside))
           (subst (λ (l : Lane). SiteHolds place order l after opening now) (sym (changed-own place lane lanes)) site))
           (λ other s differ at. other_link opening order order lanes (changed place lane lanes) place other old.proxy.links new.proxy.links s
@@ -371,12 +340,12 @@ pool_returns opening texts sent order lanes place old new e h =
 pub pool_end_seen : (opening : CacheState) (texts sent : ℕ → List ℕ) (order : Order) (lanes : ℕ → Lane) (place i : ℕ) (old new : PoolState)
     → EndSeen place i old new → PoolHolds opening texts sent order lanes old → PoolHolds opening texts sent order lanes new
 pool_end_seen opening texts sent order lanes place i old new e h =
-    let site = site_ended place order (lanes place) (link_at old.proxy.links place) opening e.site e.server i e.way e.way_at e.closes e.not_open (h.sites place e.site e.at) in
-    let now : SiteState = record e.site { server = e.server; lost = remove e.site.lost i } in
-    let links_are : new.proxy.links ≡ old.proxy.links = ap (λ (p : ProxyState). p.links) e.proxy in
+    let site = site_ended place order (lanes place) (link_at old.proxy.links place) opening e.there.site e.there.now.server i e.ends.way e.ends.way_at e.ends.closes e.ends.not_open (h.sites place e.there.site e.there.at) in
+    let now : SiteState = record e.there.site { server = e.there.now.server; lost = remove e.there.site.lost i } in
+    let links_are : new.proxy.links ≡ old.proxy.links = ap (λ (p : ProxyState). p.links) e.there.proxy in
     record {
-      proxy = subst (λ (p : ProxyState). ProxyHolds texts sent order lanes p) (sym e.proxy) h.proxy;
-      sites = sites_with opening order lanes old new place now e.sites
+      proxy = subst (λ (p : ProxyState). ProxyHolds texts sent order lanes p) (sym e.there.proxy) h.proxy;
+      sites = sites_with opening order lanes old new place now (e.there.sites ∙ ap (λ (s : SiteState). slice_set old.sites place s) e.ends.all_else)
           (subst (λ (l : LinkState). SiteHolds place order (lanes place) l opening now) (sym (ap (λ (ls : List LinkState). link_at ls place) links_are)) site)
           (λ other s differ at. other_link opening order order lanes lanes place other old.proxy.links new.proxy.links s
           (ap (λ (ls : List LinkState). link_at ls other) links_are) refl (λ _ _ k. k) (λ _ _ _ is known. (is, known)) refl refl (h.sites other s at));

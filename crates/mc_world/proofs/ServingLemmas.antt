@@ -1,19 +1,14 @@
 -- The servers of a pool that holds serve a proxy.
-use Rattle.std.proofs.Common.{◌≡◌, ◌∙◌, ℕ, zero, suc, ◌+◌, ◌<◌, ◌≤◌, Bool, true, false, if◌then◌else◌, List, [], ◌∷◌, ◌++◌, length, map, drop, Option, Some, None, nat_lt, slice_get, refl, sym, ap, subst, append_assoc, append-nil, arith}
+use Rattle.std.proofs.Common.{◌≡◌, ◌∙◌, ℕ, zero, suc, ◌+◌, ◌<◌, ◌≤◌, Bool, true, false, List, [], ◌∷◌, ◌++◌, length, map, drop, Option, Some, None, nat_lt, slice_get, refl, sym, ap, subst, append_assoc, append-nil, arith}
 use Rattle.std.specs.List.{list_all}
 use Rattle.std.proofs.lemmas.Bool.{and_parts, lt-ltb, ltb-true}
 use Rattle.std.proofs.lemmas.List.{length-append, length-drop, length-map}
 use Rattle.mc_request.specs.Atoms.{head_of}
 use Rattle.mc_request.specs.Requests.{requests_of, requests_within}
 use Rattle.mc_request.specs.declared.faults.Fault.{Fault}
-use Rattle.mc_request.specs.declared.parts.Atom.{Atom}
-use Rattle.mc_request.specs.declared.parts.Taken.{Taken}
-use Rattle.mc_request.specs.declared.parts.Taken.TheVariants.{Faulty}
 use Rattle.mc_request.proofs.RequestLemmas.{goes_on}
 use Rattle.mc_request_reader.specs.Reader.{rest_from, rest_of}
-use Rattle.mc_reply.specs.Spelling.{spelling_of}
 use Rattle.mc_reply.specs.declared.replies.Reply.{Reply as AReply}
-use Rattle.mc_reply_reader.specs.NextReply.{IsBegun}
 use Rattle.mc_reply_reader.proofs.HeadLemmas.{atom_begins}
 use Rattle.mc_ring.specs.Rings.{RingState}
 use Rattle.mc_link.specs.LinkState.{LinkState, Waiting}
@@ -47,20 +42,8 @@ still_some : (closed : Bool) (dropping : Option (Fault × ℕ)) (unread more : L
 still_some true dropping unread more some = some
 still_some false None unread more some =
     let on = goes_on unread more in
-    let longer : length (requests_of (unread ++ more)) ≡ length (requests_of unread ++ on.0) = ap (λ (ts : List Taken). length ts) on.1 in
-    let same : length (requests_of (unread ++ [])) ≡ length (requests_of unread) = ap (λ (bytes : List ℕ). length (requests_of bytes)) (append-nil unread) in
-    omega (arith, some, longer, same, length-append (requests_of unread) on.0)
-still_some false (Some d) unread more some =
-    (elim (nat_lt (length (unread ++ more)) d.1) as (λ v. nat_lt (length (unread ++ more)) d.1 ≡ v → 0 < length (if v then [] else Faulty d.0 ∷ requests_of (drop d.1 (unread ++ more)))) [
-      | true ↦ λ is.
-          let below : length (unread ++ more) < d.1 = ltb-true (length (unread ++ more)) d.1 is in
-          let short : nat_lt (length (unread ++ [])) d.1 ≡ true =
-          lt-ltb (length (unread ++ [])) d.1 (omega (arith, below, length-append unread more, length-append unread [])) in
-          let none : length (if nat_lt (length (unread ++ [])) d.1 then [] else Faulty d.0 ∷ requests_of (drop d.1 (unread ++ []))) ≡ 0 =
-          ap (λ (v : Bool). length (if v then [] else Faulty d.0 ∷ requests_of (drop d.1 (unread ++ [])))) short in
-          absurd (omega (arith, some, none))
-      | false ↦ λ is. omega arith
-    ]) refl
+    grind (arith, append-nil, length-append)
+still_some false (Some d) unread more some = grind (arith, nat_lt, lt-ltb, ltb-true, length-append)
 
 -- what a server reads of a connection on which these commands are on their way
 abbrev Reads : ConnectionState → List ℕ → List Tagged → Type 0
@@ -70,9 +53,7 @@ Reads end going others = (more : List ℕ) → rest_of end.reader (going ++ more
 some_read : (end : ConnectionState) (going : List ℕ) (others : List Tagged) → Reads end going others → 0 < length (rest_of end.reader []) → 0 < length others
 some_read end going others reads some =
     let more : 0 < length (rest_of end.reader (going ++ [])) = still_some end.reader.closed end.reader.dropping end.reader.unread (going ++ []) some in
-    let same : length (rest_of end.reader (going ++ [])) ≡ length (map read_as others ++ requests_of []) = ap (λ (ts : List Taken). length ts) (reads []) in
-    let none : length (requests_of []) ≡ 0 = ap (λ (ts : List Taken). length ts) no_requests in
-    omega (arith, more, same, none, length-append (map read_as others) (requests_of []), length-map others read_as)
+    grind (arith, length-append, length-map, no_requests)
 
 -- the same of an open connection
 some_waits : (server : ServerState) (number : ℕ) (end : ConnectionState) (going : List ℕ) (others : List Tagged) → connection_at server number ≡ Some end → Reads end going others
@@ -115,13 +96,7 @@ some_later commands (r ∷ rs) link after tag reply past takes good waits is = o
 some_later [] [] link after tag reply past takes good waits is =
     let clash : [] ≡ (takes.head, tag) ∷ after.waiting = sym waits ∙ takes.oldest in absurd cc
 some_later (c ∷ cs) [] link after tag reply past takes good waits is =
-    let head_is : head_of c.0 ≡ takes.head = same_head (head_of c.0, c.1) (takes.head, tag) (as_waiting cs) after.waiting (sym waits ∙ takes.oldest) in
-    let begun : IsBegun takes.head [] =
-    subst (λ (head : Atom (Unit {0})). IsBegun head []) head_is (atom_begins c.0 (and_parts (is_good c) (list_all is_good cs) good).0) in
-    let nothing : spelling_of takes.head reply ≡ [] =
-    front_none (spelling_of takes.head reply) (after.unread ++ past)
-    (sym (append_assoc (spelling_of takes.head reply) after.unread past) ∙ ap (λ (bytes : List ℕ). bytes ++ past) (sym takes.spelled) ∙ is) in
-    absurd (not_nothing takes.head reply takes.can begun nothing)
+    grind (arith, append_assoc, and_parts, atom_begins, not_nothing, front_none, same_head)
 
 -- what is said of the living generation
 record LivingServes (link : LinkState) (site : SiteState) : Type 0 where

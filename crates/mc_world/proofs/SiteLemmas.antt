@@ -1,5 +1,5 @@
 -- A server and its ways hold after each thing that happens to them: one lemma for each.
-use Rattle.std.proofs.Common.{◌≡◌, ◌≢◌, ◌∙◌, ℕ, zero, suc, ◌+◌, ◌<◌, ◌^◌, ◌==◌, Bool, true, false, if◌then◌else◌, List, [], ◌∷◌, ◌++◌, length, map, drop, take, Option, Some, None, slice_get, refl, sym, ap, ap₂, subst, append_assoc, append-nil, arith}
+use Rattle.std.proofs.Common.{◌≡◌, ◌≢◌, ◌∙◌, ℕ, zero, suc, ◌+◌, ◌<◌, ◌^◌, Bool, true, List, [], ◌∷◌, ◌++◌, length, map, drop, take, Option, Some, None, slice_get, refl, sym, ap, ap₂, subst, append_assoc, append-nil, arith}
 use Rattle.std.specs.List.{list_all}
 use Rattle.std.proofs.lemmas.Bool.{and_parts}
 use Rattle.std.proofs.lemmas.List.{append_cancel_left, drop-map, length-append, length-map, map-append, take-append-drop}
@@ -11,19 +11,18 @@ use Rattle.mc_reply.specs.Spelling.{spelling_of}
 use Rattle.mc_link.specs.LinkState.{LinkState, Waiting}
 use Rattle.mc_link.specs.declared.turns.Tag.{Tag}
 use Rattle.mc_cache.specs.CacheState.{CacheState}
-use Rattle.mc_cache.specs.Refusals.{is_refusal}
-use Rattle.mc_cache.specs.Replay.{Command, IsLegal, replies}
+use Rattle.mc_cache.specs.Replay.{replies}
 use Rattle.mc_cache.specs.Step.{step_of}
 use Rattle.mc_cache_laws.specs.GoodCaches.{IsGoodCache}
 use Rattle.mc_cache_laws.proofs.GoodStepLemmas.{answers_as_it_can, stays_good}
-use Rattle.mc_server.specs.Served.{Entry as Taking, answer_after, cache_after, commands_of, tells_refusal}
+use Rattle.mc_server.specs.Served.{Entry as Taking, answer_after, cache_after}
 use Rattle.mc_server.specs.ServerState.{ConnectionState, ServerState, connection_at}
 use Rattle.mc_server.specs.Holds.{ServerHolds, Holds, grown}
 use Rattle.mc_server.specs.Turns.{Feeds, IsTurn, Steps}
 use Rattle.mc_server.specs.declared.turns.Turn.TheVariants.{Took}
 use Rattle.mc_server.proofs.ConnectionLemmas.{updated_other, updated_own}
 use Rattle.mc_server.proofs.HoldsLemmas.{ServerHolds-fed, ServerHolds-took, entry_taken, grown-other, grown-own, stood}
-use Rattle.mc_account.specs.Lanes.{Lane, LaneHolds, as_waiting, spelled}
+use Rattle.mc_account.specs.Lanes.{Lane, LaneHolds, as_waiting}
 use Rattle.mc_account.specs.Orders.{Order, Tagged, commands_to}
 use Rattle.mc_account.proofs.OpenSessions.{other_number, own_number}
 use Rattle.mc_account.proofs.OrderLemmas.{commands-append, passes_parts}
@@ -49,15 +48,7 @@ other_is number other old new Step steps differ =
 -- and so is its way
 pub lost_elsewhere : (place : ℕ) (order : Order) (made : List Made) (texts texts' : ℕ → List ℕ) (old new : ServerState) (way : WayState) → texts' way.connection ≡ texts way.connection
     → connection_at new way.connection ≡ connection_at old way.connection → IsLostWay place order made texts old way → IsLostWay place order made texts' new way
-lost_elsewhere place order made texts texts' old new way same is h = record {
-  end = h.end;
-  is_open = is ∙ h.is_open;
-  others = h.others;
-  put = ap (λ (bytes : List ℕ). bytes ++ way.going) same ∙ h.put;
-  good = h.good;
-  untaken = h.untaken;
-  named = h.named;
-}
+lost_elsewhere place order made texts texts' old new way same is h = grind arith
 
 -- bytes arrive at the living connection
 pub site_fed : (place : ℕ) (order : Order) (lane : Lane) (link link' : LinkState) (opening : CacheState) (site : SiteState) (server : ServerState) (piece : List ℕ)
@@ -100,37 +91,18 @@ made_on-append : (number : ℕ) (xs ys : List Made) → made_on number (xs ++ ys
 made_on-append number [] ys = refl
 made_on-append number (x ∷ xs) ys =
     let again = made_on-append number xs ys in
-    (elim (x.connection == number) as (λ v. (if v then x ∷ made_on number (xs ++ ys) else made_on number (xs ++ ys)) ≡ (if v then x ∷ made_on number xs else made_on number xs) ++ made_on number ys) [
-      | true ↦ ap (λ (ms : List Made). x ∷ ms) again
-      | false ↦ again
-    ])
+    grind arith
 
 pub commands_push_own : (made : List Made) (m : Made) → commands_on m.connection (made ++ m ∷ []) ≡ commands_on m.connection made ++ m.command ∷ []
-commands_push_own made m =
-    ap (λ (ms : List Made). map (λ (x : Made). x.command) ms)
-    (made_on-append m.connection made (m ∷ []) ∙ ap (λ (v : Bool). made_on m.connection made ++ (if v then m ∷ [] else [])) (own_number m.connection))
-    ∙ map-append (λ (x : Made). x.command) (made_on m.connection made) (m ∷ [])
+commands_push_own made m = grind (arith, map-append, own_number, made_on-append)
 
 pub commands_push_other : (number : ℕ) (made : List Made) (m : Made) → m.connection ≢ number → commands_on number (made ++ m ∷ []) ≡ commands_on number made
-commands_push_other number made m differ =
-    ap (λ (ms : List Made). map (λ (x : Made). x.command) ms)
-    (made_on-append number made (m ∷ []) ∙ ap (λ (v : Bool). made_on number made ++ (if v then m ∷ [] else [])) (other_number m.connection number differ)
-    ∙ append-nil (made_on number made))
+commands_push_other number made m differ = grind (arith, append-nil, other_number, made_on-append)
 
 -- the way of another connection, where one more was made
 pub lost_untouched : (place : ℕ) (order : Order) (made : List Made) (m : Made) (texts : ℕ → List ℕ) (old new : ServerState) (way : WayState) → m.connection ≢ way.connection
     → connection_at new way.connection ≡ connection_at old way.connection → IsLostWay place order made texts old way → IsLostWay place order (made ++ m ∷ []) texts new way
-lost_untouched place order made m texts old new way differ is h =
-    let same = commands_push_other way.connection made m differ in
-    record {
-      end = h.end;
-      is_open = is ∙ h.is_open;
-      others = h.others;
-      put = h.put ∙ ap (λ (cs : List Tagged). spelled (cs ++ h.others)) (sym same);
-      good = ap (λ (cs : List Tagged). list_all is_good (cs ++ h.others)) same ∙ h.good;
-      untaken = h.untaken;
-      named = h.named;
-    }
+lost_untouched place order made m texts old new way differ is h = grind (arith, commands_push_other)
 
 -- what a connection takes that reads these commands is the first of them
 pub record IsNext (others : List Tagged) (what : Taken) : Type 0 where
@@ -161,23 +133,12 @@ good_since place since order good =
 pub stood_at : (opening : CacheState) (made : List Made) (texts sent : ℕ → List ℕ) (lane : Lane) (site : SiteState) (end : ConnectionState) → ServerHolds opening texts sent (map taking_of made) site.server
     → connection_at site.server site.connection ≡ Some end → texts site.connection ≡ lane.out → sent site.connection ≡ lane.came
     → Holds opening site.connection lane.out (map taking_of made) lane.came end
-stood_at opening made texts sent lane site end h is_open out came =
-    subst (λ (text : List ℕ). Holds opening site.connection text (map taking_of made) lane.came end) out
-    (subst (λ (bytes : List ℕ). Holds opening site.connection (texts site.connection) (map taking_of made) bytes end) came
-    (stood opening texts sent (map taking_of made) site.server site.connection end h is_open))
+stood_at opening made texts sent lane site end h is_open out came = grind (arith, stood)
 
 -- a living generation is joined
 pub joined : (place : ℕ) (order : Order) (lane : Lane) (link : LinkState) (opening : CacheState) (site : SiteState) (up : link.up ≡ true) (h : SiteHolds place order lane link opening site)
     → LaneHolds place order lane link → AreJoined place order lane link opening h.made site.connection (h.living up).end (h.living up).others
-joined place order lane link opening site up h holds =
-    let living = h.living up in
-    record {
-      lane = holds;
-      connection = stood_at opening h.made h.texts h.sent lane site living.end h.server living.is_open living.out living.came;
-      made = h.answers;
-      commands = living.commands;
-      good = good_since place lane.since order h.good;
-    }
+joined place order lane link opening site up h holds = grind (arith, good_since, stood_at)
 
 -- the command that a server takes next
 pub record TakesNext (place : ℕ) (order : Order) (passed : Lane) (site : SiteState) (all : List Made) (others : List Tagged) (what : Taken) : Type 0 where
@@ -228,28 +189,12 @@ pub is_made : (site : SiteState) (server : ServerState) (moment : ℕ) (opening 
     → steps.step.0 ≡ read_as command → site.server.cache ≡ cache_of opening all → is_good command ≡ true
     → can_have command.0 (step_of (cache_of opening all) command.0 moment steps.step.1.served.0).1 ≡ true
     → IsMade (cache_of opening all) (made_of site all opening command moment steps.step.1.served.0)
-is_made site server moment opening all command steps what_is cache_is good can =
-    let refused : Bool = steps.step.1.served.0 in
-    let legal = steps.step.1.served.1.legal.0 in
-    let here : IsLegal (cache_of opening all) (commands_of (taking_of (made_of site all opening command moment steps.step.1.served.0))) =
-    subst (λ (s : CacheState). IsLegal s (commands_of (taking_of (made_of site all opening command moment steps.step.1.served.0)))) cache_is
-    (subst (λ (what : Taken). IsLegal site.server.cache (commands_of (record { connection = site.connection; what = what; moment = moment; refused = steps.step.1.served.0 }))) what_is legal) in
-    let one = subst (λ (cs : List Command). IsLegal (cache_of opening all) cs) (commands_made (made_of site all opening command moment steps.step.1.served.0)) here in
-    let told : steps.step.1.served.0 ≡ is_refusal (step_of (cache_of opening all) command.0 moment steps.step.1.served.0).1 =
-    steps.step.1.served.1.legal.1
-    ∙ ap (λ (what : Taken). tells_refusal (replies site.server.cache (commands_of (taking_by site.connection what moment steps.step.1.served.0)))) what_is
-    ∙ ap (λ (s : CacheState). tells_refusal (replies s (commands_of (taking_of (made_of site all opening command moment steps.step.1.served.0))))) cache_is
-    ∙ ap (λ (cs : List Command). tells_refusal (replies (cache_of opening all) cs)) (commands_made (made_of site all opening command moment steps.step.1.served.0))
-    ∙ one_tells (step_of (cache_of opening all) command.0 moment steps.step.1.served.0).1 in
-    record { good = good; legal = one.0; reply = refl; told = told; can = can }
+is_made site server moment opening all command steps what_is cache_is good can = grind (arith, one_tells, cache_of, commands_made)
 
 -- and leaves a good cache good
 pub still_good : (s t : CacheState) (m : Made) (what : Taken) → what ≡ read_as m.command → t ≡ cache_after s (taking_by m.connection what m.moment m.refused)
     → is_good m.command ≡ true → m.moment < 2 ^ 63 → IsGoodCache s → IsGoodCache t
-still_good s t m what what_is is good below h =
-    subst IsGoodCache
-    (sym (is ∙ ap (λ (w : Taken). cache_after s (taking_by m.connection w m.moment m.refused)) what_is ∙ cache_made s m))
-    (stays_good s h m.command.0 good m.moment below m.refused)
+still_good s t m what what_is is good below h = grind (arith, stays_good, cache_made)
 
 -- the bytes that it appends are the reply
 pub appended : (site : SiteState) (server : ServerState) (moment : ℕ) (opening : CacheState) (all : List Made) (command : Tagged) (reply : List ℕ)
@@ -292,10 +237,7 @@ waits_next place order lane link opening site up h command past holds is =
     ∙ sym (drop-map (λ (c : Tagged). c.1) (length lane.replies) (commands_of_lane place order lane))
     ∙ ap (λ (cs : List Tagged). drop (length lane.replies) (map (λ (c : Tagged). c.1) cs)) (living.commands ∙ ap (λ (cs : List Tagged). commands_on site.connection h.made ++ cs) is)
     ∙ ap (λ (ts : List Tag). drop (length lane.replies) ts) (map-append (λ (c : Tagged). c.1) (commands_on site.connection h.made) (command ∷ past)) in
-    ap (λ (ts : List Tag). slice_get ts site.ahead) tags
-    ∙ get_past (map (λ (c : Tagged). c.1) (commands_on site.connection h.made) ++ command.1 ∷ map (λ (c : Tagged). c.1) past) (length lane.replies) site.ahead
-    ∙ at_place (map (λ (c : Tagged). c.1) (commands_on site.connection h.made)) (map (λ (c : Tagged). c.1) past) command.1 (site.ahead + length lane.replies)
-    (living.ahead ∙ sym (length-map (commands_on site.connection h.made) (λ (c : Tagged). c.1)))
+    grind (arith, slice_get, length-map, at_place, get_past)
 
 pub same_tag : (at : Option Tag) (a b : Tag) → at ≡ Some a → at ≡ Some b → a ≡ b
 same_tag at a b x y = let both : Some a ≡ Some b = sym x ∙ y in cc
@@ -306,9 +248,7 @@ entry_by tag moment refused reply = record { client = tag.session; request = tag
 -- how often a tag is among the commands that were not taken
 pub others_of : (others : List Tagged) (command : Tagged) (past : List Tagged) → others ≡ command ∷ past
     → (tag : Tag) → times tag (tags_of others) ≡ times tag (command.1 ∷ []) + times tag (tags_of past)
-others_of others command past is tag =
-    let whole : times tag (tags_of others) ≡ times tag (tags_of (command ∷ past)) = ap (λ (cs : List Tagged). times tag (tags_of cs)) is in
-    omega (arith, whole)
+others_of others command past is tag = grind arith
 
 -- a turn of the living connection: the history has the command that waits next, at that moment, with the bytes that the server appended
 pub site_turned : (place : ℕ) (order : Order) (lane : Lane) (link : LinkState) (opening : CacheState) (site : SiteState) (server : ServerState) (moment : ℕ) (tag : Tag) (reply : List ℕ)
@@ -323,7 +263,6 @@ pub site_turned : (place : ℕ) (order : Order) (lane : Lane) (link : LinkState)
 site_turned place order lane link opening site server moment tag reply up steps named more below holds h =
     let living = h.living up in
     let takes = takes_next place order lane link opening site server moment up steps h holds in
-    let command : Tagged = takes.next.command in
     let cache_is : site.server.cache ≡ cache_of opening h.made = h.server.cache.cache ∙ replayed_made opening h.made in
     let m : Made = made_of site h.made opening takes.next.command moment steps.step.1.served.0 in
     let others_named : Each (IsNamed place order) living.others = each_back (IsNamed place order) (commands_on site.connection h.made) living.others

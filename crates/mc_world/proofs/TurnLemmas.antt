@@ -88,12 +88,12 @@ entered number moment tag old new history reply refused below serves steps reply
 -- of the living generation
 pub entered_at : (moment : ℕ) (tag : Tag) (old : SiteState) (server : ServerState) (history : List Entry) → EntersOn old.connection moment tag old.server server old.history history
     → Enters moment tag old (record old { server = server; history = history; ahead = old.ahead + 1 })
-entered_at moment tag old server history h = record {
-  steps = h.steps;
-  reply = h.reply;
-  appended = h.appended;
-  all_else = ap (λ (es : List Entry). record old { server = server; history = es; ahead = old.ahead + 1 }) h.history;
-}
+entered_at moment tag old server history h = record { on = h; all_else = refl }
+
+-- with its entry
+pub entered_site : (moment : ℕ) (tag : Tag) (old new : SiteState) → (e : Enters moment tag old new)
+    → new ≡ record old { server = new.server; history = old.history ++ entry_of_tag tag moment e.on.steps.step.1.served.0 e.on.reply ∷ []; ahead = old.ahead + 1 }
+entered_site moment tag old new e = e.all_else ∙ ap (λ (es : List Entry). record old { server = new.server; history = es; ahead = old.ahead + 1 }) e.on.history
 
 -- of a lost one
 first_of : (tags : List Tag) (tag : Tag) → slice_get tags 0 ≡ Some tag → tags ≡ tag ∷ drop 1 tags
@@ -107,13 +107,19 @@ entered_late i moment tag old server history way at next h = record {
   way = way;
   tag = tag;
   tags = drop 1 way.untaken;
-  reply = h.reply;
   way_at = at;
   untaken = first_of way.untaken tag next;
-  steps = h.steps;
-  appended = h.appended;
-  all_else = ap (λ (es : List Entry). record old { server = server; history = es; lost = slice_set old.lost i (record way { untaken = drop 1 way.untaken }) }) h.history;
+  on = h;
+  all_else = refl;
 }
+
+pub late_site : (i moment : ℕ) (old new : SiteState) → (e : EntersLate i moment old new) → new ≡ record old {
+  server = new.server;
+  history = old.history ++ entry_of_tag e.tag moment e.on.steps.step.1.served.0 e.on.reply ∷ [];
+  lost = slice_set old.lost i (record e.way { untaken = e.tags });
+}
+late_site i moment old new e =
+    e.all_else ∙ ap (λ (es : List Entry). record old { server = new.server; history = es; lost = slice_set old.lost i (record e.way { untaken = e.tags }) }) e.on.history
 
 -- what is said of the way at a place
 pub said_of_way : (P : WayState → Type 0) (ways : List WayState) (i : ℕ) (own : WayState) → slice_get ways i ≡ Some own → P own → (way : WayState) → slice_get ways i ≡ Some way → P way

@@ -44,7 +44,7 @@ living_bytes server generation count clients log old new lives h =
     record { pool = inl (h, own_generation server generation old h.there.site lives h.there.at); clients = refl; log = refl }
 
 pub lost_bytes : (server generation count : ℕ) (clients : List ClientState) (log : Log) (old new : PoolState) → (Lives server generation old → ⊥)
-    → ((i : ℕ) × (h : LateBytes server i count old new) × (h.way.generation ≡ generation))
+    → ((i : ℕ) × (h : LateBytes server i count old new) × (h.arrives.way.generation ≡ generation))
     → HappensTo (ToServer server generation count) (course_of old clients log) (course_of new clients log)
 lost_bytes server generation count clients log old new dead h = record { pool = inr (h.0, h.1, h.2, dead); clients = refl; log = refl }
 
@@ -55,7 +55,7 @@ living_turn server generation moment clients log old new fits lives h =
     record { pool = (fits, inl (h, own_generation server generation old h.there.site lives h.there.at)); clients = refl; log = refl }
 
 pub lost_turn : (server generation moment : ℕ) (clients : List ClientState) (log : Log) (old new : PoolState) → moment < 2 ^ 63
-    → (Lives server generation old → ⊥) → ((i : ℕ) × (h : LateTurn server i moment old new) × (h.way.generation ≡ generation))
+    → (Lives server generation old → ⊥) → ((i : ℕ) × (h : LateTurn server i moment old new) × (h.enters.way.generation ≡ generation))
     → HappensTo (ServerTurn server generation moment) (course_of old clients log) (course_of new clients log)
 lost_turn server generation moment clients log old new fits dead h = record { pool = (fits, inr (h.0, h.1, h.2, dead)); clients = refl; log = refl }
 

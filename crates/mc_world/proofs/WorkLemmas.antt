@@ -1,23 +1,20 @@
 -- How much is left to do, where one thing has changed.
-use Rattle.std.proofs.Common.{◌≡◌, ◌∙◌, ℕ, zero, suc, ◌+◌, ◌-◌, ◌*◌, ◌<◌, ◌≤◌, ◌==◌, Bool, true, false, if◌then◌else◌, nat_lt, List, [], ◌∷◌, ◌++◌, length, drop, remove, Some, None, slice_get, slice_set, refl, ap, subst, arith}
+use Rattle.std.proofs.Common.{◌≡◌, ℕ, zero, suc, ◌+◌, ◌*◌, ◌<◌, ◌≤◌, ◌==◌, Bool, true, false, if◌then◌else◌, nat_lt, List, [], ◌∷◌, length, drop, remove, Some, slice_get, slice_set, refl, ap, subst, arith}
 use Rattle.std.proofs.lemmas.List.{length-append}
 use Rattle.std.proofs.lemmas.Option.{same_Some}
-use Rattle.mc_request.specs.Atoms.{head_of}
 use Rattle.mc_request.specs.declared.parts.Atom.{Atom}
-use Rattle.mc_request_reader.specs.Reader.{rest_of}
-use Rattle.mc_spelling.specs.Spellings.{spelling_of_atom}
 use Rattle.mc_ring.specs.Rings.{RingState}
 use Rattle.mc_route.specs.declared.outcomes.Outcome.{Outcome}
 use Rattle.mc_route.specs.declared.routes.Routed.{Routed}
-use Rattle.mc_link.specs.LinkState.{LinkState, sent}
+use Rattle.mc_link.specs.LinkState.{LinkState}
 use Rattle.mc_link.specs.declared.turns.Tag.{Tag}
-use Rattle.mc_session.specs.Emits.{answer_of_one, emitted, emitted_from, is_known}
+use Rattle.mc_session.specs.Emits.{emitted, emitted_from}
 use Rattle.mc_session.specs.Noting.{noted_at, noted_in}
-use Rattle.mc_session.specs.Sending.{handed, handed_to, tag_of}
-use Rattle.mc_session.specs.SessionState.{SessionState, Unanswered, answered, link_at, with_link}
+use Rattle.mc_session.specs.Sending.{handed, handed_to}
+use Rattle.mc_session.specs.SessionState.{SessionState, Unanswered, link_at, with_link}
 use Rattle.mc_proxy.specs.Noting.{noted}
 use Rattle.mc_proxy.specs.ProxyState.{Sessions, session_in, updated}
-use Rattle.mc_world.specs.WorkLeft.{moves_of, work_left, work_of_link, work_of_requests, work_of_session, work_of_sessions, work_of_site, work_of_sites, work_of_ways, work_on}
+use Rattle.mc_world.specs.WorkLeft.{moves_of, work_left, work_of_link, work_of_session, work_of_sessions, work_of_site, work_of_sites, work_of_ways, work_on}
 use Rattle.mc_world.specs.WorldState.{PoolState, SiteState, WayState}
 
 -- bytes are one move at most; where there are some they are one, and all of them moved leaves none
@@ -55,36 +52,17 @@ noted_at-length zero atom outcome (u ∷ us) = refl
 noted_at-length (suc place) atom outcome (u ∷ us) = ap suc (noted_at-length place atom outcome us)
 
 session_noted : (ring : RingState) (tag : Tag) (outcome : Outcome) (s : SessionState) → work_of_session ring (noted_in tag outcome s) ≡ work_of_session ring s
-session_noted ring tag outcome s =
-    (elim (nat_lt tag.request (answered s)) as (λ v.
-    work_of_session ring (if v then s else record s { unanswered = noted_at (tag.request - answered s) tag.atom outcome s.unanswered }) ≡ work_of_session ring s) [
-      | true ↦ refl
-      | false ↦ ap (λ (n : ℕ). work_of_requests ring (rest_of s.reader []) + 2 * n + moves_of s.output) (noted_at-length (tag.request - answered s) tag.atom outcome s.unanswered)
-    ])
+session_noted ring tag outcome s = grind (arith, nat_lt, noted_at-length)
 
 pub sessions_noted : (ring : RingState) (tag : Tag) (outcome : Outcome) (open_ones : Sessions) → work_of_sessions ring (noted tag outcome open_ones) ≡ work_of_sessions ring open_ones
 sessions_noted ring tag outcome [] = refl
-sessions_noted ring tag outcome (s ∷ others) =
-    (elim (s.0 == tag.session) as (λ v. work_of_sessions ring (if v then (s.0, noted_in tag outcome s.1) ∷ others else s ∷ noted tag outcome others)
-    ≡ work_of_session ring s.1 + work_of_sessions ring others) [
-      | true ↦ ap (λ (n : ℕ). n + work_of_sessions ring others) (session_noted ring tag outcome s.1)
-      | false ↦ ap (λ (n : ℕ). work_of_session ring s.1 + n) (sessions_noted ring tag outcome others)
-    ])
+sessions_noted ring tag outcome (s ∷ others) = grind (arith, session_noted, sessions_noted ring tag outcome others)
 
 -- an answer that was put out
 put_from : (ring : RingState) (session after : SessionState) (us : List Unanswered) → session.unanswered ≡ us → emitted_from session us ≡ Some after
     → work_of_session ring after < work_of_session ring session
 put_from ring session after [] is put = absurd cc
-put_from ring session after (u ∷ us) is put =
-    (elim (is_known u) as (λ v. (if v then Some (record session { output = session.output ++ answer_of_one u; unanswered = us }) else None) ≡ Some after
-    → work_of_session ring after < work_of_session ring session) [
-      | true ↦ λ e.
-          let same : work_of_session ring (record session { output = session.output ++ answer_of_one u; unanswered = us }) ≡ work_of_session ring after =
-          ap (work_of_session ring) (same_Some (record session { output = session.output ++ answer_of_one u; unanswered = us }) after e) in
-          let one : length session.unanswered ≡ suc (length us) = ap (λ (xs : List Unanswered). length xs) is in
-          omega (arith, same, one, moves_most (session.output ++ answer_of_one u))
-      | false ↦ λ e. absurd cc
-    ]) put
+put_from ring session after (u ∷ us) is put = grind (arith, same_Some, moves_most)
 
 pub put_less : (ring : RingState) (session after : SessionState) → emitted session ≡ Some after → work_of_session ring after < work_of_session ring session
 put_less ring session after put = put_from ring session after session.unanswered refl put
@@ -101,9 +79,7 @@ pub sites_changed : (links : List LinkState) (sites : List SiteState) (place : �
     → work_of_sites (with_link place link links) (slice_set sites place now) + work_of_site (link_at links place) site ≡ work_of_sites links sites + work_of_site link now
 sites_changed [] sites place link site now at inside = absurd (omega (arith, inside))
 sites_changed (l ∷ ls) [] place link site now at inside = absurd cc
-sites_changed (l ∷ ls) (s ∷ ss) zero link site now at inside =
-    let same : work_of_site l s ≡ work_of_site l site = ap (λ (x : SiteState). work_of_site l x) (same_Some s site at) in
-    omega (arith, same)
+sites_changed (l ∷ ls) (s ∷ ss) zero link site now at inside = grind (arith, same_Some)
 sites_changed (l ∷ ls) (s ∷ ss) (suc place) link site now at inside =
     omega (arith, sites_changed ls ss place link site now at (omega (arith, inside)))
 
@@ -120,15 +96,7 @@ site_changed links sites place site now at inside =
 
 -- commands that are handed to links: four things more for each at most
 link_handed : (tag : Tag) (atom : Atom (List ℕ)) (link : LinkState) (site : SiteState) → work_of_link (handed_to tag atom link) site ≤ work_of_link link site + 4
-link_handed tag atom link site =
-    (elim link.up as (λ v. link.up ≡ v → work_of_link (if v then sent atom tag link else link) site ≤ work_of_link link site + 4) [
-      | true ↦ λ up.
-          let now : work_of_link (sent atom tag link) site ≡ work_on (sent atom tag link) site = up_work (sent atom tag link) site up in
-          let was : work_of_link link site ≡ work_on link site = up_work link site up in
-          let longer : length (link.waiting ++ (head_of atom, tag) ∷ []) ≡ length link.waiting + 1 = length-append link.waiting ((head_of atom, tag) ∷ []) in
-          omega (arith, now, was, longer, moves_most (link.output ++ spelling_of_atom atom))
-      | false ↦ λ down. omega arith
-    ]) refl
+link_handed tag atom link site = grind (arith, length-append, moves_most, up_work)
 
 one_handed : (links : List LinkState) (sites : List SiteState) (place : ℕ) (tag : Tag) (atom : Atom (List ℕ))
     → work_of_sites (with_link place (handed_to tag atom (link_at links place)) links) sites ≤ work_of_sites links sites + 4
@@ -141,12 +109,7 @@ one_handed (l ∷ ls) (s ∷ ss) (suc place) tag atom = omega (arith, one_handed
 pub sites_handed : (session request at : ℕ) (commands : List Routed) (links : List LinkState) (sites : List SiteState)
     → work_of_sites (handed session request at commands links) sites ≤ work_of_sites links sites + 4 * length commands
 sites_handed session request at [] links sites = omega arith
-sites_handed session request at (c ∷ cs) links sites =
-    omega (
-      arith,
-      sites_handed session request (suc at) cs (with_link c.server (handed_to (tag_of session request at) c.atom (link_at links c.server)) links) sites,
-      one_handed links sites c.server (tag_of session request at) c.atom,
-    )
+sites_handed session request at (c ∷ cs) links sites = grind (arith, one_handed, sites_handed session request (suc at) cs)
 
 -- lost generations: one has ended; of one a command was taken
 pub ways_removed : (ways : List WayState) (i : ℕ) (way : WayState) → slice_get ways i ≡ Some way → work_of_ways (remove ways i) < work_of_ways ways
@@ -163,8 +126,4 @@ ways_changed (w ∷ ws) (suc i) way now at = omega (arith, ways_changed ws i way
 -- what is left, by parts
 pub left_as : (pool : PoolState) (ring : RingState) (sessions : Sessions) (links : List LinkState) (sites : List SiteState) → pool.proxy.ring ≡ ring → pool.proxy.sessions ≡ sessions
     → pool.proxy.links ≡ links → pool.sites ≡ sites → work_left pool ≡ work_of_sessions ring sessions + work_of_sites links sites
-left_as pool ring sessions links sites ring_is sessions_are links_are sites_are =
-    ap (λ (r : RingState). work_of_sessions r pool.proxy.sessions + work_of_sites pool.proxy.links pool.sites) ring_is
-    ∙ ap (λ (ss : Sessions). work_of_sessions ring ss + work_of_sites pool.proxy.links pool.sites) sessions_are
-    ∙ ap (λ (ls : List LinkState). work_of_sessions ring sessions + work_of_sites ls pool.sites) links_are
-    ∙ ap (λ (ss : List SiteState). work_of_sessions ring sessions + work_of_sites links ss) sites_are
+left_as pool ring sessions links sites ring_is sessions_are links_are sites_are = grind arith

@@ -16,13 +16,13 @@ use Rattle.mc_world.specs.declared.events.Logged.TheVariants.{Happened}
 abbrev pub BytesArrive : ℕ → ℕ → ℕ → PoolState → PoolState → Type 0
 BytesArrive server generation count old new =
     ((h : ReachesServer server count old new) × (h.there.site.generation ≡ generation))
-    ⊎ ((i : ℕ) × (h : LateBytes server i count old new) × (h.way.generation ≡ generation) × (Lives server generation old → ⊥))
+    ⊎ ((i : ℕ) × (h : LateBytes server i count old new) × (h.arrives.way.generation ≡ generation) × (Lives server generation old → ⊥))
 
 -- a server takes a request of a generation, living or lost
 abbrev pub RequestIsServed : ℕ → ℕ → ℕ → PoolState → PoolState → Type 0
 RequestIsServed server generation moment old new =
     ((h : ServerTakes server moment old new) × (h.there.site.generation ≡ generation))
-    ⊎ ((i : ℕ) × (h : LateTurn server i moment old new) × (h.way.generation ≡ generation) × (Lives server generation old → ⊥))
+    ⊎ ((i : ℕ) × (h : LateTurn server i moment old new) × (h.enters.way.generation ≡ generation) × (Lives server generation old → ⊥))
 
 -- the session of a client is open
 abbrev pub IsOpen : ℕ → PoolState → Type 0
@@ -41,7 +41,7 @@ Happens (Emit client) old new = PutsAnswer client old new
 Happens (ClientTakes client count) old new = IsOpen client old × TakesBytes client count old new
 Happens (LinkLost server) old new = LosesLink server old new
 Happens (LinkBack server) old new = LinkReturns server old new
-Happens (ServerSeesEnd server generation) old new = (i : ℕ) × (h : EndSeen server i old new) × (h.way.generation ≡ generation)
+Happens (ServerSeesEnd server generation) old new = (i : ℕ) × (h : EndSeen server i old new) × (h.ends.way.generation ≡ generation)
 
 -- and to the clients: one has sent more bytes; one took the first bytes that were put out to it, or, when it goes, all
 abbrev pub clients_after : Event (List ℕ) → PoolState → List ClientState → List ClientState

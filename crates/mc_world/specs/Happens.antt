@@ -38,23 +38,17 @@ entry_of_tag tag moment refused reply = record {
   reply = reply;
 }
 
--- the server takes a request of it, which is the command of this tag: the history has it with the bytes that the server appended
-pub record Enters (moment : ℕ) (tag : Tag) (old new : SiteState) : Type 0 where
-  pub steps : Steps old.connection old.server new.server (IsTurn old.connection moment Took)
-  pub reply : List ℕ
-  pub appended : steps.after.output ≡ steps.before.output ++ reply
-  pub all_else : new ≡ record old {
-    server = new.server;
-    history = old.history ++ entry_of_tag tag moment steps.step.1.served.0 reply ∷ [];
-    ahead = old.ahead + 1;
-  }
-
 -- the server takes a request of a connection, which is the command of this tag: the history has it with the bytes that the server appended
 pub record EntersOn (number moment : ℕ) (tag : Tag) (old new : ServerState) (before after : List Entry) : Type 0 where
   pub steps : Steps number old new (IsTurn number moment Took)
   pub reply : List ℕ
   pub appended : steps.after.output ≡ steps.before.output ++ reply
   pub history : after ≡ before ++ entry_of_tag tag moment steps.step.1.served.0 reply ∷ []
+
+-- it takes one of the living generation
+pub record Enters (moment : ℕ) (tag : Tag) (old new : SiteState) : Type 0 where
+  pub on : EntersOn old.connection moment tag old.server new.server old.history new.history
+  pub all_else : new ≡ record old { server = new.server; history = new.history; ahead = old.ahead + 1 }
 
 -- bytes of a lost generation arrive at the server, the first of those on their way
 pub record ArrivesLate (i count : ℕ) (old new : SiteState) : Type 0 where
@@ -68,16 +62,10 @@ pub record EntersLate (i moment : ℕ) (old new : SiteState) : Type 0 where
   pub way : WayState
   pub tag : Tag
   pub tags : List Tag
-  pub reply : List ℕ
   pub way_at : slice_get old.lost i ≡ Some way
   pub untaken : way.untaken ≡ tag ∷ tags
-  pub steps : Steps way.connection old.server new.server (IsTurn way.connection moment Took)
-  pub appended : steps.after.output ≡ steps.before.output ++ reply
-  pub all_else : new ≡ record old {
-    server = new.server;
-    history = old.history ++ entry_of_tag tag moment steps.step.1.served.0 reply ∷ [];
-    lost = slice_set old.lost i (record way { untaken = tags });
-  }
+  pub on : EntersOn way.connection moment tag old.server new.server old.history new.history
+  pub all_else : new ≡ record old { server = new.server; history = new.history; lost = slice_set old.lost i (record way { untaken = tags }) }
 
 -- the server sees the end of a lost generation: its connection is closed, and its bytes are dropped
 pub record Ends (i : ℕ) (old new : SiteState) : Type 0 where

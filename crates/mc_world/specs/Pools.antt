@@ -1,27 +1,25 @@
 -- What happens to a pool, as the calls of its proxy and its servers say it, and where a pool is after them.
-use Rattle.std.specs.Prelude.{ℕ, ◌≡◌, ◌+◌, ◌<◌, true, List, [], ◌∷◌, ◌++◌, length, map, take, drop, None, Some, slice_get, slice_set, remove, All}
+use Rattle.std.specs.Prelude.{ℕ, ◌≡◌, ◌+◌, ◌<◌, true, List, [], ◌∷◌, ◌++◌, length, map, take, drop, None, Some, slice_get, slice_set, All}
 use Rattle.mc_route.specs.Routes.{route_of_taken}
 use Rattle.mc_link.specs.LinkState.{LinkState, can_come_back, up_link}
 use Rattle.mc_link.specs.declared.turns.Tag.{Tag}
 use Rattle.mc_cache.specs.CacheState.{CacheState}
-use Rattle.mc_server.specs.ServerState.{ServerState, closed, connection_at, output_of, with_fresh}
-use Rattle.mc_server.specs.Turns as servers
+use Rattle.mc_server.specs.ServerState.{connection_at, output_of}
 use Rattle.mc_session.specs.Emits.{IsEmit}
 use Rattle.mc_session.specs.Sending.{at_once}
 use Rattle.mc_session.specs.SessionState.{link_at, with_link}
 use Rattle.mc_session.specs.Turns.{IsFed, IsTurn}
 use Rattle.mc_session.specs.declared.turns.Emit.TheVariants as emits
 use Rattle.mc_session.specs.declared.turns.Turn.TheVariants as turns
-use Rattle.mc_server.specs.declared.turns.Turn.TheVariants.{Took}
 use Rattle.mc_proxy.specs.LinkTurns.{Answers, lost_at}
 use Rattle.mc_proxy.specs.ProxyState.{sent_by, session_at, without}
 use Rattle.mc_proxy.specs.Turns.{Alone, Steps}
 use Rattle.mc_account.specs.Lanes.{Lane}
 use Rattle.mc_account.specs.Orders.{Entry as Asked, Order}
 use Rattle.mc_account.specs.Holds.{ProxyHolds}
-use Rattle.mc_world.specs.Happens.{Arrives, Enters, entry_of_tag, returned, taken_one}
+use Rattle.mc_world.specs.Happens.{Arrives, ArrivesLate, ComesBack, Ends, Enters, EntersLate, returned, taken_one}
 use Rattle.mc_world.specs.Sites.{SiteHolds}
-use Rattle.mc_world.specs.WorldState.{PoolState, SiteState, WayState}
+use Rattle.mc_world.specs.WorldState.{PoolState, SiteState}
 
 -- a client's bytes are fed to its session; a request of a client is taken; one of its answers is put out
 pub record HearsClient (client : ℕ) (piece : List ℕ) (old new : PoolState) : Type 0 where
@@ -112,64 +110,36 @@ pub record LosesLink (place : ℕ) (old new : PoolState) : Type 0 where
   pub cut : there.now ≡ cut_off (link_at old.proxy.links place) there.site
   pub proxy : new.proxy ≡ lost_at place old.proxy
 
--- bytes of a lost generation arrive at its server, the first of those on their way
+-- something happens at the site of a place, and nothing to the proxy
+pub record AtSiteAlone (place : ℕ) (old new : PoolState) : Type 0 where
+  pub site : SiteState
+  pub now : SiteState
+  pub at : slice_get old.sites place ≡ Some site
+  pub sites : new.sites ≡ slice_set old.sites place now
+  pub proxy : new.proxy ≡ old.proxy
+
+-- bytes of a lost generation arrive at its server; that takes a request of it; and it sees its end
 pub record LateBytes (place i count : ℕ) (old new : PoolState) : Type 0 where
-  pub site : SiteState
-  pub now : SiteState
-  pub way : WayState
-  pub at : slice_get old.sites place ≡ Some site
-  pub way_at : slice_get site.lost i ≡ Some way
-  pub steps : servers.Steps way.connection site.server now.server (servers.Feeds (take count way.going))
-  pub now_is : now ≡ record site { server = now.server; lost = slice_set site.lost i (record way { going = drop count way.going }) }
-  pub sites : new.sites ≡ slice_set old.sites place now
-  pub proxy : new.proxy ≡ old.proxy
+  pub there : AtSiteAlone place old new
+  pub arrives : ArrivesLate i count there.site there.now
 
--- a server takes a request of a lost generation
 pub record LateTurn (place i moment : ℕ) (old new : PoolState) : Type 0 where
-  pub site : SiteState
-  pub now : SiteState
-  pub way : WayState
-  pub tag : Tag
-  pub tags : List Tag
-  pub reply : List ℕ
-  pub at : slice_get old.sites place ≡ Some site
-  pub way_at : slice_get site.lost i ≡ Some way
-  pub untaken : way.untaken ≡ tag ∷ tags
-  pub steps : servers.Steps way.connection site.server now.server (servers.IsTurn way.connection moment Took)
-  pub appended : steps.after.output ≡ steps.before.output ++ reply
-  pub now_is : now ≡ record site {
-    server = now.server;
-    history = site.history ++ entry_of_tag tag moment steps.step.1.served.0 reply ∷ [];
-    lost = slice_set site.lost i (record way { untaken = tags });
-  }
-  pub sites : new.sites ≡ slice_set old.sites place now
-  pub proxy : new.proxy ≡ old.proxy
+  pub there : AtSiteAlone place old new
+  pub enters : EntersLate i moment there.site there.now
 
--- a server sees the end of a lost generation: its connection is closed, and its bytes are dropped
 pub record EndSeen (place i : ℕ) (old new : PoolState) : Type 0 where
-  pub site : SiteState
-  pub server : ServerState
-  pub way : WayState
-  pub at : slice_get old.sites place ≡ Some site
-  pub way_at : slice_get site.lost i ≡ Some way
-  pub closes : server ≡ record site.server { connections = closed way.connection site.server.connections }
-  pub not_open : connection_at server way.connection ≡ None
-  pub sites : new.sites ≡ slice_set old.sites place (record site { server = server; lost = remove site.lost i })
-  pub proxy : new.proxy ≡ old.proxy
+  pub there : AtSiteAlone place old new
+  pub ends : Ends i there.site there.now
 
 -- a link is back: its server has admitted a connection for it
 pub record LinkReturns (place : ℕ) (old new : PoolState) : Type 0 where
   pub site : SiteState
+  pub now : SiteState
   pub at : slice_get old.sites place ≡ Some site
   pub inside : place < length old.proxy.links
   pub can : can_come_back (link_at old.proxy.links place) ≡ true
-  pub closed : connection_at site.server site.server.admitted ≡ None
-  pub sites : new.sites ≡ slice_set old.sites place (record site {
-    server = with_fresh site.server;
-    generation = (link_at old.proxy.links place).generation + 1;
-    connection = site.server.admitted;
-    ahead = 0;
-  })
+  pub back : ComesBack ((link_at old.proxy.links place).generation + 1) site now
+  pub sites : new.sites ≡ slice_set old.sites place now
   pub proxy : new.proxy ≡ record old.proxy { links = with_link place (up_link ((link_at old.proxy.links place).generation + 1)) old.proxy.links }
 
 -- A pool is where an order and lanes leave its proxy, and each of its servers with its ways.

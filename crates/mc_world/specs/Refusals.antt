@@ -2,14 +2,12 @@
 use Rattle.std.specs.Prelude.{ℕ, nat_le, List, length, Option, Some, None, Result, Ok, Err, if◌then◌else◌}
 use Rattle.mc_proxy.specs.Joins.{has_server}
 use Rattle.mc_world.specs.declared.errors.WorldError.{WorldError}
-use Rattle.mc_world.specs.declared.errors.WorldError.TheVariants.{AlreadyThere, BadWorld, Memory, RingFull}
+use Rattle.mc_world.specs.declared.errors.WorldError.TheVariants.{AlreadyThere, Memory, RingFull}
 
 -- a cause other than memory
 abbrev pub cause_of : WorldError → Option WorldError
 cause_of Memory = None
-cause_of BadWorld = Some BadWorld
-cause_of RingFull = Some RingFull
-cause_of AlreadyThere = Some AlreadyThere
+cause_of other = Some other
 
 -- why a join was refused, where it was for another cause than memory
 abbrev pub refusal_in : {T S : Type 0} → Result T (WorldError × S) → Option WorldError

@@ -28,7 +28,6 @@ pub(crate) enum Act {
 }
 
 impl<S: Store + Drop> Pool<S> {
-    ghost use Rattle.mc_session.specs.SessionState.{link_at};
     ghost use Rattle.mc_world.specs.Acts.{coming_of, event_of, generation_of, lost_of};
 
     /// The event of an act, which applies where the act does.

@@ -107,47 +107,37 @@ impl Event<Block> {
     pub(crate) fn bare(&self) -> Event<()>
         ensures { result ≡ bare self.now }
     {
-        match self {
-            Event::ClientBytes { client, .. } => Event::ClientBytes {
-                client: *client,
-                bytes: (),
-            },
-            Event::ClientGone { client } => Event::ClientGone { client: *client },
-            Event::ProxyTurn { client } => Event::ProxyTurn { client: *client },
+        match *self {
+            Event::ClientBytes { client, .. } => Event::ClientBytes { client, bytes: () },
+            Event::ClientGone { client } => Event::ClientGone { client },
+            Event::ProxyTurn { client } => Event::ProxyTurn { client },
             Event::ToServer {
                 server,
                 generation,
                 count,
             } => Event::ToServer {
-                server: *server,
-                generation: *generation,
-                count: *count,
+                server,
+                generation,
+                count,
             },
             Event::ServerTurn {
                 server,
                 generation,
                 moment,
             } => Event::ServerTurn {
-                server: *server,
-                generation: *generation,
-                moment: *moment,
+                server,
+                generation,
+                moment,
             },
-            Event::ToProxy { server, count } => Event::ToProxy {
-                server: *server,
-                count: *count,
-            },
-            Event::ReplyTurn { server } => Event::ReplyTurn { server: *server },
-            Event::Emit { client } => Event::Emit { client: *client },
-            Event::ClientTakes { client, count } => Event::ClientTakes {
-                client: *client,
-                count: *count,
-            },
-            Event::LinkLost { server } => Event::LinkLost { server: *server },
-            Event::LinkBack { server } => Event::LinkBack { server: *server },
-            Event::ServerSeesEnd { server, generation } => Event::ServerSeesEnd {
-                server: *server,
-                generation: *generation,
-            },
+            Event::ToProxy { server, count } => Event::ToProxy { server, count },
+            Event::ReplyTurn { server } => Event::ReplyTurn { server },
+            Event::Emit { client } => Event::Emit { client },
+            Event::ClientTakes { client, count } => Event::ClientTakes { client, count },
+            Event::LinkLost { server } => Event::LinkLost { server },
+            Event::LinkBack { server } => Event::LinkBack { server },
+            Event::ServerSeesEnd { server, generation } => {
+                Event::ServerSeesEnd { server, generation }
+            }
         }
     }
 }

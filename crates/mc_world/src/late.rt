@@ -1,11 +1,10 @@
 //! What happens on lost generations of a site, and the loss and the return of its link.
-ghost use Rattle.std.specs.Prelude.{◌≡◌, ◌≢◌, ◌+◌, ◌-◌, ◌<◌, ◌^◌, ◌↔◌, true, None, Some, length, slice_get, IfOk, OnOk, OnErr};
+ghost use Rattle.std.specs.Prelude.{◌≡◌, ◌+◌, ◌-◌, ◌<◌, ◌^◌, ◌↔◌, true, Some, length, slice_get, IfOk, OnOk, OnErr};
 
 use crate::errors::{Step, WorldError};
 use crate::sites::Site;
-use crate::tags::tags_from;
 use crate::turning::serve;
-use crate::ways::Way;
+use crate::ways::{Way, tags_from};
 use mc_proxy::Proxy;
 use mc_server::ServerError;
 use mc_store::Store;

@@ -33,7 +33,6 @@ mod lost_ways;
 mod openings;
 mod pools;
 mod sites;
-mod tags;
 mod turning;
 mod ways;
 mod world_laws;

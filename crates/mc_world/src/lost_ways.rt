@@ -18,7 +18,7 @@ impl<S: Store + Drop> Pool<S> {
         generation: u64,
         count: usize,
     ) -> Result<Step, WorldError>
-        ensures reaches { IfOk result (λ step. Does step ((i : ℕ) × (h : LateBytes place i count self.old self.new) × (h.way.generation ≡ generation))
+        ensures reaches { IfOk result (λ step. Does step ((i : ℕ) × (h : LateBytes place i count self.old self.new) × (h.arrives.way.generation ≡ generation))
             (self.new ≡ self.old)) }
         ensures applies { IfOk result (λ step. (step ≡ Step.Done) ↔ CanReachLate place generation count self.old) }
         ensures err { OnErr result (self.new ≡ self.old) }
@@ -45,7 +45,7 @@ impl<S: Store + Drop> Pool<S> {
     ) -> Result<Step, WorldError>
         requires moment { moment < 2 ^ 63 }
         requires serves { PoolServes self.old }
-        ensures takes { IfOk result (λ step. Does step ((i : ℕ) × (h : LateTurn place i moment self.old self.new) × (h.way.generation ≡ generation))
+        ensures takes { IfOk result (λ step. Does step ((i : ℕ) × (h : LateTurn place i moment self.old self.new) × (h.enters.way.generation ≡ generation))
             (self.new ≡ self.old)) }
         ensures applies { IfOk result (λ step. (step ≡ Step.Done) ↔ CanServeLate place generation self.old) }
         ensures err { OnErr result (self.new ≡ self.old) }
@@ -65,7 +65,7 @@ impl<S: Store + Drop> Pool<S> {
     /// A server sees the end of a lost generation. It takes no memory.
     pub fn see_end(&mut self, place: usize, generation: u64) -> Step
         requires serves { PoolServes self.old }
-        ensures ends { Does result ((i : ℕ) × (h : EndSeen place i self.old self.new) × (h.way.generation ≡ generation)) (self.new ≡ self.old) }
+        ensures ends { Does result ((i : ℕ) × (h : EndSeen place i self.old self.new) × (h.ends.way.generation ≡ generation)) (self.new ≡ self.old) }
         ensures applies { (result ≡ Step.Done) ↔ HasLost place generation self.old }
     {
         let Some(site) = self.sites.get_mut(place) else {

@@ -1,5 +1,5 @@
 //! How a world is opened: its proxy with all clients admitted and all links up, and its servers.
-ghost use Rattle.std.specs.Prelude.{◌≡◌, ◌≤◌, [], length, replicate, All, IfOk, IsOkUnless};
+ghost use Rattle.std.specs.Prelude.{◌≡◌, [], length, replicate, All, IfOk, IsOkUnless};
 ghost use Rattle.mc_cache.specs.CacheState.{HasRoom, IsWithinBounds, opening_cache};
 ghost use Rattle.mc_world.specs.Worlds.{first_site, nobody, opening_proxy, opening_world};
 ghost use Rattle.mc_world.specs.declared.errors.WorldError.TheVariants as errors;
@@ -49,22 +49,13 @@ fn opened_proxy(alloc: Global, ring: Ring, clients: usize) -> Result<Proxy, Worl
     ensures opened { IfOk result (λ proxy. proxy ≡ opening_proxy ring clients) }
     ensures only_memory { IsOkUnless result errors.Memory }
 {
-    let mut proxy = raised_proxy(alloc, ring)?;
-    for _ in 0..clients {
-        proxy.admit()?;
-    }
-    Ok(proxy)
-}
-
-/// A proxy without clients, whose links are all up with the first generation.
-fn raised_proxy(alloc: Global, ring: Ring) -> Result<Proxy, WorldError>
-    ensures raised { IfOk result (λ proxy. proxy ≡ opening_proxy ring 0) }
-    ensures only_memory { IsOkUnless result errors.Memory }
-{
     let places = ring.servers().len();
     let mut proxy = Proxy::new(alloc, ring)?;
     for place in 0..places {
         proxy.back(place)?;
+    }
+    for _ in 0..clients {
+        proxy.admit()?;
     }
     Ok(proxy)
 }

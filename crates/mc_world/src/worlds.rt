@@ -1,5 +1,5 @@
 //! The world: what is done to a pool, and its account.
-ghost use Rattle.std.specs.Prelude.{◌≡◌, ◌↔◌, ◌≤◌, ◌⊎◌, [], length, All, IfErr, IfOk, IsErrOf, OnOk, OnErr};
+ghost use Rattle.std.specs.Prelude.{◌≡◌, ◌↔◌, ◌⊎◌, [], length, All, IfErr, IfOk, IsErrOf, OnOk, OnErr};
 
 use crate::clients::Client;
 use crate::courses::Course;

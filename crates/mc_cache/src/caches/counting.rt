@@ -12,8 +12,7 @@ ghost use Rattle.mc_cache.specs.CacheState.{value_at};
 ghost use Rattle.mc_cache.specs.Step.{stored, step_of, count_none, count_step, counted};
 ghost use Rattle.mc_cache.specs.Memory.{count_may_refuse, may_refuse};
 ghost use Rattle.mc_cache.specs.Refusals.{is_refusal};
-ghost use Rattle.mc_cache.specs.Found.{found_body};
-ghost use Rattle.mc_cache.specs.Admissions.{is_refused, reply_or_fault, renewed};
+ghost use Rattle.mc_cache.specs.Admissions.{is_refused, reply_or_fault, renewed, found_body};
 
 use super::Cache;
 use super::settling::Found;

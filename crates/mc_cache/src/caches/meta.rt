@@ -11,8 +11,7 @@ ghost use Rattle.mc_cache.specs.Showing.{is_low, marks_by, item_shown};
 ghost use Rattle.mc_cache.specs.Step.{step_of, touched, meta_get_none, meta_get_step};
 ghost use Rattle.mc_cache.specs.Memory.{may_refuse};
 ghost use Rattle.mc_cache.specs.Refusals.{is_refusal};
-ghost use Rattle.mc_cache.specs.Found.{found_body, body_of};
-ghost use Rattle.mc_cache.specs.Admissions.{IsTold};
+ghost use Rattle.mc_cache.specs.Admissions.{IsTold, found_body, body_of};
 
 use super::Cache;
 use super::settling::Found;

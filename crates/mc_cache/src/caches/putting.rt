@@ -10,8 +10,7 @@ ghost use Rattle.mc_cache.specs.CacheState.{value_at};
 ghost use Rattle.mc_cache.specs.Settling.{settled};
 ghost use Rattle.mc_cache.specs.Step.{admission, stored, numbered, with_item};
 ghost use Rattle.mc_cache.specs.Refusals.{is_refusal};
-ghost use Rattle.mc_cache.specs.Found.{found_body};
-ghost use Rattle.mc_cache.specs.Admissions.{content_of, lent_content, is_refused, reply_or_fault, lifted, renewed};
+ghost use Rattle.mc_cache.specs.Admissions.{content_of, lent_content, is_refused, reply_or_fault, lifted, renewed, found_body};
 
 use super::Cache;
 use super::settling::Found;
@@ -235,10 +234,7 @@ impl<S: Store + Drop> Cache<S> {
             return Err(Fault::TooLarge);
         }
         let mut counter = self.counter;
-        match counter.next() {
-            Some(cas) => Ok(cas),
-            None => Err(Fault::CasUsedUp),
-        }
+        counter.next().ok_or(Fault::CasUsedUp)
     }
 }
 

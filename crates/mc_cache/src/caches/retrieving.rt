@@ -1,14 +1,14 @@
-//! Commands that store no value: retrieval, `touch`, `delete` and `md`.
+//! Commands that store no value: `touch`, `delete` and `md`, and the steps that they share with others.
 ghost use Rattle.std.specs.Prelude.{◌≡◌, ◌<◌, ◌^◌, ℕ, List, Some, None, is_some, true, false};
 ghost use Rattle.std.specs.Option.{option_map};
 ghost use Rattle.mc_reply.specs.Replies.{filled};
 ghost use Rattle.mc_store.specs.Items.{body_at, without, brought, expiring, marking};
-ghost use Rattle.mc_request.specs.declared.parts.Atom.TheVariants.{Get, Update as AnUpdate};
+ghost use Rattle.mc_request.specs.declared.parts.Atom.TheVariants.{Update as AnUpdate};
 ghost use Rattle.mc_request.specs.declared.parts.Update.TheVariants.{Touch, Delete};
-ghost use Rattle.mc_cache.specs.CacheState.{value_at, front_value};
+ghost use Rattle.mc_cache.specs.CacheState.{value_at};
 ghost use Rattle.mc_cache.specs.Step.{step_of, fronted, invalidated, touched};
-ghost use Rattle.mc_cache.specs.Refusals.{is_refusal, value_after};
-ghost use Rattle.mc_cache.specs.Found.{found_body, body_of};
+ghost use Rattle.mc_cache.specs.Refusals.{is_refusal};
+ghost use Rattle.mc_cache.specs.Admissions.{found_body, body_of};
 
 use super::Cache;
 use super::settling::Found;
@@ -19,33 +19,6 @@ use mc_request::Fault;
 use mc_store::Store;
 
 impl<S: Store + Drop> Cache<S> {
-    /// The command `Get`. The key is looked up once.
-    pub(super) fn retrieve(
-        &mut self,
-        key: &[u8],
-        exptime: Option<i64>,
-        with_cas: bool,
-        moment: u64,
-    ) -> Reply<()>
-        requires { moment < 2 ^ 63 }
-        ensures step { step_of self.old (Get key.now exptime with_cas) moment false
-            ≡ (self.new, filled result (value_after (Get key.now exptime with_cas) self.new)) }
-        ensures front { step_of self.old (Get key.now exptime with_cas) moment false
-            ≡ (self.new, filled result (front_value self.new.items)) }
-        ensures refusal { is_refusal result ≡ false }
-        ensures distinct { (key : List ℕ) → body_at key (without key self.old.items) ≡ None }
-    {
-        let Some(found) = self.settle_in_front(key, moment) else {
-            return Reply::Miss;
-        };
-        self.touch_front(key, exptime, moment);
-        Reply::Hit {
-            flags: found.flags,
-            cas: with_cas.then_some(found.cas),
-            value: (),
-        }
-    }
-
     /// Sets the expiry of the first item, whose key this is, where an exptime is given.
     pub(super) fn touch_front(&mut self, key: &[u8], exptime: Option<i64>, moment: u64)
         requires moment { moment < 2 ^ 63 }

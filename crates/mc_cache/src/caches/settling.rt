@@ -8,7 +8,7 @@ ghost use Rattle.mc_cache.specs.Settling.{settled, flushed, emptied};
 ghost use Rattle.mc_cache.specs.Step.{step_of, fronted, flush_step};
 ghost use Rattle.mc_cache.specs.Refusals.{is_refusal};
 ghost use Rattle.mc_reply.specs.Replies.{filled};
-ghost use Rattle.mc_cache.specs.Found.{found_body};
+ghost use Rattle.mc_cache.specs.Admissions.{found_body, renewed};
 
 use super::Cache;
 use mc_item::{Body, Deadline};
@@ -33,7 +33,6 @@ pub struct Found {
 
 impl Found {
     ghost use Rattle.mc_cache.specs.Step.{numbered, expiry_by};
-    ghost use Rattle.mc_cache.specs.Admissions.{renewed};
 
     /// What a body tells: all but its value.
     fn of(body: &Body) -> Found

@@ -11,8 +11,7 @@ ghost use Rattle.mc_cache.specs.Settling.{settled};
 ghost use Rattle.mc_cache.specs.Step.{compared, unmet, unstored, stored, store_step, numbered};
 ghost use Rattle.mc_cache.specs.Memory.{store_may_refuse, store_takes_block, IsWhole};
 ghost use Rattle.mc_cache.specs.Refusals.{is_refusal};
-ghost use Rattle.mc_cache.specs.Found.{found_body};
-ghost use Rattle.mc_cache.specs.Admissions.{content_of, lent_content, joined, is_refused, reply_or_fault, renewed};
+ghost use Rattle.mc_cache.specs.Admissions.{content_of, lent_content, joined, is_refused, reply_or_fault, renewed, found_body};
 
 use super::Cache;
 use super::putting::stored_or_fault;
@@ -128,29 +127,6 @@ impl<S: Store + Drop> Cache<S> {
             }
         }
         let found = self.settle(key, moment);
-        self.store_settled(mode, compare, key, lent, found)
-    }
-
-    /// The same on a settled cache, where this was found under the key.
-    fn store_settled(
-        &mut self,
-        mode: StoreMode,
-        compare: Option<u64>,
-        key: &[u8],
-        lent: Lent<'_>,
-        found: Option<Found>,
-    ) -> Result<Reply<()>, AllocError>
-        requires key { is_key key.now ≡ true }
-        requires found { body_at key.now self.old.items ≡ found_body found (value_at key.now self.old.items) }
-        ensures step { IfOk result (λ reply. (value : List ℕ)
-            → store_step self.old compare mode key.now (body_at key.now self.old.items) (lent_content lent.entry) (is_refusal reply)
-            ≡ (self.new, filled reply value)) }
-        ensures refusal { IfOk result (λ reply. is_refusal reply ≡ true
-            → store_may_refuse compare mode (body_at key.now self.old.items) (lent_content lent.entry).value ≡ true) }
-        ensures err { OnErr result (self.new ≡ self.old) }
-        ensures cause { OnErr result (store_takes_block self.old compare mode key.now
-            (body_at key.now self.old.items) (lent_content lent.entry).value ≡ true) }
-    {
         match self.store_but_whole(mode, compare, key, lent.block, found) {
             Some(reply) => Ok(reply),
             None => self.put_lent(key, lent, found.is_some()),

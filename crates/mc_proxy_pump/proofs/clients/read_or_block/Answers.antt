@@ -4,7 +4,7 @@ use Rattle.mc_stream.specs.declared.outcomes.Pumped.{Pumped}
 use Rattle.mc_stream.specs.declared.outcomes.Pumped.TheVariants.{Again, Blocked}
 use Rattle.mc_stream.proofs.SideLemmas.{came_false}
 use Rattle.mc_proxy_pump.specs.Clients.{IsStuck, PumpsClient}
-use Rattle.mc_proxy_pump.specs.Rounds.{pump_of}
+use Rattle.mc_stream.specs.Sides.{pump_of}
 use Rattle.mc_proxy_pump.proofs.PumpLemmas.{pumps_heard, pumps_unheard}
 use Rattle.mc_proxy_pump.proofs.RoundLemmas.{unheard}
 use Rattle.mc_proxy_pump.proofs.clients.read_or_block.Goals as goal

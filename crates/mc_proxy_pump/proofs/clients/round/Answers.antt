@@ -4,7 +4,7 @@ use Rattle.mc_stream.specs.declared.outcomes.Pumped.{Pumped}
 use Rattle.mc_stream.specs.declared.outcomes.Pumped.TheVariants.{Again, Blocked, Done}
 use Rattle.mc_stream.proofs.SideLemmas.{went_false}
 use Rattle.mc_proxy_pump.specs.Clients.{PumpsClient}
-use Rattle.mc_proxy_pump.specs.Rounds.{pump_of}
+use Rattle.mc_stream.specs.Sides.{pump_of}
 use Rattle.mc_proxy_pump.proofs.PumpLemmas.{pumps_then, pumps_turns, pumps_unsent, stopped}
 use Rattle.mc_proxy_pump.proofs.RoundLemmas.{over, read_on, stuck, unmarked}
 use Rattle.mc_proxy_pump.proofs.clients.round.Goals as goal

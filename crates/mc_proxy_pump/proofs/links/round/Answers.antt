@@ -3,7 +3,7 @@ use Rattle.mc_session.specs.SessionState.{link_at}
 use Rattle.mc_stream.specs.declared.outcomes.Pumped.{Pumped}
 use Rattle.mc_stream.specs.declared.outcomes.Pumped.TheVariants.{Again, Blocked, Done}
 use Rattle.mc_proxy_pump.specs.Links.{LeavesLink, PumpsLink}
-use Rattle.mc_proxy_pump.specs.Rounds.{pump_of}
+use Rattle.mc_stream.specs.Sides.{pump_of}
 use Rattle.mc_proxy_pump.proofs.LinkLemmas.{absurd_done, link_pumps_sent, link_pumps_then, link_pumps_unheard, link_pumps_unsent, link_round}
 use Rattle.mc_proxy_pump.proofs.links.round.Goals as goal
 

@@ -1,7 +1,7 @@
 use Rattle.std.proofs.Common.{◌≡◌, ◌∙◌, rules, arith, sym, subst, Result, Err, []}
 use Rattle.mc_server.specs.ServerState.{connection_at}
 use Rattle.mc_pump.specs.Pumps.{Pumps}
-use Rattle.mc_pump.specs.Rounds.{pump_of}
+use Rattle.mc_stream.specs.Sides.{pump_of}
 use Rattle.mc_stream.specs.declared.outcomes.Pumped.{Pumped}
 use Rattle.mc_stream.specs.declared.outcomes.Pumped.TheVariants.{Again, Blocked, Done}
 use Rattle.mc_pump.proofs.PumpLemmas.{pumps_then, pumps_turns, pumps_unsent, stopped}

@@ -22,7 +22,7 @@ returns-in-Ok-clause-account g c =
     let texts = texts_of c.args.inputs.now in
     let outputs = c.in_ok-outputs.outputs.items in
     let began = c.start_all-started.new.all.items in
-    let ends = c.talk_all.new.ends.items in
+    let ends = c.talk.new.ends.items in
     let servers : vec_len c.args.clocks ≡ length c.args.config.now.ring.servers = c.requires.clocks in
     let lens = c.in_default.ensures.lens in
     let many : length c.start_all-started.new.all.items ≡ vec_len c.start_all-started.new.all = search rules in
@@ -33,8 +33,8 @@ returns-in-Ok-clause-account g c =
     let talks = talks_as ring clients texts texts (λ _. []) (outs_of outputs) (λ _. []) (went_to began) (λ _. []) (came_from began) c.in_ok-proxy.proxy
     (λ n. refl) (λ n. sym (c.in_ok-outputs.ensures.empty n)) (λ n. sym (fresh n).0) (λ n. sym (fresh n).1) c.in_ok-proxy.ensures in
     let ended = c.in-Ok.ensures.ended ring clients texts (many ∙ lens.0 ∙ servers) (several ∙ c.in_ok-outputs.ensures.len) talks in
-    completes ring (opening_cache c.args.config.now.budget c.args.config.now.items 0) clients texts (outs_of c.talk_all.new.outputs.items) ended.went (came_from ends)
-    (at (map g.C.Clock.times c.args.clocks.items)) (at (map g.C.Clock.times c.in_ok-clocks-in-Ok.clocks.items)) c.talk_all.new.proxy
+    completes ring (opening_cache c.args.config.now.budget c.args.config.now.items 0) clients texts (outs_of c.talk.new.outputs.items) ended.went (came_from ends)
+    (at (map g.C.Clock.times c.args.clocks.items)) (at (map g.C.Clock.times c.in_ok-clocks-in-Ok.clocks.items)) c.talk.new.proxy
     (opening_is_good c.args.config.now.budget c.args.config.now.items 0 c.requires.bounds.some_items (omega arith)) ended.talks ended.quiet
     (λ server low.
     let w = worked_at (λ h. h.promise) g.C.Clock.times (record { budget = c.args.config.now.budget; items = c.args.config.now.items }) (vec_len c.args.clocks) server

@@ -1,7 +1,7 @@
 use Rattle.std.proofs.Common.{◌≡◌, ◌∙◌, sym, ap}
 use Rattle.mc_reply.specs.declared.replies.Reply.TheVariants.{Deleted}
 use Rattle.mc_cache.specs.CacheState.{CacheState, value_at}
-use Rattle.mc_cache.specs.Found.{body_of}
+use Rattle.mc_cache.specs.Admissions.{body_of}
 use Rattle.mc_cache.proofs.StoredLemmas.{invalidated_is}
 use Rattle.mc_cache.proofs.caches.Cache.invalidate.Goals as goal
 

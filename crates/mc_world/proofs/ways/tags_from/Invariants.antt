@@ -1,7 +1,7 @@
 use Rattle.std.proofs.Common.{◌≡◌, ◌++◌, drop}
 use Rattle.mc_session.specs.SessionState.{link_at}
 use Rattle.mc_world.proofs.TagLemmas.{tags_in}
-use Rattle.mc_world.proofs.tags.tags_from.Given as goal
+use Rattle.mc_world.proofs.ways.tags_from.Given as goal
 
 -- those so far and those to come are all from the first on
 abbrev pub invariant-loop-number : goal.invariant-loop-number

@@ -1,0 +1,43 @@
+//! A request that its caller keeps: its commands with their servers, and what stays of it for the answer.
+
+use crate::pools::{TWO, ring};
+use mc_request::Request;
+use mc_request_reader::{Next, Reader};
+use mc_route::{Outcome, atoms, into_atoms, join, without_block};
+use std::alloc::Global;
+use std::test::Fail;
+
+/// The first request of a text.
+fn request_of(alloc: Global, text: &[u8]) -> Result<Request, Fail> {
+    let mut reader = Reader::new(alloc);
+    reader.feed(text)?;
+    match reader.next()? {
+        Next::Request(request) => Ok(request),
+        Next::Fault(_) | Next::More | Next::Closed => Err("no request".into()),
+    }
+}
+
+/// How many commands a request has by each way, and its answer where they are lost.
+fn routed(alloc: Global, request: Request) -> Result<(usize, usize, Vec<u8>), Fail> {
+    let ring = ring(alloc, &TWO)?;
+    let copied = atoms(alloc, &request, &ring)?.len();
+    let kept = without_block(alloc, &request)?;
+    let moved = into_atoms(alloc, request, &ring)?.len();
+    let mut answer = Vec::new(alloc);
+    join(&kept, &[Outcome::Lost], &mut answer)?;
+    Ok((copied, moved, answer))
+}
+
+/// Requests, and how many commands each has.
+const KEPT: [(&[u8], usize); 2] = [(b"get a abc\r\n", 2), (b"ms a 1 c k\r\nx\r\n", 1)];
+
+#[test]
+fn requests_are_kept(rt: HostRuntime) -> Result<(), Fail> {
+    let alloc = rt.alloc();
+    for (text, count) in KEPT {
+        let (copied, moved, answer) = routed(alloc, request_of(alloc, text)?)?;
+        assert!(rt; (copied, moved) == (count, count));
+        assert!(rt; answer.as_slice() == b"SERVER_ERROR link lost\r\n".as_slice());
+    }
+    Ok(())
+}
