@@ -47,6 +47,7 @@ SECONDS = {
     "mc_cache": 120,
     "mc_cache_laws": 21,
     "mc_clients": 60,
+    "mc_event": 16,
     "mc_fixtures": 34,
     "mc_forms": 22,
     "mc_hasher": 19,

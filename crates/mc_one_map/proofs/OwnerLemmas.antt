@@ -19,7 +19,7 @@ use Rattle.mc_account.specs.Lookups.{asked_at, command_at, command_in}
 use Rattle.mc_account.specs.Orders.{Entry as Asked, Order, entries_of, taken_of}
 use Rattle.mc_history.specs.declared.entries.Entry.{Entry}
 use Rattle.mc_world.specs.Accounts.{Accounts}
-use Rattle.mc_world.specs.declared.events.Logged.TheVariants.{Happened, Joined}
+use Rattle.mc_world.specs.declared.logs.Logged.TheVariants.{Happened, Joined}
 use Rattle.mc_world.specs.Logs.{IsRingAfter, Log, number_of}
 use Rattle.mc_world.proofs.LogEntryLemmas.{got_map, got_there}
 use Rattle.mc_world.proofs.LogLemmas.{number-before}

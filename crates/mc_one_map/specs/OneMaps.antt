@@ -7,8 +7,8 @@ use Rattle.mc_cache_laws.specs.Pools.{ActAsMap, ArePlainSteps, Caches, commands_
 use Rattle.mc_account.specs.Lookups.{command_at}
 use Rattle.mc_account.specs.Orders.{Order}
 use Rattle.mc_history.specs.declared.entries.Entry.{Entry}
-use Rattle.mc_world.specs.declared.events.Logged.{Logged}
-use Rattle.mc_world.specs.declared.events.Logged.TheVariants.{Happened, Joined}
+use Rattle.mc_world.specs.declared.logs.Logged.{Logged}
+use Rattle.mc_world.specs.declared.logs.Logged.TheVariants.{Happened, Joined}
 use Rattle.mc_world.specs.Accounts.{Accounts}
 use Rattle.mc_world.specs.Logs.{Log, number_of}
 use Rattle.mc_world.specs.Steps.{GivesAccount}

@@ -15,9 +15,9 @@ use Rattle.mc_history.specs.declared.entries.Entry.{Entry}
 use Rattle.mc_history.specs.Histories.{IsBefore, tag_in}
 use Rattle.mc_world.specs.Accounts.{Accounts, IsToldLost, NotAnswered}
 use Rattle.mc_world.specs.Logs.{Log, before, loses, number_of, puts, serves, up_by, up_from}
-use Rattle.mc_world.specs.declared.events.Event.TheVariants.{LinkBack, LinkLost}
-use Rattle.mc_world.specs.declared.events.Logged.{Logged}
-use Rattle.mc_world.specs.declared.events.Logged.TheVariants.{Happened}
+use Rattle.mc_event.specs.declared.events.Event.TheVariants.{LinkBack, LinkLost}
+use Rattle.mc_world.specs.declared.logs.Logged.{Logged}
+use Rattle.mc_world.specs.declared.logs.Logged.TheVariants.{Happened}
 use Rattle.mc_world.proofs.LogLemmas.{number-before}
 use Rattle.mc_pool_laws.specs.Sent.{IsSent}
 use Rattle.mc_pool_laws.specs.Told.{HasEntry, HasOneEntry, IsToldBy, LinkHeld, WasAnswered}

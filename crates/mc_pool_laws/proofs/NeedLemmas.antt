@@ -35,9 +35,9 @@ use Rattle.mc_history.specs.declared.entries.Entry.{Entry}
 use Rattle.mc_history.specs.Histories.{IsLegal, tag_in}
 use Rattle.mc_world.specs.Accounts.{WasTaken}
 use Rattle.mc_world.specs.Logs.{IsRingAfter, Log, before, moments_of, number_of, puts, serves, takes}
-use Rattle.mc_world.specs.declared.events.Event.TheVariants.{Emit, ProxyTurn, ServerTurn}
-use Rattle.mc_world.specs.declared.events.Logged.{Logged}
-use Rattle.mc_world.specs.declared.events.Logged.TheVariants.{Happened}
+use Rattle.mc_event.specs.declared.events.Event.TheVariants.{Emit, ProxyTurn, ServerTurn}
+use Rattle.mc_world.specs.declared.logs.Logged.{Logged}
+use Rattle.mc_world.specs.declared.logs.Logged.TheVariants.{Happened}
 use Rattle.mc_pool_laws.specs.Sent.{IsReplayed}
 use Rattle.mc_pool_laws.specs.Told.{IsUnaccounted}
 use Rattle.mc_pool_laws.specs.Without.{AccountsBut, Allows, Answered, Asked, Clause, Few, Legal, Lost, Moments, Once, Placed, Put, Replied, Rings, Sized, Turns}

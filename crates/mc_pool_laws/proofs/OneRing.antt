@@ -5,7 +5,7 @@ use Rattle.mc_ring.specs.Rings.{RingState}
 use Rattle.mc_ring.specs.declared.points.Point.{Point}
 use Rattle.mc_ring.proofs.ShownLemmas.{shown_one}
 use Rattle.mc_world.specs.Logs.{HasJoined, IsRingAfter, Log}
-use Rattle.mc_world.specs.declared.events.Logged.TheVariants.{Happened, Joined}
+use Rattle.mc_world.specs.declared.logs.Logged.TheVariants.{Happened, Joined}
 
 abbrev ring_with : List (List ℕ) → List Point → RingState
 ring_with servers points = record { servers = servers; points = points }

@@ -5,7 +5,7 @@ ghost use Rattle.std.specs.Prelude.{◌≡◌, ◌^◌, ◌-◌, [], ◌∷◌, 
 ghost use Rattle.mc_pool_script.specs.PoolLines.{line_of};
 ghost use Rattle.mc_pool_script.specs.PoolScripts.{point_of};
 ghost use Rattle.mc_pool_script.specs.declared.lines.PoolLine.TheVariants.{Drain, Event, Join};
-ghost use Rattle.mc_world.specs.declared.events.Event.TheVariants.{ClientBytes, ClientTakes, ServerSeesEnd, ServerTurn, ToServer};
+ghost use Rattle.mc_event.specs.declared.events.Event.TheVariants.{ClientBytes, ClientTakes, ServerSeesEnd, ServerTurn, ToServer};
 ghost use Rattle.mc_ring.specs.Points.{pair_at};
 
 /// Lines of clients, where two are there: the text of `bytes` is the rest of the line, and a client that is not there makes

@@ -63,12 +63,18 @@ pub fn round<S: Store + Drop, R: Read, W: Write>(
 fn is_over<S: Store + Drop>(server: &Server<S>, number: u64, stop: Stop, ended: bool) -> bool
     ensures { result ≡ ((length (output_of (connection_at server.now number)) == 0) && ends_by stop ended) }
 {
-    let ends = match stop {
+    server.output(number).is_empty() && ends(stop, ended)
+}
+
+/// Whether nothing more will come, where the turns stopped so.
+fn ends(stop: Stop, ended: bool) -> bool
+    ensures { result ≡ ends_by stop ended }
+{
+    match stop {
         Stop::Idle => ended,
         Stop::Closing => true,
         Stop::Marked => false,
-    };
-    server.output(number).is_empty() && ends
+    }
 }
 
 /// Whether the input is read on, where the turns stopped so.
@@ -92,17 +98,15 @@ fn take_turns<S: Store + Drop>(
     ensures stop { IfOk result (λ stop. StopsAt stop (connection_at server.new number)) }
 {
     while server.output(number).len() < UNSENT_MARK {
-        let Ok(limited) = server.turn_within(number, moment, watch.limit) else {
-            return Err(Pumped::Failed);
-        };
-        let Limited::Turned(turn) = limited else {
-            watch.refused = true;
-            return Err(Pumped::Failed);
-        };
-        match turn {
-            Turn::Took => watch.tally.took(),
-            Turn::Idle => return Ok(Stop::Idle),
-            Turn::Closing => return Ok(Stop::Closing),
+        match server.turn_within(number, moment, watch.limit) {
+            Ok(Limited::Turned(Turn::Took)) => watch.tally.took(),
+            Ok(Limited::Turned(Turn::Idle)) => return Ok(Stop::Idle),
+            Ok(Limited::Turned(Turn::Closing)) => return Ok(Stop::Closing),
+            Ok(Limited::Refused) => {
+                watch.refused = true;
+                return Err(Pumped::Failed);
+            }
+            Err(_) => return Err(Pumped::Failed),
         }
     }
     Ok(Stop::Marked)

@@ -28,8 +28,12 @@ impl Edge {
     /// Notes what an event says of the stream.
     pub fn note(&mut self, event: &Event) {
         let ended = event.is_read_closed() || event.is_error();
-        self.drained &= !ended && !event.is_readable();
-        self.to_the_end |= ended;
+        if ended || event.is_readable() {
+            self.drained = false;
+        }
+        if ended {
+            self.to_the_end = true;
+        }
     }
 }
 

@@ -18,7 +18,7 @@ use Rattle.mc_world.specs.Worlds.{CourseState, WorldState, cache_of}
 use Rattle.mc_world.specs.declared.acts.Act.{Act}
 use Rattle.mc_world.specs.declared.acts.Act.TheVariants.{PutAnswer, ReachProxy, ReachServer, SeeEnd, Serve, TakeBytes, TakeReply, TakeRequest}
 use Rattle.mc_world.specs.declared.errors.Step.TheVariants.{Done}
-use Rattle.mc_world.specs.declared.events.Event.{Event}
+use Rattle.mc_event.specs.declared.events.Event.{Event}
 use Rattle.mc_account.proofs.OpenSessions.{own_number}
 use Rattle.mc_world.proofs.LessLemmas.{ended_less, late_less, put_out_less, reached_less, replied_less, returned_less, served_less, taken_less, took_less}
 use Rattle.mc_world.proofs.LogEntryLemmas.{got_inside}

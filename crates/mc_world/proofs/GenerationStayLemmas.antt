@@ -17,8 +17,8 @@ use Rattle.mc_world.specs.Courses.{Happens}
 use Rattle.mc_world.specs.CourseHolds.{HaveOneGeneration}
 use Rattle.mc_world.specs.Pools.{AtSite, LinkReturns}
 use Rattle.mc_world.specs.WorldState.{PoolState, SiteState}
-use Rattle.mc_world.specs.declared.events.Event.{Event}
-use Rattle.mc_world.specs.declared.events.Event.TheVariants.{ClientBytes, ClientGone, ClientTakes, Emit, LinkBack, LinkLost, ProxyTurn, ReplyTurn, ServerSeesEnd, ServerTurn, ToProxy, ToServer}
+use Rattle.mc_event.specs.declared.events.Event.{Event}
+use Rattle.mc_event.specs.declared.events.Event.TheVariants.{ClientBytes, ClientGone, ClientTakes, Emit, LinkBack, LinkLost, ProxyTurn, ReplyTurn, ServerSeesEnd, ServerTurn, ToProxy, ToServer}
 use Rattle.mc_world.proofs.PoolLemmas.{links_sent, set_site}
 
 -- links that are of the generations of others, by place

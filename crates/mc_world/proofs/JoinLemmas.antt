@@ -35,7 +35,7 @@ use Rattle.mc_world.specs.Pools.{PoolHolds}
 use Rattle.mc_world.specs.Sites.{SiteHolds}
 use Rattle.mc_world.specs.WorldState.{PoolState, SiteState, WayState, histories_of}
 use Rattle.mc_world.specs.Worlds.{CourseState, first_site, put_out_of, taken_by, text_of}
-use Rattle.mc_world.specs.declared.events.Logged.TheVariants.{Happened, Joined}
+use Rattle.mc_world.specs.declared.logs.Logged.TheVariants.{Happened, Joined}
 use Rattle.mc_world.proofs.DoneLemmas.{same_clients}
 use Rattle.mc_world.proofs.LogCommandLemmas.{commands_still}
 use Rattle.mc_world.proofs.LogEntryLemmas.{HasUntakenAt, got_inside, got_pushed}

@@ -19,7 +19,7 @@ use Rattle.mc_world.specs.Accounts.{NotAnswered, WasLost, WasTaken, down_when_ta
 use Rattle.mc_world.specs.LogHolds.{CommandsHold, IsTold, IsUntaken, RequestsHold}
 use Rattle.mc_world.specs.Logs.{Log, is_up, loses, takes}
 use Rattle.mc_world.specs.WorldState.{SiteState, histories_of}
-use Rattle.mc_world.specs.declared.events.Logged.{Logged}
+use Rattle.mc_world.specs.declared.logs.Logged.{Logged}
 use Rattle.mc_world.proofs.LogEntryLemmas.{HasUntakenAt, got_inside, got_pushed}
 use Rattle.mc_world.proofs.LogHistoryLemmas.{KeepsLost}
 use Rattle.mc_world.proofs.LogLemmas.{before-stays, number-push}

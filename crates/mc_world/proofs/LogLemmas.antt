@@ -2,9 +2,9 @@
 use Rattle.std.proofs.Common.{◌≡◌, ◌∙◌, ℕ, zero, suc, ◌+◌, ◌<◌, ◌≤◌, ◌==◌, Bool, true, false, if◌then◌else◌, List, [], ◌∷◌, ◌++◌, length, refl, sym, ap, append_assoc, append-nil, arith}
 use Rattle.std.proofs.lemmas.List.{length-append}
 use Rattle.mc_ring.specs.Rings.{RingState}
-use Rattle.mc_world.specs.declared.events.Event.TheVariants.{ServerTurn}
-use Rattle.mc_world.specs.declared.events.Logged.{Logged}
-use Rattle.mc_world.specs.declared.events.Logged.TheVariants.{Happened, Joined}
+use Rattle.mc_event.specs.declared.events.Event.TheVariants.{ServerTurn}
+use Rattle.mc_world.specs.declared.logs.Logged.{Logged}
+use Rattle.mc_world.specs.declared.logs.Logged.TheVariants.{Happened, Joined}
 use Rattle.mc_world.specs.Logs.{IsRingAfter, Log, before, moment_of, moments_of, number_of, serves, up_by, up_from}
 
 pub number-push : (is : Logged → Bool) (log : Log) (e : Logged) → number_of is (log ++ e ∷ []) ≡ number_of is log + (if is e then 1 else 0)

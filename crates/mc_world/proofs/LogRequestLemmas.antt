@@ -21,7 +21,7 @@ use Rattle.mc_account.proofs.CountLemmas.{answered-emitted, steps_other, steps_o
 use Rattle.mc_account.proofs.OrderLemmas.{entries_push_other, entries_push_own}
 use Rattle.mc_world.specs.LogHolds.{AnswersHold, RequestsHold}
 use Rattle.mc_world.specs.Logs.{IsRingAfter, Log, before, number_of, puts, takes}
-use Rattle.mc_world.specs.declared.events.Logged.{Logged}
+use Rattle.mc_world.specs.declared.logs.Logged.{Logged}
 use Rattle.mc_world.proofs.LogEntryLemmas.{asked_pushed, got_inside}
 use Rattle.mc_world.proofs.LogLemmas.{before-last, before-stays, number-none, number-one}
 use Rattle.mc_world.proofs.LogOutcomeLemmas.{Goes}

@@ -5,7 +5,7 @@ use Rattle.mc_session.specs.SessionState.{link_at}
 use Rattle.mc_world.specs.LogHolds.{ServersHold}
 use Rattle.mc_world.specs.Logs.{IsRingAfter, Log, up_by}
 use Rattle.mc_world.specs.WorldState.{PoolState}
-use Rattle.mc_world.specs.declared.events.Logged.{Logged}
+use Rattle.mc_world.specs.declared.logs.Logged.{Logged}
 use Rattle.mc_world.proofs.LogLemmas.{IsEvent, ring-push, up-push}
 
 -- pools of one ring, with as many links and sites

@@ -17,7 +17,7 @@ use Rattle.mc_account.proofs.OpenSessions.{without_other}
 use Rattle.mc_world.specs.LogHolds.{LogHolds, ServersHold}
 use Rattle.mc_world.specs.Logs.{Log, moment_of, puts, takes, up_by}
 use Rattle.mc_world.specs.WorldState.{PoolState, SiteState, WayState, histories_of}
-use Rattle.mc_world.specs.declared.events.Logged.{Logged}
+use Rattle.mc_world.specs.declared.logs.Logged.{Logged}
 use Rattle.mc_world.proofs.LogCommandLemmas.{commands_still}
 use Rattle.mc_world.proofs.LogEntryLemmas.{HasUntaken, HasUntakenAt, history_still, untaken_still}
 use Rattle.mc_world.proofs.LogHistoryLemmas.{histories_go}

@@ -19,7 +19,7 @@ use Rattle.mc_history.specs.declared.entries.Entry.{Entry}
 use Rattle.mc_world.specs.LogHolds.{CommandsHold, HistoriesHold, IsTold, RequestsHold}
 use Rattle.mc_world.specs.Logs.{Log, before, is_up, number_of, serves, takes}
 use Rattle.mc_world.specs.WorldState.{SiteState, histories_of}
-use Rattle.mc_world.specs.declared.events.Logged.{Logged}
+use Rattle.mc_world.specs.declared.logs.Logged.{Logged}
 use Rattle.mc_world.proofs.LogCommandLemmas.{News, commands_go, none_still, request_known, request_of}
 use Rattle.mc_world.proofs.LogEntryLemmas.{asked_pushed, got_there}
 use Rattle.mc_world.proofs.LogHistoryLemmas.{KeepsLost}

@@ -31,8 +31,8 @@ use Rattle.mc_world.specs.Logs.{number_of, puts, takes}
 use Rattle.mc_world.specs.Runs.{Call, Calls}
 use Rattle.mc_world.specs.WorldState.{PoolState, SiteState, WayState}
 use Rattle.mc_world.specs.Worlds.{CourseState, opening_world, taken_by, text_of}
-use Rattle.mc_world.specs.declared.events.Event.{Event}
-use Rattle.mc_world.specs.declared.events.Event.TheVariants.{ClientTakes, Emit, ProxyTurn, ReplyTurn, ServerSeesEnd, ServerTurn, ToProxy, ToServer}
+use Rattle.mc_event.specs.declared.events.Event.{Event}
+use Rattle.mc_event.specs.declared.events.Event.TheVariants.{ClientTakes, Emit, ProxyTurn, ReplyTurn, ServerSeesEnd, ServerTurn, ToProxy, ToServer}
 use Rattle.mc_world.proofs.RunLemmas.{course_called}
 use Rattle.mc_world.proofs.WorldOpeningLemmas.{course_opens}
 use Rattle.mc_world.specs.Quiet.{IsQuiet, is_inner}

@@ -13,7 +13,7 @@ use Rattle.mc_world.specs.Worlds.{CourseState, WorldState, cache_of, opening_wor
 use Rattle.mc_world.specs.declared.errors.Step.{Step}
 use Rattle.mc_world.specs.declared.errors.Step.TheVariants.{Done, Nothing}
 use Rattle.mc_world.specs.declared.errors.WorldError.{WorldError}
-use Rattle.mc_world.specs.declared.events.Event.{Event}
+use Rattle.mc_event.specs.declared.events.Event.{Event}
 use Rattle.mc_world.proofs.DoneLemmas.{course_done, is_there}
 use Rattle.mc_world.proofs.JoinLemmas.{course_joins}
 use Rattle.mc_world.proofs.RunLemmas.{course_accounts}

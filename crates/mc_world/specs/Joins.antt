@@ -5,7 +5,7 @@ use Rattle.mc_cache.specs.CacheState.{CacheState}
 use Rattle.mc_proxy.specs.Joins.{JoinsServer}
 use Rattle.mc_world.specs.WorldState.{PoolState}
 use Rattle.mc_world.specs.Worlds.{CourseState, first_site}
-use Rattle.mc_world.specs.declared.events.Logged.TheVariants.{Joined}
+use Rattle.mc_world.specs.declared.logs.Logged.TheVariants.{Joined}
 
 -- a server of this address joins at the last place, over an opening cache: its link is up, and it has admitted a connection for it
 pub record ServerJoins (address : List ℕ) (opening : CacheState) (old new : PoolState) : Type 0 where

@@ -8,7 +8,6 @@ pub mod Pools
 pub mod Applies
 pub mod LogHolds
 pub mod Worlds
-pub mod Bare
 pub mod Courses
 pub mod CourseHolds
 pub mod Joins

@@ -2,9 +2,9 @@
 use Rattle.std.specs.Prelude.{ℕ, ◌≡◌, zero, suc, ◌==◌, Bool, true, false, List, [], ◌∷◌, ◌++◌, length, if◌then◌else◌}
 use Rattle.mc_ring.specs.Points.{pairs_at, points_of}
 use Rattle.mc_ring.specs.Rings.{RingState, Shows}
-use Rattle.mc_world.specs.declared.events.Event.TheVariants.{Emit, LinkBack, LinkLost, ProxyTurn, ServerTurn}
-use Rattle.mc_world.specs.declared.events.Logged.{Logged}
-use Rattle.mc_world.specs.declared.events.Logged.TheVariants.{Happened, Joined}
+use Rattle.mc_event.specs.declared.events.Event.TheVariants.{Emit, LinkBack, LinkLost, ProxyTurn, ServerTurn}
+use Rattle.mc_world.specs.declared.logs.Logged.{Logged}
+use Rattle.mc_world.specs.declared.logs.Logged.TheVariants.{Happened, Joined}
 
 -- what was done, the oldest first, without the bytes of clients
 abbrev pub Log : Type 0

@@ -11,7 +11,7 @@ ghost use Rattle.mc_account.specs.Orders.{Order, note, note_all};
 ghost use Rattle.mc_account.specs.Holds.{changed, grown};
 ghost use Rattle.mc_world.specs.Accounts.{Account, AccountsForCommands};
 ghost use Rattle.mc_world.specs.Logs.{Log, before, is_up, number_of, up_by};
-ghost use Rattle.mc_world.specs.declared.events.Logged.{Logged};
+ghost use Rattle.mc_world.specs.declared.logs.Logged.{Logged};
 ghost use Rattle.mc_world.specs.Pools.{ClientGoes, TakesBytes, EndSeen, LateBytes, LateTurn, LinkReturns, HearsClient, LosesLink, PoolHolds, PutsAnswer, ReachesProxy, ReachesServer, ServerTakes, TakesReply, TakesRequest, asked_by};
 ghost use Rattle.mc_world.specs.WorldState.{PoolState, SiteState, histories_of};
 ghost use Rattle.mc_history.specs.Named.{AreReplied};

@@ -24,11 +24,11 @@ mod clients;
 mod courses;
 mod drains;
 mod errors;
-mod events;
 mod joins;
 mod late;
 mod laws;
 mod living;
+mod logs;
 mod lost_ways;
 mod openings;
 mod pools;
@@ -39,11 +39,12 @@ mod world_laws;
 mod worlds;
 
 pub use errors::{Step, WorldError};
-pub use events::{Event, Logged};
 pub use laws::{
     clients_keep_pools, living_ways_keep_pools, logs_go_on, lost_ways_keep_pools,
     nothing_gives_account, pools_account_for_commands,
 };
+pub use logs::Logged;
+pub use mc_event::Event;
 pub use mc_history::Entry;
 pub use pools::Pool;
 pub use sites::Site;

@@ -4,9 +4,10 @@ ghost use Rattle.std.specs.Prelude.{◌≡◌, ◌↔◌, ◌⊎◌, [], length,
 use crate::clients::Client;
 use crate::courses::Course;
 use crate::errors::{Step, WorldError};
-use crate::events::{Event, Logged};
+use crate::logs::Logged;
 use crate::openings::{copy_of, empty_stores, opened_course};
 use mc_cache::{Cache, is_within_bounds};
+use mc_event::Event;
 use mc_history::Entry;
 use mc_item::CasCounter;
 use mc_ring::{Address, Ring};

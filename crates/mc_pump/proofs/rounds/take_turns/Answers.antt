@@ -14,35 +14,35 @@ loop-server-init g c =
 
 pub loop-server-smaller : goal.loop-server-smaller
 loop-server-smaller g c =
-    let steps : Steps c.args.number c.loop-server.server c.turn_within.new.self (IsTurn c.args.number c.args.moment Took) = rw c.in-Took.is at (rw c.in-Turned.is at c.in-Ok.ensures.within) in
+    let steps : Steps c.args.number c.loop-server.server c.turn_within.new.self (IsTurn c.args.number c.args.moment Took) = rw c.in-Ok-Turned-Took.field-0-0-is at (rw c.in-Ok-Turned-Took.field-0-is at c.in-Ok-Turned-Took.ensures.within) in
     took_one c.args.number c.args.moment c.loop-server.server c.turn_within.new.self steps
 
 pub loop-server-preserved : goal.loop-server-preserved
 loop-server-preserved g c =
-    let steps : Steps c.args.number c.loop-server.server c.turn_within.new.self (IsTurn c.args.number c.args.moment Took) = rw c.in-Took.is at (rw c.in-Turned.is at c.in-Ok.ensures.within) in
+    let steps : Steps c.args.number c.loop-server.server c.turn_within.new.self (IsTurn c.args.number c.args.moment Took) = rw c.in-Ok-Turned-Took.field-0-0-is at (rw c.in-Ok-Turned-Took.field-0-is at c.in-Ok-Turned-Took.ensures.within) in
     let below : length (output_of (connection_at c.loop-server.server c.args.number)) < UNSENT_MARK = rw (← c.output.ensures) c.loop-server-test.true in
     stretch_then c.args.number c.args.moment c.args.server.now c.loop-server.server c.turn_within.new.self [] [] [] [] c.loop-server.invariant
     (stretch_took c.args.number c.args.moment c.loop-server.server c.turn_within.new.self steps below)
 
-pub returns-in-Idle-clause-turns : goal.returns-in-Idle-clause-turns
-returns-in-Idle-clause-turns g c =
-    let steps : Steps c.args.number c.loop-server.server c.turn_within.new.self (IsTurn c.args.number c.args.moment Idle) = rw c.in-Idle.is at (rw c.in-Turned.is at c.in-Ok.ensures.within) in
+pub returns-in-Ok-Turned-Idle-clause-turns : goal.returns-in-Ok-Turned-Idle-clause-turns
+returns-in-Ok-Turned-Idle-clause-turns g c =
+    let steps : Steps c.args.number c.loop-server.server c.turn_within.new.self (IsTurn c.args.number c.args.moment Idle) = rw c.in-Ok-Turned-Idle.field-0-0-is at (rw c.in-Ok-Turned-Idle.field-0-is at c.in-Ok-Turned-Idle.ensures.within) in
     stretch_then c.args.number c.args.moment c.args.server.now c.loop-server.server c.turn_within.new.self [] [] [] [] c.loop-server.invariant
     (stretch_idle c.args.number c.args.moment c.loop-server.server c.turn_within.new.self steps)
 
-pub returns-in-Idle-clause-stop : goal.returns-in-Idle-clause-stop
-returns-in-Idle-clause-stop g c =
-    let steps : Steps c.args.number c.loop-server.server c.turn_within.new.self (IsTurn c.args.number c.args.moment Idle) = rw c.in-Idle.is at (rw c.in-Turned.is at c.in-Ok.ensures.within) in
+pub returns-in-Ok-Turned-Idle-clause-stop : goal.returns-in-Ok-Turned-Idle-clause-stop
+returns-in-Ok-Turned-Idle-clause-stop g c =
+    let steps : Steps c.args.number c.loop-server.server c.turn_within.new.self (IsTurn c.args.number c.args.moment Idle) = rw c.in-Ok-Turned-Idle.field-0-0-is at (rw c.in-Ok-Turned-Idle.field-0-is at c.in-Ok-Turned-Idle.ensures.within) in
     let below : length (output_of (connection_at c.loop-server.server c.args.number)) < UNSENT_MARK = rw (← c.output.ensures) c.loop-server-test.true in
     found_none c.args.number c.args.moment c.loop-server.server c.turn_within.new.self steps below
 
-pub returns-in-Closing-clause-turns : goal.returns-in-Closing-clause-turns
-returns-in-Closing-clause-turns g c =
-    let steps : Steps c.args.number c.loop-server.server c.turn_within.new.self (IsTurn c.args.number c.args.moment Closing) = rw c.in-Closing.is at (rw c.in-Turned.is at c.in-Ok.ensures.within) in
+pub returns-in-Ok-Turned-Closing-clause-turns : goal.returns-in-Ok-Turned-Closing-clause-turns
+returns-in-Ok-Turned-Closing-clause-turns g c =
+    let steps : Steps c.args.number c.loop-server.server c.turn_within.new.self (IsTurn c.args.number c.args.moment Closing) = rw c.in-Ok-Turned-Closing.field-0-0-is at (rw c.in-Ok-Turned-Closing.field-0-is at c.in-Ok-Turned-Closing.ensures.within) in
     stretch_then c.args.number c.args.moment c.args.server.now c.loop-server.server c.turn_within.new.self [] [] [] [] c.loop-server.invariant
     (stretch_closing c.args.number c.args.moment c.loop-server.server c.turn_within.new.self steps)
 
-pub returns-in-Closing-clause-stop : goal.returns-in-Closing-clause-stop
-returns-in-Closing-clause-stop g c =
-    let steps : Steps c.args.number c.loop-server.server c.turn_within.new.self (IsTurn c.args.number c.args.moment Closing) = rw c.in-Closing.is at (rw c.in-Turned.is at c.in-Ok.ensures.within) in
+pub returns-in-Ok-Turned-Closing-clause-stop : goal.returns-in-Ok-Turned-Closing-clause-stop
+returns-in-Ok-Turned-Closing-clause-stop g c =
+    let steps : Steps c.args.number c.loop-server.server c.turn_within.new.self (IsTurn c.args.number c.args.moment Closing) = rw c.in-Ok-Turned-Closing.field-0-0-is at (rw c.in-Ok-Turned-Closing.field-0-is at c.in-Ok-Turned-Closing.ensures.within) in
     closed_has_none c.args.number c.args.moment c.loop-server.server c.turn_within.new.self steps

@@ -1,8 +1,6 @@
-//! What can happen in a world, and how a log keeps it.
-
+//! An event, and its like without bytes.
 ghost use Rattle.std.specs.Prelude.{◌≡◌};
 
-use mc_ring::Address;
 use mc_text::Block;
 
 /// What happens, in one step. `B` is the bytes of a client: a log keeps none.
@@ -86,25 +84,11 @@ pub enum Event<B> {
     },
 }
 
-/// What was done, as a log keeps it.
-#[derive(Debug, Drop)]
-pub enum Logged {
-    /// An event that applied.
-    Happened(Event<()>),
-    /// A server that joined at the last place.
-    Joined {
-        /// The server's place.
-        server: usize,
-        /// Its address.
-        address: Address,
-    },
-}
-
 impl Event<Block> {
-    ghost use Rattle.mc_world.specs.Bare.{bare};
+    ghost use Rattle.mc_event.specs.Bare.{bare};
 
     /// The event without the bytes of a client, as a log keeps it.
-    pub(crate) fn bare(&self) -> Event<()>
+    pub fn bare(&self) -> Event<()>
         ensures { result ≡ bare self.now }
     {
         match *self {
