@@ -43,7 +43,8 @@ legal_site place order lane link opening site h =
 pub nothing_accounts : (ring : RingState) (opening : CacheState) → Accounts ring opening [] (λ _. []) (λ _. []) (λ _. []) []
 nothing_accounts ring opening = record {
   asked = λ client. ([], sym no_requests);
-  turns = λ client. refl;
+  turns = refl;
+  numbered = λ client. refl;
   rings = λ client request e at. absurd (none-some e at);
   sized = All-nil IsSized;
   legal = λ place. tt;
@@ -51,9 +52,10 @@ nothing_accounts ring opening = record {
   replied = λ tag place atom reply at. absurd (none-some _ at);
   lost = λ tag place atom at. absurd (none-some _ at);
   ordered = λ place j k d e r q at. absurd (none-some d at);
+  followed = λ place never. ([], refl);
   answered = λ client. refl;
   put = λ client. refl;
-  few = λ client. omega arith;
+  after = λ client request early. absurd (omega (arith, early));
   moments = λ place. refl;
   placed = λ place k e at. absurd (none-some e at);
 }

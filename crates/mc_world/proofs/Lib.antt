@@ -12,6 +12,7 @@ pub mod StillLemmas
 pub mod CommandLemmas
 pub mod LogLemmas
 pub mod LogEntryLemmas
+pub mod LogOrderLemmas
 pub mod LogServerLemmas
 pub mod LogOutcomeLemmas
 pub mod LogRequestLemmas
@@ -23,6 +24,7 @@ pub mod LogStillLemmas
 pub mod LogLivingLemmas
 pub mod LogHoldsLemmas
 pub mod LogTurnLemmas
+pub mod FollowLemmas
 pub mod LogAccountLemmas
 pub mod WorldOpeningLemmas
 pub mod CourseLemmas

@@ -1,5 +1,5 @@
 -- Where nothing was done a log leaves a pool so; and where it leaves a pool so, the account is given.
-use Rattle.std.proofs.Common.{◌≡◌, ◌∙◌, ℕ, zero, suc, ◌<◌, inl, inr, List, [], length, map, Option, None, Some, slice_get, refl, sym, ap, subst, append-nil}
+use Rattle.std.proofs.Common.{◌≡◌, ◌∙◌, ℕ, zero, suc, ◌<◌, inl, inr, List, [], length, map, Option, None, Some, slice_get, refl, sym, ap, subst, append-nil, arith}
 use Rattle.std.proofs.lemmas.List.Elements.{All-nil}
 use Rattle.std.proofs.lemmas.Option.{none-some, same_Some}
 use Rattle.mc_request.specs.declared.parts.Atom.{Atom}
@@ -19,11 +19,13 @@ use Rattle.mc_account.proofs.WithinLemmas.{commands_within}
 use Rattle.mc_history.specs.Histories.{HasReply, IsBefore, tag_in}
 use Rattle.mc_history.specs.declared.entries.Entry.{Entry}
 use Rattle.mc_world.specs.Accounts.{Accounts, NotAnswered}
+use Rattle.mc_world.specs.CourseHolds.{HaveOneConnection}
 use Rattle.mc_world.specs.LogHolds.{AreOrdered, IsFresh, IsPlaced, LogHolds}
 use Rattle.mc_world.specs.Logs.{Log, before, serves}
 use Rattle.mc_world.specs.Pools.{PoolHolds}
 use Rattle.mc_world.specs.WorldState.{PoolState, WayState, histories_of}
 use Rattle.mc_world.proofs.CommandLemmas.{commands_accounted}
+use Rattle.mc_world.proofs.FollowLemmas.{followed}
 use Rattle.mc_world.proofs.LogEntryLemmas.{got_some, history_at}
 
 none_at : {X : Type 0} (k : ℕ) → ◌≡◌ {A = Option X} (slice_get [] k) None
@@ -48,12 +50,13 @@ log_begins opening pool h =
         no_links = λ place past. refl;
       };
       requests = record {
-        taken = λ client. refl;
+        turns = refl;
         rings = λ client request e at. absurd (none-some e (sym (none_at request) ∙ at));
         inside = All-nil (IsRoutedWithin (length pool.sites));
       };
       answers = record {
         put = λ client. answers_nothing client [];
+        after = λ client request early. absurd (omega (arith, early));
         unanswered = λ client session at. absurd (none-some session (sym (h.not_open client) ∙ at));
       };
       histories = record {
@@ -100,12 +103,14 @@ replied_at opening texts sent order lanes pool place tag atom reply h inside com
 
 -- the whole account
 pub log_accounts : (ring : RingState) (opening : CacheState) (texts sent : ℕ → List ℕ) (order : Order) (lanes : ℕ → Lane) (outs : ℕ → List ℕ) (log : Log) (pool : PoolState)
-    → PoolHolds opening texts sent order lanes pool → LogHolds ring order outs log pool → Accounts ring opening order texts outs (histories_of pool.sites) log
-log_accounts ring opening texts sent order lanes outs log pool holds h =
+    → PoolHolds opening texts sent order lanes pool → LogHolds ring order outs log pool → HaveOneConnection log pool
+    → Accounts ring opening order texts outs (histories_of pool.sites) log
+log_accounts ring opening texts sent order lanes outs log pool holds h first =
     let commands = commands_accounted opening texts sent order lanes pool holds in
     record {
       asked = commands.asked;
-      turns = h.requests.taken;
+      turns = h.requests.turns;
+      numbered = holds.proxy.numbered;
       rings = h.requests.rings;
       sized = commands.sized;
       legal = commands.legal;
@@ -114,9 +119,10 @@ log_accounts ring opening texts sent order lanes outs log pool holds h =
           replied_at opening texts sent order lanes pool place tag atom reply holds (commands_within (length pool.sites) order h.requests.inside tag (to_place place atom) command) command known;
       lost = λ tag place atom command lost. h.commands.told tag place atom Lost command lost;
       ordered = λ place j k d e r q first second lt same replied also. ordered_replies order d e r q (h.histories.ordered place j k d e first second lt) same replied also;
+      followed = followed ring opening texts sent order lanes outs log pool holds h first;
       answered = λ client. (h.answers.put client).complete;
       put = λ client. sym (append-nil (outs client)) ∙ (h.answers.put client).answers;
-      few = λ client. (h.answers.put client).within;
+      after = h.answers.after;
       moments = h.histories.moments;
       placed = λ place k e at.
           let p = h.histories.placed place k e at in

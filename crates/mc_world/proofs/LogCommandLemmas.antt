@@ -23,6 +23,7 @@ use Rattle.mc_world.specs.declared.logs.Logged.{Logged}
 use Rattle.mc_world.proofs.LogEntryLemmas.{HasUntakenAt, got_inside, got_pushed}
 use Rattle.mc_world.proofs.LogHistoryLemmas.{KeepsLost}
 use Rattle.mc_world.proofs.LogLemmas.{before-stays, number-push}
+use Rattle.mc_world.proofs.LogOrderLemmas.{turns-taken}
 
 -- a command that is there, and one of which something is known, are of a request that was taken
 pub request_of : (o : Option Asked) (atom : ℕ) (routed : Routed) → command_in o atom ≡ Some routed → (e : Asked) × (o ≡ Some e)
@@ -37,13 +38,13 @@ pub command_taken : (opening : RingState) (places : ℕ) (order : Order) (log : 
     → WasTaken tag log
 command_taken opening places order log tag routed h at =
     let e = request_of (asked_at order tag.session tag.request) tag.atom routed at in
-    omega (arith, got_inside (entries_of tag.session order) tag.request e.0 e.1, h.taken tag.session)
+    omega (arith, got_inside (entries_of tag.session order) tag.request e.0 e.1, turns-taken order log h.turns tag.session)
 
 pub outcome_taken : (opening : RingState) (places : ℕ) (order : Order) (log : Log) (tag : Tag) (outcome : Outcome) → RequestsHold opening places order log → outcome_at order tag ≡ Some outcome
     → WasTaken tag log
 outcome_taken opening places order log tag outcome h at =
     let e = request_known (asked_at order tag.session tag.request) tag.atom outcome at in
-    omega (arith, got_inside (entries_of tag.session order) tag.request e.0 e.1, h.taken tag.session)
+    omega (arith, got_inside (entries_of tag.session order) tag.request e.0 e.1, turns-taken order log h.turns tag.session)
 
 -- what a log tells of a command, after an event more
 pub up_stays : (place : ℕ) (tag : Tag) (log : Log) (x : Logged) → WasTaken tag log → up_when_taken place tag log → up_when_taken place tag (log ++ x ∷ [])

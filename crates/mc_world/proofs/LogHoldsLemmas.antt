@@ -6,7 +6,7 @@ use Rattle.std.proofs.lemmas.List.{length-set}
 use Rattle.mc_ring.specs.Rings.{RingState}
 use Rattle.mc_route.specs.declared.outcomes.Outcome.TheVariants.{Lost, Reply}
 use Rattle.mc_link.specs.LinkState.{LinkState, Waiting, down_link, up_link}
-use Rattle.mc_server.specs.ServerState.{connection_at, output_of, with_fresh}
+use Rattle.mc_server.specs.ServerState.{connection_at, output_of}
 use Rattle.mc_session.specs.SessionState.{link_at, with_link}
 use Rattle.mc_proxy.specs.ProxyState.{ProxyState, session_at}
 use Rattle.mc_account.specs.Answered.{answered_at}
@@ -38,7 +38,7 @@ pub log_hears : (opening : RingState) (order : Order) (outs : ℕ → List ℕ) 
     → HearsClient client piece old new → LogHolds opening order outs log old → LogHolds opening order outs (log ++ Happened (ClientBytes client bytes) ∷ []) new
 log_hears opening order outs log client piece bytes old new e h =
     log_quiet opening order outs log (Happened (ClientBytes client bytes)) old new
-    (record { event = tt; takes = λ c. refl; puts = λ c. refl; moments = λ place. refl }) (λ place up. refl)
+    (record { event = tt; turns = refl; puts = λ c. refl; moments = λ place. refl }) (λ place up. refl)
     (still_sites old new e.steps.ring (ap (λ (ls : List LinkState). length ls) e.steps.step.0)
     (open_as_many old.proxy new.proxy (answered-fed client piece old.proxy new.proxy e.steps)) e.sites)
     (λ place. ap (λ (ls : List LinkState). (link_at ls place).up) e.steps.step.0) h
@@ -49,7 +49,7 @@ pub log_client_takes : (opening : RingState) (order : Order) (outs : ℕ → Lis
 log_client_takes opening order outs log client count moved old new e h =
     let links : new.proxy.links ≡ old.proxy.links = ap (λ (p : ProxyState). p.links) e.proxy ∙ sent_links client moved (session_at old.proxy client) old.proxy in
     log_quiet opening order outs log (Happened (ClientTakes client count)) old new
-    (record { event = tt; takes = λ c. refl; puts = λ c. refl; moments = λ place. refl }) (λ place up. refl)
+    (record { event = tt; turns = refl; puts = λ c. refl; moments = λ place. refl }) (λ place up. refl)
     (still_sites old new (ap (λ (p : ProxyState). p.ring) e.proxy ∙ sent_ring client moved (session_at old.proxy client) old.proxy) (ap (λ (ls : List LinkState). length ls) links)
     (open_as_many old.proxy new.proxy (λ n. ap (λ (p : ProxyState). answered_at p n) e.proxy ∙ answered-sent client moved old.proxy n)) e.sites)
     (λ place. ap (λ (ls : List LinkState). (link_at ls place).up) links) h
@@ -59,7 +59,7 @@ pub log_client_goes : (opening : RingState) (order : Order) (outs : ℕ → List
     → ClientGoes client old new → LogHolds opening order outs log old → LogHolds opening order outs (log ++ Happened (ClientGone client) ∷ []) new
 log_client_goes opening order outs log client old new e h =
     log_quiet opening order outs log (Happened (ClientGone client)) old new
-    (record { event = tt; takes = λ c. refl; puts = λ c. refl; moments = λ place. refl }) (λ place up. refl)
+    (record { event = tt; turns = refl; puts = λ c. refl; moments = λ place. refl }) (λ place up. refl)
     (still_sites old new (ap (λ (p : ProxyState). p.ring) e.proxy) (ap (λ (p : ProxyState). length p.links) e.proxy) (open_without client old.proxy new.proxy e.proxy e.not_open) e.sites)
     (λ place. ap (λ (p : ProxyState). (link_at p.links place).up) e.proxy) h
 
@@ -93,7 +93,7 @@ pub log_reaches_server : (opening : RingState) (order : Order) (outs : ℕ → L
 log_reaches_server opening order outs log place generation count moved old new e h =
     let r = relinked old new place (record (link_at old.proxy.links place) { output = drop moved (link_at old.proxy.links place).output }) e.proxy refl in
     log_quiet opening order outs log (Happened (ToServer place generation count)) old new
-    (record { event = tt; takes = λ c. refl; puts = λ c. refl; moments = λ p. refl }) (λ p up. refl)
+    (record { event = tt; turns = refl; puts = λ c. refl; moments = λ p. refl }) (λ p up. refl)
     (still_at old new place e.there.site e.there.now r.ring r.links (open_as_many old.proxy new.proxy r.answered) e.there.at e.there.sites
     (ap (λ (s : SiteState). s.history) e.arrives.all_else) (same_ways e.there.site.lost e.there.now.lost (ap (λ (s : SiteState). s.lost) e.arrives.all_else)))
     r.ups h
@@ -106,7 +106,7 @@ log_reaches_proxy opening order outs log place count moved old new e h =
       unread = (link_at old.proxy.links place).unread ++ take moved (output_of (connection_at e.there.site.server e.there.site.connection));
     }) e.proxy refl in
     log_quiet opening order outs log (Happened (ToProxy place count)) old new
-    (record { event = tt; takes = λ c. refl; puts = λ c. refl; moments = λ p. refl }) (λ p up. refl)
+    (record { event = tt; turns = refl; puts = λ c. refl; moments = λ p. refl }) (λ p up. refl)
     (still_at old new place e.there.site e.there.now r.ring r.links (open_as_many old.proxy new.proxy r.answered) e.there.at e.there.sites
     (ap (λ (s : SiteState). s.history) e.leaves) (same_ways e.there.site.lost e.there.now.lost (ap (λ (s : SiteState). s.lost) e.leaves)))
     r.ups h
@@ -117,7 +117,7 @@ pub log_late_bytes : (opening : RingState) (order : Order) (outs : ℕ → List 
 log_late_bytes opening order outs log place generation count i moved old new e h =
     let r = same_proxy old new e.there.proxy in
     log_quiet opening order outs log (Happened (ToServer place generation count)) old new
-    (record { event = tt; takes = λ c. refl; puts = λ c. refl; moments = λ p. refl }) (λ p up. refl)
+    (record { event = tt; turns = refl; puts = λ c. refl; moments = λ p. refl }) (λ p up. refl)
     (still_at old new place e.there.site e.there.now r.ring r.links (open_as_many old.proxy new.proxy r.answered) e.there.at e.there.sites
     (ap (λ (s : SiteState). s.history) e.arrives.all_else)
     (λ tag has. untaken_fewer e.there.site.lost i e.arrives.way (record e.arrives.way { going = drop moved e.arrives.way.going }) tag e.arrives.way_at (λ j at. (j, at))
@@ -130,7 +130,7 @@ pub log_end_seen : (opening : RingState) (order : Order) (outs : ℕ → List �
 log_end_seen opening order outs log place generation i old new e h =
     let r = same_proxy old new e.there.proxy in
     log_quiet opening order outs log (Happened (ServerSeesEnd place generation)) old new
-    (record { event = tt; takes = λ c. refl; puts = λ c. refl; moments = λ p. refl }) (λ p up. refl)
+    (record { event = tt; turns = refl; puts = λ c. refl; moments = λ p. refl }) (λ p up. refl)
     (still_at old new place e.there.site (record e.there.site { server = e.there.now.server; lost = remove e.there.site.lost i }) r.ring r.links (open_as_many old.proxy new.proxy r.answered) e.there.at (e.there.sites ∙ ap (λ (s : SiteState). slice_set old.sites place s) e.ends.all_else)
     refl (λ tag has. untaken_removed e.there.site.lost i tag has))
     r.ups h
@@ -154,7 +154,7 @@ log_returns opening order outs log place old new e h =
     (open_as_many old.proxy new.proxy (λ n. ap (λ (p : ProxyState). answered_at p n) e.proxy)) e.at e.sites (ap (λ (s : SiteState). s.history) e.back.all_else)
     (λ tag has. subst (λ (s : SiteState). HasUntaken s.lost tag) e.back.all_else has) in
     log_links opening order outs log (Happened (LinkBack place)) old new
-    (record { event = tt; takes = λ c. refl; puts = λ c. refl; moments = λ p. refl }) still
+    (record { event = tt; turns = refl; puts = λ c. refl; moments = λ p. refl }) still
     (servers_go opening log (Happened (LinkBack place)) old new tt still.alike
     (λ other inside. ap (λ (p : ProxyState). (link_at p.links other).up) e.proxy
     ∙ ups_changed old.proxy.links place (up_link ((link_at old.proxy.links place).generation + 1)) (Happened (LinkBack place)) e.inside
@@ -182,7 +182,7 @@ log_loses opening texts sent order lanes outs log place old new e proxy h =
           ∙ ups_changed old.proxy.links place (down_link (link_at old.proxy.links place).generation) (Happened (LinkLost place)) linked
           (ap (λ (v : Bool). if v then false else (link_at old.proxy.links place).up) (own_number place)) others other)
           (λ other past. others other true (λ same. omega (arith, there, same, past))) h.servers;
-      requests = requests_go opening (length old.sites) (length new.sites) order (note_all (tags_waiting old.proxy place) Lost order) log (Happened (LinkLost place)) alike.sites (λ c. refl) goes h.requests;
+      requests = requests_go opening (length old.sites) (length new.sites) order (note_all (tags_waiting old.proxy place) Lost order) log (Happened (LinkLost place)) alike.sites refl goes h.requests;
       answers = answers_go order (note_all (tags_waiting old.proxy place) Lost order) outs log (Happened (LinkLost place)) old.proxy new.proxy (λ c. refl) goes.answers
           (open_as_many old.proxy new.proxy (λ n. ap (λ (p : ProxyState). answered_at p n) e.proxy ∙ answered-lost place old.proxy n)) h.answers;
       histories = histories_go order (note_all (tags_waiting old.proxy place) Lost order) log (Happened (LinkLost place)) (histories_of old.sites) (histories_of new.sites) (λ p. refl) goes.lost
@@ -205,7 +205,7 @@ log_takes_reply opening texts sent order lanes outs log place old new e proxy h 
       servers = servers_stay opening log (Happened (ReplyTurn place)) old new tt (λ p up. refl) still.alike
           (λ other. ap (λ (ls : List LinkState). (link_at ls other).up) e.answers.links
           ∙ ups_with old.proxy.links place e.answers.link (ap (λ (l : LinkState). l.up) e.answers.takes.others) other) h.servers;
-      requests = requests_go opening (length old.sites) (length new.sites) order (note e.answers.tag (Reply e.answers.reply) order) log (Happened (ReplyTurn place)) still.alike.sites (λ c. refl) goes h.requests;
+      requests = requests_go opening (length old.sites) (length new.sites) order (note e.answers.tag (Reply e.answers.reply) order) log (Happened (ReplyTurn place)) still.alike.sites refl goes h.requests;
       answers = answers_go order (note e.answers.tag (Reply e.answers.reply) order) outs log (Happened (ReplyTurn place)) old.proxy new.proxy (λ c. refl) goes.answers still.open_ones h.answers;
       histories = histories_go order (note e.answers.tag (Reply e.answers.reply) order) log (Happened (ReplyTurn place)) (histories_of old.sites) (histories_of new.sites) (λ p. refl) goes.lost still.histories h.histories;
       commands = commands_reply opening (length old.sites) order log (Happened (ReplyTurn place)) e.answers.tag e.answers.reply old.sites new.sites h.requests proxy.numbered goes.lost still.histories still.untaken h.commands;

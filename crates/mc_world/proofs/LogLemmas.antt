@@ -2,10 +2,10 @@
 use Rattle.std.proofs.Common.{◌≡◌, ◌∙◌, ℕ, zero, suc, ◌+◌, ◌<◌, ◌≤◌, ◌==◌, Bool, true, false, if◌then◌else◌, List, [], ◌∷◌, ◌++◌, length, refl, sym, ap, append_assoc, append-nil, arith}
 use Rattle.std.proofs.lemmas.List.{length-append}
 use Rattle.mc_ring.specs.Rings.{RingState}
-use Rattle.mc_event.specs.declared.events.Event.TheVariants.{ServerTurn}
+use Rattle.mc_event.specs.declared.events.Event.TheVariants.{LinkBack, LinkLost, ServerTurn}
 use Rattle.mc_world.specs.declared.logs.Logged.{Logged}
 use Rattle.mc_world.specs.declared.logs.Logged.TheVariants.{Happened, Joined}
-use Rattle.mc_world.specs.Logs.{IsRingAfter, Log, before, moment_of, moments_of, number_of, serves, up_by, up_from}
+use Rattle.mc_world.specs.Logs.{IsRingAfter, Log, before, loses, moment_of, moments_of, number_of, serves, up_by, up_from}
 
 pub number-push : (is : Logged → Bool) (log : Log) (e : Logged) → number_of is (log ++ e ∷ []) ≡ number_of is log + (if is e then 1 else 0)
 number-push is [] e = (elim (is e) as (λ v. (if v then suc 0 else 0) ≡ 0 + (if v then 1 else 0)) [
@@ -24,35 +24,41 @@ up-push place up [] e = refl
 up-push place up (x ∷ xs) e = up-push place (up_by place x up) xs e
 
 -- the place of an event that was there
-pub before-stays : (is : Logged → Bool) (number : ℕ) (log : Log) (e : Logged) → number < number_of is log → before is number (log ++ e ∷ []) ≡ before is number log
-before-stays is number [] e h = absurd (omega (arith, h))
-before-stays is zero (x ∷ xs) e h =
+pub before-more : (is : Logged → Bool) (number : ℕ) (log more : Log) → number < number_of is log → before is number (log ++ more) ≡ before is number log
+before-more is number [] more h = absurd (omega (arith, h))
+before-more is zero (x ∷ xs) more h =
     (elim (is x) as (λ v. zero < (if v then suc (number_of is xs) else number_of is xs)
-    → (if v then [] else x ∷ before is zero (xs ++ e ∷ [])) ≡ (if v then [] else x ∷ before is zero xs)) [
+    → (if v then [] else x ∷ before is zero (xs ++ more)) ≡ (if v then [] else x ∷ before is zero xs)) [
       | true ↦ λ k. refl
-      | false ↦ λ k. ap (λ (es : Log). x ∷ es) (before-stays is zero xs e k)
+      | false ↦ λ k. ap (λ (es : Log). x ∷ es) (before-more is zero xs more k)
     ]) h
-before-stays is (suc number) (x ∷ xs) e h =
+before-more is (suc number) (x ∷ xs) more h =
     (elim (is x) as (λ v. suc number < (if v then suc (number_of is xs) else number_of is xs)
-    → x ∷ before is (if v then number else suc number) (xs ++ e ∷ []) ≡ x ∷ before is (if v then number else suc number) xs) [
-      | true ↦ λ k. ap (λ (es : Log). x ∷ es) (before-stays is number xs e (omega (arith, k)))
-      | false ↦ λ k. ap (λ (es : Log). x ∷ es) (before-stays is (suc number) xs e k)
+    → x ∷ before is (if v then number else suc number) (xs ++ more) ≡ x ∷ before is (if v then number else suc number) xs) [
+      | true ↦ λ k. ap (λ (es : Log). x ∷ es) (before-more is number xs more (omega (arith, k)))
+      | false ↦ λ k. ap (λ (es : Log). x ∷ es) (before-more is (suc number) xs more k)
     ]) h
 
+pub before-stays : (is : Logged → Bool) (number : ℕ) (log : Log) (e : Logged) → number < number_of is log → before is number (log ++ e ∷ []) ≡ before is number log
+before-stays is number log e h = before-more is number log (e ∷ []) h
+
 -- one that is of another kind is before it
-before-other : (is : Logged → Bool) (number : ℕ) (x : Logged) (xs : Log) → is x ≡ false → before is number (x ∷ xs) ≡ x ∷ before is number xs
+pub before-other : (is : Logged → Bool) (number : ℕ) (x : Logged) (xs : Log) → is x ≡ false → before is number (x ∷ xs) ≡ x ∷ before is number xs
 before-other is zero x xs other = rw other refl
 before-other is (suc number) x xs other = rw other refl
 
--- the place of the event that was done last
-pub before-last : (is : Logged → Bool) (log : Log) (e : Logged) → is e ≡ true → before is (number_of is log) (log ++ e ∷ []) ≡ log
-before-last is [] e h = rw h refl
-before-last is (x ∷ xs) e h =
-    let again = before-last is xs e h in
-    (elim (is x) as (λ v. is x ≡ v → before is (if v then suc (number_of is xs) else number_of is xs) (x ∷ (xs ++ e ∷ [])) ≡ x ∷ xs) [
-      | true ↦ λ own. ap (λ (v : Bool). x ∷ before is (if v then number_of is xs else suc (number_of is xs)) (xs ++ e ∷ [])) own ∙ ap (λ (es : Log). x ∷ es) again
-      | false ↦ λ other. before-other is (number_of is xs) x (xs ++ e ∷ []) other ∙ ap (λ (es : Log). x ∷ es) again
+-- the place of an event after so many of its kind, and of the one that was done last
+pub before-here : (is : Logged → Bool) (log : Log) (e : Logged) (more : Log) → is e ≡ true → before is (number_of is log) (log ++ e ∷ more) ≡ log
+before-here is [] e more h = rw h refl
+before-here is (x ∷ xs) e more h =
+    let again = before-here is xs e more h in
+    (elim (is x) as (λ v. is x ≡ v → before is (if v then suc (number_of is xs) else number_of is xs) (x ∷ (xs ++ e ∷ more)) ≡ x ∷ xs) [
+      | true ↦ λ own. ap (λ (v : Bool). x ∷ before is (if v then number_of is xs else suc (number_of is xs)) (xs ++ e ∷ more)) own ∙ ap (λ (es : Log). x ∷ es) again
+      | false ↦ λ other. before-other is (number_of is xs) x (xs ++ e ∷ more) other ∙ ap (λ (es : Log). x ∷ es) again
     ]) refl
+
+pub before-last : (is : Logged → Bool) (log : Log) (e : Logged) → is e ≡ true → before is (number_of is log) (log ++ e ∷ []) ≡ log
+before-last is log e h = before-here is log e [] h
 
 -- one event more that is not counted, and one that is
 pub number-none : (is : Logged → Bool) (log : Log) (e : Logged) → is e ≡ false → number_of is (log ++ e ∷ []) ≡ number_of is log
@@ -119,3 +125,17 @@ moments-count server (x ∷ xs) =
       | true ↦ λ size. omega (arith, joined, size, again)
       | false ↦ λ size. omega (arith, joined, size, again)
     ]) one
+
+-- a link that is not lost stays up
+up_by_other : (place : ℕ) (e : Logged) → loses place e ≡ false → up_by place e true ≡ true
+up_by_other place (Happened (LinkLost at)) h = ap (λ (v : Bool). if v then false else true) h
+up_by_other place (Happened (LinkBack at)) h = grind arith
+up_by_other place other h = refl
+
+pub stays_up : (place : ℕ) (log : Log) → number_of (loses place) log ≡ 0 → up_from place true log ≡ true
+stays_up place [] none = refl
+stays_up place (e ∷ es) none =
+    (elim (loses place e) as (λ v. loses place e ≡ v → (if v then suc (number_of (loses place) es) else number_of (loses place) es) ≡ 0 → up_from place (up_by place e true) es ≡ true) [
+      | true ↦ λ own k. absurd (omega (arith, k))
+      | false ↦ λ other k. ap (λ (up : Bool). up_from place up es) (up_by_other place e other) ∙ stays_up place es k
+    ]) refl none

@@ -44,7 +44,7 @@ made_of_entry place order lane link opening site h j d at =
     }
 
 -- the commands to a place: those sent before its living generation came up, those of it that the server took, and the others
-commands_split : (place : ℕ) (order : Order) (lane : Lane) (made others : List Tagged) → commands_of_lane place order lane ≡ made ++ others
+pub commands_split : (place : ℕ) (order : Order) (lane : Lane) (made others : List Tagged) → commands_of_lane place order lane ≡ made ++ others
     → commands_to place order ≡ (commands_to place (take lane.since order) ++ made) ++ others
 commands_split place order lane made others is =
     ap (λ (es : Order). commands_to place es) (sym (take-append-drop lane.since order)) ∙ commands-append place (take lane.since order) (drop lane.since order)

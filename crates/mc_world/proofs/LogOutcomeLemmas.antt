@@ -1,8 +1,7 @@
 -- An order as what becomes of its commands is noted.
-use Rattle.std.proofs.Common.{◌≡◌, ◌∙◌, ℕ, zero, suc, ◌+◌, ◌==◌, ◌⊎◌, inl, inr, Bool, true, false, if◌then◌else◌, List, [], ◌∷◌, length, map, Some, slice_get, refl, sym, ap, subst, arith}
+use Rattle.std.proofs.Common.{◌≡◌, ◌∙◌, ℕ, zero, suc, ◌+◌, ◌==◌, ◌⊎◌, inl, inr, Bool, true, false, if◌then◌else◌, List, [], ◌∷◌, map, Some, slice_get, refl, sym, ap, subst, arith}
 use Rattle.std.specs.Prelude.{All}
 use Rattle.std.proofs.lemmas.Bool.{and_from, eq-eqb}
-use Rattle.std.proofs.lemmas.List.{length-map}
 use Rattle.std.proofs.lemmas.Option.{none-some, same_Some}
 use Rattle.mc_route.specs.declared.outcomes.Outcome.{Outcome}
 use Rattle.mc_route.specs.declared.outcomes.Outcome.TheVariants.{Awaited, Lost}
@@ -20,7 +19,7 @@ use Rattle.mc_history.proofs.OutcomeLemmas.{command_note, note_back, own_of}
 
 -- The same requests, of whose commands more is known: what was lost is, and what was answered is.
 pub record Goes (old new : Order) : Type 0 where
-  pub sizes : (client : ℕ) → length (entries_of client new) ≡ length (entries_of client old)
+  pub sessions : map (λ (e : Asked). e.session) new ≡ map (λ (e : Asked). e.session) old
   pub rings : (client request : ℕ) (e : Asked) → asked_at new client request ≡ Some e → (d : Asked) × (asked_at old client request ≡ Some d) × (e.ring ≡ d.ring)
   pub inside : (places : ℕ) → All (IsRoutedWithin places) old → All (IsRoutedWithin places) new
   pub commands : (tag : Tag) → command_at new tag ≡ command_at old tag
@@ -29,7 +28,7 @@ pub record Goes (old new : Order) : Type 0 where
 
 pub goes_same : (order : Order) → Goes order order
 goes_same order = record {
-  sizes = λ client. refl;
+  sessions = refl;
   rings = λ client request e at. (e, at, refl);
   inside = λ places h. h;
   commands = λ tag. refl;
@@ -39,7 +38,7 @@ goes_same order = record {
 
 pub goes_then : (old middle new : Order) → Goes old middle → Goes middle new → Goes old new
 goes_then old middle new f g = record {
-  sizes = λ client. g.sizes client ∙ f.sizes client;
+  sessions = g.sessions ∙ f.sessions;
   rings = λ client request e at.
       let later = g.rings client request e at in
       let first = f.rings client request later.0 later.1 in
@@ -121,9 +120,14 @@ ring_noted t outcome [] (suc k) e at = absurd (none-some e at)
 ring_noted t outcome (x ∷ xs) zero e at = (x, refl, ap (λ (y : Asked). y.ring) (sym (same_Some (note_in t outcome x) e at)))
 ring_noted t outcome (x ∷ xs) (suc k) e at = ring_noted t outcome xs k e at
 
+-- and whose it is
+sessions-note : (t : Tag) (outcome : Outcome) (es : Order) → map (λ (e : Asked). e.session) (note t outcome es) ≡ map (λ (e : Asked). e.session) es
+sessions-note t outcome [] = refl
+sessions-note t outcome (e ∷ es) = ap (λ (cs : List ℕ). e.session ∷ cs) (sessions-note t outcome es)
+
 pub goes_note : (t : Tag) (outcome : Outcome) (order : Order) → ((number : ℕ) → AreInOrder (entries_of number order)) → outcome_at order t ≡ Some Awaited → Goes order (note t outcome order)
 goes_note t outcome order numbered awaited = record {
-  sizes = λ client. ap (λ (es : Order). length es) (entries-note client t outcome order) ∙ length-map (entries_of client order) (note_in t outcome);
+  sessions = sessions-note t outcome order;
   rings = λ client request e at.
       ring_noted t outcome (entries_of client order) request e (ap (λ (es : Order). slice_get es request) (sym (entries-note client t outcome order)) ∙ at);
   inside = λ places h. within-note places t outcome order h;

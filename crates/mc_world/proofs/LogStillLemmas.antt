@@ -15,7 +15,7 @@ use Rattle.mc_account.proofs.CountLemmas.{answered_there}
 use Rattle.mc_account.proofs.LaneLemmas.{link_other, link_own}
 use Rattle.mc_account.proofs.OpenSessions.{without_other}
 use Rattle.mc_world.specs.LogHolds.{LogHolds, ServersHold}
-use Rattle.mc_world.specs.Logs.{Log, moment_of, puts, takes, up_by}
+use Rattle.mc_world.specs.Logs.{Log, moment_of, puts, turn_of, up_by}
 use Rattle.mc_world.specs.WorldState.{PoolState, SiteState, WayState, histories_of}
 use Rattle.mc_world.specs.declared.logs.Logged.{Logged}
 use Rattle.mc_world.proofs.LogCommandLemmas.{commands_still}
@@ -29,7 +29,7 @@ use Rattle.mc_world.proofs.LogServerLemmas.{AreAlike, servers_stay}
 -- an event by which no request is taken or answered, and no server takes one
 pub record IsQuiet (x : Logged) : Type 0 where
   pub event : IsEvent x
-  pub takes : (client : ℕ) → takes client x ≡ false
+  pub turns : turn_of x ≡ []
   pub puts : (client : ℕ) → puts client x ≡ false
   pub moments : (place : ℕ) → moment_of place x ≡ []
 
@@ -45,7 +45,7 @@ pub log_links : (opening : RingState) (order : Order) (outs : ℕ → List ℕ) 
     → ServersHold opening (log ++ x ∷ []) new → LogHolds opening order outs log old → LogHolds opening order outs (log ++ x ∷ []) new
 log_links opening order outs log x old new quiet still servers h = record {
   servers = servers;
-  requests = requests_go opening (length old.sites) (length new.sites) order order log x still.alike.sites quiet.takes (goes_same order) h.requests;
+  requests = requests_go opening (length old.sites) (length new.sites) order order log x still.alike.sites quiet.turns (goes_same order) h.requests;
   answers = answers_go order order outs log x old.proxy new.proxy quiet.puts (λ client count out k. k) still.open_ones h.answers;
   histories = histories_go order order log x (histories_of old.sites) (histories_of new.sites) quiet.moments (λ tag lost. lost) still.histories h.histories;
   commands = commands_still opening (length old.sites) order log x old.sites new.sites h.requests still.histories still.untaken h.commands;

@@ -24,6 +24,7 @@ use Rattle.mc_world.proofs.LogCommandLemmas.{News, commands_go, none_still, requ
 use Rattle.mc_world.proofs.LogEntryLemmas.{asked_pushed, got_there}
 use Rattle.mc_world.proofs.LogHistoryLemmas.{KeepsLost}
 use Rattle.mc_world.proofs.LogLemmas.{before-last, number-before}
+use Rattle.mc_world.proofs.LogOrderLemmas.{turns-taken}
 
 -- what becomes at once of a command
 at_once_of : (links : List LinkState) (routes : List Routed) (k : ℕ) (routed : Routed) (outcome : Outcome) → slice_get routes k ≡ Some routed
@@ -42,7 +43,7 @@ none_yet opening places order log histories place tag requests h next k d at sam
     let few = number-before (takes d.client) (serves place) k log in
     let size : length (entries_of d.client order) ≡ length (entries_of tag.session order) = ap (λ (t : Tag). length (entries_of t.session order)) same in
     let number : d.request ≡ tag.request = ap (λ (t : Tag). t.request) same in
-    omega (arith, placed, few, requests.taken d.client, size, number, next)
+    omega (arith, placed, few, turns-taken order log requests.turns d.client, size, number, next)
 
 -- what the log tells of a command is what becomes of it at once
 told_at_once : (place : ℕ) (tag : Tag) (history : List Entry) (log : Log) (x : Logged) (link : LinkState) → takes tag.session x ≡ true → tag.request ≡ number_of (takes tag.session) log
@@ -81,7 +82,7 @@ news_taken opening places order asked log x links histories requests h own outco
           let is = at_once_of links (route_of_taken asked.ring asked.what) tag.atom (to_place place atom) outcome its_command its_outcome in
           let inside : place < places = commands_within places (order ++ asked ∷ []) (within-push places order asked requests.inside routed) tag (to_place place atom) command in
           inr (subst (λ (o : Outcome). IsTold place tag (histories place) (log ++ x ∷ []) o) (sym is)
-          (told_at_once place tag (histories place) log x (link_at links place) (subst (λ (s : ℕ). takes s x ≡ true) k.0 own) (k.1 ∙ requests.taken tag.session) (ups place inside)
+          (told_at_once place tag (histories place) log x (link_at links place) (subst (λ (s : ℕ). takes s x ≡ true) k.0 own) (k.1 ∙ turns-taken order log requests.turns tag.session) (ups place inside)
           (none_yet opening places order log histories place tag requests h k.1))))
     ]
 

@@ -59,9 +59,9 @@ log_puts opening texts sent order lanes outs outs' log client old new e was is o
     let same : (place : ℕ) → histories_of new.sites place ≡ histories_of old.sites place = λ place. ap (λ (ss : List SiteState). histories_of ss place) e.sites in
     record {
       servers = servers_stay opening log (Happened (Emit client)) old new tt (λ place up. refl) alike (λ place. ap (λ (ls : List LinkState). (link_at ls place).up) e.steps.step.0) h.servers;
-      requests = requests_go opening (length old.sites) (length new.sites) order order log (Happened (Emit client)) alike.sites (λ c. refl) (goes_same order) h.requests;
+      requests = requests_go opening (length old.sites) (length new.sites) order order log (Happened (Emit client)) alike.sites refl (goes_same order) h.requests;
       answers = answers_put texts sent order lanes client outs outs' log (Happened (Emit client)) old.proxy new.proxy (own_number client) (λ other differ. other_number client other differ) was is e.steps
-          others out h.answers;
+          others out h.requests.turns h.answers;
       histories = histories_go order order log (Happened (Emit client)) (histories_of old.sites) (histories_of new.sites) (λ place. refl) (λ tag lost. lost) same h.histories;
       commands = commands_still opening (length old.sites) order log (Happened (Emit client)) old.sites new.sites h.requests same
           (λ place tag has. subst (λ (ss : List SiteState). HasUntakenAt ss place tag) e.sites has) h.commands;
@@ -93,8 +93,8 @@ log_takes opening order outs log client old new e h =
           (λ place. ap (λ (ls : List LinkState). (link_at ls place).up) e.steps.step.1.sent
           ∙ ap (λ (l : LinkState). l.up) (handed_at place client e.steps.before.taken 0 (route_of_taken old.proxy.ring e.steps.step.0) old.proxy.links)
           ∙ received_stays (commands_from place client e.steps.before.taken 0 (route_of_taken old.proxy.ring e.steps.step.0)) (link_at old.proxy.links place)) h.servers;
-      requests = requests_take opening (length old.sites) (length new.sites) order (asked_by e) log (Happened (ProxyTurn client)) alike.sites (own_number client)
-          (λ other differ. other_number client other differ) h.servers.ring routed h.requests;
+      requests = requests_take opening (length old.sites) (length new.sites) order (asked_by e) log (Happened (ProxyTurn client)) alike.sites (own_number client) refl h.servers.ring
+          routed h.requests;
       answers = answers_go order (order ++ asked_by e ∷ []) outs log (Happened (ProxyTurn client)) old.proxy new.proxy (λ c. refl)
           (λ c count out k. answers_push c order (asked_by e) count out [] k)
           (open_as_many old.proxy new.proxy (answered-turn client turns.Took old.proxy.ring old.proxy new.proxy e.steps)) h.answers;
@@ -128,7 +128,7 @@ log_serves opening order outs log place generation entry old new is has untaken 
     } in
     record {
       servers = servers_stay opening log (Happened (ServerTurn place generation entry.moment)) old new tt (λ p u. refl) alike (λ p. ap (λ (q : ProxyState). (link_at q.links p).up) is) h.servers;
-      requests = requests_go opening (length old.sites) (length new.sites) order order log (Happened (ServerTurn place generation entry.moment)) alike.sites (λ c. refl) (goes_same order) h.requests;
+      requests = requests_go opening (length old.sites) (length new.sites) order order log (Happened (ServerTurn place generation entry.moment)) alike.sites refl (goes_same order) h.requests;
       answers = answers_go order order outs log (Happened (ServerTurn place generation entry.moment)) old.proxy new.proxy (λ c. refl) (λ c count out k. k)
           (open_as_many old.proxy new.proxy (λ c. ap (λ (p : ProxyState). answered_at p c) is)) h.answers;
       histories = histories_serve order log place generation entry (histories_of old.sites) (histories_of new.sites) has.own has.others placed ordered h.histories;

@@ -33,6 +33,7 @@ use Rattle.mc_world.specs.WorldState.{PoolState, SiteState, WayState}
 use Rattle.mc_world.specs.Worlds.{CourseState, opening_world, taken_by, text_of}
 use Rattle.mc_event.specs.declared.events.Event.{Event}
 use Rattle.mc_event.specs.declared.events.Event.TheVariants.{ClientTakes, Emit, ProxyTurn, ReplyTurn, ServerSeesEnd, ServerTurn, ToProxy, ToServer}
+use Rattle.mc_world.proofs.LogOrderLemmas.{turns-taken}
 use Rattle.mc_world.proofs.RunLemmas.{course_called}
 use Rattle.mc_world.proofs.WorldOpeningLemmas.{course_opens}
 use Rattle.mc_world.specs.Quiet.{IsQuiet, is_inner}
@@ -125,7 +126,7 @@ session_quiet ring opening c h stuck few client session at =
     let no_unanswered : session.unanswered ≡ [] = s.unanswered ∙ ap (λ (es : Order). map unanswered_of es) none in
     let no_output : session.output ≡ [] = none_left session.output
     (λ can. stuck (ClientTakes client 1) refl (subst (λ (o : Option SessionState). (0 < 1) × (0 < length (output_at o))) (sym at) can)) in
-    let counted = h.log.requests.taken client in
+    let counted = turns-taken h.order c.log h.log.requests.turns client in
     let numbered = s.taken in
     let put : session.taken - length session.unanswered ≡ number_of (puts client) c.log = h.log.answers.unanswered client session at in
     let zero_left : length session.unanswered ≡ 0 = ap (λ (us : List Unanswered). length us) no_unanswered in

@@ -197,7 +197,7 @@ log_opens ring opening clients is_ring =
         no_links = begun.servers.no_links;
       };
       requests = begun.requests;
-      answers = record { put = begun.answers.put; unanswered = λ client session at. nothing_answered clients client session at };
+      answers = record { put = begun.answers.put; after = begun.answers.after; unanswered = λ client session at. nothing_answered clients client session at };
       histories = begun.histories;
       commands = begun.commands;
     }
@@ -227,4 +227,7 @@ course_opens ring clients budget items is_ring some =
     (opening_pool_holds (opening_cache budget items 0) ring clients (opening_is_good budget items 0 some (omega arith)))
     (log_opens ring (opening_cache budget items 0) clients is_ring)
     (sym (length-replicate clients nobody))
-    (opening_generations (opening_cache budget items 0) (length ring.servers))
+    (record {
+      one = opening_generations (opening_cache budget items 0) (length ring.servers);
+      first = λ place site at never. ap (λ (s : SiteState). s.server.admitted) (sym (same_site (opening_cache budget items 0) (length ring.servers) place site at));
+    })

@@ -1,5 +1,5 @@
 -- The account of a run: this project's own.
-use Rattle.std.specs.Prelude.{ℕ, ◌≡◌, ◌<◌, ◌≤◌, ◌⊎◌, true, false, List, ◌++◌, length, map, take, Some, slice_get, All}
+use Rattle.std.specs.Prelude.{ℕ, ◌≡◌, ◌<◌, ◌≤◌, ◌⊎◌, true, false, List, ◌++◌, map, take, Some, slice_get, All}
 use Rattle.std.specs.List.{list_all}
 use Rattle.mc_request.specs.declared.parts.Atom.{Atom}
 use Rattle.mc_request.specs.declared.parts.Taken.{Taken}
@@ -11,10 +11,11 @@ use Rattle.mc_route.specs.Routes.{to_place}
 use Rattle.mc_route.specs.declared.outcomes.Outcome.TheVariants.{Lost, Reply}
 use Rattle.mc_link.specs.declared.turns.Tag.{Tag}
 use Rattle.mc_cache.specs.CacheState.{CacheState}
-use Rattle.mc_account.specs.Orders.{Entry as Asked, IsSized, Order, answers_of, entries_of, is_complete, taken_of}
+use Rattle.mc_account.specs.Orders.{AreInOrder, Entry as Asked, IsSized, Order, answers_of, commands_to, entries_of, is_complete, taken_of}
 use Rattle.mc_history.specs.declared.entries.Entry.{Entry}
-use Rattle.mc_world.specs.Logs.{IsRingAfter, Log, before, is_up, loses, moments_of, number_of, puts, serves, takes}
+use Rattle.mc_world.specs.Logs.{IsRingAfter, Log, before, is_up, loses, moments_of, number_of, puts, serves, takes, turns_of}
 use Rattle.mc_history.specs.Histories.{HasNone, HasReply, IsBefore, IsLegal, tag_in}
+use Rattle.mc_history.specs.Named.{tags_of}
 use Rattle.mc_account.specs.Lookups.{asked_at, command_at, outcome_at}
 
 -- at a place of the log, a request was taken, and was not answered yet
@@ -45,9 +46,11 @@ IsToldLost place tag history log = (down_when_taken place tag log × HasNone his
 -- What a run gives account of, by an order in which the requests were taken with what became of each command: the clients' texts,
 -- what was put out to them, the servers' histories, all by number, and the log.
 pub record Accounts (ring : RingState) (opening : CacheState) (order : Order) (texts outs : ℕ → List ℕ) (histories : ℕ → List Entry) (log : Log) : Type 0 where
-  -- each client's requests were taken in order, one by each turn, and routed by the ring of then; each of their commands has its outcome
+  -- each client's requests were taken in order, by the turns of the log in theirs, and routed by the ring of then; each of their commands
+  -- has its outcome
   pub asked : (client : ℕ) → (untaken : List Taken) × (taken_of client order ++ untaken ≡ requests_of (texts client))
-  pub turns : (client : ℕ) → length (entries_of client order) ≡ number_of (takes client) log
+  pub turns : map (λ (e : Asked). e.session) order ≡ turns_of log
+  pub numbered : (client : ℕ) → AreInOrder (entries_of client order)
   pub rings : (client request : ℕ) (e : Asked) → asked_at order client request ≡ Some e → IsRingAfter ring (before (takes client) request log) e.ring
   pub sized : All IsSized order
   -- each history is legal, and no command has two entries in all of them
@@ -63,10 +66,12 @@ pub record Accounts (ring : RingState) (opening : CacheState) (order : Order) (t
   -- in a history the commands of one client that were replied are in its order
   pub ordered : (place j k : ℕ) (d e : Entry) (r q : AReply (List ℕ)) → slice_get (histories place) j ≡ Some d → slice_get (histories place) k ≡ Some e → j < k
       → d.client ≡ e.client → outcome_at order (tag_in d) ≡ Some (Reply r) → outcome_at order (tag_in e) ≡ Some (Reply q) → IsBefore (tag_in d) (tag_in e)
-  -- what was put out to a client is the answers to its first requests, one for each put
+  -- where its link was never lost, a server took the first of the commands to it, in the order in which the proxy took the requests
+  pub followed : (place : ℕ) → number_of (loses place) log ≡ 0 → (untaken : List Tag) × (map tag_in (histories place) ++ untaken ≡ tags_of (commands_to place order))
+  -- what was put out to a client is the answers to its first requests, one for each put, and each was taken before it was answered
   pub answered : (client : ℕ) → list_all is_complete (take (number_of (puts client) log) (entries_of client order)) ≡ true
   pub put : (client : ℕ) → outs client ≡ answers_of (take (number_of (puts client) log) (entries_of client order))
-  pub few : (client : ℕ) → number_of (puts client) log ≤ length (entries_of client order)
+  pub after : (client request : ℕ) → request < number_of (puts client) log → request < number_of (takes client) (before (puts client) request log)
   -- a history has one entry for each turn of its server, at its moment; its request was taken before, and answered after where it was replied
   pub moments : (place : ℕ) → map (λ (e : Entry). e.moment) (histories place) ≡ moments_of place log
   pub placed : (place k : ℕ) (e : Entry) → slice_get (histories place) k ≡ Some e

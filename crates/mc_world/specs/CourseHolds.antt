@@ -6,6 +6,7 @@ use Rattle.mc_session.specs.SessionState.{link_at}
 use Rattle.mc_account.specs.Lanes.{Lane}
 use Rattle.mc_account.specs.Orders.{Order}
 use Rattle.mc_world.specs.LogHolds.{LogHolds}
+use Rattle.mc_world.specs.Logs.{Log, loses, number_of}
 use Rattle.mc_world.specs.Pools.{PoolHolds}
 use Rattle.mc_world.specs.WorldState.{PoolState, SiteState}
 use Rattle.mc_world.specs.Worlds.{CourseState, WorldState, put_out_of, taken_by, text_of}
@@ -13,6 +14,15 @@ use Rattle.mc_world.specs.Worlds.{CourseState, WorldState, put_out_of, taken_by,
 -- each site is of the generation of its link
 abbrev pub HaveOneGeneration : PoolState → Type 0
 HaveOneGeneration pool = (place : ℕ) (site : SiteState) → slice_get pool.sites place ≡ Some site → site.generation ≡ (link_at pool.proxy.links place).generation
+
+-- a server whose link was never lost admitted one connection
+abbrev pub HaveOneConnection : Log → PoolState → Type 0
+HaveOneConnection log pool = (place : ℕ) (site : SiteState) → slice_get pool.sites place ≡ Some site → number_of (loses place) log ≡ 0 → site.server.admitted ≡ 1
+
+-- the generations of a pool
+pub record GenerationsHold (log : Log) (pool : PoolState) : Type 0 where
+  pub one : HaveOneGeneration pool
+  pub first : HaveOneConnection log pool
 
 -- A course is where its proxy took requests in some order, and that passed over its links: so its pool is there, and its log tells
 -- of it. Each client has a session of its number, and each site is of the generation of its link.
@@ -22,7 +32,7 @@ pub record CourseHolds (ring : RingState) (opening : CacheState) (c : CourseStat
   pub pool : PoolHolds opening (text_of c) (taken_by c) order lanes c.pool
   pub log : LogHolds ring order (put_out_of c) c.log c.pool
   pub numbered : c.pool.proxy.admitted ≡ length c.clients
-  pub generations : HaveOneGeneration c.pool
+  pub generations : GenerationsHold c.log c.pool
 
 -- the same of a world, whose caches may have their bounds
 pub record WorldHolds (w : WorldState) : Type 0 where

@@ -10,11 +10,11 @@ use Rattle.mc_session.specs.SessionState.{SessionState, answered, link_at}
 use Rattle.mc_proxy.specs.ProxyState.{ProxyState, session_at}
 use Rattle.mc_account.specs.Answered.{AreAnswers}
 use Rattle.mc_account.specs.Lookups.{IsRoutedWithin, asked_at, command_at, outcome_at}
-use Rattle.mc_account.specs.Orders.{Entry as Asked, Order, entries_of}
+use Rattle.mc_account.specs.Orders.{Entry as Asked, Order}
 use Rattle.mc_history.specs.Histories.{IsBefore, tag_in}
 use Rattle.mc_history.specs.declared.entries.Entry.{Entry}
 use Rattle.mc_world.specs.Accounts.{IsToldLost, NotAnswered, WasTaken, up_when_taken}
-use Rattle.mc_world.specs.Logs.{IsRingAfter, Log, before, is_up, moments_of, number_of, puts, serves, takes}
+use Rattle.mc_world.specs.Logs.{IsRingAfter, Log, before, is_up, moments_of, number_of, puts, serves, takes, turns_of}
 use Rattle.mc_world.specs.WorldState.{PoolState, SiteState, WayState, histories_of}
 
 -- a command that became this of it: one that is awaited was sent on a link that was up; of one that is lost the log tells why
@@ -48,15 +48,17 @@ pub record ServersHold (opening : RingState) (log : Log) (pool : PoolState) : Ty
   pub links : (place : ℕ) → place < length pool.sites → is_up place log ≡ (link_at pool.proxy.links place).up
   pub no_links : (place : ℕ) → length pool.sites ≤ place → is_up place log ≡ true
 
--- Requests that were taken: as many as the log has, each routed by the ring of then, to one of so many places.
+-- Requests that were taken: by the turns of the log, in their order, each routed by the ring of then, to one of so many places.
 pub record RequestsHold (opening : RingState) (places : ℕ) (order : Order) (log : Log) : Type 0 where
-  pub taken : (client : ℕ) → length (entries_of client order) ≡ number_of (takes client) log
+  pub turns : map (λ (e : Asked). e.session) order ≡ turns_of log
   pub rings : (client request : ℕ) (e : Asked) → asked_at order client request ≡ Some e → IsRingAfter opening (before (takes client) request log) e.ring
   pub inside : All (IsRoutedWithin places) order
 
--- What was put out to each client is the answers to its first requests, one for each put; so many are answered of an open session.
+-- What was put out to each client is the answers to its first requests, one for each put, and each was taken before; so many are
+-- answered of an open session.
 pub record AnswersHold (order : Order) (outs : ℕ → List ℕ) (log : Log) (proxy : ProxyState) : Type 0 where
   pub put : (client : ℕ) → AreAnswers client order (number_of (puts client) log) (outs client) []
+  pub after : (client request : ℕ) → request < number_of (puts client) log → request < number_of (takes client) (before (puts client) request log)
   pub unanswered : (client : ℕ) (session : SessionState) → session_at proxy client ≡ Some session → answered session ≡ number_of (puts client) log
 
 -- Histories: an entry for each turn of the server, at its moment; each was made while its request was taken and not answered, and

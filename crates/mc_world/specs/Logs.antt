@@ -38,6 +38,15 @@ before is number [] = []
 before is zero (e ∷ es) = if is e then [] else e ∷ before is zero es
 before is (suc number) (e ∷ es) = e ∷ before is (if is e then number else suc number) es
 
+-- whose requests were taken, one by each turn of the proxy
+abbrev pub turn_of : Logged → List ℕ
+turn_of (Happened (ProxyTurn client)) = client ∷ []
+turn_of other = []
+
+abbrev pub turns_of : Log → List ℕ
+turns_of [] = []
+turns_of (e ∷ es) = turn_of e ++ turns_of es
+
 -- the moments at which a server took its requests
 abbrev pub moment_of : ℕ → Logged → List ℕ
 moment_of server (Happened (ServerTurn at generation moment)) = if at == server then moment ∷ [] else []
