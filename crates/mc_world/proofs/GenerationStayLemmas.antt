@@ -1,12 +1,11 @@
 -- Each site is of the generation of its link, after each event that happens.
 use Rattle.std.proofs.Common.{◌≡◌, ◌∙◌, ⊎_elim, ℕ, ◌+◌, inl, inr, true, false, if◌then◌else◌, List, [], ◌∷◌, ◌++◌, take, drop, Some, slice_get, slice_set, refl, sym, ap, subst}
-use Rattle.std.specs.Prelude.{remove}
 use Rattle.std.proofs.lemmas.Bool.Decides.{eqb_tells}
 use Rattle.mc_request.specs.declared.parts.Atom.{Atom}
 use Rattle.mc_route.specs.Routes.{route_of_taken}
 use Rattle.mc_link.specs.LinkState.{LinkState, down_link, sent, up_link}
 use Rattle.mc_link.specs.declared.turns.Tag.{Tag}
-use Rattle.mc_server.specs.ServerState.{connection_at, output_of, with_fresh}
+use Rattle.mc_server.specs.ServerState.{connection_at, output_of}
 use Rattle.mc_session.specs.Sending.{handed_to}
 use Rattle.mc_session.specs.SessionState.{link_at, with_link}
 use Rattle.mc_proxy.specs.ProxyState.{ProxyState, session_at}
