@@ -1,5 +1,5 @@
 //! When something is said.
-ghost use Rattle.std.specs.Prelude.{◌≡◌, ◌≢◌, ◌≤◌, ◌<◌, ◌↔◌, ◌-◌, None, Some, min, IsTrue, OnSome};
+ghost use Rattle.std.specs.Prelude.{◌≡◌, ◌≢◌, ◌≤◌, ◌<◌, ◌↔◌, ◌-◌, None, Some, min, IfNone, IsTrue, OnSome};
 ghost use Rattle.std.specs.Bool.{OnTrue, OnFalse};
 ghost use Rattle.mc_watch.specs.Paces.{earlier, next_of};
 
@@ -84,6 +84,7 @@ impl Seldom {
         ensures once { self.old.second ≡ Some second → result ≡ None }
         ensures what { self.old.second ≢ Some second → result ≡ self.old.what }
         ensures said { OnSome result (self.new ≡ record { what = None; second = Some second }) }
+        ensures silent { IfNone result (self.new.second ≡ self.old.second) }
         ensures forgotten { self.new.what ≡ None }
     {
         let what = self.what;

@@ -1,6 +1,6 @@
 -- When events apply to a pool, and what was done where they did.
 use Rattle.std.proofs.Common.{◌≡◌, ◌≢◌, ◌∙◌, ℕ, zero, suc, ◌+◌, ◌-◌, ◌^◌, ◌<◌, ◌≤◌, ◌==◌, ◌&&◌, ◌⊎◌, inl, inr, Bool, true, false, not, min, List, [], ◌∷◌, ◌++◌, length, drop, take, Option, Some, None, Result, Ok, Err, slice_get, slice_set, refl, sym, ap, subst, append_assoc, append-nil, arith}
-use Rattle.std.specs.Prelude.{IfErr, IsErrOf, IsOkUnless, IsTrue, nat_lt, slice_index_or}
+use Rattle.std.specs.Prelude.{IfErr, OnErr, IsErrOf, IsOkUnless, IsTrue, nat_lt, slice_index_or}
 use Rattle.std.specs.Result.{IsOk}
 use Rattle.std.proofs.lemmas.Bool.{and_from, and_parts, eqb-true, lt-ltb, ltb-true}
 use Rattle.std.proofs.lemmas.List.{drop_min, length-append, take_min}
@@ -50,6 +50,11 @@ it_applies p = (λ _. p, λ _. refl)
 
 pub it_does_not : {P : Type 0} → (P → ⊥) → (Nothing ≡ Done → P) × (P → Nothing ≡ Done)
 it_does_not never = (λ is. absurd cc, λ p. absurd (never p))
+
+-- what is so is so at an error
+pub at_error : {T E : Type 0} (P : Type 0) (r : Result T E) → P → OnErr r P
+at_error P (Ok value) is = tt
+at_error P (Err e) is = is
 
 -- a generation lives
 pub lives_by : (place generation own : ℕ) (pool : PoolState) (site : SiteState) → slice_get pool.sites place ≡ Some site → IsUp place pool → own ≡ site.generation

@@ -1,5 +1,5 @@
 -- Parts of a drain.
-use Rattle.std.proofs.Common.{◌≡◌, ◌∙◌, ⊎_elim, ℕ, ◌+◌, ◌<◌, Bool, true, false, ◌||◌, nat_lt, Result, Ok, Err, OnErr, List, [], ◌∷◌, ◌++◌, length, Option, Some, slice_get, refl, sym, ap, subst, arith}
+use Rattle.std.proofs.Common.{◌≡◌, ◌∙◌, ⊎_elim, ℕ, ◌+◌, ◌<◌, Bool, true, false, ◌||◌, nat_lt, List, [], ◌∷◌, ◌++◌, length, Option, Some, slice_get, refl, sym, ap, subst, arith}
 use Rattle.std.specs.List.{list_all}
 use Rattle.std.proofs.lemmas.Bool.{and_from, and_parts, ltb-false, ltb-true}
 use Rattle.mc_ring.specs.Rings.{RingState}
@@ -187,8 +187,3 @@ first_did one two some = ap (λ (v : Bool). v || two) some
 pub second_did : (one two : Bool) → two ≡ true → (one || two) ≡ true
 second_did true two some = refl
 second_did false two some = some
-
--- what is so is so at an error
-pub at_error : {T E : Type 0} (P : Type 0) (r : Result T E) → P → OnErr r P
-at_error P (Ok value) is = tt
-at_error P (Err e) is = is

@@ -45,3 +45,4 @@ pub mod WorkLemmas
 pub mod LessLemmas
 pub mod DrainLemmas
 pub mod RestLemmas
+pub mod RoundLemmas

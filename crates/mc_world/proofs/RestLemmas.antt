@@ -34,7 +34,7 @@ own_lives : (pool : PoolState) (place : ℕ) (site : SiteState) → slice_get po
 own_lives pool place site at up = record { site = site; at = at; is = sym (ap generation_of at); up = up }
 
 -- the first of the lost generations is the first of its number
-first_lost : (pool : PoolState) (place : ℕ) (site : SiteState) (way : WayState) (ways : List WayState) → slice_get pool.sites place ≡ Some site → site.lost ≡ way ∷ ways
+pub first_lost : (pool : PoolState) (place : ℕ) (site : SiteState) (way : WayState) (ways : List WayState) → slice_get pool.sites place ≡ Some site → site.lost ≡ way ∷ ways
     → HasLost place (lost_of (slice_get pool.sites place)) pool
 first_lost pool place site way ways at is =
     let number : lost_of (slice_get pool.sites place) ≡ way.generation = ap lost_of at ∙ ap (λ (ws : List WayState). lost_of (Some (record site { lost = ws }))) is in

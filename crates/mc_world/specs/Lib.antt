@@ -19,3 +19,4 @@ pub mod Quiet
 pub mod Drains
 pub mod WorkLeft
 pub mod Acts
+pub mod Rounds

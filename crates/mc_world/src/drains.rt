@@ -1,5 +1,5 @@
 //! All that is left to do in a world is done.
-ghost use Rattle.std.specs.Prelude.{◌≡◌, ◌<◌, ◌^◌, IfErr, IfOk, OnErr, OnOk};
+ghost use Rattle.std.specs.Prelude.{◌≡◌, ◌<◌, ◌^◌, true, IfErr, IfOk, OnErr, OnOk};
 
 use crate::acts::Act;
 use crate::errors::{Step, WorldError};
@@ -8,6 +8,7 @@ use mc_store::Store;
 
 impl<S: Store + Drop> World<S> {
     ghost use Rattle.mc_world.specs.Acts.{HasDrained, IsIdle, IsOver, IsRested, NoClient, NoServer};
+    ghost use Rattle.mc_world.specs.Rounds.{Alternates, DrainsInRounds, EachClient, EachServer, IsActed, IsRound, Repeats, Then};
     ghost use Rattle.mc_world.specs.declared.acts.Act.TheVariants.{PutAnswer, ReachProxy, ReachServer, SeeEnd, Serve, TakeBytes, TakeReply, TakeRequest};
     ghost use Rattle.mc_world.specs.Drains.{Drains};
     ghost use Rattle.mc_world.specs.Quiet.{IsQuiet};
@@ -25,6 +26,7 @@ impl<S: Store + Drop> World<S> {
     pub fn drain(&mut self, moment: u64) -> Result<(), WorldError>
         requires moment { moment < 2 ^ 63 }
         ensures drains { Drains moment self.old.course self.new.course }
+        ensures rounds { OnOk result (DrainsInRounds moment self.old.course self.new.course) }
         ensures quiet { OnOk result (IsQuiet self.new.course) }
         ensures opened { (self.new.opening ≡ self.old.opening) × (self.new.budget ≡ self.old.budget) × (self.new.items ≡ self.old.items) }
         ensures account { GivesAccount self.new }
@@ -37,13 +39,15 @@ impl<S: Store + Drop> World<S> {
         Ok(())
     }
 
-    /// Does rounds until one does nothing.
+    /// Servers see their ends, and then it does rounds until one does nothing.
     fn rest(&mut self, moment: u64) -> Result<(), WorldError>
         requires moment { moment < 2 ^ 63 }
         ensures drained { HasDrained moment self.old self.new }
+        ensures rounds { OnOk result (DrainsInRounds moment self.old.course self.new.course) }
         ensures rested { OnOk result (IsRested moment self.new.course) }
         ensures cause { IfErr result (λ e. e ≡ WorldError.Memory) }
     {
+        self.see_ends(moment)?;
         while self.round(moment)? {}
         Ok(())
     }
@@ -60,37 +64,38 @@ impl<S: Store + Drop> World<S> {
     /// A round, and whether anything was done in it.
     fn round(&mut self, moment: u64) -> Result<bool, WorldError>
         requires moment { moment < 2 ^ 63 }
+        requires ended { NoServer moment SeeEnd self.old.course }
         ensures over { IfOk result (λ did. IsOver moment (IsRested moment) did self.old self.new) }
+        ensures round { OnOk result (IsRound moment self.old.course self.new.course) }
         ensures err { OnErr result (HasDrained moment self.old self.new) }
         ensures cause { IfErr result (λ e. e ≡ WorldError.Memory) }
     {
-        let ended = self.see_ends(moment)?;
         let taken = self.take_requests(moment)?;
         let served = self.serve_all(moment)?;
         let answered = self.answer_all(moment)?;
-        Ok(ended | taken | served | answered)
+        Ok(taken | served | answered)
     }
 
     /// Servers see the ends of the generations that were lost.
-    fn see_ends(&mut self, moment: u64) -> Result<bool, WorldError>
+    fn see_ends(&mut self, moment: u64) -> Result<(), WorldError>
         requires moment { moment < 2 ^ 63 }
-        ensures over { IfOk result (λ did. IsOver moment (NoServer moment SeeEnd) did self.old self.new) }
-        ensures err { OnErr result (HasDrained moment self.old self.new) }
+        ensures drained { HasDrained moment self.old self.new }
+        ensures ends { OnOk result (EachServer (λ place. Repeats moment (SeeEnd place)) self.old.course self.new.course) }
+        ensures ended { OnOk result (NoServer moment SeeEnd self.new.course) }
         ensures cause { IfErr result (λ e. e ≡ WorldError.Memory) }
     {
-        let mut did = false;
         let places = self.course.pool.sites.len();
         for place in 0..places {
-            let one = self.repeat(Act::SeeEnd(place), moment)?;
-            did |= one;
+            self.repeat(Act::SeeEnd(place), moment)?;
         }
-        Ok(did)
+        Ok(())
     }
 
     /// The proxy takes the requests of clients.
     fn take_requests(&mut self, moment: u64) -> Result<bool, WorldError>
         requires moment { moment < 2 ^ 63 }
         ensures over { IfOk result (λ did. IsOver moment (NoClient moment TakeRequest) did self.old self.new) }
+        ensures requests { OnOk result (EachClient (λ client. Repeats moment (TakeRequest client)) self.old.course self.new.course) }
         ensures err { OnErr result (HasDrained moment self.old self.new) }
         ensures cause { IfErr result (λ e. e ≡ WorldError.Memory) }
     {
@@ -108,6 +113,8 @@ impl<S: Store + Drop> World<S> {
         requires moment { moment < 2 ^ 63 }
         ensures over { IfOk result (λ did. IsOver moment (λ c. NoServer moment ReachServer c × NoServer moment Serve c
             × NoServer moment ReachProxy c × NoServer moment TakeReply c) did self.old self.new) }
+        ensures servers { OnOk result (EachServer (λ place. Then (Alternates moment (ReachServer place) (Serve place))
+            (Alternates moment (ReachProxy place) (TakeReply place))) self.old.course self.new.course) }
         ensures err { OnErr result (HasDrained moment self.old self.new) }
         ensures cause { IfErr result (λ e. e ≡ WorldError.Memory) }
     {
@@ -125,6 +132,7 @@ impl<S: Store + Drop> World<S> {
     fn answer_all(&mut self, moment: u64) -> Result<bool, WorldError>
         requires moment { moment < 2 ^ 63 }
         ensures over { IfOk result (λ did. IsOver moment (λ c. NoClient moment PutAnswer c × NoClient moment TakeBytes c) did self.old self.new) }
+        ensures answers { OnOk result (EachClient (λ client. Alternates moment (PutAnswer client) (TakeBytes client)) self.old.course self.new.course) }
         ensures err { OnErr result (HasDrained moment self.old self.new) }
         ensures cause { IfErr result (λ e. e ≡ WorldError.Memory) }
     {
@@ -141,6 +149,7 @@ impl<S: Store + Drop> World<S> {
     fn alternate(&mut self, first: Act, second: Act, moment: u64) -> Result<bool, WorldError>
         requires moment { moment < 2 ^ 63 }
         ensures over { IfOk result (λ did. IsOver moment (λ c. IsIdle moment c.pool first × IsIdle moment c.pool second) did self.old self.new) }
+        ensures alternates { OnOk result (Alternates moment first second self.old.course self.new.course) }
         ensures err { OnErr result (HasDrained moment self.old self.new) }
         ensures cause { IfErr result (λ e. e ≡ WorldError.Memory) }
     {
@@ -159,6 +168,7 @@ impl<S: Store + Drop> World<S> {
     fn repeat(&mut self, act: Act, moment: u64) -> Result<bool, WorldError>
         requires moment { moment < 2 ^ 63 }
         ensures over { IfOk result (λ did. IsOver moment (λ c. IsIdle moment c.pool act) did self.old self.new) }
+        ensures repeats { OnOk result (Repeats moment act self.old.course self.new.course) }
         ensures err { OnErr result (HasDrained moment self.old self.new) }
         ensures cause { IfErr result (λ e. e ≡ WorldError.Memory) }
     {
@@ -173,6 +183,7 @@ impl<S: Store + Drop> World<S> {
     fn act(&mut self, act: Act, moment: u64) -> Result<bool, WorldError>
         requires moment { moment < 2 ^ 63 }
         ensures over { IfOk result (λ did. IsOver moment (λ c. IsIdle moment c.pool act) did self.old self.new) }
+        ensures acted { IfOk result (λ did. did ≡ true → IsActed moment act self.old.course self.new.course) }
         ensures err { OnErr result (HasDrained moment self.old self.new) }
         ensures cause { IfErr result (λ e. e ≡ WorldError.Memory) }
     {

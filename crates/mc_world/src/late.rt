@@ -59,6 +59,8 @@ impl<S: Store + Drop> Site<S> {
         ensures applies { (way : WayState) → slice_get self.old.lost i ≡ Some way
             → IfOk result (λ step. (step ≡ Step.Done) ↔ (0 < length (waiting_of (connection_at self.old.server way.connection)))) }
         ensures err { OnErr result (self.new ≡ self.old) }
+        ensures err_applies { (way : WayState) → slice_get self.old.lost i ≡ Some way
+            → OnErr result (0 < length (waiting_of (connection_at self.old.server way.connection))) }
     {
         let way = &self.lost[i];
         let connection = way.connection();
@@ -112,6 +114,7 @@ impl<S: Store + Drop> Site<S> {
         ensures back { IfOk result (λ step. Does step (ComesBack generation self.old self.new) (self.new ≡ self.old)) }
         ensures applies { IfOk result (λ step. (step ≡ Step.Done) ↔ CanAdmit self.old.server) }
         ensures err { OnErr result (self.new ≡ self.old) }
+        ensures err_admits { OnErr result (CanAdmit self.old.server) }
     {
         let connection = match self.server.admit() {
             Ok(connection) => connection,

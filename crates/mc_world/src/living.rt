@@ -31,6 +31,7 @@ impl<S: Store + Drop> Pool<S> {
         ensures reaches { IfOk result (λ step. Does step (ReachesServer place count self.old self.new) (self.new ≡ self.old)) }
         ensures applies { IfOk result (λ step. (step ≡ Step.Done) ↔ CanReachServer place count self.old) }
         ensures err { OnErr result (self.new ≡ self.old) }
+        ensures err_applies { OnErr result (CanReachServer place count self.old) }
     {
         let Some(site) = self.sites.get_mut(place) else {
             return Ok(Step::Nothing);
@@ -56,6 +57,7 @@ impl<S: Store + Drop> Pool<S> {
         ensures takes { IfOk result (λ step. Does step (ServerTakes place moment self.old self.new) (self.new ≡ self.old)) }
         ensures applies { IfOk result (λ step. (step ≡ Step.Done) ↔ CanServe place self.old) }
         ensures err { OnErr result (self.new ≡ self.old) }
+        ensures err_applies { OnErr result (CanServe place self.old) }
     {
         let Some(site) = self.sites.get_mut(place) else {
             return Ok(Step::Nothing);
@@ -80,6 +82,7 @@ impl<S: Store + Drop> Pool<S> {
         ensures reaches { IfOk result (λ step. Does step (ReachesProxy place count self.old self.new) (self.new ≡ self.old)) }
         ensures applies { IfOk result (λ step. (step ≡ Step.Done) ↔ CanReachProxy place count self.old) }
         ensures err { OnErr result (self.new ≡ self.old) }
+        ensures err_applies { OnErr result (CanReachProxy place count self.old) }
     {
         let Some(site) = self.sites.get_mut(place) else {
             return Ok(Step::Nothing);
@@ -121,6 +124,7 @@ impl<S: Store + Drop> Pool<S> {
         ensures loses { IfOk result (λ step. Does step (LosesLink place self.old self.new) (self.new ≡ self.old)) }
         ensures applies { IfOk result (λ step. (step ≡ Step.Done) ↔ IsUp place self.old) }
         ensures err { OnErr result (self.new ≡ self.old) }
+        ensures err_applies { OnErr result (IsUp place self.old) }
     {
         let Some(site) = self.sites.get_mut(place) else {
             return Ok(Step::Nothing);
@@ -138,6 +142,7 @@ impl<S: Store + Drop> Pool<S> {
         ensures returns { IfOk result (λ step. Does step (LinkReturns place self.old self.new) (self.new ≡ self.old)) }
         ensures applies { IfOk result (λ step. (step ≡ Step.Done) ↔ CanReturn place self.old) }
         ensures err { OnErr result (self.new ≡ self.old) }
+        ensures err_applies { OnErr result (CanReturn place self.old) }
     {
         let Some(site) = self.sites.get_mut(place) else {
             return Ok(Step::Nothing);

@@ -22,6 +22,7 @@ impl<S: Store + Drop> Pool<S> {
             (self.new ≡ self.old)) }
         ensures applies { IfOk result (λ step. (step ≡ Step.Done) ↔ CanReachLate place generation count self.old) }
         ensures err { OnErr result (self.new ≡ self.old) }
+        ensures err_applies { OnErr result (CanReachLate place generation count self.old) }
     {
         let Some(site) = self.sites.get_mut(place) else {
             return Ok(Step::Nothing);
@@ -49,6 +50,7 @@ impl<S: Store + Drop> Pool<S> {
             (self.new ≡ self.old)) }
         ensures applies { IfOk result (λ step. (step ≡ Step.Done) ↔ CanServeLate place generation self.old) }
         ensures err { OnErr result (self.new ≡ self.old) }
+        ensures err_applies { OnErr result (CanServeLate place generation self.old) }
     {
         let Some(site) = self.sites.get_mut(place) else {
             return Ok(Step::Nothing);

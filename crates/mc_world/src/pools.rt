@@ -79,6 +79,7 @@ impl<S: Store + Drop> Pool<S> {
         ensures hears { IfOk result (λ step. Does step (HearsClient client piece.now self.old self.new) (self.new ≡ self.old)) }
         ensures applies { IfOk result (λ step. (step ≡ Step.Done) ↔ CanHear client piece.now self.old) }
         ensures err { OnErr result (self.new ≡ self.old) }
+        ensures err_applies { OnErr result (CanHear client piece.now self.old) }
     {
         if piece.is_empty() {
             return Ok(Step::Nothing);
@@ -95,6 +96,7 @@ impl<S: Store + Drop> Pool<S> {
         ensures takes { IfOk result (λ step. Does step (TakesRequest client self.old self.new) (self.new ≡ self.old)) }
         ensures applies { IfOk result (λ step. (step ≡ Step.Done) ↔ CanTakeRequest client self.old) }
         ensures err { OnErr result (self.new ≡ self.old) }
+        ensures err_applies { OnErr result (CanTakeRequest client self.old) }
     {
         let turn = match self.proxy.turn(client) {
             Ok(turn) => turn,
@@ -112,6 +114,7 @@ impl<S: Store + Drop> Pool<S> {
         ensures puts { IfOk result (λ step. Does step (PutsAnswer client self.old self.new) (self.new ≡ self.old)) }
         ensures applies { IfOk result (λ step. (step ≡ Step.Done) ↔ CanPutAnswer client self.old) }
         ensures err { OnErr result (self.new ≡ self.old) }
+        ensures err_applies { OnErr result (CanPutAnswer client self.old) }
     {
         let emit = match self.proxy.emit(client) {
             Ok(emit) => emit,

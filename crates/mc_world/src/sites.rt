@@ -125,6 +125,7 @@ impl<S: Store + Drop> Site<S> {
         ensures enters { IfOk result (λ step. Does step (Enters moment tag self.old self.new) (self.new ≡ self.old)) }
         ensures applies { IfOk result (λ step. (step ≡ Step.Done) ↔ (0 < length (waiting_of (connection_at self.old.server self.old.connection)))) }
         ensures err { OnErr result (self.new ≡ self.old) }
+        ensures err_applies { OnErr result (0 < length (waiting_of (connection_at self.old.server self.old.connection))) }
     {
         let Step::Done = serve(
             self.alloc,

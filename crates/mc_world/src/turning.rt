@@ -29,6 +29,7 @@ pub(crate) fn serve<S: Store + Drop>(
     ensures enters { IfOk result (λ step. Does step (EntersOn connection moment tag server.old server.new history.old.items history.new.items)
         ((server.new ≡ server.old) × (history.new.items ≡ history.old.items))) }
     ensures applies { IfOk result (λ step. (step ≡ Step.Done) ↔ (0 < length (waiting_of (connection_at server.old connection)))) }
+    ensures err_applies { OnErr result (0 < length (waiting_of (connection_at server.old connection))) }
     ensures err { OnErr result ((server.new ≡ server.old) × (history.new.items ≡ history.old.items)) }
 {
     if !server.ready(connection)? {

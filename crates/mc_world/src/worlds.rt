@@ -189,7 +189,8 @@ impl<S: Store + Drop> World<S> {
 
     /// All that was put out to a client: what it took, and what it has not taken. When a client goes it takes all.
     pub fn put_out(&self, client: u64) -> Result<Vec<u8>, WorldError>
-        ensures { IfOk result (λ bytes. bytes.items ≡ put_out_of self.now.course client) }
+        ensures put_out { IfOk result (λ bytes. bytes.items ≡ put_out_of self.now.course client) }
+        ensures cause { IfErr result (λ e. e ≡ WorldError.Memory) }
     {
         let taken: &[u8] = match self.course.clients.get(client as usize) {
             Some(client) => client.taken.as_slice(),

@@ -4,7 +4,7 @@ use Rattle.mc_world.specs.Serving.{PoolServes}
 use Rattle.mc_world.specs.Applies.{way_of}
 use Rattle.mc_world.specs.Happens.{Does, EntersLate}
 use Rattle.mc_world.specs.declared.errors.Step.{Step}
-use Rattle.mc_world.proofs.AppliesLemmas.{found_way, it_applies, it_does_not, late_serves_if, pool_of, served_late}
+use Rattle.mc_world.proofs.AppliesLemmas.{at_error, found_way, it_applies, it_does_not, late_serves_if, pool_of, served_late}
 use Rattle.mc_world.proofs.pools.Pool.late_turn.Goals as goal
 
 pub turn_late-requires-clause-inside : goal.turn_late-requires-clause-inside
@@ -63,3 +63,13 @@ returns-clause-applies g c =
     let first : way_of c.args.generation c.in-Some.site.now.lost ≡ Some c.in-Some-way.i = sym c.way.ensures ∙ c.in-Some-way.is in
     let found = found_way c.args.generation c.in-Some.site.now.lost c.in-Some-way.i first in
     rw (← c.self.view_is) (it_applies (record { there = record { site = c.in-Some.site.now; at = at; i = c.in-Some-way.i; first = first; way = found.way; way_at = found.at }; waits = (c.in_ok-turn_late.ensures.applies found.way found.at).0 c.in-Done.is }))
+
+-- memory is refused only where a request has come whole
+pub returns-in_err-turn_late-clause-err_applies : goal.returns-in_err-turn_late-clause-err_applies
+returns-in_err-turn_late-clause-err_applies g c =
+    let inside = c.in-Some.ensures.variant.0 refl in
+    let kept = c.self.inside.sites.ok in
+    let at : slice_get c.self.inside.sites.items c.args.place ≡ Some c.in-Some.site.now = slice_get_read _ _ c.args.place c.in-Some.site.now refl (omega (arith, inside, kept)) (search rules) in
+    let first : way_of c.args.generation c.in-Some.site.now.lost ≡ Some c.in-Some-way.i = sym c.way.ensures ∙ c.in-Some-way.is in
+    let found = found_way c.args.generation c.in-Some.site.now.lost c.in-Some-way.i first in
+    rw (← c.self.view_is) (at_error _ c.from_residual.result (record { there = record { site = c.in-Some.site.now; at = at; i = c.in-Some-way.i; first = first; way = found.way; way_at = found.at }; waits = c.in_err-turn_late.ensures.err_applies found.way found.at }))

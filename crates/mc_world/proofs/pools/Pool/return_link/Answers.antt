@@ -8,7 +8,7 @@ use Rattle.mc_session.specs.SessionState.{with_link}
 use Rattle.mc_world.specs.Applies.{CanAdmit}
 use Rattle.mc_world.specs.Happens.{ComesBack, Does}
 use Rattle.mc_world.specs.declared.errors.Step.{Step}
-use Rattle.mc_world.proofs.AppliesLemmas.{came_back, can_return, comes_back, it_applies, it_does_not, none_left, pool_of, up_stays}
+use Rattle.mc_world.proofs.AppliesLemmas.{at_error, came_back, can_return, comes_back, it_applies, it_does_not, none_left, pool_of, up_stays}
 use Rattle.mc_world.proofs.pools.Pool.return_link.Goals as goal
 
 pub returns-then-is_up-clause-applies : goal.returns-then-is_up-clause-applies
@@ -82,3 +82,17 @@ returns-clause-applies g c =
     let below : (link_at c.self.inside.proxy.links c.args.place).generation < 2 ^ 64 - 1 = omega (arith, fits, c.generation.ensures, own.generation) in
     let admits : CanAdmit c.in-Some.site.now.server = c.in_ok-come_back.ensures.applies.0 c.in-Done.is in
     rw (← c.self.view_is) (it_applies (record { site = c.in-Some.site.now; at = at; can = can_return (link_at c.self.inside.proxy.links c.args.place) down below; admits = admits }))
+
+-- memory is refused only where the server can admit a connection
+pub returns-in_err-come_back-clause-err_applies : goal.returns-in_err-come_back-clause-err_applies
+returns-in_err-come_back-clause-err_applies g c =
+    let inside = c.in-Some.ensures.variant.0 refl in
+    let kept = c.self.inside.sites.ok in
+    let at : slice_get c.self.inside.sites.items c.args.place ≡ Some c.in-Some.site.now = slice_get_read _ _ c.args.place c.in-Some.site.now refl (omega (arith, inside, kept)) (search rules) in
+    let serves : PoolServes (pool_of c.self.inside.proxy c.self.inside.sites.items) = subst PoolServes (sym c.self.view_is) c.requires.serves in
+    let own = serves.sites c.args.place c.in-Some.site.now at in
+    let down : (link_at c.self.inside.proxy.links c.args.place).up ≡ false = search rules in
+    let fits : c.generation.result < 2 ^ 64 - 1 = search rules in
+    let below : (link_at c.self.inside.proxy.links c.args.place).generation < 2 ^ 64 - 1 = omega (arith, fits, c.generation.ensures, own.generation) in
+    rw (← c.self.view_is) (at_error _ c.from_residual.result
+    (record { site = c.in-Some.site.now; at = at; can = can_return (link_at c.self.inside.proxy.links c.args.place) down below; admits = c.in_err-come_back.ensures.err_admits }))

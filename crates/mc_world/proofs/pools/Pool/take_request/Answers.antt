@@ -13,6 +13,7 @@ returns-in_default g c =
       takes = rw (← c.self.view_is) (same_pool _ _ _ (turn_still c.args.client _ c.self.inside.proxy c.turn.new.self c.in_default.not-Took c.in-Ok.ensures.turn));
       applies = rw (← c.self.view_is) (it_does_not (λ can. not_ready c.args.client _ c.self.inside.proxy c.turn.new.self c.in_default.not-Took c.in-Ok.ensures.turn can.0 can.1 can.2));
       err = tt;
+      err_applies = tt;
     }
 
 pub returns-clause-applies : goal.returns-clause-applies

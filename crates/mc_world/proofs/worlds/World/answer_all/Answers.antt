@@ -1,16 +1,27 @@
-use Rattle.std.proofs.Common.{ℕ}
+use Rattle.std.proofs.Common.{rules, ◌≡◌, ℕ, length, subst}
 use Rattle.mc_world.specs.Acts.{IsIdle}
+use Rattle.mc_world.specs.Rounds.{Alternates, InOrder}
 use Rattle.mc_world.specs.Worlds.{CourseState}
 use Rattle.mc_world.specs.declared.acts.Act.TheVariants.{PutAnswer, TakeBytes}
-use Rattle.mc_world.proofs.DrainLemmas.{at_error, drained, drained_then, over_more}
+use Rattle.mc_world.proofs.AppliesLemmas.{at_error}
+use Rattle.mc_world.proofs.DrainLemmas.{drained, drained_then, over_more}
+use Rattle.mc_world.proofs.RoundLemmas.{order_more}
 use Rattle.mc_world.proofs.worlds.World.answer_all.Goals as goal
 
 pub returns-in_err-one-clause-err : goal.returns-in_err-one-clause-err
 returns-in_err-one-clause-err g c =
     at_error _ c.from_residual.result (drained_then c.args.moment c.args.self.now c.loop-client.self c.alternate.new.self
-    (drained c.args.moment c.loop-client.did c.args.self.now c.loop-client.self c.loop-client.invariant.goes) c.in_err-one.ensures.err)
+    (drained c.args.moment c.loop-client.did c.args.self.now c.loop-client.self c.loop-client.invariant.over.goes) c.in_err-one.ensures.err)
 
 pub loop-client-preserved : goal.loop-client-preserved
-loop-client-preserved g c =
-    over_more c.args.moment (λ (k : ℕ) (s : CourseState). IsIdle c.args.moment s.pool (PutAnswer k) × IsIdle c.args.moment s.pool (TakeBytes k)) c.loop-client.did c.in_ok-one.one c.loop-client.client c.args.self.now c.loop-client.self c.alternate.new.self
-    c.loop-client.invariant c.in_ok-one.ensures.over
+loop-client-preserved g c = record {
+  over = over_more c.args.moment (λ (k : ℕ) (s : CourseState). IsIdle c.args.moment s.pool (PutAnswer k) × IsIdle c.args.moment s.pool (TakeBytes k)) c.loop-client.did c.in_ok-one.one c.loop-client.client c.args.self.now c.loop-client.self c.alternate.new.self
+      c.loop-client.invariant.over c.in_ok-one.ensures.over;
+  order = order_more (λ client. Alternates c.args.moment (PutAnswer client) (TakeBytes client)) c.loop-client.client c.args.self.now.course c.loop-client.self.course c.alternate.new.self.course
+      c.loop-client.invariant.order c.in_ok-one.ensures.alternates;
+}
+
+pub returns-clause-answers : goal.returns-clause-answers
+returns-clause-answers g c =
+    let all : c.loop-client.client ≡ length c.args.self.now.course.clients = search rules in
+    subst (λ (n : ℕ). InOrder (λ client. Alternates c.args.moment (PutAnswer client) (TakeBytes client)) n c.args.self.now.course c.loop-client.self.course) all c.loop-client.invariant.order

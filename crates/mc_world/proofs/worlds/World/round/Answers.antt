@@ -1,54 +1,55 @@
 use Rattle.std.proofs.Common.{◌||◌}
-use Rattle.mc_world.specs.Acts.{IsRested, NoClient, NoServer}
+use Rattle.mc_world.specs.Acts.{NoClient, NoServer}
 use Rattle.mc_world.specs.Worlds.{CourseState}
-use Rattle.mc_world.specs.declared.acts.Act.TheVariants.{PutAnswer, ReachProxy, ReachServer, SeeEnd, Serve, TakeBytes, TakeReply, TakeRequest}
-use Rattle.mc_world.proofs.DrainLemmas.{at_error, drained, drained_then, over_as, over_then}
+use Rattle.mc_world.specs.declared.acts.Act.TheVariants.{PutAnswer, ReachProxy, ReachServer, Serve, TakeBytes, TakeReply, TakeRequest}
+use Rattle.mc_world.proofs.AppliesLemmas.{at_error}
+use Rattle.mc_world.proofs.DrainLemmas.{drained, drained_then, over_then}
 use Rattle.mc_world.proofs.worlds.World.round.Goals as goal
-
-pub returns-in_err-taken-clause-err : goal.returns-in_err-taken-clause-err
-returns-in_err-taken-clause-err g c =
-    at_error _ c.from_residual-in_err-taken.result (drained_then c.args.moment c.args.self.now c.see_ends.new.self c.take_requests.new.self
-    (drained c.args.moment c.in_ok-ended.ended c.args.self.now c.see_ends.new.self c.in_ok-ended.ensures.over.goes) c.in_err-taken.ensures.err)
 
 pub returns-in_err-served-clause-err : goal.returns-in_err-served-clause-err
 returns-in_err-served-clause-err g c =
-    at_error _ c.from_residual-in_err-served.result (drained_then c.args.moment c.args.self.now c.see_ends.new.self c.serve_all.new.self
-    (drained c.args.moment c.in_ok-ended.ended c.args.self.now c.see_ends.new.self c.in_ok-ended.ensures.over.goes)
-    (drained_then c.args.moment c.see_ends.new.self c.take_requests.new.self c.serve_all.new.self
-    (drained c.args.moment c.in_ok-taken.taken c.see_ends.new.self c.take_requests.new.self c.in_ok-taken.ensures.over.goes) c.in_err-served.ensures.err))
+    at_error _ c.from_residual-in_err-served.result (drained_then c.args.moment c.args.self.now c.take_requests.new.self c.serve_all.new.self
+    (drained c.args.moment c.in_ok-taken.taken c.args.self.now c.take_requests.new.self c.in_ok-taken.ensures.over.goes) c.in_err-served.ensures.err)
 
 pub returns-in_err-answered-clause-err : goal.returns-in_err-answered-clause-err
 returns-in_err-answered-clause-err g c =
-    at_error _ c.from_residual-in_err-answered.result (drained_then c.args.moment c.args.self.now c.see_ends.new.self c.answer_all.new.self
-    (drained c.args.moment c.in_ok-ended.ended c.args.self.now c.see_ends.new.self c.in_ok-ended.ensures.over.goes)
-    (drained_then c.args.moment c.see_ends.new.self c.take_requests.new.self c.answer_all.new.self
-    (drained c.args.moment c.in_ok-taken.taken c.see_ends.new.self c.take_requests.new.self c.in_ok-taken.ensures.over.goes)
+    at_error _ c.from_residual-in_err-answered.result (drained_then c.args.moment c.args.self.now c.take_requests.new.self c.answer_all.new.self
+    (drained c.args.moment c.in_ok-taken.taken c.args.self.now c.take_requests.new.self c.in_ok-taken.ensures.over.goes)
     (drained_then c.args.moment c.take_requests.new.self c.serve_all.new.self c.answer_all.new.self
-    (drained c.args.moment c.in_ok-served.served c.take_requests.new.self c.serve_all.new.self c.in_ok-served.ensures.over.goes) c.in_err-answered.ensures.err)))
+    (drained c.args.moment c.in_ok-served.served c.take_requests.new.self c.serve_all.new.self c.in_ok-served.ensures.over.goes) c.in_err-answered.ensures.err))
 
 -- where no part did anything, no act applied
 pub returns-clause-over : goal.returns-clause-over
 returns-clause-over g c =
     let m = c.args.moment in
-    let Ends = λ (s : CourseState). NoServer m (λ x. SeeEnd x) s in
     let Requests = λ (s : CourseState). NoClient m (λ x. TakeRequest x) s in
     let Served = λ (s : CourseState). NoServer m (λ x. ReachServer x) s × NoServer m (λ x. Serve x) s × NoServer m (λ x. ReachProxy x) s × NoServer m (λ x. TakeReply x) s in
     let Answers = λ (s : CourseState). NoClient m (λ x. PutAnswer x) s × NoClient m (λ x. TakeBytes x) s in
-    let ended = c.in_ok-ended.ended in
     let taken = c.in_ok-taken.taken in
     let served = c.in_ok-served.served in
-    over_as m (λ s. ((Ends s × Requests s) × Served s) × Answers s) (IsRested m) (((ended || taken) || served) || c.in_ok-answered.answered) c.args.self.now c.answer_all.new.self
-    (λ s all. record {
-      ends = all.0.0.0;
-      requests = all.0.0.1;
-      going = all.0.1.0;
-      served = all.0.1.1;
-      coming = all.0.1.2;
-      replies = all.0.1.3;
-      answers = all.1.0;
-      taken = all.1.1;
-    })
-    (over_then m (λ s. (Ends s × Requests s) × Served s) Answers ((ended || taken) || served) c.in_ok-answered.answered c.args.self.now c.serve_all.new.self c.answer_all.new.self
-    (over_then m (λ s. Ends s × Requests s) Served (ended || taken) served c.args.self.now c.take_requests.new.self c.serve_all.new.self
-    (over_then m Ends Requests ended taken c.args.self.now c.see_ends.new.self c.take_requests.new.self c.in_ok-ended.ensures.over c.in_ok-taken.ensures.over)
-    c.in_ok-served.ensures.over) c.in_ok-answered.ensures.over)
+    let over = over_then m (λ s. Requests s × Served s) Answers (taken || served) c.in_ok-answered.answered c.args.self.now c.serve_all.new.self c.answer_all.new.self
+    (over_then m Requests Served taken served c.args.self.now c.take_requests.new.self c.serve_all.new.self c.in_ok-taken.ensures.over c.in_ok-served.ensures.over)
+    c.in_ok-answered.ensures.over in
+    record {
+      goes = over.goes;
+      idle = λ none. let all = over.idle none in
+          record {
+            ends = c.requires.ended;
+            requests = all.0.0;
+            going = all.0.1.0;
+            served = all.0.1.1;
+            coming = all.0.1.2;
+            replies = all.0.1.3;
+            answers = all.1.0;
+            taken = all.1.1;
+          };
+    }
+
+pub returns-clause-round : goal.returns-clause-round
+returns-clause-round g c = record {
+  taken = c.take_requests.new.self.course;
+  served = c.serve_all.new.self.course;
+  requests = c.in_ok-taken.ensures.requests;
+  servers = c.in_ok-served.ensures.servers;
+  answers = c.in_ok-answered.ensures.answers;
+}

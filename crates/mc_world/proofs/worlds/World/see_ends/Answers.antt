@@ -1,16 +1,40 @@
-use Rattle.std.proofs.Common.{ℕ}
-use Rattle.mc_world.specs.Acts.{IsIdle}
-use Rattle.mc_world.specs.Worlds.{CourseState}
+use Rattle.std.proofs.Common.{rules, ◌≡◌, ℕ, length, refl, subst, arith}
+use Rattle.mc_world.specs.Acts.{HasDrained}
+use Rattle.mc_world.specs.Rounds.{InOrder, Repeats}
 use Rattle.mc_world.specs.declared.acts.Act.TheVariants.{SeeEnd}
-use Rattle.mc_world.proofs.DrainLemmas.{at_error, drained, drained_then, over_more}
+use Rattle.mc_world.proofs.DrainLemmas.{drained, drained_none, drained_then}
+use Rattle.mc_world.proofs.RoundLemmas.{below_next, ended_all, order_more}
 use Rattle.mc_world.proofs.worlds.World.see_ends.Goals as goal
 
-pub returns-in_err-one-clause-err : goal.returns-in_err-one-clause-err
-returns-in_err-one-clause-err g c =
-    at_error _ c.from_residual.result (drained_then c.args.moment c.args.self.now c.loop-place.self c.repeat.new.self
-    (drained c.args.moment c.loop-place.did c.args.self.now c.loop-place.self c.loop-place.invariant.goes) c.in_err-one.ensures.err)
+pub loop-place-init : goal.loop-place-init
+loop-place-init g c = record {
+  drained = drained_none c.args.moment c.args.self.now;
+  ends = refl;
+  ended = λ k below. absurd (omega (arith, below));
+}
 
+pub returns-in_err-repeat-clause-drained : goal.returns-in_err-repeat-clause-drained
+returns-in_err-repeat-clause-drained g c =
+    drained_then c.args.moment c.args.self.now c.loop-place.self c.repeat.new.self c.loop-place.invariant.drained c.in_err-repeat.ensures.err
+
+-- one server more
 pub loop-place-preserved : goal.loop-place-preserved
 loop-place-preserved g c =
-    over_more c.args.moment (λ (k : ℕ) (s : CourseState). IsIdle c.args.moment s.pool (SeeEnd k)) c.loop-place.did c.in_ok-one.one c.loop-place.place c.args.self.now c.loop-place.self c.repeat.new.self
-    c.loop-place.invariant c.in_ok-one.ensures.over
+    let did = c.in_ok-repeat.ensures in
+    let one : HasDrained c.args.moment c.loop-place.self c.repeat.new.self = drained c.args.moment c.in_ok-repeat.field-0 c.loop-place.self c.repeat.new.self did.over.goes in
+    record {
+      drained = drained_then c.args.moment c.args.self.now c.loop-place.self c.repeat.new.self c.loop-place.invariant.drained one;
+      ends = order_more (λ place. Repeats c.args.moment (SeeEnd place)) c.loop-place.place c.args.self.now.course c.loop-place.self.course c.repeat.new.self.course c.loop-place.invariant.ends did.repeats;
+      ended = below_next c.args.moment c.loop-place.place c.loop-place.self c.repeat.new.self one c.loop-place.invariant.ended did.repeats.2;
+    }
+
+pub returns : goal.returns
+returns g c =
+    let all : c.loop-place.place ≡ length c.args.self.now.course.pool.sites = search rules in
+    record {
+      drained = c.loop-place.invariant.drained;
+      ends = subst (λ (n : ℕ). InOrder (λ place. Repeats c.args.moment (SeeEnd place)) n c.args.self.now.course c.loop-place.self.course) all c.loop-place.invariant.ends;
+      ended = ended_all c.args.moment c.args.self.now c.loop-place.self c.loop-place.invariant.drained
+          (λ k inside. c.loop-place.invariant.ended k (omega (arith, all, inside)));
+      cause = tt;
+    }

@@ -1,0 +1,57 @@
+-- In which order a drain does what is left: this project's own.
+use Rattle.std.specs.Prelude.{ℕ, zero, suc, ◌≡◌, length}
+use Rattle.mc_world.specs.Acts.{IsIdle, IsRested, event_of}
+use Rattle.mc_world.specs.Courses.{Applies, IsDone}
+use Rattle.mc_world.specs.Worlds.{CourseState}
+use Rattle.mc_world.specs.declared.acts.Act.{Act}
+use Rattle.mc_world.specs.declared.acts.Act.TheVariants.{PutAnswer, ReachProxy, ReachServer, SeeEnd, Serve, TakeBytes, TakeReply, TakeRequest}
+
+-- this is done for each of so many numbers, from 0 on
+abbrev pub InOrder : (ℕ → CourseState → CourseState → Type 0) → ℕ → CourseState → CourseState → Type 0
+InOrder Does zero old new = new ≡ old
+InOrder Does (suc number) old new = (mid : CourseState) × InOrder Does number old mid × Does number mid new
+
+-- for each client; for each server
+abbrev pub EachClient : (ℕ → CourseState → CourseState → Type 0) → CourseState → CourseState → Type 0
+EachClient Does old new = InOrder Does (length old.clients) old new
+
+abbrev pub EachServer : (ℕ → CourseState → CourseState → Type 0) → CourseState → CourseState → Type 0
+EachServer Does old new = InOrder Does (length old.pool.sites) old new
+
+-- this is done again and again, so many times, until it is over
+abbrev pub Until : (CourseState → Type 0) → (CourseState → CourseState → Type 0) → CourseState → CourseState → Type 0
+Until Over Does old new = (times : ℕ) × InOrder (λ time. Does) times old new × Over new
+
+-- one after the other
+abbrev pub Then : (CourseState → CourseState → Type 0) → (CourseState → CourseState → Type 0) → CourseState → CourseState → Type 0
+Then One Other old new = (mid : CourseState) × One old mid × Other mid new
+
+-- an act that applies is done
+abbrev pub IsActed : ℕ → Act → CourseState → CourseState → Type 0
+IsActed moment act old new = Applies (event_of act moment old.pool) old.pool × IsDone (event_of act moment old.pool) old new
+
+-- an act is done as often as it applies
+abbrev pub Repeats : ℕ → Act → CourseState → CourseState → Type 0
+Repeats moment act old new = Until (λ c. IsIdle moment c.pool act) (IsActed moment act) old new
+
+-- two acts are done in alternation, each as often as it applies, until neither does
+abbrev pub Alternates : ℕ → Act → Act → CourseState → CourseState → Type 0
+Alternates moment one other old new =
+    Until (λ c. IsIdle moment c.pool one × IsIdle moment c.pool other) (Then (Repeats moment one) (Repeats moment other)) old new
+
+-- A round: each client has every request taken that can be. Each server gets all bytes and takes every request that it can, in alternation;
+-- then all its bytes come back and all replies are taken, in alternation. Each client is put out every answer that is known and takes all
+-- bytes, in alternation.
+pub record IsRound (moment : ℕ) (old new : CourseState) : Type 0 where
+  pub taken : CourseState
+  pub served : CourseState
+  pub requests : EachClient (λ client. Repeats moment (TakeRequest client)) old taken
+  pub servers : EachServer (λ place. Then (Alternates moment (ReachServer place) (Serve place)) (Alternates moment (ReachProxy place) (TakeReply place))) taken served
+  pub answers : EachClient (λ client. Alternates moment (PutAnswer client) (TakeBytes client)) served new
+
+-- A drain: each server sees the ends of its lost generations, in the order in which they were lost. Then it goes in rounds, until no act
+-- applies.
+pub record DrainsInRounds (moment : ℕ) (old new : CourseState) : Type 0 where
+  pub ended : CourseState
+  pub ends : EachServer (λ place. Repeats moment (SeeEnd place)) old ended
+  pub rounds : Until (IsRested moment) (IsRound moment) ended new
