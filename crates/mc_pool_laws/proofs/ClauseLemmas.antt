@@ -7,7 +7,7 @@ use Rattle.mc_account.specs.Orders.{Order}
 use Rattle.mc_history.specs.declared.entries.Entry.{Entry}
 use Rattle.mc_world.specs.Accounts.{Accounts}
 use Rattle.mc_world.specs.Logs.{Log}
-use Rattle.mc_pool_laws.specs.Without.{AccountsBut, Answered, Asked, Clause, Few, Legal, Lost, Moments, Once, Ordered, Placed, Put, Replied, Rings, Sized, Turns, Unanswered}
+use Rattle.mc_pool_laws.specs.Without.{AccountsBut, After, Answered, Asked, Clause, Followed, Legal, Lost, Moments, Numbered, Once, Ordered, Placed, Put, Replied, Rings, Sized, Turns, Unanswered}
 
 abbrev is_asked : Clause → Bool
 is_asked Asked = true
@@ -22,6 +22,7 @@ each_clause ring opening order texts outs histories log = (
   λ h one. record {
     asked = λ keeps. h.asked;
     turns = λ keeps. h.turns;
+    numbered = λ keeps. h.numbered;
     rings = λ keeps. h.rings;
     sized = λ keeps. h.sized;
     legal = λ keeps. h.legal;
@@ -29,9 +30,10 @@ each_clause ring opening order texts outs histories log = (
     replied = λ keeps. h.replied;
     lost = λ keeps. h.lost;
     ordered = λ keeps. h.ordered;
+    followed = λ keeps. h.followed;
     answered = λ keeps. h.answered;
     put = λ keeps. h.put;
-    few = λ keeps. h.few;
+    after = λ keeps. h.after;
     moments = λ keeps. h.moments;
     placed = λ keeps place k e at. (h.placed place k e at).0;
     unanswered = λ keeps place k e at. (h.placed place k e at).1;
@@ -39,6 +41,7 @@ each_clause ring opening order texts outs histories log = (
   λ h. record {
     asked = (h Turns).asked (λ same. others_apart Turns refl (sym same));
     turns = (h Asked).turns (others_apart Turns refl);
+    numbered = (h Asked).numbered (others_apart Numbered refl);
     rings = (h Asked).rings (others_apart Rings refl);
     sized = (h Asked).sized (others_apart Sized refl);
     legal = (h Asked).legal (others_apart Legal refl);
@@ -46,9 +49,10 @@ each_clause ring opening order texts outs histories log = (
     replied = (h Asked).replied (others_apart Replied refl);
     lost = (h Asked).lost (others_apart Lost refl);
     ordered = (h Asked).ordered (others_apart Ordered refl);
+    followed = (h Asked).followed (others_apart Followed refl);
     answered = (h Asked).answered (others_apart Answered refl);
     put = (h Asked).put (others_apart Put refl);
-    few = (h Asked).few (others_apart Few refl);
+    after = (h Asked).after (others_apart After refl);
     moments = (h Asked).moments (others_apart Moments refl);
     placed = λ place k e at. ((h Asked).placed (others_apart Placed refl) place k e at, (h Asked).unanswered (others_apart Unanswered refl) place k e at);
   },

@@ -1,5 +1,5 @@
 -- A run of which all clauses of an account hold but one: a command is executed after its request was answered by its reply.
-use Rattle.std.proofs.Common.{◌≡◌, ◌∙◌, ℕ, true, false, List, [], ◌∷◌, Some, slice_get, refl, sym, ap, ap₂, arith}
+use Rattle.std.proofs.Common.{◌≡◌, ◌∙◌, ℕ, ◌<◌, ◌==◌, List, [], ◌∷◌, Some, slice_get, refl, sym, ap, ap₂, arith}
 use Rattle.std.proofs.lemmas.Bool.{false≢true}
 use Rattle.mc_request.specs.declared.parts.Atom.{Atom}
 use Rattle.mc_reply.specs.Spelling.{spelling_of}
@@ -9,16 +9,18 @@ use Rattle.mc_route.specs.Routes.{route_of_taken, to_place}
 use Rattle.mc_route.specs.declared.outcomes.Outcome.TheVariants as outcomes
 use Rattle.mc_route.specs.declared.routes.Routed.{Routed}
 use Rattle.mc_link.specs.declared.turns.Tag.{Tag}
+use Rattle.mc_session.specs.Sending.{tag_of}
 use Rattle.mc_account.specs.Lookups.{asked_at, command_at, outcome_at}
-use Rattle.mc_account.specs.Orders.{Entry as AskedFor}
+use Rattle.mc_account.specs.Orders.{Entry as AskedFor, commands_to}
 use Rattle.mc_history.specs.declared.entries.Entry.{Entry}
 use Rattle.mc_history.specs.Histories.{HasReply, IsLegal, tag_in}
+use Rattle.mc_history.specs.Named.{tags_of}
 use Rattle.mc_world.specs.Accounts.{NotAnswered}
-use Rattle.mc_world.specs.Logs.{Log, before, serves}
+use Rattle.mc_world.specs.Logs.{Log, before, loses, number_of, puts, serves, takes}
 use Rattle.mc_pool_laws.specs.Told.{LinkHeld}
 use Rattle.mc_pool_laws.specs.Without.{AccountsBut, Allows, Unanswered}
 use Rattle.mc_pool_laws.proofs.SentLemmas.{in_request}
-use Rattle.mc_pool_laws.proofs.NeedLemmas.{a_cache, asked_by, asked_only, asked_text, few_of, first_only, first_there, flush, flush_asked, flush_text, flushed, moments_one, no_loss, once_in_one, one_here, one_of, one_outcome, one_server, outs_of, own_by, puts_one, serves_one, complete_of, takes_one}
+use Rattle.mc_pool_laws.proofs.NeedLemmas.{Follows, a_cache, after_one, asked_by, asked_only, asked_text, complete_of, first_only, first_there, flush, flush_asked, flush_text, flushed, follows_one, moments_one, no_loss, numbered_one, once_in_one, one_here, one_outcome, one_server, outs_of, own_by, puts_one, serves_one, takes_one}
 use Rattle.mc_pool_laws.proofs.OrderExample.{reply_in, tag_is}
 
 abbrev replied : AskedFor
@@ -29,6 +31,12 @@ late_log = takes_one ∷ puts_one ∷ serves_one ∷ []
 
 late_legal : IsLegal (replied ∷ []) 0 a_cache (flushed ∷ [])
 late_legal = (flush, refl, record { legal = λ h. absurd (false≢true h); refused = refl; reply = refl }, tt)
+
+late_after : (client request : ℕ) → request < number_of (puts client) late_log → request < number_of (takes client) (before (puts client) request late_log)
+late_after = after_one late_log (λ client. refl) (omega arith)
+
+late_follows : (place : ℕ) → number_of (loses place) late_log ≡ 0 → Follows (first_only (flushed ∷ []) place) (tags_of (commands_to place (replied ∷ [])))
+late_follows place none = follows_one (0 == place) flushed (flush, tag_of 0 0 0) refl
 
 late_reply : (tag : Tag) (place : ℕ) (atom : Atom (List ℕ)) (reply : AReply (List ℕ)) → command_at (replied ∷ []) tag ≡ Some (to_place place atom)
     → outcome_at (replied ∷ []) tag ≡ Some (outcomes.Reply reply) → HasReply (first_only (flushed ∷ []) place) tag (spelling_of atom reply)
@@ -48,7 +56,7 @@ late_reply tag place atom reply at became =
 
 late_but : AccountsBut Unanswered one_server a_cache (replied ∷ []) flush_text (outs_of (replied ∷ []) late_log) (first_only (flushed ∷ [])) late_log
 late_but =
-    grind (arith, a_cache, asked_only, asked_text, few_of, first_there, flush_asked, flushed, moments_one, no_loss, once_in_one, one_here, one_of, one_server, own_by, complete_of, late_legal, late_reply)
+    grind (arith, a_cache, asked_only, asked_text, complete_of, first_there, flush_asked, flushed, moments_one, no_loss, numbered_one, once_in_one, one_here, one_server, own_by, late_legal, late_reply, late_after, late_follows)
 
 pub without_unanswered : Allows Unanswered (λ ring opening texts outs histories log. (e : Entry) × (slice_get (histories 0) 0 ≡ Some e)
     × LinkHeld 0 (tag_in e) log × (NotAnswered (tag_in e) (before (serves 0) 0 log) → ⊥))

@@ -1,9 +1,14 @@
 pub mod OneRing
 pub mod SentLemmas
 pub mod ToldLemmas
+pub mod PlaceLemmas
 pub mod LossLemmas
 pub mod PutLemmas
+pub mod WantedLemmas
+pub mod DrainedLemmas
 pub mod NeedLemmas
 pub mod ClauseLemmas
 pub mod OrderExample
+pub mod StrayExample
+pub mod ProxyLemmas
 pub mod LateExample

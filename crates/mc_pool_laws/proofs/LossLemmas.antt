@@ -1,5 +1,5 @@
 -- Commands whose links are lost, or hold.
-use Rattle.std.proofs.Common.{◌≡◌, ◌∙◌, ⊎_elim, ℕ, suc, ◌<◌, ◌⊎◌, inl, inr, Bool, true, false, if◌then◌else◌, List, [], ◌∷◌, Some, slice_get, refl, sym, ap, arith}
+use Rattle.std.proofs.Common.{◌≡◌, ◌≢◌, ◌∙◌, ⊎_elim, ℕ, ◌<◌, ◌⊎◌, inl, inr, List, Some, slice_get, refl, sym, ap, arith}
 use Rattle.std.proofs.lemmas.Bool.{cases_lt, true≢false}
 use Rattle.mc_reply.specs.declared.replies.Reply.{Reply as AReply}
 use Rattle.mc_ring.specs.Rings.{RingState}
@@ -9,18 +9,17 @@ use Rattle.mc_route.specs.declared.outcomes.Outcome.TheVariants.{Awaited, Lost, 
 use Rattle.mc_route.specs.declared.routes.Routed.{Routed}
 use Rattle.mc_link.specs.declared.turns.Tag.{Tag}
 use Rattle.mc_cache.specs.CacheState.{CacheState}
-use Rattle.mc_account.specs.Lookups.{outcome_at}
+use Rattle.mc_account.specs.Lookups.{command_at, outcome_at}
 use Rattle.mc_account.specs.Orders.{Order}
 use Rattle.mc_history.specs.declared.entries.Entry.{Entry}
 use Rattle.mc_history.specs.Histories.{IsBefore, tag_in}
 use Rattle.mc_world.specs.Accounts.{Accounts, IsToldLost, NotAnswered}
-use Rattle.mc_world.specs.Logs.{Log, before, loses, number_of, puts, serves, up_by, up_from}
-use Rattle.mc_event.specs.declared.events.Event.TheVariants.{LinkBack, LinkLost}
-use Rattle.mc_world.specs.declared.logs.Logged.{Logged}
-use Rattle.mc_world.specs.declared.logs.Logged.TheVariants.{Happened}
-use Rattle.mc_world.proofs.LogLemmas.{number-before}
+use Rattle.mc_world.specs.Logs.{Log, before, is_up, loses, number_of, puts, serves, takes}
+use Rattle.mc_world.proofs.FollowLemmas.{nothing_lost, reply_known}
+use Rattle.mc_world.proofs.LogLemmas.{number-before, stays_up}
 use Rattle.mc_pool_laws.specs.Sent.{IsSent}
 use Rattle.mc_pool_laws.specs.Told.{HasEntry, HasOneEntry, IsToldBy, LinkHeld, WasAnswered}
+use Rattle.mc_pool_laws.proofs.PlaceLemmas.{before-front, earlier, puts_apart}
 use Rattle.mc_pool_laws.proofs.SentLemmas.{legal_at, sent_command}
 use Rattle.mc_pool_laws.proofs.ToldLemmas.{known_at, told_by}
 
@@ -39,38 +38,49 @@ executed_or_lost ring opening order texts outs histories log h tag command sent 
     let known = known_at ring opening order texts outs histories log h tag command at answered in
     entry_or_loss histories log tag command known.0 (told_by ring opening order texts outs histories log h tag command known.0 at known.1 known.2)
 
--- a link that is not lost stays up
-up_by_other : (place : ℕ) (e : Logged) → loses place e ≡ false → up_by place e true ≡ true
-up_by_other place (Happened (LinkLost at)) h = ap (λ (v : Bool). if v then false else true) h
-up_by_other place (Happened (LinkBack at)) h = grind arith
-up_by_other place other h = refl
-
-stays_up : (place : ℕ) (log : Log) → number_of (loses place) log ≡ 0 → up_from place true log ≡ true
-stays_up place [] none = refl
-stays_up place (e ∷ es) none =
-    (elim (loses place e) as (λ v. loses place e ≡ v → (if v then suc (number_of (loses place) es) else number_of (loses place) es) ≡ 0 → up_from place (up_by place e true) es ≡ true) [
-      | true ↦ λ own k. absurd (omega (arith, k))
-      | false ↦ λ other k. ap (λ (up : Bool). up_from place up es) (up_by_other place e other) ∙ stays_up place es k
-    ]) refl none
-
--- where a link is never lost, no command to its server is told lost
-nothing_lost : (place : ℕ) (tag : Tag) (history : List Entry) (log : Log) → number_of (loses place) log ≡ 0 → IsToldLost place tag history log → ⊥
-nothing_lost place tag history log none (inl down) = grind (arith, true≢false, number-before, stays_up)
-nothing_lost place tag history log none (inr lost) = grind arith
+-- an entry is the only one of its command
+only_entry : (ring : RingState) (opening : CacheState) (order : Order) (texts outs : ℕ → List ℕ) (histories : ℕ → List Entry) (log : Log)
+    → Accounts ring opening order texts outs histories log → (place : ℕ) (tag : Tag) → HasEntry (histories place) tag → HasOneEntry histories place tag
+only_entry ring opening order texts outs histories log h place tag entry = (
+  entry.0,
+  entry.1,
+  entry.2,
+  entry.3,
+  λ other j d at same. h.once other place j entry.0 d entry.1 at entry.2 (same ∙ sym entry.3),
+)
 
 pub executed_once : (ring : RingState) (opening : CacheState) (order : Order) (texts outs : ℕ → List ℕ) (histories : ℕ → List Entry) (log : Log)
     → Accounts ring opening order texts outs histories log → (tag : Tag) (command : Routed) → IsSent ring texts log tag command → WasAnswered tag log
     → number_of (loses command.server) log ≡ 0 → HasOneEntry histories command.server tag
 executed_once ring opening order texts outs histories log h tag command sent answered none =
     elim (executed_or_lost ring opening order texts outs histories log h tag command sent answered) [
-      | inl entry ↦ (
-        entry.0,
-        entry.1,
-        entry.2,
-        entry.3,
-        λ other j d at same. h.once other command.server j entry.0 d entry.1 at entry.2 (same ∙ sym entry.3),
-      )
+      | inl entry ↦ only_entry ring opening order texts outs histories log h command.server tag entry
       | inr lost ↦ absurd (nothing_lost command.server tag (histories command.server) log none lost)
+    ]
+
+-- where its link was not lost before its answer, no command of an answered request is told lost
+not_lost_before : (ring : RingState) (opening : CacheState) (order : Order) (texts outs : ℕ → List ℕ) (histories : ℕ → List Entry) (log : Log)
+    → Accounts ring opening order texts outs histories log → (place : ℕ) (tag : Tag) → WasAnswered tag log
+    → number_of (loses place) (before (puts tag.session) tag.request log) ≡ 0 → IsToldLost place tag (histories place) log → ⊥
+not_lost_before ring opening order texts outs histories log h place tag answered none (inl down) =
+    let front : Log = before (puts tag.session) tag.request log in
+    let early = h.after tag.session tag.request answered in
+    let same = before-front (takes tag.session) (puts tag.session) tag.request tag.request log early in
+    let few = number-before (loses place) (takes tag.session) tag.request (before (puts tag.session) tag.request log) in
+    let held = stays_up place (before (takes tag.session) tag.request (before (puts tag.session) tag.request log)) (omega (arith, none, few)) in
+    true≢false (sym held ∙ ap (λ (l : Log). is_up place l) (sym same) ∙ down.0)
+not_lost_before ring opening order texts outs histories log h place tag answered none (inr lost) =
+    let first = earlier (puts tag.session) (loses place) (puts_apart tag.session place) tag.request lost.1.0 log answered none in
+    let later = lost.1.3 in
+    omega (arith, first, later)
+
+pub executed_where_held : (ring : RingState) (opening : CacheState) (order : Order) (texts outs : ℕ → List ℕ) (histories : ℕ → List Entry) (log : Log)
+    → Accounts ring opening order texts outs histories log → (tag : Tag) (command : Routed) → IsSent ring texts log tag command → WasAnswered tag log
+    → number_of (loses command.server) (before (puts tag.session) tag.request log) ≡ 0 → HasOneEntry histories command.server tag
+executed_where_held ring opening order texts outs histories log h tag command sent answered none =
+    elim (executed_or_lost ring opening order texts outs histories log h tag command sent answered) [
+      | inl entry ↦ only_entry ring opening order texts outs histories log h command.server tag entry
+      | inr lost ↦ absurd (not_lost_before ring opening order texts outs histories log h command.server tag answered none lost)
     ]
 
 -- an entry whose link held was replied
@@ -112,3 +122,18 @@ answered_after ring opening order texts outs histories log h place k e at held =
     let few = number-before (puts e.client) (serves place) k log in
     omega (arith, few, later))
     (cases_lt e.request (number_of (puts e.client) log))
+
+-- where a link was never lost, no command to its server is lost, and each of an answered request is replied
+pub never_lost : (ring : RingState) (opening : CacheState) (order : Order) (texts outs : ℕ → List ℕ) (histories : ℕ → List Entry) (log : Log)
+    → Accounts ring opening order texts outs histories log → (tag : Tag) (command : Routed) → command_at order tag ≡ Some command
+    → number_of (loses command.server) log ≡ 0 → outcome_at order tag ≢ Some Lost
+never_lost ring opening order texts outs histories log h tag command at none lost =
+    nothing_lost command.server tag (histories command.server) log none (h.lost tag command.server command.atom at lost)
+
+pub replied_without_loss : (ring : RingState) (opening : CacheState) (order : Order) (texts outs : ℕ → List ℕ) (histories : ℕ → List Entry) (log : Log)
+    → Accounts ring opening order texts outs histories log → (tag : Tag) (command : Routed) → command_at order tag ≡ Some command
+    → number_of (loses command.server) log ≡ 0 → WasAnswered tag log → (reply : AReply (List ℕ)) × (outcome_at order tag ≡ Some (Reply reply))
+replied_without_loss ring opening order texts outs histories log h tag command at none answered =
+    let known = known_at ring opening order texts outs histories log h tag command at answered in
+    let reply = reply_known known.0 known.2 (λ lost. never_lost ring opening order texts outs histories log h tag command at none (known.1 ∙ ap (λ (o : Outcome). Some o) lost)) in
+    (reply.0, known.1 ∙ ap (λ (o : Outcome). Some o) reply.1)

@@ -1,5 +1,5 @@
 -- Runs of which all clauses of an account hold but one.
-use Rattle.std.proofs.Common.{◌≡◌, ◌≢◌, ◌∙◌, ◌&&◌, ℕ, zero, suc, ◌<◌, ◌≤◌, ◌==◌, inl, inr, Bool, true, false, if◌then◌else◌, List, [], ◌∷◌, ◌++◌, length, map, take, Option, None, Some, slice_get, refl, sym, ap, subst, pos, arith}
+use Rattle.std.proofs.Common.{◌≡◌, ◌≢◌, ◌∙◌, ◌&&◌, ℕ, zero, suc, ◌<◌, ◌==◌, inl, inr, Bool, true, false, if◌then◌else◌, List, [], ◌∷◌, ◌++◌, length, map, take, Option, None, Some, slice_get, refl, sym, ap, subst, pos, arith}
 use Rattle.std.specs.Prelude.{codes}
 use Rattle.std.specs.List.{list_all}
 use Rattle.std.proofs.lemmas.Bool.{false≢true, true≢false}
@@ -30,17 +30,18 @@ use Rattle.mc_session.specs.Sending.{tag_of}
 use Rattle.mc_cache.specs.CacheState.{CacheState, opening_cache}
 use Rattle.mc_cache.specs.Step.{step_of}
 use Rattle.mc_account.specs.Lookups.{asked_at, command_at, outcome_at, outcome_in}
-use Rattle.mc_account.specs.Orders.{Entry as AskedFor, IsSized, Order, answers_of, entries_of, is_complete, taken_of}
+use Rattle.mc_account.specs.Orders.{AreInOrder, Entry as AskedFor, IsSized, Order, Tagged, answers_of, commands_to, entries_of, is_complete, taken_of}
 use Rattle.mc_history.specs.declared.entries.Entry.{Entry}
 use Rattle.mc_history.specs.Histories.{IsLegal, tag_in}
+use Rattle.mc_history.specs.Named.{tags_of}
 use Rattle.mc_world.specs.Accounts.{WasTaken}
-use Rattle.mc_world.specs.Logs.{IsRingAfter, Log, before, moments_of, number_of, puts, serves, takes}
-use Rattle.mc_event.specs.declared.events.Event.TheVariants.{Emit, ProxyTurn, ServerTurn}
+use Rattle.mc_world.specs.Logs.{IsRingAfter, Log, before, loses, moments_of, number_of, puts, serves, takes, turns_of}
+use Rattle.mc_event.specs.declared.events.Event.TheVariants.{Emit, LinkBack, LinkLost, ProxyTurn, ServerTurn}
 use Rattle.mc_world.specs.declared.logs.Logged.{Logged}
 use Rattle.mc_world.specs.declared.logs.Logged.TheVariants.{Happened}
 use Rattle.mc_pool_laws.specs.Sent.{IsReplayed}
 use Rattle.mc_pool_laws.specs.Told.{IsUnaccounted}
-use Rattle.mc_pool_laws.specs.Without.{AccountsBut, Allows, Answered, Asked, Clause, Few, Legal, Lost, Moments, Once, Placed, Put, Replied, Rings, Sized, Turns}
+use Rattle.mc_pool_laws.specs.Without.{AccountsBut, After, Allows, Answered, Asked, Clause, Legal, Lost, Moments, Once, Placed, Put, Replied, Rings, Sized, Turns}
 use Rattle.mc_pool_laws.proofs.SentLemmas.{in_request}
 
 -- what is done in the examples: a request of client 0 is taken, server 0 takes one, an answer of client 0 is put out
@@ -52,6 +53,13 @@ serves_one = Happened (ServerTurn 0 1 5)
 
 abbrev pub puts_one : Logged
 puts_one = Happened (Emit 0)
+
+-- the link of server 0 is lost, and comes back
+abbrev pub loses_one : Logged
+loses_one = Happened (LinkLost 0)
+
+abbrev pub returns_one : Logged
+returns_one = Happened (LinkBack 0)
 
 -- a ring of one server, and one of none
 abbrev pub one_server : RingState
@@ -143,9 +151,34 @@ pub complete_of : (v : Bool) (e : AskedFor) → is_complete e ≡ true → list_
 complete_of true e known = ap (λ (b : Bool). b && true) known
 complete_of false e known = refl
 
-pub few_of : {X : Type 0} (v : Bool) (x : X) → (if v then suc 0 else 0) ≤ length (if v then x ∷ [] else [])
-few_of true x = omega arith
-few_of false x = omega arith
+-- a request of which an answer is put out was taken before
+put_by : (v : Bool) (request : ℕ) → request < (if v then suc 0 else 0) → (v ≡ true) × (request ≡ 0)
+put_by true request early = (refl, omega (arith, early))
+put_by false request early = absurd (omega (arith, early))
+
+pub after_one : (log : Log) → ((client : ℕ) → number_of (puts client) log ≡ (if 0 == client then suc 0 else 0)) → 0 < number_of (takes 0) (before (puts 0) 0 log)
+    → (client request : ℕ) → request < number_of (puts client) log → request < number_of (takes client) (before (puts client) request log)
+after_one log count first client request early =
+    let own = put_by (0 == client) request (omega (arith, early, count client)) in
+    subst (λ (c : ℕ). request < number_of (takes c) (before (puts c) request log)) (own_by client own.0)
+    (subst (λ (n : ℕ). n < number_of (takes 0) (before (puts 0) n log)) (sym own.1) first)
+
+-- its number
+pub numbered_one : (v : Bool) (e : AskedFor) → e.request ≡ 0 → AreInOrder (if v then e ∷ [] else [])
+numbered_one true e first = ap (λ (n : ℕ). n ∷ []) first
+numbered_one false e first = refl
+
+-- a server that took nothing, or only the first command to it, followed the proxy; and where its link was lost, this is said of no history
+abbrev pub Follows : List Entry → List Tag → Type 0
+Follows es tags = (untaken : List Tag) × (map tag_in es ++ untaken ≡ tags)
+
+pub follows_one : (v : Bool) (x : Entry) (c : Tagged) → tag_in x ≡ c.1 → Follows (if v then x ∷ [] else []) (tags_of ((if v then c ∷ [] else []) ++ []))
+follows_one true x c same = ([], ap (λ (t : Tag). t ∷ []) same)
+follows_one false x c same = ([], refl)
+
+pub follows_lost : (v : Bool) (es : List Entry) (tags : List Tag) → ◌≡◌ {A = ℕ} (if v then suc 0 else 0) 0 → Follows (if v then es else []) tags
+follows_lost true es tags none = absurd (omega (arith, none))
+follows_lost false es tags none = (tags, refl)
 
 -- what became of the commands of one request
 pub outcome_in_request : (o : Option AskedFor) (atom : ℕ) (q : Outcome) → outcome_in o atom ≡ Some q → (e : AskedFor) × (o ≡ Some e) × (slice_get e.outcomes atom ≡ Some q)
@@ -161,7 +194,7 @@ no_outcome ring what tag q became = none_there tag.atom q (outcome_there (asked_
 pub one_outcome : (ring : RingState) (what : Taken) (outcome : Outcome) (tag : Tag) (q : Outcome) → outcome_at (asked_by ring what (outcome ∷ []) ∷ []) tag ≡ Some q → q ≡ outcome
 one_outcome ring what outcome tag q became = (one_here outcome tag.atom q (outcome_there (asked_by ring what (outcome ∷ [])) tag q refl became)).1
 
-abbrev is_reply : Outcome → Bool
+abbrev pub is_reply : Outcome → Bool
 is_reply (outcomes.Reply reply) = true
 is_reply outcomes.Lost = false
 is_reply outcomes.Awaited = false
@@ -195,7 +228,7 @@ answered_but : (one : Clause) (ring by : RingState) (what : Taken) (told : List 
     → (one ≢ Lost → (tag : Tag) → outcome_at (asked_by by what told ∷ []) tag ≡ Some outcomes.Lost → ⊥)
     → AccountsBut one ring a_cache (asked_by by what told ∷ []) texts (outs_of (asked_by by what told ∷ []) answered_log) no_history answered_log
 answered_but one ring by what told texts asked routed sized known replied lost =
-    grind (arith, none_there, asked_only, one_of, complete_of, few_of)
+    grind (arith, none_there, asked_only, one_of, complete_of, numbered_one, after_one)
 
 untold : IsUnaccounted one_server flush_text no_history answered_log
 untold = record {
@@ -336,13 +369,13 @@ without_lost =
 
 -- nothing was taken
 nothing_but : (one : Clause) (outs : ℕ → List ℕ) (log : Log)
-    → (one ≢ Turns → (client : ℕ) → 0 ≡ number_of (takes client) log)
+    → (one ≢ Turns → [] ≡ turns_of log)
     → (one ≢ Put → (client : ℕ) → outs client ≡ outs_of [] log client)
-    → (one ≢ Few → (client : ℕ) → number_of (puts client) log ≤ 0)
+    → (one ≢ After → (client request : ℕ) → request < number_of (puts client) log → request < number_of (takes client) (before (puts client) request log))
     → (one ≢ Answered → (client : ℕ) → list_all is_complete (take (number_of (puts client) log) []) ≡ true)
     → (one ≢ Moments → (place : ℕ) → [] ≡ moments_of place log)
     → AccountsBut one one_server a_cache [] no_text outs no_history log
-nothing_but one outs log turns put few answered moments = grind (arith, nothing_read, none_there, no_command)
+nothing_but one outs log turns put after answered moments = grind (arith, nothing_read, none_there, no_command)
 
 -- a turn takes nothing
 pub without_turns : Allows Turns (λ ring opening texts outs histories log. length (requests_of (texts 0)) < number_of (takes 0) log)
@@ -354,7 +387,7 @@ without_turns =
       no_text,
       no_history,
       takes_one ∷ [],
-      ([], nothing_but Turns no_text (takes_one ∷ []) (λ keeps. absurd (keeps refl)) (λ keeps client. refl) (λ keeps client. omega arith) (λ keeps client. refl) (λ keeps place. refl)),
+      ([], nothing_but Turns no_text (takes_one ∷ []) (λ keeps. absurd (keeps refl)) (λ keeps client. refl) (λ keeps client request early. absurd (omega (arith, early))) (λ keeps client. refl) (λ keeps place. refl)),
       omega (arith, none),
     )
 
@@ -367,7 +400,7 @@ without_put = (
   λ client. 1 ∷ [],
   no_history,
   [],
-  ([], nothing_but Put (λ client. 1 ∷ []) [] (λ keeps client. refl) (λ keeps. absurd (keeps refl)) (λ keeps client. omega arith) (λ keeps client. refl) (λ keeps place. refl)),
+  ([], nothing_but Put (λ client. 1 ∷ []) [] (λ keeps. refl) (λ keeps. absurd (keeps refl)) (λ keeps client request early. absurd (omega (arith, early))) (λ keeps client. refl) (λ keeps place. refl)),
   (refl, λ none. some_not_none none),
 )
 
@@ -376,8 +409,8 @@ put_nothing : (v : Bool) → list_all is_complete (take (if v then suc 0 else 0)
 put_nothing true = refl
 put_nothing false = refl
 
-pub without_few : Allows Few (λ ring opening texts outs histories log. number_of (takes 0) log < number_of (puts 0) log)
-without_few = (
+pub without_after : Allows After (λ ring opening texts outs histories log. number_of (takes 0) log < number_of (puts 0) log)
+without_after = (
   one_server,
   a_cache,
   no_text,
@@ -386,7 +419,7 @@ without_few = (
   puts_one ∷ [],
   (
     [],
-    nothing_but Few (outs_of [] (puts_one ∷ [])) (puts_one ∷ []) (λ keeps client. refl) (λ keeps client. refl) (λ keeps. absurd (keeps refl))
+    nothing_but After (outs_of [] (puts_one ∷ [])) (puts_one ∷ []) (λ keeps. refl) (λ keeps client. refl) (λ keeps. absurd (keeps refl))
         (λ keeps client. put_nothing (0 == client)) (λ keeps place. refl),
   ),
   omega arith,
@@ -401,7 +434,7 @@ without_moments = (
   no_text,
   no_history,
   serves_one ∷ [],
-  ([], nothing_but Moments no_text (serves_one ∷ []) (λ keeps client. refl) (λ keeps client. refl) (λ keeps client. omega arith) (λ keeps client. refl) (λ keeps. absurd (keeps refl))),
+  ([], nothing_but Moments no_text (serves_one ∷ []) (λ keeps. refl) (λ keeps client. refl) (λ keeps client request early. absurd (omega (arith, early))) (λ keeps client. refl) (λ keeps. absurd (keeps refl))),
   λ same. omega (arith, same),
 )
 
@@ -409,32 +442,34 @@ without_moments = (
 abbrev awaited : Order
 awaited = asked_by one_server flush_asked (outcomes.Awaited ∷ []) ∷ []
 
-none_complete : (order : Order) (n : ℕ) → n ≡ 0 → list_all is_complete (take n order) ≡ true
+pub none_complete : (order : Order) (n : ℕ) → n ≡ 0 → list_all is_complete (take n order) ≡ true
 none_complete [] zero none = refl
 none_complete [] (suc n) none = refl
 none_complete (e ∷ es) zero none = refl
 none_complete (e ∷ es) (suc n) none = absurd (omega (arith, none))
 
-none_out : (order : Order) (n : ℕ) → n ≡ 0 → [] ≡ answers_of (take n order)
+pub none_out : (order : Order) (n : ℕ) → n ≡ 0 → [] ≡ answers_of (take n order)
 none_out [] zero none = refl
 none_out [] (suc n) none = refl
 none_out (e ∷ es) zero none = refl
 none_out (e ∷ es) (suc n) none = absurd (omega (arith, none))
 
 served_but : (one : Clause) (es : List Entry) (log : Log)
-    → ((client : ℕ) → length (entries_of client awaited) ≡ number_of (takes client) log)
+    → map (λ (e : AskedFor). e.session) awaited ≡ turns_of log
     → IsRingAfter one_server (before (takes 0) 0 log) one_server
     → (one ≢ Legal → IsLegal awaited 0 a_cache es)
     → (one ≢ Once → (j k : ℕ) (d e : Entry) → slice_get es j ≡ Some d → slice_get es k ≡ Some e → j ≡ k)
+    → ((place : ℕ) → number_of (loses place) log ≡ 0 → Follows (first_only es place) (tags_of (commands_to place awaited)))
     → ((client : ℕ) → number_of (puts client) log ≡ 0)
     → ((place : ℕ) → map (λ (e : Entry). e.moment) (first_only es place) ≡ moments_of place log)
     → (one ≢ Placed → (k : ℕ) (e : Entry) → slice_get es k ≡ Some e → WasTaken (tag_in e) (before (serves 0) k log))
     → AccountsBut one one_server a_cache awaited flush_text no_text (first_only es) log
-served_but one es log turns ring legal once none moments placed =
+served_but one es log turns ring legal once followed none moments placed =
     let e = asked_by one_server flush_asked (outcomes.Awaited ∷ []) in
     record {
       asked = λ keeps client. asked_text client (outcomes.Awaited ∷ []) one_server;
       turns = λ keeps. turns;
+      numbered = λ keeps client. numbered_one (0 == client) (asked_by one_server flush_asked (outcomes.Awaited ∷ [])) refl;
       rings = λ keeps client request x at.
           let o = asked_only e client request x refl at in
           subst (λ (c : ℕ). IsRingAfter one_server (before (takes c) request log) x.ring) o.0
@@ -453,9 +488,10 @@ served_but one es log turns ring legal once none moments placed =
       replied = λ keeps tag place atom reply at became. absurd (no_reply one_server flush_asked outcomes.Awaited refl tag reply became);
       lost = λ keeps tag place atom at became. absurd (no_loss one_server flush_asked outcomes.Awaited refl tag became);
       ordered = λ keeps place j k d x r q at also less same became. absurd (no_reply one_server flush_asked outcomes.Awaited refl (tag_in d) r became);
+      followed = λ keeps. followed;
       answered = λ keeps client. none_complete (entries_of client awaited) (number_of (puts client) log) (none client);
       put = λ keeps client. none_out (entries_of client awaited) (number_of (puts client) log) (none client);
-      few = λ keeps client. (let nothing = none client in omega (arith, nothing));
+      after = λ keeps client request early. (let nothing = none client in absurd (omega (arith, nothing, early)));
       moments = λ keeps. moments;
       placed = λ keeps place k x at.
           let here = first_there es place k x at in
@@ -497,8 +533,8 @@ without_legal = (
   served_log,
   (
     awaited,
-    served_but Legal (misreplied ∷ []) served_log (λ client. one_of (0 == client) (asked_by one_server flush_asked (outcomes.Awaited ∷ []))) refl (λ keeps. absurd (keeps refl))
-        (λ keeps. once_in_one misreplied) (λ client. refl) (λ place. moments_one (0 == place) misreplied refl)
+    served_but Legal (misreplied ∷ []) served_log refl refl (λ keeps. absurd (keeps refl))
+        (λ keeps. once_in_one misreplied) (λ place none. follows_one (0 == place) misreplied (flush, tag_of 0 0 0) refl) (λ client. refl) (λ place. moments_one (0 == place) misreplied refl)
         (λ keeps k e at.
         let here = one_here misreplied k e at in
         subst (λ (n : ℕ). WasTaken (tag_in e) (before (serves 0) n served_log)) (sym here.0)
@@ -522,16 +558,16 @@ without_placed = (
   early_log,
   (
     awaited,
-    served_but Placed (flushed ∷ []) early_log (λ client. one_of (0 == client) (asked_by one_server flush_asked (outcomes.Awaited ∷ []))) refl
-        (λ keeps. legal_flush a_cache [] tt) (λ keeps. once_in_one flushed) (λ client. refl) (λ place. moments_one (0 == place) flushed refl)
+    served_but Placed (flushed ∷ []) early_log refl refl
+        (λ keeps. legal_flush a_cache [] tt) (λ keeps. once_in_one flushed) (λ place none. follows_one (0 == place) flushed (flush, tag_of 0 0 0) refl) (λ client. refl) (λ place. moments_one (0 == place) flushed refl)
         (λ keeps. absurd (keeps refl)),
   ),
   (flushed, refl, λ taken. omega (arith, taken)),
 )
 
--- a command twice
+-- a command twice, where the link was lost and came back
 abbrev twice_log : Log
-twice_log = takes_one ∷ serves_one ∷ serves_one ∷ []
+twice_log = loses_one ∷ returns_one ∷ takes_one ∷ serves_one ∷ serves_one ∷ []
 
 moments_two : (v : Bool) → map (λ (e : Entry). e.moment) (if v then flushed ∷ flushed ∷ [] else []) ≡ (if v then 5 ∷ [] else []) ++ ((if v then 5 ∷ [] else []) ++ [])
 moments_two true = refl
@@ -552,8 +588,9 @@ without_once = (
   twice_log,
   (
     awaited,
-    served_but Once (flushed ∷ flushed ∷ []) twice_log (λ client. one_of (0 == client) (asked_by one_server flush_asked (outcomes.Awaited ∷ []))) refl
-        (λ keeps. legal_flush a_cache (flushed ∷ []) (legal_flush (step_of a_cache flush 5 false).0 [] tt)) (λ keeps. absurd (keeps refl)) (λ client. refl)
+    served_but Once (flushed ∷ flushed ∷ []) twice_log refl refl
+        (λ keeps. legal_flush a_cache (flushed ∷ []) (legal_flush (step_of a_cache flush 5 false).0 [] tt)) (λ keeps. absurd (keeps refl))
+        (λ place none. follows_lost (0 == place) (flushed ∷ flushed ∷ []) (tags_of (commands_to place awaited)) none) (λ client. refl)
         (λ place. moments_two (0 == place)) (λ keeps. taken_twice),
   ),
   (flushed, flushed, refl, refl, refl),

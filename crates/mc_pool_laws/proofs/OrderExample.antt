@@ -1,5 +1,5 @@
 -- A run of which all clauses of an account hold but the one of the order: two requests of a client are executed the other way round.
-use Rattle.std.proofs.Common.{◌≡◌, ◌∙◌, ℕ, zero, suc, ◌≤◌, ◌⊎◌, inl, inr, Bool, true, false, if◌then◌else◌, List, [], ◌∷◌, ◌++◌, length, map, take, Some, slice_get, refl, sym, ap, ap₂, arith}
+use Rattle.std.proofs.Common.{◌≡◌, ◌∙◌, ℕ, zero, suc, ◌<◌, ◌==◌, ◌⊎◌, inl, inr, Bool, true, false, if◌then◌else◌, List, [], ◌∷◌, ◌++◌, map, take, Some, slice_get, refl, sym, ap, ap₂, subst, arith}
 use Rattle.std.specs.Prelude.{codes}
 use Rattle.std.specs.List.{list_all}
 use Rattle.std.proofs.lemmas.Bool.{false≢true, true≢false}
@@ -20,20 +20,20 @@ use Rattle.mc_route.specs.declared.routes.Routed.{Routed}
 use Rattle.mc_link.specs.declared.turns.Tag.{Tag}
 use Rattle.mc_session.specs.Sending.{tag_of}
 use Rattle.mc_account.specs.Lookups.{asked_at, command_at, outcome_at}
-use Rattle.mc_account.specs.Orders.{Entry as AskedFor, Order, is_complete}
+use Rattle.mc_account.specs.Orders.{AreInOrder, Entry as AskedFor, Order, is_complete}
 use Rattle.mc_history.specs.declared.entries.Entry.{Entry}
 use Rattle.mc_history.specs.Histories.{HasReply, IsBefore, IsLegal, tag_in}
 use Rattle.mc_world.specs.Accounts.{NotAnswered, WasTaken}
-use Rattle.mc_world.specs.Logs.{IsRingAfter, Log, before, loses, number_of, serves, takes}
-use Rattle.mc_pool_laws.specs.Told.{WasAnswered}
+use Rattle.mc_world.specs.Logs.{IsRingAfter, Log, before, loses, number_of, puts, serves, takes}
+use Rattle.mc_pool_laws.specs.Told.{LinkHeld, WasAnswered}
 use Rattle.mc_pool_laws.specs.Without.{AccountsBut, Allows, Ordered}
 use Rattle.mc_pool_laws.proofs.SentLemmas.{in_request}
-use Rattle.mc_pool_laws.proofs.NeedLemmas.{a_cache, asked_by, first_only, first_there, flush, flush_asked, flushed, is_lost, none_there, one_here, one_server, outcome_in_request, outs_of, own_by, puts_one, serves_one, takes_one}
+use Rattle.mc_pool_laws.proofs.NeedLemmas.{a_cache, asked_by, first_only, first_there, flush, flush_asked, flushed, follows_lost, is_lost, loses_one, none_there, one_here, one_server, outcome_in_request, outs_of, own_by, puts_one, returns_one, serves_one, takes_one}
 
-abbrev two_text : ℕ → List ℕ
+abbrev pub two_text : ℕ → List ℕ
 two_text client = codes "flush_all\r\nflush_all\r\n"
 
-two_read : requests_of (codes "flush_all\r\nflush_all\r\n") ≡ flush_asked ∷ flush_asked ∷ []
+pub two_read : requests_of (codes "flush_all\r\nflush_all\r\n") ≡ flush_asked ∷ flush_asked ∷ []
 unfolding words line_end first_line name_of next_request requests_within requests_of
 two_read = refl
 
@@ -52,11 +52,12 @@ later = record { client = 0; request = 1; atom = 0; moment = 5; refused = false;
 abbrev turned : List Entry
 turned = later ∷ flushed ∷ []
 
+-- the link is lost and comes back before
 abbrev two_log : Log
-two_log = takes_one ∷ takes_one ∷ serves_one ∷ serves_one ∷ puts_one ∷ puts_one ∷ []
+two_log = loses_one ∷ returns_one ∷ takes_one ∷ takes_one ∷ serves_one ∷ serves_one ∷ puts_one ∷ puts_one ∷ []
 
 -- in a list of two
-two_here : {X : Type 0} (a b : X) (k : ℕ) (y : X) → slice_get (a ∷ b ∷ []) k ≡ Some y → ((k ≡ 0) × (y ≡ a)) ⊎ ((k ≡ 1) × (y ≡ b))
+pub two_here : {X : Type 0} (a b : X) (k : ℕ) (y : X) → slice_get (a ∷ b ∷ []) k ≡ Some y → ((k ≡ 0) × (y ≡ a)) ⊎ ((k ≡ 1) × (y ≡ b))
 two_here a b zero y at = inl (refl, sym (same_Some a y at))
 two_here a b (suc k) y at = let h = one_here b k y at in inr (ap suc h.0, h.1)
 
@@ -79,17 +80,35 @@ text_by : (v : Bool) → (untaken : List Taken) × (map (λ (e : AskedFor). e.wh
 text_by true = ([], sym two_read)
 text_by false = (requests_of (codes "flush_all\r\nflush_all\r\n"), refl)
 
-many_by : (v : Bool) → length (mine v) ≡ many v
-many_by true = refl
-many_by false = refl
-
 complete_by : (v : Bool) → list_all is_complete (take (many v) (mine v)) ≡ true
 complete_by true = refl
 complete_by false = refl
 
-few_by : (v : Bool) → many v ≤ length (mine v)
-few_by true = omega arith
-few_by false = omega arith
+numbered_by : (v : Bool) → AreInOrder (mine v)
+numbered_by true = refl
+numbered_by false = refl
+
+after_by : (v : Bool) (request : ℕ) → request < many v → (v ≡ true) × ((request ≡ 0) ⊎ (request ≡ 1))
+after_by true zero early = (refl, inl refl)
+after_by true (suc zero) early = (refl, inr refl)
+after_by true (suc (suc n)) early = absurd (omega (arith, early))
+after_by false n early = absurd (omega (arith, early))
+
+after_two : (client request : ℕ) → request < number_of (puts client) two_log → request < number_of (takes client) (before (puts client) request two_log)
+after_two client request early =
+    let own = after_by (0 == client) request early in
+    subst (λ (c : ℕ). request < number_of (takes c) (before (puts c) request two_log)) (own_by client own.0) (elim own.1 [
+      | inl first ↦ subst (λ (n : ℕ). n < number_of (takes 0) (before (puts 0) n two_log)) (sym first) (omega arith)
+      | inr second ↦ subst (λ (n : ℕ). n < number_of (takes 0) (before (puts 0) n two_log)) (sym second) (omega arith)
+    ])
+
+-- the link was lost before either request was taken, and held then
+held_two : (tag : Tag) → LinkHeld 0 tag two_log
+held_two tag lost =
+    let first : lost.0 ≡ 0 = omega (arith, lost.1) in
+    let taken : tag.request < number_of (takes tag.session) (before (loses 0) 0 two_log) =
+    subst (λ (n : ℕ). tag.request < number_of (takes tag.session) (before (loses 0) n two_log)) first lost.2 in
+    omega (arith, taken)
 
 moments_by : (v : Bool) → map (λ (e : Entry). e.moment) (if v then turned else []) ≡ (if v then 5 ∷ [] else []) ++ ((if v then 5 ∷ [] else []) ++ [])
 moments_by true = refl
@@ -165,11 +184,11 @@ turned_legal = (
 
 two_but : AccountsBut Ordered one_server a_cache two_asked two_text (outs_of two_asked two_log) (first_only turned) two_log
 two_but =
-    grind (arith, true≢false, a_cache, first_there, is_lost, own_by, text_by, many_by, complete_by, few_by, moments_by, rings_by, two_outcome, replied_by, once_by, placed_by, turned_legal)
+    grind (arith, true≢false, a_cache, first_there, follows_lost, is_lost, own_by, text_by, complete_by, numbered_by, after_two, moments_by, rings_by, two_outcome, replied_by, once_by, placed_by, turned_legal)
 
 pub without_ordered : Allows Ordered (λ ring opening texts outs histories log. (d : Entry) × (e : Entry) × (slice_get (histories 0) 0 ≡ Some d)
     × (slice_get (histories 0) 1 ≡ Some e) × (d.client ≡ e.client) × WasAnswered (tag_in d) log × WasAnswered (tag_in e) log
-    × (number_of (loses 0) log ≡ 0) × (IsBefore (tag_in d) (tag_in e) → ⊥))
+    × LinkHeld 0 (tag_in d) log × LinkHeld 0 (tag_in e) log × (IsBefore (tag_in d) (tag_in e) → ⊥))
 without_ordered = (
   one_server,
   a_cache,
@@ -186,7 +205,8 @@ without_ordered = (
     refl,
     omega arith,
     omega arith,
-    refl,
+    held_two (tag_in later),
+    held_two (tag_in flushed),
     λ earlier. elim earlier [
       | inl less ↦ omega (arith, less)
       | inr same ↦ (let no : 1 ≡ 0 = same.0 in omega (arith, no))

@@ -7,7 +7,7 @@ use Rattle.mc_account.specs.Orders.{Order, answers_of, entries_of}
 use Rattle.mc_history.specs.declared.entries.Entry.{Entry}
 use Rattle.mc_world.specs.Accounts.{Accounts}
 use Rattle.mc_world.specs.Logs.{Log, number_of, puts}
-use Rattle.mc_pool_laws.proofs.SentLemmas.{taken_few}
+use Rattle.mc_pool_laws.proofs.SentLemmas.{puts_taken, taken_few}
 
 nothing_in : requests_of [] ≡ []
 unfolding requests_of requests_within
@@ -22,17 +22,17 @@ nothing_put ring opening order texts outs histories log h client none =
     h.put client ∙ ap (λ (n : ℕ). answers_of (take n (entries_of client order))) none ∙ ap (λ (es : Order). answers_of es) (take_none (entries_of client order))
 
 -- no answer is put out where no request was sent
-pub puts_few : (ring : RingState) (opening : CacheState) (order : Order) (texts outs : ℕ → List ℕ) (histories : ℕ → List Entry) (log : Log)
+pub puts_asked : (ring : RingState) (opening : CacheState) (order : Order) (texts outs : ℕ → List ℕ) (histories : ℕ → List Entry) (log : Log)
     → Accounts ring opening order texts outs histories log → (client : ℕ) → number_of (puts client) log ≤ length (requests_of (texts client))
-puts_few ring opening order texts outs histories log h client =
+puts_asked ring opening order texts outs histories log h client =
     let asked = taken_few ring opening order texts outs histories log h client in
-    let few = h.few client in
-    grind arith
+    let few = puts_taken ring opening order texts outs histories log h client in
+    omega (arith, asked, few)
 
 pub none_put : (ring : RingState) (opening : CacheState) (order : Order) (texts outs : ℕ → List ℕ) (histories : ℕ → List Entry) (log : Log)
     → Accounts ring opening order texts outs histories log → (client : ℕ) → texts client ≡ [] → number_of (puts client) log ≡ 0
 none_put ring opening order texts outs histories log h client silent =
-    let few = puts_few ring opening order texts outs histories log h client in
+    let few = puts_asked ring opening order texts outs histories log h client in
     grind (arith, nothing_in)
 
 pub nothing_asked : (ring : RingState) (opening : CacheState) (order : Order) (texts outs : ℕ → List ℕ) (histories : ℕ → List Entry) (log : Log)

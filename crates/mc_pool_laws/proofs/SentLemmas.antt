@@ -17,8 +17,10 @@ use Rattle.mc_account.specs.Orders.{Entry as Asked, Order, entries_of, taken_of}
 use Rattle.mc_history.specs.declared.entries.Entry.{Entry}
 use Rattle.mc_history.specs.Histories.{IsLegal, tag_in}
 use Rattle.mc_world.specs.Accounts.{Accounts}
-use Rattle.mc_world.specs.Logs.{Log, number_of, takes}
+use Rattle.mc_world.specs.Logs.{Log, number_of, puts, takes}
 use Rattle.mc_world.proofs.LogEntryLemmas.{got_inside, got_map, got_some, got_there}
+use Rattle.mc_world.proofs.LogLemmas.{number-before}
+use Rattle.mc_world.proofs.LogOrderLemmas.{turns-taken}
 use Rattle.mc_pool_laws.specs.Sent.{IsReplayed, IsSent, IsTaken}
 use Rattle.mc_pool_laws.proofs.OneRing.{ring_one}
 
@@ -27,6 +29,7 @@ pub taken_few : (ring : RingState) (opening : CacheState) (order : Order) (texts
     → Accounts ring opening order texts outs histories log → (client : ℕ) → number_of (takes client) log ≤ length (requests_of (texts client))
 taken_few ring opening order texts outs histories log h client =
     let asked = h.asked client in
+    let turns = turns-taken order log h.turns client in
     grind (arith, length-append, length-map)
 
 -- what the order has of a client is the request of its number in the client's text
@@ -43,19 +46,37 @@ pub entry_taken : (ring : RingState) (opening : CacheState) (order : Order) (tex
     → IsTaken ring texts log client request e.what e.ring
 entry_taken ring opening order texts outs histories log h client request e at =
     let inside = got_inside (entries_of client order) request e at in
-    let turns = h.turns client in
+    let turns = turns-taken order log h.turns client in
     record {
       turn = omega (arith, inside, turns);
       sent = sent_in_text ring opening order texts outs histories log h client request e at;
       then = h.rings client request e at;
     }
 
+-- no more requests were answered than taken
+no_more : (answered taken : ℕ) → ((request : ℕ) → request < answered → request < taken) → answered ≤ taken
+no_more zero taken each = omega arith
+no_more (suc n) taken each = each n (omega arith)
+
+pub puts_taken : (ring : RingState) (opening : CacheState) (order : Order) (texts outs : ℕ → List ℕ) (histories : ℕ → List Entry) (log : Log)
+    → Accounts ring opening order texts outs histories log → (client : ℕ) → number_of (puts client) log ≤ number_of (takes client) log
+puts_taken ring opening order texts outs histories log h client =
+    no_more (number_of (puts client) log) (number_of (takes client) log)
+    (λ request early. let early_on = h.after client request early in let all = number-before (takes client) (puts client) request log in omega (arith, early_on, all))
+
+pub puts_few : (ring : RingState) (opening : CacheState) (order : Order) (texts outs : ℕ → List ℕ) (histories : ℕ → List Entry) (log : Log)
+    → Accounts ring opening order texts outs histories log → (client : ℕ) → number_of (puts client) log ≤ length (entries_of client order)
+puts_few ring opening order texts outs histories log h client =
+    let few = puts_taken ring opening order texts outs histories log h client in
+    let turns = turns-taken order log h.turns client in
+    omega (arith, few, turns)
+
 -- each request that the log takes is in the order
 taken_entry : (ring : RingState) (opening : CacheState) (order : Order) (texts outs : ℕ → List ℕ) (histories : ℕ → List Entry) (log : Log)
     → Accounts ring opening order texts outs histories log → (client request : ℕ) → request < number_of (takes client) log
     → (e : Asked) × (asked_at order client request ≡ Some e)
 taken_entry ring opening order texts outs histories log h client request turn =
-    let turns = h.turns client in
+    let turns = turns-taken order log h.turns client in
     got_some (entries_of client order) request (omega (arith, turn, turns))
 
 pub request_taken : (ring : RingState) (opening : CacheState) (order : Order) (texts outs : ℕ → List ℕ) (histories : ℕ → List Entry) (log : Log)

@@ -22,7 +22,7 @@ use Rattle.mc_world.specs.Accounts.{Accounts}
 use Rattle.mc_world.specs.Logs.{Log, number_of, puts}
 use Rattle.mc_world.proofs.LogEntryLemmas.{got_inside, got_some}
 use Rattle.mc_pool_laws.specs.Told.{AreAnswersFrom, AreToldBy, IsAnswerTo, IsToldBy, WasAnswered}
-use Rattle.mc_pool_laws.proofs.SentLemmas.{entry_taken, in_request}
+use Rattle.mc_pool_laws.proofs.SentLemmas.{entry_taken, in_request, puts_few}
 
 -- what passes in a list
 both_left : (x y : Bool) → (x && y) ≡ true → x ≡ true
@@ -152,7 +152,7 @@ put_answers ring opening order texts outs histories log h client =
     let n = number_of (puts client) log in
     let es = take n (entries_of client order) in (
       map (λ (e : Asked). answer_by e.what e.outcomes) es,
-      length-map es (λ (e : Asked). answer_by e.what e.outcomes) ∙ length-take-le n (entries_of client order) (h.few client),
+      length-map es (λ (e : Asked). answer_by e.what e.outcomes) ∙ length-take-le n (entries_of client order) (puts_few ring opening order texts outs histories log h client),
       h.put client ∙ answers_join es,
       answers_from ring texts histories log client 0 es
           (λ k m e is there.

@@ -1,3 +1,6 @@
 pub mod Sent
+pub mod Followed
 pub mod Told
+pub mod Wanted
+pub mod Drained
 pub mod Without

@@ -1,5 +1,5 @@
 -- An account without one of its clauses: on it is shown what each clause is for. All of it is this project's own.
-use Rattle.std.specs.Prelude.{ℕ, ◌≡◌, ◌≢◌, ◌<◌, ◌≤◌, true, List, ◌++◌, length, map, take, Some, slice_get, All}
+use Rattle.std.specs.Prelude.{ℕ, ◌≡◌, ◌≢◌, ◌<◌, true, List, ◌++◌, map, take, Some, slice_get, All}
 use Rattle.std.specs.List.{list_all}
 use Rattle.mc_request.specs.declared.parts.Atom.{Atom}
 use Rattle.mc_request.specs.declared.parts.Taken.{Taken}
@@ -12,16 +12,18 @@ use Rattle.mc_route.specs.declared.outcomes.Outcome.TheVariants as outcomes
 use Rattle.mc_link.specs.declared.turns.Tag.{Tag}
 use Rattle.mc_cache.specs.CacheState.{CacheState}
 use Rattle.mc_account.specs.Lookups.{asked_at, command_at, outcome_at}
-use Rattle.mc_account.specs.Orders.{Entry as AskedFor, IsSized, Order, answers_of, entries_of, is_complete, taken_of}
+use Rattle.mc_account.specs.Orders.{AreInOrder, Entry as AskedFor, IsSized, Order, answers_of, commands_to, entries_of, is_complete, taken_of}
 use Rattle.mc_history.specs.declared.entries.Entry.{Entry}
 use Rattle.mc_history.specs.Histories.{HasReply, IsBefore, IsLegal, tag_in}
+use Rattle.mc_history.specs.Named.{tags_of}
 use Rattle.mc_world.specs.Accounts.{IsToldLost, NotAnswered, WasTaken}
-use Rattle.mc_world.specs.Logs.{IsRingAfter, Log, before, moments_of, number_of, puts, serves, takes}
+use Rattle.mc_world.specs.Logs.{IsRingAfter, Log, before, loses, moments_of, number_of, puts, serves, takes, turns_of}
 
 -- the clauses of an account, by their names there; the second part of `placed` is by itself
 pub data Clause : Type 0 where
   Asked : Clause
   Turns : Clause
+  Numbered : Clause
   Rings : Clause
   Sized : Clause
   Legal : Clause
@@ -29,9 +31,10 @@ pub data Clause : Type 0 where
   Replied : Clause
   Lost : Clause
   Ordered : Clause
+  Followed : Clause
   Answered : Clause
   Put : Clause
-  Few : Clause
+  After : Clause
   Moments : Clause
   Placed : Clause
   Unanswered : Clause
@@ -39,7 +42,8 @@ pub data Clause : Type 0 where
 -- the clauses of an account, but for one, as they are there
 pub record AccountsBut (one : Clause) (ring : RingState) (opening : CacheState) (order : Order) (texts outs : ℕ → List ℕ) (histories : ℕ → List Entry) (log : Log) : Type 0 where
   pub asked : one ≢ Asked → (client : ℕ) → (untaken : List Taken) × (taken_of client order ++ untaken ≡ requests_of (texts client))
-  pub turns : one ≢ Turns → (client : ℕ) → length (entries_of client order) ≡ number_of (takes client) log
+  pub turns : one ≢ Turns → map (λ (e : AskedFor). e.session) order ≡ turns_of log
+  pub numbered : one ≢ Numbered → (client : ℕ) → AreInOrder (entries_of client order)
   pub rings : one ≢ Rings → (client request : ℕ) (e : AskedFor) → asked_at order client request ≡ Some e → IsRingAfter ring (before (takes client) request log) e.ring
   pub sized : one ≢ Sized → All IsSized order
   pub legal : one ≢ Legal → (place : ℕ) → IsLegal order place opening (histories place)
@@ -52,9 +56,11 @@ pub record AccountsBut (one : Clause) (ring : RingState) (opening : CacheState) 
   pub ordered : one ≢ Ordered → (place j k : ℕ) (d e : Entry) (r q : AReply (List ℕ)) → slice_get (histories place) j ≡ Some d
       → slice_get (histories place) k ≡ Some e → j < k → d.client ≡ e.client → outcome_at order (tag_in d) ≡ Some (outcomes.Reply r)
       → outcome_at order (tag_in e) ≡ Some (outcomes.Reply q) → IsBefore (tag_in d) (tag_in e)
+  pub followed : one ≢ Followed → (place : ℕ) → number_of (loses place) log ≡ 0
+      → (untaken : List Tag) × (map tag_in (histories place) ++ untaken ≡ tags_of (commands_to place order))
   pub answered : one ≢ Answered → (client : ℕ) → list_all is_complete (take (number_of (puts client) log) (entries_of client order)) ≡ true
   pub put : one ≢ Put → (client : ℕ) → outs client ≡ answers_of (take (number_of (puts client) log) (entries_of client order))
-  pub few : one ≢ Few → (client : ℕ) → number_of (puts client) log ≤ length (entries_of client order)
+  pub after : one ≢ After → (client request : ℕ) → request < number_of (puts client) log → request < number_of (takes client) (before (puts client) request log)
   pub moments : one ≢ Moments → (place : ℕ) → map (λ (e : Entry). e.moment) (histories place) ≡ moments_of place log
   pub placed : one ≢ Placed → (place k : ℕ) (e : Entry) → slice_get (histories place) k ≡ Some e → WasTaken (tag_in e) (before (serves place) k log)
   pub unanswered : one ≢ Unanswered → (place k : ℕ) (e : Entry) → slice_get (histories place) k ≡ Some e → (reply : AReply (List ℕ))

@@ -1,17 +1,20 @@
 //! Laws of what is put out to clients. The functions do nothing: their contracts are the laws.
-ghost use Rattle.std.specs.Prelude.{ℕ, ◌≡◌, ◌≤◌, List, [], length};
+ghost use Rattle.std.specs.Prelude.{ℕ, ◌≡◌, ◌<◌, ◌≤◌, List, [], length};
 ghost use Rattle.std.specs.List.{concat};
 ghost use Rattle.mc_ring.specs.Rings.{RingState};
 ghost use Rattle.mc_cache.specs.CacheState.{CacheState};
 ghost use Rattle.mc_history.specs.declared.entries.Entry.{Entry};
 ghost use Rattle.mc_world.specs.Accounts.{Account};
-ghost use Rattle.mc_world.specs.Logs.{Log, number_of, puts, takes};
+ghost use Rattle.mc_world.specs.Logs.{Log, before, number_of, puts, takes};
 ghost use Rattle.mc_pool_laws.specs.Told.{AreAnswersFrom};
 
-/// An answer is put out only to a request that was taken.
+/// An answer is put out only to a request that was taken before.
 pub fn answers_follow_requests()
-    ensures { (ring : RingState) (opening : CacheState) (texts outs : ℕ → List ℕ) (histories : ℕ → List Entry) (log : Log)
+    ensures few { (ring : RingState) (opening : CacheState) (texts outs : ℕ → List ℕ) (histories : ℕ → List Entry) (log : Log)
         → Account ring opening texts outs histories log → (client : ℕ) → number_of (puts client) log ≤ number_of (takes client) log }
+    ensures each { (ring : RingState) (opening : CacheState) (texts outs : ℕ → List ℕ) (histories : ℕ → List Entry) (log : Log)
+        → Account ring opening texts outs histories log → (client request : ℕ) → request < number_of (puts client) log
+        → request < number_of (takes client) (before (puts client) request log) }
 {}
 
 /// What is put out to a client is one answer for each put of the log, to its first requests, in their order. Each is the answer by replies

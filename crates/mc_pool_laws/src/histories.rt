@@ -7,6 +7,7 @@ ghost use Rattle.mc_history.specs.Histories.{tag_in};
 ghost use Rattle.mc_world.specs.Accounts.{Account, WasTaken};
 ghost use Rattle.mc_world.specs.Logs.{Log, before, moments_of, number_of, serves};
 ghost use Rattle.mc_pool_laws.specs.Sent.{IsReplayed};
+ghost use Rattle.mc_pool_laws.specs.Wanted.{AreWanted};
 
 /// A server's history has one entry for each of its turns in the log, at that turn's moment.
 pub fn histories_have_their_turns()
@@ -21,6 +22,12 @@ pub fn histories_have_their_turns()
 pub fn histories_are_replayed()
     ensures { (ring : RingState) (opening : CacheState) (texts outs : ℕ → List ℕ) (histories : ℕ → List Entry) (log : Log)
         → Account ring opening texts outs histories log → (place : ℕ) → IsReplayed ring texts log place opening (histories place) }
+{}
+
+/// Memory is refused to no command but one that wants it: it stores an item under a key that is not held then, or makes the held value longer.
+pub fn only_stores_are_refused()
+    ensures { (ring : RingState) (opening : CacheState) (texts outs : ℕ → List ℕ) (histories : ℕ → List Entry) (log : Log)
+        → Account ring opening texts outs histories log → (place : ℕ) → AreWanted ring texts log place opening (histories place) }
 {}
 
 /// No command is executed twice, be it in two servers or at two turns of one.

@@ -2,10 +2,11 @@
 //!
 //! No program uses this crate. Its functions do nothing: their contracts are the laws. Each is proved from `Account` of `mc_world` alone,
 //! whatever order it has. Each clause of the record `Accounts` has a law here that needs it: `docs/LAWS.md` has the table.
-//! `specs/Sent.antt` says what a client's text tells of a command, `specs/Told.antt` what the histories and the log tell of it.
+//! `specs/Sent.antt` says what a client's text tells of a command, `specs/Followed.antt` what the proxy sent to a server, `specs/Told.antt` what the histories and the log tell of it.
 #![tactic(auto)]
 
 mod answers;
+mod drains;
 mod histories;
 mod losses;
 mod needs;
@@ -15,13 +16,15 @@ mod requests;
 pub use answers::{
     answers_are_those_of_the_histories, answers_follow_requests, nothing_is_put_out_unasked,
 };
+pub use drains::{drains_add_what_is_left, quiet_worlds_have_answered};
 pub use histories::{
     commands_are_executed_once, commands_are_executed_when_taken, histories_are_replayed,
-    histories_have_their_turns,
+    histories_have_their_turns, only_stores_are_refused,
 };
 pub use losses::{
     answered_commands_are_executed_or_lost, answers_come_after_their_turns,
-    clients_keep_their_order, without_losses_each_command_is_executed_once,
+    clients_keep_their_order, commands_whose_links_held_are_executed_once,
+    without_losses_each_command_is_executed_once, without_losses_histories_follow_the_proxy,
 };
 pub use needs::{
     answers_need_their_clauses, clauses_are_those_of_the_account, histories_need_their_clauses,
@@ -31,4 +34,4 @@ pub use refusals::{
     no_answer_without_a_request, no_command_in_two_histories, no_entry_without_a_turn,
     no_reply_of_another_cache,
 };
-pub use requests::{requests_are_taken_as_sent, rings_are_one};
+pub use requests::{requests_are_taken_as_sent, rings_are_one, sent_commands_are_one};

@@ -1,13 +1,18 @@
 //! Laws of commands whose links are lost or hold. The functions do nothing: their contracts are the laws.
-ghost use Rattle.std.specs.Prelude.{ℕ, ◌≡◌, ◌<◌, ◌⊎◌, List, Some, slice_get};
+ghost use Rattle.std.specs.Prelude.{ℕ, ◌≡◌, ◌≢◌, ◌<◌, ◌⊎◌, List, Some, slice_get};
+ghost use Rattle.mc_reply.specs.declared.replies.Reply.{Reply as AReply};
 ghost use Rattle.mc_ring.specs.Rings.{RingState};
+ghost use Rattle.mc_route.specs.declared.outcomes.Outcome.TheVariants.{Lost, Reply};
 ghost use Rattle.mc_route.specs.declared.routes.Routed.{Routed};
 ghost use Rattle.mc_link.specs.declared.turns.Tag.{Tag};
 ghost use Rattle.mc_cache.specs.CacheState.{CacheState};
+ghost use Rattle.mc_account.specs.Lookups.{command_at, outcome_at};
+ghost use Rattle.mc_account.specs.Orders.{Order};
 ghost use Rattle.mc_history.specs.declared.entries.Entry.{Entry};
 ghost use Rattle.mc_history.specs.Histories.{IsBefore, tag_in};
-ghost use Rattle.mc_world.specs.Accounts.{Account, IsToldLost, NotAnswered};
-ghost use Rattle.mc_world.specs.Logs.{Log, before, loses, number_of, serves};
+ghost use Rattle.mc_world.specs.Accounts.{Account, Accounts, IsToldLost, NotAnswered};
+ghost use Rattle.mc_world.specs.Logs.{Log, before, loses, number_of, puts, serves};
+ghost use Rattle.mc_pool_laws.specs.Followed.{FollowsProxy};
 ghost use Rattle.mc_pool_laws.specs.Sent.{IsSent};
 ghost use Rattle.mc_pool_laws.specs.Told.{HasEntry, HasOneEntry, LinkHeld, WasAnswered};
 
@@ -25,6 +30,27 @@ pub fn without_losses_each_command_is_executed_once()
     ensures { (ring : RingState) (opening : CacheState) (texts outs : ℕ → List ℕ) (histories : ℕ → List Entry) (log : Log)
         → Account ring opening texts outs histories log → (tag : Tag) (command : Routed) → IsSent ring texts log tag command → WasAnswered tag log
         → number_of (loses command.server) log ≡ 0 → HasOneEntry histories command.server tag }
+{}
+
+/// The same where the link may be lost later: a command of an answered request, whose server's link was not lost before the answer.
+pub fn commands_whose_links_held_are_executed_once()
+    ensures { (ring : RingState) (opening : CacheState) (texts outs : ℕ → List ℕ) (histories : ℕ → List Entry) (log : Log)
+        → Account ring opening texts outs histories log → (tag : Tag) (command : Routed) → IsSent ring texts log tag command → WasAnswered tag log
+        → number_of (loses command.server) (before (puts tag.session) tag.request log) ≡ 0 → HasOneEntry histories command.server tag }
+{}
+
+/// A server's link is never lost. Then no command to it is lost, and each of an answered request has its reply. The server's history is of the
+/// first of the commands that were sent to it, in the order in which the proxy took the requests.
+pub fn without_losses_histories_follow_the_proxy()
+    ensures never_lost { (ring : RingState) (opening : CacheState) (order : Order) (texts outs : ℕ → List ℕ) (histories : ℕ → List Entry) (log : Log)
+        → Accounts ring opening order texts outs histories log → (tag : Tag) (command : Routed) → command_at order tag ≡ Some command
+        → number_of (loses command.server) log ≡ 0 → outcome_at order tag ≢ Some Lost }
+    ensures replied { (ring : RingState) (opening : CacheState) (order : Order) (texts outs : ℕ → List ℕ) (histories : ℕ → List Entry) (log : Log)
+        → Accounts ring opening order texts outs histories log → (tag : Tag) (command : Routed) → command_at order tag ≡ Some command
+        → number_of (loses command.server) log ≡ 0 → WasAnswered tag log → (reply : AReply (List ℕ)) × (outcome_at order tag ≡ Some (Reply reply)) }
+    ensures follows { (ring : RingState) (opening : CacheState) (texts outs : ℕ → List ℕ) (histories : ℕ → List Entry) (log : Log)
+        → Account ring opening texts outs histories log → (place : ℕ) → number_of (loses place) log ≡ 0
+        → FollowsProxy ring texts log place (histories place) }
 {}
 
 /// A server executes the commands of one client in its order, as far as they are answered and their links held.

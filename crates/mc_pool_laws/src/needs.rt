@@ -9,9 +9,10 @@ ghost use Rattle.mc_history.specs.Histories.{IsBefore, tag_in};
 ghost use Rattle.mc_history.specs.declared.entries.Entry.{Entry};
 ghost use Rattle.mc_world.specs.Accounts.{Accounts, NotAnswered, WasTaken};
 ghost use Rattle.mc_world.specs.Logs.{Log, before, loses, number_of, puts, serves, takes};
+ghost use Rattle.mc_pool_laws.specs.Followed.{FollowsProxy};
 ghost use Rattle.mc_pool_laws.specs.Sent.{IsReplayed};
 ghost use Rattle.mc_pool_laws.specs.Told.{IsUnaccounted, LinkHeld, WasAnswered};
-ghost use Rattle.mc_pool_laws.specs.Without.{AccountsBut, Allows, Answered, Asked, Clause, Few, Legal, Lost, Moments, Once, Ordered, Placed, Put, Replied, Rings, Sized, Turns, Unanswered};
+ghost use Rattle.mc_pool_laws.specs.Without.{AccountsBut, After, Allows, Answered, Asked, Clause, Followed, Legal, Lost, Moments, Numbered, Once, Ordered, Placed, Put, Replied, Rings, Sized, Turns, Unanswered};
 
 /// The clauses that are left out one by one are those of the account.
 pub fn clauses_are_those_of_the_account()
@@ -19,16 +20,20 @@ pub fn clauses_are_those_of_the_account()
         → Accounts ring opening order texts outs histories log ↔ ((one : Clause) → AccountsBut one ring opening order texts outs histories log) }
 {}
 
-/// Without `asked` or `turns` requests could be taken that no client sent.
+/// Without `asked` or `turns` requests could be taken that no client sent. Without `turns`, `numbered` or `followed` two commands could be
+/// exchanged on a link that was never lost.
 pub fn requests_need_their_clauses()
     ensures asked { Allows Asked (λ ring opening texts outs histories log. length (requests_of (texts 0)) < number_of (takes 0) log) }
     ensures turns { Allows Turns (λ ring opening texts outs histories log. length (requests_of (texts 0)) < number_of (takes 0) log) }
+    ensures turns_in_order { Allows Turns (λ ring opening texts outs histories log. (number_of (loses 0) log ≡ 0) × (FollowsProxy ring texts log 0 (histories 0) → ⊥)) }
+    ensures numbered { Allows Numbered (λ ring opening texts outs histories log. (number_of (loses 0) log ≡ 0) × (FollowsProxy ring texts log 0 (histories 0) → ⊥)) }
+    ensures followed { Allows Followed (λ ring opening texts outs histories log. (number_of (loses 0) log ≡ 0) × (FollowsProxy ring texts log 0 (histories 0) → ⊥)) }
 {}
 
-/// Without `few` or `put` there could be answers where nothing was taken, or bytes that are no answer. Without `sized`, `answered`,
+/// Without `after` or `put` there could be answers where nothing was taken, or bytes that are no answer. Without `sized`, `answered`,
 /// `replied`, `lost` or `rings` a request could be answered whose command no server has executed, and which no loss explains.
 pub fn answers_need_their_clauses()
-    ensures few { Allows Few (λ ring opening texts outs histories log. number_of (takes 0) log < number_of (puts 0) log) }
+    ensures after { Allows After (λ ring opening texts outs histories log. number_of (takes 0) log < number_of (puts 0) log) }
     ensures put { Allows Put (λ ring opening texts outs histories log. (number_of (puts 0) log ≡ 0) × (outs 0 ≢ [])) }
     ensures sized { Allows Sized (λ ring opening texts outs histories log. IsUnaccounted ring texts histories log) }
     ensures answered { Allows Answered (λ ring opening texts outs histories log. IsUnaccounted ring texts histories log) }
@@ -54,5 +59,5 @@ pub fn histories_need_their_clauses()
 pub fn the_order_needs_its_clause()
     ensures { Allows Ordered (λ ring opening texts outs histories log. (d : Entry) × (e : Entry) × (slice_get (histories 0) 0 ≡ Some d)
         × (slice_get (histories 0) 1 ≡ Some e) × (d.client ≡ e.client) × WasAnswered (tag_in d) log × WasAnswered (tag_in e) log
-        × (number_of (loses 0) log ≡ 0) × (IsBefore (tag_in d) (tag_in e) → ⊥)) }
+        × LinkHeld 0 (tag_in d) log × LinkHeld 0 (tag_in e) log × (IsBefore (tag_in d) (tag_in e) → ⊥)) }
 {}

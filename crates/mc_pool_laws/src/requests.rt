@@ -1,12 +1,14 @@
 //! Laws of requests that were taken. The functions do nothing: their contracts are the laws.
-ghost use Rattle.std.specs.Prelude.{ℕ, ◌≡◌, ◌≤◌, ◌<◌, List, length};
+ghost use Rattle.std.specs.Prelude.{ℕ, ◌≡◌, ◌≤◌, ◌<◌, List, [], length};
 ghost use Rattle.mc_request.specs.Requests.{requests_of};
 ghost use Rattle.mc_request.specs.declared.parts.Taken.{Taken};
 ghost use Rattle.mc_ring.specs.Rings.{RingState};
 ghost use Rattle.mc_cache.specs.CacheState.{CacheState};
+ghost use Rattle.mc_account.specs.Orders.{Tagged};
 ghost use Rattle.mc_history.specs.declared.entries.Entry.{Entry};
 ghost use Rattle.mc_world.specs.Accounts.{Account};
 ghost use Rattle.mc_world.specs.Logs.{IsRingAfter, Log, number_of, takes};
+ghost use Rattle.mc_pool_laws.specs.Followed.{AreSentBy};
 ghost use Rattle.mc_pool_laws.specs.Sent.{IsTaken};
 
 /// A request is taken only where its client sent it whole. It is the one of its number in the client's text, and there is a ring of that
@@ -17,6 +19,12 @@ pub fn requests_are_taken_as_sent()
     ensures each { (ring : RingState) (opening : CacheState) (texts outs : ℕ → List ℕ) (histories : ℕ → List Entry) (log : Log)
         → Account ring opening texts outs histories log → (client request : ℕ) → request < number_of (takes client) log
         → (what : Taken) × (now : RingState) × IsTaken ring texts log client request what now }
+{}
+
+/// What was sent to a server is one list, which the clients' texts and the log tell. So it is known what a history that follows the proxy is.
+pub fn sent_commands_are_one()
+    ensures { (ring : RingState) (texts : ℕ → List ℕ) (log : Log) (place : ℕ) (a b : List Tagged)
+        → AreSentBy ring texts place [] log a → AreSentBy ring texts place [] log b → a ≡ b }
 {}
 
 /// A log leaves one ring. So it is known where each command goes.

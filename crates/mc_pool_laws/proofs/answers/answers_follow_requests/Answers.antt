@@ -1,8 +1,8 @@
-use Rattle.std.proofs.Common.{arith}
+use Rattle.mc_pool_laws.proofs.SentLemmas.{puts_taken}
 use Rattle.mc_pool_laws.proofs.answers.answers_follow_requests.Goals as goal
 
-pub returns : goal.returns
-returns c ring opening texts outs histories log account client =
-    let few = account.1.few client in
-    let turns = account.1.turns client in
-    omega (arith, few, turns)
+pub returns-clause-few : goal.returns-clause-few
+returns-clause-few c ring opening texts outs histories log account = puts_taken ring opening account.0 texts outs histories log account.1
+
+pub returns-clause-each : goal.returns-clause-each
+returns-clause-each c ring opening texts outs histories log account = account.1.after

@@ -1,8 +1,8 @@
-use Rattle.mc_pool_laws.proofs.NeedLemmas.{without_answered, without_few, without_lost, without_put, without_replied, without_rings, without_sized}
+use Rattle.mc_pool_laws.proofs.NeedLemmas.{without_after, without_answered, without_lost, without_put, without_replied, without_rings, without_sized}
 use Rattle.mc_pool_laws.proofs.needs.answers_need_their_clauses.Goals as goal
 
-pub returns-clause-few : goal.returns-clause-few
-returns-clause-few c = without_few
+pub returns-clause-after : goal.returns-clause-after
+returns-clause-after c = without_after
 
 pub returns-clause-put : goal.returns-clause-put
 returns-clause-put c = without_put

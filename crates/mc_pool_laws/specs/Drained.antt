@@ -1,0 +1,18 @@
+-- What a drain adds to a log: this project's own.
+use Rattle.std.specs.Prelude.{ℕ, ◌==◌, Bool, true, false}
+use Rattle.mc_event.specs.declared.events.Event.TheVariants.{ClientTakes, Emit, ProxyTurn, ReplyTurn, ServerSeesEnd, ServerTurn, ToProxy, ToServer}
+use Rattle.mc_world.specs.declared.logs.Logged.{Logged}
+use Rattle.mc_world.specs.declared.logs.Logged.TheVariants.{Happened}
+
+-- A turn of the proxy, of a server at this moment, bytes that move, a reply that is taken, an answer that is put out or taken, and the end of a
+-- lost generation. No client sends or goes, no link is lost or comes back, and no server joins.
+abbrev pub is_of_drain_at : ℕ → Logged → Bool
+is_of_drain_at moment (Happened (ProxyTurn client)) = true
+is_of_drain_at moment (Happened (ToServer server generation count)) = true
+is_of_drain_at moment (Happened (ServerTurn server generation at)) = at == moment
+is_of_drain_at moment (Happened (ToProxy server count)) = true
+is_of_drain_at moment (Happened (ReplyTurn server)) = true
+is_of_drain_at moment (Happened (Emit client)) = true
+is_of_drain_at moment (Happened (ClientTakes client count)) = true
+is_of_drain_at moment (Happened (ServerSeesEnd server generation)) = true
+is_of_drain_at moment other = false
