@@ -31,13 +31,13 @@ pub record IsMadeOf (opening : CacheState) (order : Order) (place : ℕ) (made :
   pub made_is : AreMade opening made
 
 -- what is at a number of a list that is mapped
-map_at : {X Y : Type 0} (f : X → Y) (xs : List X) (i : ℕ) (x : X) → slice_get xs i ≡ Some x → slice_get (map f xs) i ≡ Some (f x)
+pub map_at : {X Y : Type 0} (f : X → Y) (xs : List X) (i : ℕ) (x : X) → slice_get xs i ≡ Some x → slice_get (map f xs) i ≡ Some (f x)
 map_at f [] zero x at = absurd (none-some x at)
 map_at f [] (suc i) x at = absurd (none-some x at)
 map_at f (y ∷ ys) zero x at = ap (λ z. Some (f z)) (same_Some y x at)
 map_at f (y ∷ ys) (suc i) x at = map_at f ys i x at
 
-map_back : {X Y : Type 0} (f : X → Y) (xs : List X) (i : ℕ) (y : Y) → slice_get (map f xs) i ≡ Some y → (x : X) × (slice_get xs i ≡ Some x) × (f x ≡ y)
+pub map_back : {X Y : Type 0} (f : X → Y) (xs : List X) (i : ℕ) (y : Y) → slice_get (map f xs) i ≡ Some y → (x : X) × (slice_get xs i ≡ Some x) × (f x ≡ y)
 map_back f [] zero y at = absurd (none-some y at)
 map_back f [] (suc i) y at = absurd (none-some y at)
 map_back f (x ∷ xs) zero y at = (x, refl, same_Some (f x) y at)

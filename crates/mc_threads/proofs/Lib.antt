@@ -8,3 +8,4 @@ pub mod GoodLemmas
 pub mod HistoryLemmas
 pub mod EntryLemmas
 pub mod CompleteLemmas
+pub mod LawLemmas

@@ -12,6 +12,7 @@
 
 mod errors;
 mod joins;
+mod laws;
 mod links;
 mod opening;
 mod rounds;
@@ -21,6 +22,7 @@ mod traits;
 mod worker;
 
 pub use errors::ThreadsError;
+pub use laws::{each_clients_commands_are_in_order, no_command_is_made_twice};
 pub use runs::{PoolConfig, Ran, run_threads};
 pub use traits::{Clock, Gate};
 pub use worker::REFUSALS;
