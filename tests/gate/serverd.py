@@ -30,13 +30,10 @@ ANSWER = b"VALUE k 0 1000000\r\n" + VALUE + b"\r\nEND\r\n"
 
 # --check: the words beside it, and what is printed of them.
 SETTINGS = {
-    "the_defaults": (
-        "",
-        "listen 127.0.0.1:11211 budget 67108864 items 65536 accept 0 answer 268435456 idle 0 report 0",
-    ),
+    "the_defaults": ("", "listen 127.0.0.1:11211 budget 67108864 items 65536 accept 0"),
     "the_least": (
         "--listen a:1 --budget 1 --items 1 --accept 0 --answer 1024 --idle 0 --report 0",
-        "listen a:1 budget 1 items 1 accept 0 answer 1024 idle 0 report 0",
+        "listen a:1 budget 1 items 1 accept 0 answer 1024",
     ),
     "the_greatest": (
         "--listen=Cache-7.example.org:65535 --budget=1099511627776 --items=16777216 --accept=18446744073709551615"
@@ -44,9 +41,13 @@ SETTINGS = {
         "listen Cache-7.example.org:65535 budget 1099511627776 items 16777216 accept 18446744073709551615"
         " answer 1099511627776 idle 18446744073709551615 report 18446744073709551615",
     ),
+    "the_defaults_in_words": (
+        "--answer 268435456 --idle 0 --report 0 --items 65536",
+        "listen 127.0.0.1:11211 budget 67108864 items 65536 accept 0",
+    ),
     "in_another_order": (
         "--report 4 --accept 3 --items 2",
-        "listen 127.0.0.1:11211 budget 67108864 items 2 accept 3 answer 268435456 idle 0 report 4",
+        "listen 127.0.0.1:11211 budget 67108864 items 2 accept 3 report 4",
     ),
 }
 

@@ -1,11 +1,11 @@
--- What a key is hashed to under two secret numbers.
-use Rattle.std.specs.Prelude.{ℕ, zero, suc, ◌+◌, ◌-◌, ◌*◌, ◌/◌, ◌%◌, ◌^◌, List, length, if◌then◌else◌, nat_le, nat_lt, slice_index, bit_and, bit_or, bit_xor}
+-- What a key is hashed to under three secret numbers: this project's own.
+use Rattle.std.specs.Prelude.{ℕ, zero, suc, ◌+◌, ◌-◌, ◌*◌, ◌/◌, ◌%◌, ◌^◌, List, length, if◌then◌else◌, nat_le, nat_lt, slice_index, bit_and, bit_or, bit_xor, Result, Ok, Err}
 use Rattle.mc_hasher.specs.declared.key_hashers.KeyHasher.{KeyHasher}
 use Rattle.mc_hasher.specs.declared.key_hashers.SecretState.{SecretState}
 
--- the two halves of the 128 bits of a product, joined by exclusive or
-unfoldable pub folded_product : ℕ → ℕ → ℕ
-folded_product a b = bit_xor (bit_and (a * b) (2 ^ 64 - 1)) (a * b / 2 ^ 64)
+-- the two halves of the 128 bits of a product, joined by exclusive or; first the addend is added to the low half
+unfoldable pub folded_product : ℕ → ℕ → ℕ → ℕ
+folded_product word factor addend = bit_xor ((bit_and (word * factor) (2 ^ 64 - 1) + addend) % 2 ^ 64) (word * factor / 2 ^ 64)
 
 -- four bytes from a place on, the lowest first
 unfoldable pub half_at : List ℕ → ℕ → ℕ
@@ -29,16 +29,16 @@ rest_from bytes at =
     else 0)
 
 -- a state after so many words
-unfoldable pub after_words : List ℕ → ℕ → ℕ → ℕ → ℕ
-after_words bytes secret state zero = state
-after_words bytes secret state (suc n) = folded_product (bit_xor (after_words bytes secret state n) (word_at bytes (8 * n))) secret
+unfoldable pub after_words : List ℕ → KeyHasher → ℕ → ℕ
+after_words bytes h zero = h.state
+after_words bytes h (suc n) = folded_product (bit_xor (after_words bytes h n) (word_at bytes (8 * n))) h.factor h.addend
 
 -- a hasher after a text: its words, its rest, and its length
 unfoldable pub write : KeyHasher → List ℕ → KeyHasher
 write h bytes =
     let words = length bytes / 8 in
-    let last = folded_product (bit_xor (after_words bytes h.secret h.state words) (rest_from bytes (8 * words))) h.secret in
-    record { state = folded_product (bit_xor last (length bytes)) h.secret; secret = h.secret }
+    let last = folded_product (bit_xor (after_words bytes h words) (rest_from bytes (8 * words))) h.factor h.addend in
+    record h { state = folded_product (bit_xor last (length bytes)) h.factor h.addend }
 
 -- what it makes of all texts
 abbrev pub finish : KeyHasher → ℕ
@@ -46,4 +46,9 @@ finish h = h.state
 
 -- the hasher of a key
 abbrev pub first_hasher : SecretState → KeyHasher
-first_hasher s = record { state = s.state; secret = s.secret }
+first_hasher s = record { state = s.state; factor = s.factor; addend = s.addend }
+
+-- three secret numbers of 24 bytes, the factor an odd one; where the bytes could not be filled, that error
+unfoldable pub seeded : {U E : Type 0} → List ℕ → Result U E → Result SecretState E
+seeded bytes (Ok filled) = Ok (record { state = word_at bytes 0; factor = bit_or (word_at bytes 8) 1; addend = word_at bytes 16 })
+seeded bytes (Err error) = Err error

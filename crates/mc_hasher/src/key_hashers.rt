@@ -6,12 +6,15 @@ use std::hash::{BuildHasher, Hasher};
 use std::io;
 use std::random::RandomSource;
 
-/// Hashes bytes under two secret numbers: eight bytes at a time, each time by one product of 128 bits whose halves are joined,
-/// then the rest, and last the length: so texts of two lengths are never the same numbers.
+/// Hashes bytes under three secret numbers: the state that it begins with, the factor, and the addend.
+///
+/// It takes eight bytes at a time, each time by one product of 128 bits whose halves are joined ([`folded_product`]), then the
+/// rest, and last the length: so texts of two lengths are never the same numbers.
 #[derive(Clone, Copy)]
 pub struct KeyHasher {
     state: u64,
-    secret: u64,
+    factor: u64,
+    addend: u64,
 }
 
 impl Hasher for KeyHasher {
@@ -28,21 +31,23 @@ impl Hasher for KeyHasher {
         let mut state = self.state;
         let mut at = 0;
         while len - at >= 8 {
-            state = folded_product(state ^ word_at(bytes, at), self.secret);
+            state = folded_product(state ^ word_at(bytes, at), self.factor, self.addend);
             at += 8;
         }
-        let last = folded_product(state ^ rest_from(bytes, at), self.secret);
-        self.state = folded_product(last ^ len as u64, self.secret);
+        let last = folded_product(state ^ rest_from(bytes, at), self.factor, self.addend);
+        self.state = folded_product(last ^ len as u64, self.factor, self.addend);
     }
 }
 
-/// The two halves of the product's 128 bits, joined by exclusive or.
+/// The two halves of a product's 128 bits, joined by exclusive or once the addend is added to the low half.
+///
+/// Without the addend a word and its complement often have the same halves but for their complement, and so the same hash.
 #[tactic(auto, unfolding(crate::specs::Hashes::folded_product))]
-fn folded_product(a: u64, b: u64) -> u64
-    ensures { result ≡ hashes.folded_product a b }
+fn folded_product(word: u64, factor: u64, addend: u64) -> u64
+    ensures { result ≡ hashes.folded_product word factor addend }
 {
-    let product = a as u128 * b as u128;
-    (product & 0xFFFF_FFFF_FFFF_FFFF) as u64 ^ (product >> 64) as u64
+    let product = word as u128 * factor as u128;
+    ((product & 0xFFFF_FFFF_FFFF_FFFF) as u64).wrapping_add(addend) ^ (product >> 64) as u64
 }
 
 /// Four bytes from a place on as a number, the lowest first.
@@ -78,23 +83,35 @@ fn rest_from(bytes: &[u8], at: usize) -> u64
     }
 }
 
-/// Makes hashers that all have the same two secret numbers.
+/// Makes hashers that all have the same three secret numbers.
 #[derive(Clone, Copy)]
 pub struct SecretState {
     state: u64,
-    secret: u64,
+    factor: u64,
+    addend: u64,
 }
 
 impl SecretState {
-    /// Two secret numbers from the machine's source of random bytes. An error is that source's.
+    /// Three secret numbers from the machine's source of random bytes. An error is that source's.
     pub fn new(rt: &impl RandomSource) -> io::Result<SecretState> {
-        let mut bytes = [0; 16];
-        rt.fill_bytes(&mut bytes)?;
-        Ok(SecretState {
-            state: word_at(&bytes, 0),
-            secret: word_at(&bytes, 8) | 1,
-        })
+        let mut bytes = [0; 24];
+        let filled = rt.fill_bytes(&mut bytes);
+        seeded(filled, &bytes)
     }
+}
+
+/// What these bytes make the secret numbers, if they were filled. Else the error of filling them.
+#[tactic(auto, unfolding(crate::specs::Hashes::seeded))]
+fn seeded(filled: io::Result<()>, bytes: &[u8]) -> io::Result<SecretState>
+    requires { 24 ≤ length bytes.now }
+    ensures { result ≡ hashes.seeded bytes.now filled }
+{
+    filled?;
+    Ok(SecretState {
+        state: word_at(bytes, 0),
+        factor: word_at(bytes, 8) | 1,
+        addend: word_at(bytes, 16),
+    })
 }
 
 impl BuildHasher for SecretState {
@@ -105,7 +122,8 @@ impl BuildHasher for SecretState {
     fn build_hasher(&self) -> KeyHasher {
         KeyHasher {
             state: self.state,
-            secret: self.secret,
+            factor: self.factor,
+            addend: self.addend,
         }
     }
 }

@@ -1,8 +1,16 @@
 //! A hasher of keys that a stranger cannot foretell.
 //!
 //! [`SecretState`] makes a [`KeyHasher`] for each key: `std::hash::RandomState` and its hasher, but faster for keys of some tens
-//! of bytes. Both hide two random numbers in what a key is hashed to, so that who knows neither cannot tell which keys fall together. No proof says so.
-//! A [`KeyHasher`] is no cipher: from hashes its secret could be computed, so no hash is to be shown.
+//! of bytes. Both hide random numbers in what a key is hashed to, so a stranger cannot choose keys that collide.
+//!
+//! # How strong it is
+//!
+//! It is a fast keyed hash, at the level of foldhash and wyhash: for keys that were chosen without knowing the secret numbers, no family of
+//! keys is known that collides more often than chance would have it. In models of it with small words, counted whole, no difference between two
+//! words makes their hashes equal much more often than any other (`tests/gate/hashes.py`).
+//!
+//! It is no cipher, and weaker than SipHash: from hashes its secret numbers could be computed, so no hash is to be shown. No proof
+//! speaks of chosen keys: proved is that a hash is what `specs/Hashes.antt` defines, and that each secret number has random bytes of its own.
 #![tactic(auto)]
 
 mod key_hashers;

@@ -1,7 +1,7 @@
 -- The stores of a pool's servers.
-use Rattle.std.specs.Prelude.{ℕ, ◌≡◌, ◌<◌, []}
-use Rattle.mc_store.specs.Items.{LimitedItems}
+use Rattle.std.specs.Prelude.{ℕ, ◌≡◌, ◌<◌, [], Option, IfSome}
+use Rattle.mc_store.specs.Items.{Items}
 
--- a store that holds nothing, and may hold more items than so many
-abbrev pub IsEmptyStore : ℕ → LimitedItems → Type 0
-IsEmptyStore items store = (store.items ≡ []) × (items < store.most)
+-- what holds nothing, and may hold more items than so many
+abbrev pub IsEmptyStore : ℕ → Items → Option ℕ → Type 0
+IsEmptyStore items held most = (held ≡ []) × IfSome most (λ most. items < most)

@@ -6,7 +6,7 @@
 //! order: [`played_script`] plays a script that was read, which gives a world and what each line did ([`Played`]);
 //! [`push_output_lines`] prints what was put out to the clients, and [`push_account`] the account.
 //!
-//! Each server's cache keeps its items in a hashed store. What a script's lines do to a world is said by the definitions in
+//! Each server's cache keeps its items in a store of any kind that a script can be played over (`mc_script::ScriptStore`). What a script's lines do to a world is said by the definitions in
 //! `specs/`, over those of `mc_world`.
 #![tactic(auto)]
 
@@ -20,4 +20,3 @@ pub use outputs::push_output_lines;
 pub use plays::{Played, played_script};
 pub use texts::{account_of_pool_script, steps_of_pool_script, text_of_pool_script};
 pub use told::push_account;
-pub use worlds::{PoolStore, PoolWorld};

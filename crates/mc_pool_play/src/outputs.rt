@@ -3,12 +3,12 @@ ghost use Rattle.std.specs.Prelude.{◌≡◌, ◌++◌, IsOkUnless, OnOk};
 ghost use Rattle.mc_script.specs.Escapes.{client_lines};
 ghost use Rattle.mc_pool_play.specs.Plays.{outs_of};
 
-use crate::worlds::PoolWorld;
-use mc_script::{SimError, push_client_line};
+use mc_script::{ScriptStore, SimError, push_client_line};
+use mc_world::World;
 
 /// Puts the lines at the end of a text that say what was put out to the first clients.
-pub fn push_output_lines(
-    world: &PoolWorld,
+pub fn push_output_lines<S: ScriptStore>(
+    world: &World<S>,
     clients: usize,
     out: &mut Vec<u8>,
 ) -> Result<(), SimError>

@@ -8,24 +8,27 @@ ghost use Rattle.mc_world.specs.Joins.{HasServerJoined};
 ghost use Rattle.mc_world.specs.Quiet.{IsQuiet};
 ghost use Rattle.mc_world.specs.Steps.{GivesAccount};
 
-use crate::worlds::{PoolWorld, empty_store, opened_world};
+use crate::worlds::opened_world;
 use mc_pool_script::{PoolLine, PoolScript, copy_of};
 use mc_ring::Address;
-use mc_script::SimError;
-use mc_world::Step;
+use mc_script::{ScriptStore, SimError};
+use mc_world::{Step, World};
 use std::alloc::Global;
 
 /// A world that has played a script.
 #[derive(Drop)]
-pub struct Played {
+pub struct Played<S: ScriptStore> {
     /// The world as it is then.
-    pub world: PoolWorld,
+    pub world: World<S>,
     /// What each line did, in order. A server that joins is `Done`, and so is a drain.
     pub steps: Vec<Step>,
 }
 
 /// A world that has played a script: it took the lines in order.
-pub fn played_script(alloc: Global, script: &PoolScript) -> Result<Played, SimError>
+pub fn played_script<S: ScriptStore>(
+    alloc: Global,
+    script: &PoolScript,
+) -> Result<Played<S>, SimError>
     ensures played { IfOk result (λ played. HasPlayed script.now played.steps.items played.world) }
     ensures only_memory { IsOkUnless result SimError.Memory }
 {
@@ -38,9 +41,9 @@ pub fn played_script(alloc: Global, script: &PoolScript) -> Result<Played, SimEr
 }
 
 /// One line.
-fn play(
+fn play<S: ScriptStore>(
     alloc: Global,
-    world: &mut PoolWorld,
+    world: &mut World<S>,
     items: usize,
     line: &PoolLine,
 ) -> Result<Step, SimError>
@@ -69,7 +72,7 @@ fn play(
 }
 
 /// All that is left to do is done.
-fn drain(world: &mut PoolWorld, moment: u64) -> Result<(), SimError>
+fn drain<S: ScriptStore>(world: &mut World<S>, moment: u64) -> Result<(), SimError>
     requires moment { moment < 2 ^ 63 }
     ensures drains { OnOk result (Drains moment world.old.course world.new.course) }
     ensures quiet { OnOk result (IsQuiet world.new.course) }
@@ -84,9 +87,9 @@ fn drain(world: &mut PoolWorld, moment: u64) -> Result<(), SimError>
 }
 
 /// A server joins.
-fn join(
+fn join<S: ScriptStore>(
     alloc: Global,
-    world: &mut PoolWorld,
+    world: &mut World<S>,
     items: usize,
     address: &Address,
 ) -> Result<(), SimError>
@@ -97,7 +100,7 @@ fn join(
     ensures account { OnOk result (GivesAccount world.new) }
     ensures only_memory { IsOkUnless result SimError.Memory }
 {
-    let store = empty_store(alloc, items)?;
+    let store = S::opened(alloc, items)?;
     let address = copy_of(address)?;
     match world.join_server(address, store) {
         Ok(_) => Ok(()),

@@ -4,17 +4,16 @@ ghost use Rattle.mc_script.specs.Escapes.{named_line};
 ghost use Rattle.mc_pool_play.specs.Told.{account_lines, entry_line, entry_name, event_lines, histories_lines, history_lines, numbered, refusal_words, text_lines, word_of};
 
 use crate::plays::Played;
-use crate::worlds::PoolWorld;
 use itoa::Buffer;
-use mc_script::push_named_line;
-use mc_world::{Entry, Step};
+use mc_script::{ScriptStore, push_named_line};
+use mc_world::{Entry, Step, World};
 use std::alloc::{AllocError, Global};
 
 /// Puts the account of a play at the end of a text: what each line did, what each of the first clients sent, and what each
 /// of the first servers took.
-pub fn push_account(
+pub fn push_account<S: ScriptStore>(
     alloc: Global,
-    played: &Played,
+    played: &Played<S>,
     clients: usize,
     servers: usize,
     out: &mut Vec<u8>,
@@ -49,7 +48,11 @@ fn word_of(step: Step) -> &'static [u8]
 }
 
 /// A line for each of the first clients, with its text.
-fn push_text_lines(world: &PoolWorld, clients: usize, out: &mut Vec<u8>) -> Result<(), AllocError>
+fn push_text_lines<S: ScriptStore>(
+    world: &World<S>,
+    clients: usize,
+    out: &mut Vec<u8>,
+) -> Result<(), AllocError>
     ensures { OnOk result (out.new.items ≡ out.old.items ++ text_lines clients world.now.course) }
 {
     for client in 0..clients as u64 {
@@ -59,9 +62,9 @@ fn push_text_lines(world: &PoolWorld, clients: usize, out: &mut Vec<u8>) -> Resu
 }
 
 /// The histories of the first servers.
-fn push_histories(
+fn push_histories<S: ScriptStore>(
     alloc: Global,
-    world: &PoolWorld,
+    world: &World<S>,
     servers: usize,
     out: &mut Vec<u8>,
 ) -> Result<(), AllocError>

@@ -22,6 +22,7 @@ mod numbers;
 mod outputs;
 mod rows;
 mod scripts;
+mod stores;
 mod texts;
 
 pub use errors::{Side, SimError};
@@ -35,4 +36,5 @@ pub use lines::{LineIter, cut_at_space, lines_of};
 pub use numbers::{read_limit, read_moment, read_place};
 pub use rows::{texts_by_connection, turns_that_find_one};
 pub use scripts::read_script;
+pub use stores::ScriptStore;
 pub use texts::{text_of_script, write_text};

@@ -10,21 +10,21 @@ ghost use Rattle.mc_script.specs.ScriptSeen.{script_seen};
 use crate::errors::SimError;
 use crate::escapes::push_client_line;
 use crate::events::{Event, Script};
+use crate::stores::ScriptStore;
 use mc_cache::Cache;
 use mc_item::CasCounter;
 use mc_server::{Server, ServerError};
-use mc_store::{FixedHasher, LruStore};
 use std::alloc::{AllocError, Global};
-
-/// The server that plays a script. Its store's hasher has a fixed seed, so a script takes the same steps each time.
-pub type ScriptServer = Server<LruStore<FixedHasher>>;
 
 /// A server that has played a script: its outputs are what it sends to the clients.
 ///
 /// The outputs are the answers of one legal history: each turn takes the next request or fault of its connection's
 /// text, if it has come whole, and no other. Once it is said which stores were refused memory, no other outputs are
 /// right.
-pub fn played_server(alloc: Global, script: &Script) -> Result<ScriptServer, SimError>
+pub fn played_server<S: ScriptStore>(
+    alloc: Global,
+    script: &Script,
+) -> Result<Server<S>, SimError>
     ensures outputs { IfOk result (λ server. Answers (script_seen script.now) (outputs_of script.now.connections server)) }
     ensures only_memory { IsOkUnless result SimError.Memory }
 {
@@ -36,8 +36,8 @@ pub fn played_server(alloc: Global, script: &Script) -> Result<ScriptServer, Sim
 }
 
 /// Puts the lines at the end of a text that say what the clients of the first connections were sent.
-pub fn push_output_lines(
-    server: &ScriptServer,
+pub fn push_output_lines<S: ScriptStore>(
+    server: &Server<S>,
     connections: u64,
     out: &mut Vec<u8>,
 ) -> Result<(), AllocError>
@@ -50,11 +50,11 @@ pub fn push_output_lines(
 }
 
 /// A server with an empty cache and fresh connections, as the script wants them.
-fn opened_server(alloc: Global, script: &Script) -> Result<ScriptServer, SimError>
+fn opened_server<S: ScriptStore>(alloc: Global, script: &Script) -> Result<Server<S>, SimError>
     ensures server { IfOk result (λ server. server ≡ opened (cache_of (script_seen script.now)) script.now.connections) }
     ensures only_memory { IsOkUnless result SimError.Memory }
 {
-    let store = LruStore::new(alloc, script.items).map_err(|_| SimError::Memory)?;
+    let store = S::opened(alloc, script.items)?;
     let cache = Cache::new(
         alloc,
         store,
@@ -70,7 +70,7 @@ fn opened_server(alloc: Global, script: &Script) -> Result<ScriptServer, SimErro
 }
 
 /// Opens one connection more.
-fn admit(server: &mut ScriptServer) -> Result<(), SimError>
+fn admit<S: ScriptStore>(server: &mut Server<S>) -> Result<(), SimError>
     requires room { length server.old.connections < 1024 }
     requires number { server.old.admitted < 2 ^ 64 - 1 }
     ensures admitted { OnOk result (server.new ≡ with_fresh server.old) }
@@ -80,7 +80,7 @@ fn admit(server: &mut ScriptServer) -> Result<(), SimError>
 }
 
 /// One event.
-fn play(server: &mut ScriptServer, event: &Event) -> Result<(), SimError>
+fn play<S: ScriptStore>(server: &mut Server<S>, event: &Event) -> Result<(), SimError>
     requires connection { IsSome (connection_at server.old (number_of event.now)) }
     requires moment { moment_of event.now < 2 ^ 63 }
     ensures played { OnOk result (Plays event.now server.old server.new) }

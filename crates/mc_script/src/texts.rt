@@ -8,21 +8,22 @@ ghost use Rattle.mc_script.specs.Scripts.{script_of};
 use crate::errors::{Side, SimError};
 use crate::outputs::{played_server, push_output_lines};
 use crate::scripts::read_script;
+use crate::stores::ScriptStore;
 use std::alloc::Global;
 use std::io::Write;
 
-/// The text that is printed for a script: a line for each of its clients, in order, with what a server that plays the
-/// script sends them. The error is the script's first bad line, or `Memory`.
+/// The text that is printed for a script: a line for each of its clients, in order, with what a server over such a store that plays
+/// the script sends them. The error is the script's first bad line, or `Memory`.
 ///
 /// The contract has no condition: it holds of every input, wherever its bytes came from. Where the call succeeds, the
 /// input is a script, and the lines are those of outputs that answer it. Where it names a line, the input is no script,
 /// and that line is its first bad one.
-pub fn text_of_script(alloc: Global, input: &[u8]) -> Result<Vec<u8>, SimError>
+pub fn text_of_script<S: ScriptStore>(alloc: Global, input: &[u8]) -> Result<Vec<u8>, SimError>
     ensures text { IfOk result (λ text. IsTextOf input.now text.items) }
     ensures error { IfErr result (λ error. Explains error (script_of input.now)) }
 {
     let script = read_script(alloc, input)?;
-    let server = played_server(alloc, &script)?;
+    let server = played_server::<S>(alloc, &script)?;
     let mut text = Vec::new(alloc);
     push_output_lines(&server, script.connections, &mut text)?;
     Ok(text)

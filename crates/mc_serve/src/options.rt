@@ -1,11 +1,13 @@
 //! The command line of a server.
 
-use crate::settings::{Service, Settings};
+use crate::settings::{Service, Settings, USUAL_ANSWER};
 use clap::builder::ValueParser;
 use clap::{Arg, ArgMatches, Command};
 use mc_cache::{MAX_BUDGET, MAX_ITEMS};
 use mc_program::{Terms, accept, flag, idle, listen, report};
 use std::alloc::{AllocError, Global};
+use std::fmt;
+use std::fmt::{Display, Formatter};
 
 /// The fewest bytes that an answer may be allowed: what is counted for a request without a value.
 const LEAST_ANSWER: u64 = 1024;
@@ -38,6 +40,38 @@ impl<'a> Options<'a> {
             settings: Settings::new(budget, items, service)?,
             check: matches.get_flag("check"),
         })
+    }
+}
+
+/// What to listen at and what to serve with, as it is printed: the four settings that are always there, and of the others those
+/// that are not at their defaults.
+impl Display for Options<'_> {
+    fn fmt<W: fmt::Write>(&self, f: &mut Formatter<W>) -> fmt::Result {
+        let Settings {
+            budget,
+            items,
+            service,
+        } = self.settings;
+        let Terms {
+            accept,
+            idle,
+            report,
+        } = service.terms;
+        let listen = self.listen;
+        write!(
+            f,
+            "listen {listen} budget {budget} items {items} accept {accept}"
+        )?;
+        if service.answer != USUAL_ANSWER {
+            write!(f, " answer {}", service.answer)?;
+        }
+        if idle > 0 {
+            write!(f, " idle {idle}")?;
+        }
+        if report > 0 {
+            write!(f, " report {report}")?;
+        }
+        Ok(())
     }
 }
 

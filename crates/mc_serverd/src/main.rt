@@ -4,8 +4,8 @@
 //! that of [`mc_program`]. The words are read first, then `--check` is obeyed, then it listens.
 #![tactic(auto)]
 
-use mc_program::{Failure, Terms, exit_status, read_words};
-use mc_serve::{Options, PROGRAM, Service, SystemSeconds, bind, command, serve};
+use mc_program::{Failure, exit_status, read_words};
+use mc_serve::{Options, PROGRAM, SystemSeconds, bind, command, serve};
 use mc_server::MAX_CONNECTIONS;
 use mc_watch::{OWN_FILES, tell_open_files};
 use std::net::Net;
@@ -52,17 +52,6 @@ where
 
 /// Prints the settings.
 fn check<R: Print>(rt: &R, options: &Options<'_>) -> Result<(), Failure> {
-    let listen = options.listen;
-    let settings = options.settings;
-    let (budget, items) = (settings.budget, settings.items);
-    let Service { terms, answer } = settings.service;
-    let Terms {
-        accept,
-        idle,
-        report,
-    } = terms;
-    let written = println!(rt;
-        "listen {listen} budget {budget} items {items} accept {accept} answer {answer} idle {idle} report {report}"
-    );
+    let written = println!(rt; "{options}");
     written.map_err(|_| Failure::Output)
 }

@@ -1,15 +1,16 @@
 -- The live ones of entries of several epochs.
-use Rattle.std.proofs.Common.{◌≡◌, ◌≢◌, ℕ, zero, suc, ◌+◌, ◌-◌, ◌<◌, ◌≤◌, List, [], ◌∷◌, ◌++◌, length, take, drop, Option, Some, None, refl, sym, ap, ◌∙◌, subst, arith, append_assoc}
+use Rattle.std.proofs.Common.{◌≡◌, ◌≢◌, ℕ, zero, suc, ◌+◌, ◌-◌, ◌<◌, ◌≤◌, List, [], ◌∷◌, ◌++◌, length, take, drop, Option, Some, None, IfSome, refl, sym, ap, ◌∙◌, subst, arith, append_assoc}
 use Rattle.std.specs.Str.{bytes_eq}
-use Rattle.std.specs.Map.{lookup, lookup_entry, remove_entry, set_value}
+use Rattle.std.specs.Map.{lookup, lookup_entry, remove_entry}
 use Rattle.std.specs.Option.{option_map}
 use Rattle.std.proofs.lemmas.List.{length_push}
-use Rattle.mc_table.specs.Tables.{promoted, put_entry}
+use Rattle.mc_table.specs.Tables.{put_entry}
 use Rattle.mc_item.specs.declared.bodies.Body.{Body}
 use Rattle.mc_store.specs.declared.held.Held.{Held}
 use Rattle.mc_store.specs.Items.{Items, body_at, without}
-use Rattle.mc_store.specs.Epochs.{Entries, live, AreDead, IsParted, IsLetGo, IsGivenBack}
-use Rattle.mc_store.proofs.DeadLemmas.{IsFewer, dead_cut_fewer, gives_back}
+use Rattle.mc_store.specs.Epochs.{Entries, live, AreDead, IsParted, HasRoom, IsLetGo, IsGivenBack}
+use Rattle.mc_store.specs.Recents.{written}
+use Rattle.mc_store.proofs.DeadLemmas.{dead_let_go, dead_without}
 use Rattle.mc_store.proofs.HeldLemmas.{held_at, cut, lookup_is, remove_is, entry_is, set_is}
 
 -- what is dead stays so where an entry is taken out
@@ -143,44 +144,46 @@ pub record IsWritten (key : List ℕ) (epoch count : ℕ) (old new : Entries) (b
   pub items : live count new ≡ (key, after) ∷ without key (live count old)
   pub dead : drop count new ≡ drop count old
 
-abbrev pub written : List ℕ → Entries → Held → Entries
-written key entries held = set_value (bytes_eq key) (promoted (bytes_eq key) entries) held
-
-pub writes : (key : List ℕ) (epoch count : ℕ) (old : Entries) (held after : Held) → IsParted epoch count old
+writes_held : (key : List ℕ) (epoch count : ℕ) (old : Entries) (held after : Held) → IsParted epoch count old
     → Some held ≡ lookup (bytes_eq key) old → held.epoch ≡ epoch → after.epoch ≡ epoch → IsWritten key epoch count old (written key old after) held.body after.body
-writes key epoch count old held after parted found now still =
+writes_held key epoch count old held after parted found now still =
     let at : held_at key old ≡ Some held = sym (found ∙ lookup_is key old) in
     let there : IsLiveAt key epoch count old held = live_is key epoch count old held parted at now in
     grind (arith, cut, set_is)
+
+pub writes : (key : List ℕ) (epoch count : ℕ) (old new : Entries) (held after : Held) → IsParted epoch count old
+    → Some held ≡ lookup (bytes_eq key) old → held.epoch ≡ epoch → after.epoch ≡ epoch → new ≡ written key old after
+    → IsWritten key epoch count old new held.body after.body
+writes key epoch count old new held after parted found now still is = rw is (writes_held key epoch count old held after parted found now still)
 
 -- what it leaves, once others were let go
 pub record IsReplaced (key : List ℕ) (epoch count price : ℕ) (old new : Entries) (before after : Body) : Type 0 where
   pub parted : IsParted epoch count new
   pub held : body_at key (live count old) ≡ Some before
   pub items : live count new ≡ (key, after) ∷ without key (live count old)
-  pub given : IsGivenBack price (drop count old) (drop count new)
+  pub dead : IsLetGo price 0 (drop count old) (drop count new)
 
-pub replaces : (key : List ℕ) (epoch count price : ℕ) (old new : Entries) (held after : Held) → IsParted epoch count old
-    → Some held ≡ lookup (bytes_eq key) old → held.epoch ≡ epoch → after.epoch ≡ epoch → IsLetGo price count (written key old after) new
+pub replaces : (key : List ℕ) (epoch count price : ℕ) (old mid new : Entries) (held after : Held) → IsParted epoch count old
+    → Some held ≡ lookup (bytes_eq key) old → held.epoch ≡ epoch → after.epoch ≡ epoch → mid ≡ written key old after → IsLetGo price count mid new
     → IsReplaced key epoch count price old new held.body after.body
-replaces key epoch count price old new held after parted found now still go =
-    let wrote = writes key epoch count old held after parted found now still in
-    let left = leaves epoch count price (written key old after) new wrote.parted go in
+replaces key epoch count price old mid new held after parted found now still is go =
+    let wrote = writes key epoch count old mid held after parted found now still is in
+    let left = leaves epoch count price mid new wrote.parted go in
     record {
       parted = left.0;
       held = wrote.held;
       items = left.1 ∙ wrote.items;
-      given = subst (λ (es : Entries). IsGivenBack price es (drop count new)) wrote.dead (gives_back price count (written key old after) new (drop count new) go (omega arith, omega arith));
+      dead = subst (λ (es : Entries). IsLetGo price 0 es (drop count new)) wrote.dead (dead_let_go price count mid new go);
     }
 
 -- what letting a dead entry go leaves that a look-up has promoted
-pub lets_go : (key : List ℕ) (epoch count : ℕ) (old new : Entries) (held : Held) → IsParted epoch count old
-    → Some held ≡ lookup (bytes_eq key) old → held.epoch ≢ epoch → new ≡ drop 1 (written key old held)
+pub lets_go : (key : List ℕ) (epoch count : ℕ) (old mid new : Entries) (held : Held) → IsParted epoch count old
+    → Some held ≡ lookup (bytes_eq key) old → held.epoch ≢ epoch → mid ≡ written key old held → new ≡ drop 1 mid
     → IsParted epoch count new × (live count new ≡ live count old) × (body_at key (live count old) ≡ None)
-lets_go key epoch count old new held parted found other is =
+lets_go key epoch count old mid new held parted found other promoted is =
     let at : held_at key old ≡ Some held = sym (found ∙ lookup_is key old) in
     let absent : body_at key (live count old) ≡ None = dead_is key epoch count old held parted at other in
-    let left : new ≡ cut key old = is ∙ ap (λ (es : Entries). drop 1 es) (set_is key old held held at) in
+    let left : new ≡ cut key old = is ∙ ap (λ (es : Entries). drop 1 es) (promoted ∙ set_is key old held held at) in
     let rest : IsParted epoch count (cut key old) × (live count (cut key old) ≡ live count old) = parted_cut key epoch count old parted absent in
     (rw left rest.0, rw left rest.1, absent)
 
@@ -229,34 +232,46 @@ takes_none key epoch count old new parted none is =
     (rw cuts rest.0, rw cuts rest.1, absent)
 
 -- what putting an entry leaves, once others were let go
-puts_tail : (key : List ℕ) (epoch count : ℕ) (old new : Entries) (held : Held) → IsParted epoch count old → body_at key (live count old) ≡ None
-    → new ≡ put_entry bytes_eq key held old
-    → (tail : Entries) × (new ≡ (key, held) ∷ tail) × IsParted epoch count tail × (live count tail ≡ live count old) × IsFewer (drop count old) (drop count tail)
-puts_tail key epoch count old new held parted absent is =
-    let others : IsParted epoch count (cut key old) × (live count (cut key old) ≡ live count old) = parted_cut key epoch count old parted absent in
-    (elim (held_at key old) as (λ (o : Option Held). held_at key old ≡ o → (tail : Entries) × (new ≡ (key, held) ∷ tail) × IsParted epoch count tail × (live count tail ≡ live count old)
-    × IsFewer (drop count old) (drop count tail)) [
-      | None ↦ λ at. (old, is ∙ rw (entry_is key old, at) refl, parted, refl, (omega arith, omega arith))
-      | Some before ↦ λ at. (cut key old, is ∙ rw (entry_is key old, at, remove_is key old) refl, others.0, others.1, dead_cut_fewer key count old absent)
+cut_none : (key : List ℕ) (entries : Entries) → held_at key entries ≡ None → cut key entries ≡ entries
+cut_none key [] none = refl
+cut_none key (entry ∷ entries) none =
+    let again : held_at key entries ≡ None → cut key entries ≡ entries = cut_none key entries in
+    grind (arith, held_at, cut)
+
+put_is : (key : List ℕ) (held : Held) (old : Entries) → put_entry bytes_eq key held old ≡ (key, held) ∷ cut key old
+put_is key held old =
+    (elim (held_at key old) as (λ (o : Option Held). held_at key old ≡ o → put_entry bytes_eq key held old ≡ (key, held) ∷ cut key old) [
+      | None ↦ λ at. rw (entry_is key old, at, cut_none key old at) refl
+      | Some before ↦ λ at. rw (entry_is key old, at, remove_is key old) refl
     ]) refl
 
 pub record IsPut (key : List ℕ) (epoch count more price : ℕ) (old new : Entries) (body : Body) : Type 0 where
   pub parted : IsParted epoch more new
   pub items : live more new ≡ (key, body) ∷ live count old
-  pub given : IsGivenBack price (drop count old) (drop more new)
+  pub dead : IsGivenBack key price (drop count old) (drop more new)
 
 pub puts : (key : List ℕ) (epoch count more price : ℕ) (old mid new : Entries) (held : Held) → IsParted epoch count old → IsLetGo price count old mid
     → body_at key (live count old) ≡ None → held.epoch ≡ epoch → more ≡ count + 1 → new ≡ put_entry bytes_eq key held mid
     → IsPut key epoch count more price old new held.body
 puts key epoch count more price old mid new held parted go absent now one_more is =
     let left : IsParted epoch count mid × (live count mid ≡ live count old) = leaves epoch count price old mid parted go in
-    let put = puts_tail key epoch count mid new held left.0 (ap (λ (is : Items). body_at key is) left.1 ∙ absent) is in
+    let gone : body_at key (live count mid) ≡ None = ap (λ (is : Items). body_at key is) left.1 ∙ absent in
+    let others : IsParted epoch count (cut key mid) × (live count (cut key mid) ≡ live count mid) = parted_cut key epoch count mid left.0 gone in
     let next : more ≡ suc count = omega arith in
-    record {
-      parted = rw (next, put.1) (now, put.2);
-      items = rw (next, put.1) (ap (λ (is : Items). (key, held.body) ∷ is) (put.3 ∙ left.1));
-      given = rw (next, put.1) (gives_back price count old mid (drop count put.0) go put.4);
-    }
+    let put : new ≡ (key, held) ∷ cut key mid = is ∙ put_is key held mid in
+    rw (next, put) (record {
+      parted = (now, others.0);
+      items = ap (λ (is : Items). (key, held.body) ∷ is) (others.1 ∙ left.1);
+      dead = record {
+        left = drop count mid;
+        go = dead_let_go price count old mid go;
+        own = dead_without key count mid gone ∙ sym (remove_is key (drop count mid));
+      };
+    })
+
+-- the room is as before
+pub same_room : (most : ℕ) (old new : Option ℕ) → HasRoom most old → new ≡ old → HasRoom most new
+same_room most old new has is = rw is has
 
 -- of entries that are all live the last is the last item
 pops_live : (epoch : ℕ) (front : Entries) (last : List ℕ × Held) → IsParted epoch (length (front ++ last ∷ [])) (front ++ last ∷ [])
@@ -301,3 +316,9 @@ leaves_all epoch count old new parted is =
 pub pops_none : (epoch count : ℕ) (old new : Entries) → IsParted epoch count old → old ≡ [] → new ≡ []
     → IsParted epoch count new × (live count new ≡ []) × (live count old ≡ [])
 pops_none epoch count old new parted nothing still = grind (arith, count-fits)
+
+-- where there is room for more live entries, there is room for one once others were let go
+pub room_after : (count most left : ℕ) (old new : Option ℕ) → HasRoom most old → new ≡ old → IfSome old (λ entries. count < entries → left < entries) → count < most
+    → IfSome new (λ entries. left < entries)
+room_after count most left None new has is free fits = rw is tt
+room_after count most left (Some entries) new has is free fits = rw is (free (omega (arith, has)))

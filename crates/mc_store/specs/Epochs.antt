@@ -1,5 +1,7 @@
 -- Entries of several epochs, most recent first: this project's own.
-use Rattle.std.specs.Prelude.{◌≡◌, ℕ, zero, suc, ◌+◌, ◌<◌, ◌≤◌, ◌⊎◌, ◌++◌, List, [], ◌∷◌, length}
+use Rattle.std.specs.Prelude.{◌≡◌, ℕ, zero, suc, ◌+◌, ◌<◌, ◌≤◌, ◌⊎◌, ◌++◌, List, [], ◌∷◌, length, drop, Option, IfSome}
+use Rattle.std.specs.Map.{remove_entry}
+use Rattle.std.specs.Str.{bytes_eq}
 use Rattle.mc_item.specs.Costs.{cost_of}
 use Rattle.mc_store.specs.declared.held.Held.{Held}
 use Rattle.mc_store.specs.Items.{Items}
@@ -25,23 +27,32 @@ IsParted epoch zero entries = AreDead epoch entries
 IsParted epoch (suc count) [] = ⊥
 IsParted epoch (suc count) (entry ∷ entries) = (entry.1.epoch ≡ epoch) × IsParted epoch count entries
 
--- what a contract sees of such entries: the live items and the dead entries, most recent first
+-- there is room for so many
+abbrev pub HasRoom : ℕ → Option ℕ → Type 0
+HasRoom most room = IfSome room (λ entries. most ≤ entries)
+
+-- what a contract sees of such entries: the live items and the dead entries, most recent first, and how many items there may be
 pub record LiveAndDead : Type 0 where
   pub items : Items
   pub dead : Entries
+  pub most : ℕ
 
 -- what entries cost
 abbrev pub entry_costs : Entries → ℕ
 entry_costs [] = 0
 entry_costs (entry ∷ entries) = cost_of entry.0 entry.1.body.value + entry_costs entries
 
--- entries are let go from the back, none of the first so many: all others, or two at least that cost so much at least
+-- entries are let go from the back, none of the first so many: all others, or two at least that cost so much at least;
+-- and no more than that takes: those before the last one that went were fewer than two, or cost less
 pub record IsLetGo (price count : ℕ) (before after : Entries) : Type 0 where
   pub gone : Entries
   pub parts : before ≡ after ++ gone
   pub stay : count ≤ length after
   pub enough : (length after ≡ count) ⊎ ((2 ≤ length gone) × (price ≤ entry_costs gone))
+  pub no_more : (length gone ≤ 2) ⊎ (entry_costs (drop 1 gone) < price)
 
--- none is left, or two fewer at least, and what is left costs so much less at least
-abbrev pub IsGivenBack : ℕ → Entries → Entries → Type 0
-IsGivenBack price before after = (after ≡ []) ⊎ ((length after + 2 ≤ length before) × (price + entry_costs after ≤ entry_costs before))
+-- dead entries are let go so, and then the one of a key
+pub record IsGivenBack (key : List ℕ) (price : ℕ) (before after : Entries) : Type 0 where
+  pub left : Entries
+  pub go : IsLetGo price 0 before left
+  pub own : after ≡ remove_entry (bytes_eq key) left

@@ -1,60 +1,67 @@
-//! EpochCache: a table of items with a clear that takes the same time for any number of them.
-ghost use Rattle.std.specs.Prelude.{◌≡◌, ◌∷◌, ◌++◌, ◌≤◌, ◌<◌, ◌^◌, [], length, take, is_some, None, Some, IfOk, OnOk, IfErr, OnErr, IfSome, IfNone};
+//! EpochCache: items by key with a clear that takes the same time for any number of them.
+ghost use Rattle.std.specs.Prelude.{◌≡◌, ◌∷◌, ◌++◌, ◌≤◌, ◌<◌, ◌^◌, [], length, take, is_some, None, Some, OnOk, IfErr, IfOk, OnErr, IfSome, IfNone};
 ghost use Rattle.std.specs.Option.{option_copied};
 ghost use Rattle.mc_item.specs.Costs.{cost_of};
-ghost use Rattle.mc_store.specs.Epochs.{IsLetGo, IsGivenBack};
+ghost use Rattle.mc_store.specs.Epochs.{IsLetGo, IsGivenBack, HasRoom};
 ghost use Rattle.mc_store.specs.Items.{body_at, front_body, without, brought, expiring, marking};
 
 use crate::held::Held;
+use crate::recent::Recent;
 use mc_item::{Body, Deadline, cost};
-use mc_table::Table;
-use mc_text::{Key, KeyBytes};
-use std::alloc::{AllocError, Global};
-use std::hash::BuildHasher;
+use mc_text::Key;
 use std::marker::Model;
 use std::mem;
 
-/// The items in a table, each with the epoch in which it was put.
+/// Items by key, each with the epoch in which it was put.
 ///
 /// The entries of the cache's own epoch are live, and come before all others. [`EpochCache::clear`] begins the next epoch, in which
 /// all entries are dead. What is dead is not counted and not found. Dead entries go from the back with later puts, or where a call
 /// other than [`EpochCache::peek`] asks for their key.
 ///
-/// Contracts see the live items and the dead entries.
+/// Contracts see the live items, the dead entries, and the most items that there may be.
 #[derive(Drop)]
-pub struct EpochCache<H: BuildHasher> {
-    cache: Table<Key, Held, H>,
+pub struct EpochCache<M: Recent> {
+    cache: M,
     epoch: u64,
     /// How many entries are live: the first ones.
     count: usize,
+    most: usize,
 }
 
-impl<H: BuildHasher> Model for EpochCache<H> {
+impl<M: Recent> Model for EpochCache<M> {
     ghost use Rattle.std.specs.Prelude.{drop};
-    ghost use Rattle.mc_store.specs.Epochs.{LiveAndDead, live, IsParted};
+    ghost use Rattle.mc_store.specs.Epochs.{LiveAndDead, live, IsParted, HasRoom};
 
     ghost Value = { LiveAndDead };
 
-    ghost view = { λ s. record { items = live s.count s.cache; dead = drop s.count s.cache } };
+    ghost view = { λ s. record { items = live s.count (M.entries s.cache); dead = drop s.count (M.entries s.cache); most = s.most } };
 
-    ghost invariant = { λ s. IsParted s.epoch s.count s.cache };
+    ghost invariant = { λ s. IsParted s.epoch s.count (M.entries s.cache) × HasRoom s.most (M.room s.cache) };
 }
 
-impl<H: BuildHasher + Drop> EpochCache<H> {
-    /// A cache with no item and room for so many entries, whose keys this hasher hashes.
-    pub fn with_hasher(alloc: Global, room: usize, hasher: H) -> Result<Self, AllocError>
-        ensures { IfOk result (λ c. c.items ≡ []) }
+impl<M: Recent> EpochCache<M> {
+    /// A cache with no item, over one that has no entry. There may be `most` items.
+    pub fn over(cache: M, most: usize) -> Self
+        requires empty { M.entries cache ≡ [] }
+        requires room { HasRoom most (M.room cache) }
+        ensures items { result.items ≡ [] }
+        ensures most { result.most ≡ most }
     {
-        let cache = Table::with_hasher(alloc, room, hasher)?;
-        Ok(EpochCache {
+        EpochCache {
             cache,
             epoch: 0,
             count: 0,
-        })
+            most,
+        }
     }
-}
 
-impl<H: BuildHasher> EpochCache<H> {
+    /// The most items that there may be.
+    pub fn most(&self) -> usize
+        ensures { result ≡ self.now.most }
+    {
+        self.most
+    }
+
     /// How many items there are.
     pub fn len(&self) -> usize
         ensures { result ≡ length self.now.items }
@@ -66,7 +73,7 @@ impl<H: BuildHasher> EpochCache<H> {
     pub fn peek(&self, key: &[u8]) -> Option<&Body>
         ensures { option_copied result ≡ body_at key.now self.now.items }
     {
-        let held = self.cache.peek(KeyBytes { bytes: key })?;
+        let held = self.cache.peek(key)?;
         if self.epoch != held.epoch {
             return None;
         }
@@ -80,7 +87,7 @@ impl<H: BuildHasher> EpochCache<H> {
         if self.count == 0 {
             return None;
         }
-        let (_, held) = self.cache.peek_mru()?;
+        let held = self.cache.front()?;
         Some(&held.body)
     }
 
@@ -88,8 +95,9 @@ impl<H: BuildHasher> EpochCache<H> {
     pub fn bring(&mut self, key: &[u8]) -> bool
         ensures held { result ≡ is_some (body_at key.now self.old.items) }
         ensures items { self.new.items ≡ brought key.now (body_at key.now self.old.items) self.old.items }
+        ensures most { self.new.most ≡ self.old.most }
     {
-        let Some(held) = self.cache.get_mut(KeyBytes { bytes: key }) else {
+        let Some(held) = self.cache.get_mut(key) else {
             return false;
         };
         if held.epoch != self.epoch {
@@ -103,8 +111,9 @@ impl<H: BuildHasher> EpochCache<H> {
     pub fn expire(&mut self, key: &[u8], expiry: Deadline) -> bool
         ensures held { result ≡ is_some (body_at key.now self.old.items) }
         ensures items { self.new.items ≡ brought key.now (expiring expiry (body_at key.now self.old.items)) self.old.items }
+        ensures most { self.new.most ≡ self.old.most }
     {
-        let Some(held) = self.cache.get_mut(KeyBytes { bytes: key }) else {
+        let Some(held) = self.cache.get_mut(key) else {
             return false;
         };
         if held.epoch != self.epoch {
@@ -119,8 +128,9 @@ impl<H: BuildHasher> EpochCache<H> {
     pub fn mark(&mut self, key: &[u8], stale: bool, won: bool, cas: u64) -> bool
         ensures held { result ≡ is_some (body_at key.now self.old.items) }
         ensures items { self.new.items ≡ brought key.now (marking stale won cas (body_at key.now self.old.items)) self.old.items }
+        ensures most { self.new.most ≡ self.old.most }
     {
-        let Some(held) = self.cache.get_mut(KeyBytes { bytes: key }) else {
+        let Some(held) = self.cache.get_mut(key) else {
             return false;
         };
         if held.epoch != self.epoch {
@@ -138,8 +148,9 @@ impl<H: BuildHasher> EpochCache<H> {
         ensures item { IfSome result (λ item. (item.0 ≡ key.now) × (body_at key.now self.old.items ≡ Some item.1)) }
         ensures none { IfNone result (body_at key.now self.old.items ≡ None) }
         ensures items { self.new.items ≡ without key.now self.old.items }
+        ensures most { self.new.most ≡ self.old.most }
     {
-        match self.cache.pop_entry(KeyBytes { bytes: key }) {
+        match self.cache.pop_entry(key) {
             Some((own, held)) => {
                 if held.epoch != self.epoch {
                     return None;
@@ -161,9 +172,10 @@ impl<H: BuildHasher> EpochCache<H> {
         ensures absent { OnErr result (body_at key.now self.old.items ≡ None) }
         ensures back { IfErr result (λ back. back ≡ body) }
         ensures err { OnErr result (self.new.items ≡ self.old.items) }
-        ensures given_back { OnOk result (IsGivenBack (length body.value) self.old.dead self.new.dead) }
+        ensures dead { OnOk result (IsLetGo (length body.value) 0 self.old.dead self.new.dead) }
+        ensures most { self.new.most ≡ self.old.most }
     {
-        let Some(held) = self.cache.get_mut(KeyBytes { bytes: key }) else {
+        let Some(held) = self.cache.get_mut(key) else {
             return Err(body);
         };
         if held.epoch != self.epoch {
@@ -181,11 +193,14 @@ impl<H: BuildHasher> EpochCache<H> {
     ///
     /// Where there is no memory, `Err` hands the key and the body back.
     pub fn put_front(&mut self, key: Key, body: Body) -> Result<(), (Key, Body)>
-        requires { body_at key self.old.items ≡ None }
+        requires absent { body_at key self.old.items ≡ None }
+        requires room { length self.old.items < self.old.most }
         ensures ok { OnOk result (self.new.items ≡ (key, body) ∷ self.old.items) }
         ensures back { IfErr result (λ back. back ≡ (key, body)) }
         ensures err { OnErr result (self.new.items ≡ self.old.items) }
-        ensures given_back { IsGivenBack (cost_of key body.value) self.old.dead self.new.dead }
+        ensures dead { OnOk result (IsGivenBack key (cost_of key body.value) self.old.dead self.new.dead) }
+        ensures dead_err { OnErr result (IsLetGo (cost_of key body.value) 0 self.old.dead self.new.dead) }
+        ensures most { self.new.most ≡ self.old.most }
     {
         let_go(&mut self.cache, self.count, cost(&key, &body));
         let held = Held {
@@ -193,14 +208,11 @@ impl<H: BuildHasher> EpochCache<H> {
             epoch: self.epoch,
         };
         match self.cache.put(key, held) {
-            Ok(_) => {
+            Ok(()) => {
                 self.count += 1;
                 Ok(())
             }
-            Err(failed) => {
-                let (key, held) = failed.value;
-                Err((key, held.body))
-            }
+            Err((key, held)) => Err((key, held.body)),
         }
     }
 
@@ -208,6 +220,7 @@ impl<H: BuildHasher> EpochCache<H> {
     pub fn drop_last(&mut self) -> Option<(Key, Body)>
         ensures last { IfSome result (λ last. self.old.items ≡ self.new.items ++ last ∷ []) }
         ensures empty { IfNone result ((self.old.items ≡ []) × (self.new.items ≡ [])) }
+        ensures most { self.new.most ≡ self.old.most }
     {
         let_all_go(&mut self.cache, self.count);
         match self.cache.pop_lru() {
@@ -221,7 +234,8 @@ impl<H: BuildHasher> EpochCache<H> {
 
     /// Takes all items out: they are dead from now on. Only after the last epoch of 64 bits the entries go one by one.
     pub fn clear(&mut self)
-        ensures { self.new.items ≡ [] }
+        ensures items { self.new.items ≡ [] }
+        ensures most { self.new.most ≡ self.old.most }
     {
         let Some(next) = self.epoch.checked_add(1) else {
             self.cache.clear();
@@ -233,12 +247,18 @@ impl<H: BuildHasher> EpochCache<H> {
     }
 }
 
-/// Lets entries go, the last one first, but none of the first `count`: all others, or two at least that cost at least `price`.
-fn let_go<H: BuildHasher>(cache: &mut Table<Key, Held, H>, count: usize, price: u64)
-    requires { count ≤ length cache.old }
-    ensures go { IsLetGo price count cache.old cache.new }
-    ensures fits { length cache.new < 2 ^ 63 }
+/// Lets entries go, the last one first, but none of the first `count`: all others, or two at least that cost at least `price`. It
+/// lets no more go than that takes.
+fn let_go<M: Recent>(cache: &mut M, count: usize, price: u64)
+    requires { count ≤ length (M.entries cache.old) }
+    ensures go { IsLetGo price count (M.entries cache.old) (M.entries cache.new) }
+    ensures fits { length (M.entries cache.new) < 2 ^ 63 }
+    ensures room { M.room cache.new ≡ M.room cache.old }
+    ensures free { IfSome (M.room cache.old) (λ most. count < most → length (M.entries cache.new) < most) }
 {
+    if cache.len() == count {
+        return;
+    }
     let mut gone: u64 = 0;
     let mut freed: u64 = 0;
     while cache.len() > count {
@@ -254,9 +274,10 @@ fn let_go<H: BuildHasher>(cache: &mut Table<Key, Held, H>, count: usize, price: 
 }
 
 /// Lets all entries go but the first `count`.
-fn let_all_go<H: BuildHasher>(cache: &mut Table<Key, Held, H>, count: usize)
-    requires { count ≤ length cache.old }
-    ensures { cache.new ≡ take count cache.old }
+fn let_all_go<M: Recent>(cache: &mut M, count: usize)
+    requires { count ≤ length (M.entries cache.old) }
+    ensures entries { M.entries cache.new ≡ take count (M.entries cache.old) }
+    ensures room { M.room cache.new ≡ M.room cache.old }
 {
     while cache.len() > count {
         let Some(_last) = cache.pop_lru() else {

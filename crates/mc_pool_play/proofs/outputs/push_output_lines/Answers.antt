@@ -6,7 +6,7 @@ use Rattle.mc_pool_play.specs.Plays.{outs_of}
 use Rattle.mc_pool_play.proofs.outputs.push_output_lines.Goals as goal
 
 pub loop-client-preserved : goal.loop-client-preserved
-loop-client-preserved c =
+loop-client-preserved g c =
     let course = c.args.world.now.course in
     let client = c.loop-client.client in
     let line = client_line client (put_out_of course client) in

@@ -4,4 +4,4 @@ use Rattle.mc_pool_play.specs.Plays.{outs_of}
 use Rattle.mc_pool_play.proofs.outputs.push_output_lines.Given as goal
 
 abbrev pub invariant-loop-client : goal.invariant-loop-client
-invariant-loop-client l = l.out.items ≡ l.fn.out.items ++ client_lines (outs_of l.client l.world.course)
+invariant-loop-client g l = l.out.items ≡ l.fn.out.items ++ client_lines (outs_of l.client l.world.course)

@@ -4,7 +4,7 @@ use Rattle.mc_world.specs.declared.errors.Step.{Step}
 use Rattle.mc_pool_play.proofs.plays.played_script.Goals as goal
 
 pub loop-line-preserved : goal.loop-line-preserved
-loop-line-preserved c =
+loop-line-preserved g c =
     let script = c.args.script.now in
     let i = c.loop-line.line-index in
     let line = c.line-item.result in

@@ -5,7 +5,7 @@ use Rattle.mc_pool_play.specs.Told.{account_lines}
 use Rattle.mc_pool_play.proofs.texts.account_of_pool_script.Goals as goal
 
 pub returns-clause-text : goal.returns-clause-text
-returns-clause-text c =
+returns-clause-text g c =
     let script = c.in_ok-script.script in
     let played = c.in_ok-played.played in
     let steps = played.steps.items in

@@ -4,7 +4,7 @@ use Rattle.mc_pool_play.specs.Plays.{outs_of}
 use Rattle.mc_pool_play.proofs.texts.text_of_pool_script.Goals as goal
 
 pub returns-clause-text : goal.returns-clause-text
-returns-clause-text c =
+returns-clause-text g c =
     let played = c.in_ok-played.played in
     let course = played.world.course in
     record {

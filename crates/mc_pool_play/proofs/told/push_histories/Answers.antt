@@ -6,7 +6,7 @@ use Rattle.mc_pool_play.proofs.ToldLemmas.{histories_lines_more}
 use Rattle.mc_pool_play.proofs.told.push_histories.Goals as goal
 
 pub loop-place-preserved : goal.loop-place-preserved
-loop-place-preserved c =
+loop-place-preserved g c =
     let course = c.args.world.now.course in
     let place = c.loop-place.place in
     let lines = history_lines place (history_of course place) in

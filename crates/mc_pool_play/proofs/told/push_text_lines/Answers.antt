@@ -6,7 +6,7 @@ use Rattle.mc_pool_play.specs.Told.{text_lines}
 use Rattle.mc_pool_play.proofs.told.push_text_lines.Goals as goal
 
 pub loop-client-preserved : goal.loop-client-preserved
-loop-client-preserved c =
+loop-client-preserved g c =
     let course = c.args.world.now.course in
     let client = c.loop-client.client in
     let line = named_line (codes "text") client (text_of course client) in

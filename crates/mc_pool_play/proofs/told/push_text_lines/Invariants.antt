@@ -3,4 +3,4 @@ use Rattle.mc_pool_play.specs.Told.{text_lines}
 use Rattle.mc_pool_play.proofs.told.push_text_lines.Given as goal
 
 abbrev pub invariant-loop-client : goal.invariant-loop-client
-invariant-loop-client l = l.out.items ≡ l.fn.out.items ++ text_lines l.client l.world.course
+invariant-loop-client g l = l.out.items ≡ l.fn.out.items ++ text_lines l.client l.world.course

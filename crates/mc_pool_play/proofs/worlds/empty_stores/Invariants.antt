@@ -4,7 +4,7 @@ use Rattle.mc_pool_play.specs.Stores.{IsEmptyStore}
 use Rattle.mc_pool_play.proofs.worlds.empty_stores.Given as goal
 
 abbrev pub invariant-loop : goal.invariant-loop
-invariant-loop l = record {
+invariant-loop g l = record {
   count : length l.stores.items ≡ l.counter;
-  empty : All (IsEmptyStore l.items) l.stores.items;
+  empty : All (λ store. IsEmptyStore l.items (g.S.Store.items store) (g.S.Store.most store)) l.stores.items;
 }

@@ -5,4 +5,4 @@ use Rattle.mc_script.specs.ScriptSeen.{script_seen}
 use Rattle.mc_script.proofs.outputs.opened_server.Given as goal
 
 abbrev pub invariant-loop : goal.invariant-loop
-invariant-loop l = l.server ≡ opened (cache_of (script_seen l.script)) l.counter
+invariant-loop g l = l.server ≡ opened (cache_of (script_seen l.script)) l.counter

@@ -9,7 +9,7 @@ use Rattle.mc_script.proofs.HistoryLemmas.{Played, plays, all_played, played_non
 use Rattle.mc_script.proofs.outputs.played_server.Goals as goal
 
 pub loop-event-init : goal.loop-event-init
-loop-event-init c =
+loop-event-init g c =
     let script = c.args.script.now in
     let opening = cache_of (script_seen script) in
     subst (λ (s : ServerState). Played opening script.connections script.events.items 0 s) (sym c.in_ok-server.ensures.server)
@@ -24,7 +24,7 @@ event_at connections events seen i e value inside is all =
     subst (λ (x : Event). IsEventOf connections x) found (all i e there)
 
 pub play-requires-clause-connection : goal.play-requires-clause-connection
-play-requires-clause-connection c =
+play-requires-clause-connection g c =
     let script = c.args.script.now in
     let event = c.event-item.result in
     let of =
@@ -33,7 +33,7 @@ play-requires-clause-connection c =
     c.loop-event.invariant.are_open (number_of event) of.0
 
 pub play-requires-clause-moment : goal.play-requires-clause-moment
-play-requires-clause-moment c =
+play-requires-clause-moment g c =
     let script = c.args.script.now in
     let of =
     event_at script.connections script.events.items c.deref-event-items.result.now c.loop-event.event-index c.event-item.result c.deref-event-items.ensures.value c.loop-event-test.true
@@ -41,7 +41,7 @@ play-requires-clause-moment c =
     of.1
 
 pub loop-event-preserved : goal.loop-event-preserved
-loop-event-preserved c =
+loop-event-preserved g c =
     let script = c.args.script.now in
     let i = c.loop-event.event-index in
     let event = c.event-item.result in
@@ -51,6 +51,6 @@ loop-event-preserved c =
     c.in_ok-play.ensures.played
 
 pub returns-clause-outputs : goal.returns-clause-outputs
-returns-clause-outputs c =
+returns-clause-outputs g c =
     let past : length c.args.script.now.events.items ≤ c.loop-event.event-index = rw (← c.deref-event-items.ensures.value) c.loop-event-test.false in
     all_played (script_seen c.args.script.now) c.loop-event.event-index c.loop-event.server past c.loop-event.invariant

@@ -5,4 +5,4 @@ use Rattle.mc_script.proofs.outputs.played_server.Given as goal
 
 -- a history of the events so far is
 abbrev pub invariant-loop-event : goal.invariant-loop-event
-invariant-loop-event l = Played (cache_of (script_seen l.script)) l.script.connections l.script.events.items l.event-index l.server
+invariant-loop-event g l = Played (cache_of (script_seen l.script)) l.script.connections l.script.events.items l.event-index l.server

@@ -6,7 +6,7 @@ use Rattle.mc_script.proofs.OutputLemmas.{output_lines_more}
 use Rattle.mc_script.proofs.outputs.push_output_lines.Goals as goal
 
 pub loop-client-preserved : goal.loop-client-preserved
-loop-client-preserved c =
+loop-client-preserved g c =
     let server = c.args.server.now in
     let client = c.loop-client.client in
     let line = client_line client (output_of (connection_at server client)) in

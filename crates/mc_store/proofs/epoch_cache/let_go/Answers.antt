@@ -1,15 +1,7 @@
-use Rattle.std.proofs.Common.{◌≡◌, ◌∷◌, length, ap, arith}
-use Rattle.mc_store.proofs.EpochLemmas.{goes_one}
+use Rattle.std.proofs.Common.{◌≡◌, length, ap, arith}
 use Rattle.mc_store.proofs.epoch_cache.let_go.Goals as goal
-
-pub loop-cache-preserved : goal.loop-cache-preserved
-loop-cache-preserved g c =
-    let gone = goes_one c.args.cache.now c.loop-cache.cache c.pop_lru.new.self c.loop-cache.invariant.0.0 c.in-Some.last c.loop-cache.invariant.0.1 c.in-Some.ensures.last in (
-      (c.in-Some.last ∷ c.loop-cache.invariant.0.0, gone.0, omega (arith, c.loop-cache.invariant.0.2), omega (arith, c.loop-cache.invariant.0.3, c.cost.ensures)),
-      omega (arith, gone.1, c.len.ensures.len),
-    )
 
 pub returns-in_default-clause-go : goal.returns-in_default-clause-go
 returns-in_default-clause-go g c =
-    let none : length c.loop-cache.cache ≡ 0 = ap length c.in_default.ensures.empty.0 in
+    let none : length (g.M.Recent.entries c.loop-cache.cache) ≡ 0 = ap length c.in_default.ensures.empty.0 in
     absurd (omega (arith, c.len.ensures.len))

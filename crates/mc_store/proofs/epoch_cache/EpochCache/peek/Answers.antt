@@ -7,12 +7,12 @@ use Rattle.mc_store.proofs.epoch_cache.EpochCache.peek.Goals as goal
 pub returns-in_err-held : goal.returns-in_err-held
 returns-in_err-held g c =
     rw c.from_residual.ensures
-    (sym (sym (ap (λ (s : LiveAndDead). body_at c.args.key.now s.items) c.self.view_is) ∙ looks_none c.args.key.now c.self.inside.count c.self.inside.cache (sym c.in_err-held.ensures)))
+    (sym (sym (ap (λ (s : LiveAndDead). body_at c.args.key.now s.items) c.self.view_is) ∙ looks_none c.args.key.now c.self.inside.count (g.M.Recent.entries c.self.inside.cache) (sym c.in_err-held.ensures)))
 
 pub returns-then-self-held : goal.returns-then-self-held
 returns-then-self-held g c =
-    sym (sym (ap (λ (s : LiveAndDead). body_at c.args.key.now s.items) c.self.view_is) ∙ looks_dead c.args.key.now c.self.inside.epoch c.self.inside.count c.self.inside.cache c.in_ok-held.held.now c.self.invariant (sym c.in_ok-held.ensures) (λ e. c.if-self-held.true (sym e)))
+    sym (sym (ap (λ (s : LiveAndDead). body_at c.args.key.now s.items) c.self.view_is) ∙ looks_dead c.args.key.now c.self.inside.epoch c.self.inside.count (g.M.Recent.entries c.self.inside.cache) c.in_ok-held.held.now c.self.invariant.0 (sym c.in_ok-held.ensures) (λ e. c.if-self-held.true (sym e)))
 
 pub returns : goal.returns
 returns g c =
-    sym (sym (ap (λ (s : LiveAndDead). body_at c.args.key.now s.items) c.self.view_is) ∙ (looks_live c.args.key.now c.self.inside.epoch c.self.inside.count c.self.inside.cache c.in_ok-held.held.now c.self.invariant (sym c.in_ok-held.ensures) (sym c.if-self-held.false)).body)
+    sym (sym (ap (λ (s : LiveAndDead). body_at c.args.key.now s.items) c.self.view_is) ∙ (looks_live c.args.key.now c.self.inside.epoch c.self.inside.count (g.M.Recent.entries c.self.inside.cache) c.in_ok-held.held.now c.self.invariant.0 (sym c.in_ok-held.ensures) (sym c.if-self-held.false)).body)

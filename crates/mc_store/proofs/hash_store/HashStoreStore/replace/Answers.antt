@@ -2,7 +2,7 @@ use Rattle.std.proofs.Common.{ap, ◌<◌, ◌+◌, ◌^◌, arith}
 use Rattle.mc_item.specs.Costs.{cost_of}
 use Rattle.mc_store.specs.Items.{LimitedItems, cost_sum}
 use Rattle.mc_store.proofs.SumLemmas.{held_fits, replaced_fits, sum_replaced}
-use Rattle.mc_store.proofs.lru_store.LruStoreStore.replace.Goals as goal
+use Rattle.mc_store.proofs.hash_store.HashStoreStore.replace.Goals as goal
 
 pub take_away-requires-clause-used : goal.take_away-requires-clause-used
 take_away-requires-clause-used g c =

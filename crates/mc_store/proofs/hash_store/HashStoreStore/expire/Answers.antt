@@ -1,7 +1,7 @@
 use Rattle.std.proofs.Common.{refl}
 use Rattle.mc_item.specs.declared.bodies.Body.{Body}
 use Rattle.mc_store.proofs.SumLemmas.{sum_brought}
-use Rattle.mc_store.proofs.lru_store.LruStoreStore.expire.Goals as goal
+use Rattle.mc_store.proofs.hash_store.HashStoreStore.expire.Goals as goal
 
 pub invariant_of-self : goal.invariant_of-self
 invariant_of-self g c =

@@ -1,7 +1,7 @@
 use Rattle.std.proofs.Common.{ap, arith}
 use Rattle.mc_store.specs.Items.{LimitedItems}
 use Rattle.mc_store.proofs.SumLemmas.{long_least, sum_put}
-use Rattle.mc_store.proofs.lru_store.LruStoreStore.put_front.Goals as goal
+use Rattle.mc_store.proofs.hash_store.HashStoreStore.put_front.Goals as goal
 
 pub add-requires-clause-long : goal.add-requires-clause-long
 add-requires-clause-long g c =

@@ -1,5 +1,5 @@
 use Rattle.mc_store.proofs.SumLemmas.{sum_front}
-use Rattle.mc_store.proofs.lru_store.LruStoreStore.bring.Goals as goal
+use Rattle.mc_store.proofs.hash_store.HashStoreStore.bring.Goals as goal
 
 pub invariant_of-self : goal.invariant_of-self
 invariant_of-self g c = sum_front c.args.key.now c.self.inside.cache.items c.bring.new.self.items c.self.inside.sums c.self.invariant c.bring.ensures.items

@@ -1,5 +1,5 @@
 use Rattle.mc_store.proofs.SumLemmas.{last_fits, sum_last}
-use Rattle.mc_store.proofs.lru_store.LruStoreStore.drop_last.Goals as goal
+use Rattle.mc_store.proofs.hash_store.HashStoreStore.drop_last.Goals as goal
 
 pub take_away-requires-clause-used : goal.take_away-requires-clause-used
 take_away-requires-clause-used g c =

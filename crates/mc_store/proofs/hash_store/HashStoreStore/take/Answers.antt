@@ -4,7 +4,7 @@ use Rattle.mc_store.specs.Items.{Items}
 use Rattle.mc_store.specs.Sums.{IsSumOf}
 use Rattle.mc_store.proofs.ItemLemmas.{without-absent}
 use Rattle.mc_store.proofs.SumLemmas.{held_fits, sum_taken}
-use Rattle.mc_store.proofs.lru_store.LruStoreStore.take.Goals as goal
+use Rattle.mc_store.proofs.hash_store.HashStoreStore.take.Goals as goal
 
 pub take_away-requires-clause-used : goal.take_away-requires-clause-used
 take_away-requires-clause-used g c =

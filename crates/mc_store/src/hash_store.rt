@@ -1,15 +1,21 @@
-//! LruStore: the items in a table, which finds them by a hash.
+//! HashStore: the items in what finds them by a hash.
 ghost use Rattle.std.specs.Prelude.{◌≡◌, ◌≤◌, ◌<◌, ◌^◌, ◌↔◌, [], ◌+◌, Some, IfOk, IsErrOf};
+ghost use Rattle.mc_store.specs.Epochs.{HasRoom};
 ghost use Rattle.mc_store.specs.Items.{cost_sum};
 
 use crate::epoch_cache::EpochCache;
+use crate::held::Held;
+use crate::recent::Recent;
 use crate::stores::Store;
 use crate::sums::Sums;
+use lru::LruCache;
 use mc_item::{Body, Deadline, cost};
+use mc_table::Table;
 use mc_text::Key;
 use std::alloc::{AllocError, Global};
 use std::hash::{BuildHasher, BuildHasherDefault, FoldHasher};
 use std::marker::Model;
+use std::num::NonZeroUsize;
 use thiserror::Error;
 
 /// Why there is no store.
@@ -24,7 +30,7 @@ pub enum StoreError {
 }
 
 impl From<AllocError> for StoreError {
-    ghost use Rattle.mc_store.specs.declared.lru_store.StoreError.TheVariants.{Memory};
+    ghost use Rattle.mc_store.specs.declared.hash_store.StoreError.TheVariants.{Memory};
 
     ghost from_gives = { λ _ e. e ≡ Memory };
 
@@ -33,16 +39,23 @@ impl From<AllocError> for StoreError {
     }
 }
 
-/// The hasher of [`LruStore::new`], whose seed is fixed: a script gives the same steps each time.
+/// The hasher of [`LruStore::new`] and [`TableStore::new`], whose seed is fixed: a script gives the same steps each time.
 pub type FixedHasher = BuildHasherDefault<FoldHasher>;
 
-/// The items in a table that finds them by a hash, in the order of their last use. Sums over them are kept beside them.
+/// The items in lru's cache: a node of its own for each, in a list by last use.
+pub type LruStore<H> = HashStore<LruCache<Key, Held, H>>;
+
+/// The items in our own table, side by side: less memory an item than a [`LruStore`], and fewer waits for it.
+pub type TableStore<H> = HashStore<Table<Key, Held, H>>;
+
+/// The items in what finds them by a hash, in the order of their last use: a [`LruStore`] or a [`TableStore`]. Sums over them
+/// are kept beside them.
 ///
 /// Contracts see the items and the greatest number of them. What they cost together stays below 2^63.
 ///
 /// # Work
 ///
-/// A call with a key hashes it once and searches the table once, but `put_front`, which does both twice. `len`, `used`, `longest`,
+/// A call with a key hashes it once and searches once, but `put_front`, which does both twice. `len`, `used`, `longest`,
 /// `front`, `drop_last` and `clear` do neither. So none of these takes longer where more items are held, as long as the hash
 /// spreads the keys, but for what is said of `put_front` below.
 ///
@@ -55,7 +68,7 @@ pub type FixedHasher = BuildHasherDefault<FoldHasher>;
 ///
 /// # Memory
 ///
-/// The constructor takes the table whole, with a search table for 9 * 2^k items, the least such number that is enough. The blocks of
+/// The constructor takes what the entries are in whole, with a search table for 9 * 2^k items, the least such number that is enough. The blocks of
 /// dead entries stay taken until they are let go. A key that is taken out of a crowded part of the search table leaves its
 /// place counted as taken; where no place is left by that count, as may be after long eviction or a clear, `put_front` first
 /// lays that table out anew, which takes time for each entry but hashes none. That is done in place where the entries, the
@@ -63,25 +76,24 @@ pub type FixedHasher = BuildHasherDefault<FoldHasher>;
 /// most half of it, so this comes once in a store's life. Where memory is refused, so is the item, and the items are as they
 /// were.
 #[derive(Drop)]
-pub struct LruStore<H: BuildHasher> {
-    cache: EpochCache<H>,
+pub struct HashStore<M: Recent> {
+    cache: EpochCache<M>,
     sums: Sums,
-    most: usize,
 }
 
-impl<H: BuildHasher> Model for LruStore<H> {
+impl<M: Recent> Model for HashStore<M> {
     ghost use Rattle.mc_store.specs.Items.{LimitedItems};
     ghost use Rattle.mc_store.specs.Sums.{IsSumOf};
 
     ghost Value = { LimitedItems };
 
-    ghost view = { λ s. record { items = s.cache.items; most = s.most } };
+    ghost view = { λ s. record { items = s.cache.items; most = s.cache.most } };
 
     ghost invariant = { λ s. IsSumOf s.sums s.cache.items };
 }
 
 impl LruStore<FixedHasher> {
-    /// A store with no item, and room for so many and one more: the one that a caller puts before it drops another. Its
+    /// A store over lru's cache with no item, and room for so many and one more: the one that a caller puts before it drops another. Its
     /// hasher's seed is fixed, so who chooses the keys can choose such as fall together: strangers' keys want
     /// [`LruStore::with_hasher`].
     pub fn new(alloc: Global, items: usize) -> Result<Self, StoreError>
@@ -94,23 +106,59 @@ impl LruStore<FixedHasher> {
 }
 
 impl<H: BuildHasher + Drop> LruStore<H> {
-    /// A store with no item, and room for so many and one more, whose keys this hasher hashes.
+    /// A store over lru's cache with no item, and room for so many and one more, whose keys this hasher hashes.
     pub fn with_hasher(alloc: Global, items: usize, hasher: H) -> Result<Self, StoreError>
         ensures empty { IfOk result (λ store. store.items ≡ []) }
         ensures most { IfOk result (λ store. store.most ≡ items + 1) }
         ensures too_many { IsErrOf result StoreError.TooMany ↔ (2 ^ 64 ≤ items + 1) }
     {
         let most = items.checked_add(1).ok_or(StoreError::TooMany)?;
-        let cache = EpochCache::with_hasher(alloc, most, hasher)?;
-        Ok(LruStore {
-            cache,
-            sums: Sums::none(),
-            most,
-        })
+        let room = NonZeroUsize::new(most).ok_or(StoreError::TooMany)?;
+        let cache = LruCache::with_hasher(alloc, room, hasher)?;
+        Ok(HashStore::over(cache, most))
     }
 }
 
-impl<H: BuildHasher> Store for LruStore<H> {
+impl TableStore<FixedHasher> {
+    /// A store over a table with no item, and room for so many and one more, as [`LruStore::new`].
+    pub fn new(alloc: Global, items: usize) -> Result<Self, StoreError>
+        ensures empty { IfOk result (λ store. store.items ≡ []) }
+        ensures most { IfOk result (λ store. store.most ≡ items + 1) }
+        ensures too_many { IsErrOf result StoreError.TooMany ↔ (2 ^ 64 ≤ items + 1) }
+    {
+        TableStore::with_hasher(alloc, items, BuildHasherDefault::new())
+    }
+}
+
+impl<H: BuildHasher + Drop> TableStore<H> {
+    /// A store over a table with no item, and room for so many and one more, whose keys this hasher hashes.
+    pub fn with_hasher(alloc: Global, items: usize, hasher: H) -> Result<Self, StoreError>
+        ensures empty { IfOk result (λ store. store.items ≡ []) }
+        ensures most { IfOk result (λ store. store.most ≡ items + 1) }
+        ensures too_many { IsErrOf result StoreError.TooMany ↔ (2 ^ 64 ≤ items + 1) }
+    {
+        let most = items.checked_add(1).ok_or(StoreError::TooMany)?;
+        let cache = Table::with_hasher(alloc, most, hasher)?;
+        Ok(HashStore::over(cache, most))
+    }
+}
+
+impl<M: Recent> HashStore<M> {
+    /// A store with no item, over what has no entry. There may be `most` items.
+    fn over(cache: M, most: usize) -> Self
+        requires empty { M.entries cache ≡ [] }
+        requires room { HasRoom most (M.room cache) }
+        ensures items { result.items ≡ [] }
+        ensures most { result.most ≡ most }
+    {
+        HashStore {
+            cache: EpochCache::over(cache, most),
+            sums: Sums::none(),
+        }
+    }
+}
+
+impl<M: Recent> Store for HashStore<M> {
     ghost items = { λ s. s.items };
 
     ghost most = { λ s. Some s.most };

@@ -1,0 +1,71 @@
+//! lru's cache, as entries by key with the most recently used first.
+ghost use Rattle.std.specs.Prelude.{Some, refl};
+ghost use Rattle.lru.specs.LruCache.{lru_cache};
+ghost use Rattle.mc_store.specs.Recents.{written};
+
+use crate::held::Held;
+use crate::recent::Recent;
+use lru::LruCache;
+use mc_text::{Key, KeyBytes};
+use std::hash::BuildHasher;
+
+impl<H: BuildHasher> Recent for LruCache<Key, Held, H> {
+    ghost entries = { λ c. c.entries };
+
+    ghost room = { λ c. Some c.cap };
+
+    ghost lent = { λ c key held. lru_cache (written key c.entries held) c.cap };
+
+    ghost lent_entries = { λ _ _ _. refl };
+
+    ghost lent_room = { λ _ _ _. refl };
+
+    #[inline]
+    fn len(&self) -> usize {
+        LruCache::len(self)
+    }
+
+    #[inline]
+    fn peek(&self, key: &[u8]) -> Option<&Held> {
+        LruCache::peek(self, KeyBytes { bytes: key })
+    }
+
+    #[inline]
+    fn front(&self) -> Option<&Held> {
+        let (_, held) = self.peek_mru()?;
+        Some(held)
+    }
+
+    #[inline]
+    fn get_mut(&mut self, key: &[u8]) -> Option<&mut Held> {
+        LruCache::get_mut(self, KeyBytes { bytes: key })
+    }
+
+    #[inline]
+    fn pop_entry(&mut self, key: &[u8]) -> Option<(Key, Held)> {
+        LruCache::pop_entry(self, KeyBytes { bytes: key })
+    }
+
+    #[inline]
+    fn pop_mru(&mut self) -> Option<(Key, Held)> {
+        LruCache::pop_mru(self)
+    }
+
+    #[inline]
+    fn pop_lru(&mut self) -> Option<(Key, Held)> {
+        LruCache::pop_lru(self)
+    }
+
+    #[inline]
+    fn put(&mut self, key: Key, held: Held) -> Result<(), (Key, Held)> {
+        match LruCache::put(self, key, held) {
+            Ok(_) => Ok(()),
+            Err(failed) => Err(failed.value),
+        }
+    }
+
+    #[inline]
+    fn clear(&mut self) {
+        LruCache::clear(self)
+    }
+}
