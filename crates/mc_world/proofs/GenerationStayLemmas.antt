@@ -1,11 +1,13 @@
--- Each site is of the generation of its link, and a server whose link was never lost has one connection, after each event that happens.
-use Rattle.std.proofs.Common.{◌≡◌, ◌∙◌, ⊎_elim, ℕ, ◌+◌, ◌⊎◌, inl, inr, true, false, if◌then◌else◌, List, [], ◌∷◌, ◌++◌, take, drop, Option, None, Some, slice_get, slice_set, refl, sym, ap, subst, arith}
+-- Each site is of the generation of its link, its lost generations rise, and a server whose link was never lost has one connection, after
+-- each event that happens.
+use Rattle.std.proofs.Common.{◌≡◌, ◌∙◌, ⊎_elim, ℕ, ◌+◌, ◌⊎◌, inl, inr, true, false, if◌then◌else◌, List, [], ◌∷◌, ◌++◌, take, drop, Option, None, Some, slice_get, slice_set, refl, sym, ap, subst, arith, ◌≢◌, ◌<◌, map, remove}
 use Rattle.std.proofs.lemmas.Bool.Decides.{eqb_tells}
+use Rattle.std.proofs.lemmas.Option.{none-some}
 use Rattle.mc_request.specs.declared.parts.Atom.{Atom}
 use Rattle.mc_route.specs.Routes.{route_of_taken}
 use Rattle.mc_ring.specs.Rings.{RingState}
 use Rattle.mc_cache.specs.CacheState.{CacheState}
-use Rattle.mc_link.specs.LinkState.{LinkState, can_come_back, down_link, sent, up_link}
+use Rattle.mc_link.specs.LinkState.{LinkState, can_come_back, down_link, sent, up_link, Waiting}
 use Rattle.mc_link.specs.declared.turns.Tag.{Tag}
 use Rattle.mc_server.specs.ServerState.{ConnectionState, ServerState, connection_at, output_of, sent_by}
 use Rattle.mc_session.specs.Sending.{handed_to}
@@ -16,79 +18,199 @@ use Rattle.mc_account.proofs.HandingLemmas.{handed_at, received}
 use Rattle.mc_account.proofs.LaneLemmas.{link_other, link_own, up_is_there}
 use Rattle.mc_event.specs.Bare.{bare}
 use Rattle.mc_world.specs.Courses.{Happens, IsDone}
-use Rattle.mc_world.specs.CourseHolds.{CourseHolds, GenerationsHold, HaveOneGeneration}
+use Rattle.mc_world.specs.CourseHolds.{CourseHolds, GenerationsHold, HaveOneGeneration, IsOfLink}
 use Rattle.mc_world.specs.Logs.{Log, loses, number_of}
-use Rattle.mc_world.specs.Pools.{AtSite, LinkReturns}
-use Rattle.mc_world.specs.WorldState.{PoolState, SiteState}
-use Rattle.mc_world.specs.Worlds.{CourseState}
+use Rattle.mc_world.specs.Pools.{AtSite, LinkReturns, LosesLink, cut_off}
+use Rattle.mc_world.specs.WorldState.{PoolState, SiteState, WayState}
+use Rattle.mc_world.specs.Worlds.{CourseState, first_site}
 use Rattle.mc_world.specs.declared.logs.Logged.TheVariants.{Happened}
 use Rattle.mc_event.specs.declared.events.Event.{Event}
 use Rattle.mc_event.specs.declared.events.Event.TheVariants.{ClientBytes, ClientGone, ClientTakes, Emit, LinkBack, LinkLost, ProxyTurn, ReplyTurn, ServerSeesEnd, ServerTurn, ToProxy, ToServer}
 use Rattle.mc_world.proofs.LogEntryLemmas.{got_inside}
 use Rattle.mc_world.proofs.LogLemmas.{number-push, stays_up}
+use Rattle.mc_world.proofs.LateLemmas.{get_removed, get_set, shift, shift_rises}
+use Rattle.mc_world.proofs.LossLemmas.{get_pushed}
 use Rattle.mc_world.proofs.PoolLemmas.{links_sent, set_site}
+use Rattle.mc_world.proofs.SiteLemmas.{get_none}
 
--- links that are of the generations of others, by place
+-- links that are up, and of the generations, as others are, by place
 abbrev SameGenerations : List LinkState → List LinkState → Type 0
-SameGenerations old new = (place : ℕ) → (link_at new place).generation ≡ (link_at old place).generation
+SameGenerations old new = (place : ℕ) → ((link_at new place).generation ≡ (link_at old place).generation) × ((link_at new place).up ≡ (link_at old place).up)
 
--- a link that is handed a command is of the generation that it was, and so is one that receives many
-handed_to_stays : (tag : Tag) (atom : Atom (List ℕ)) (link : LinkState) → (handed_to tag atom link).generation ≡ link.generation
-handed_to_stays tag atom link = elim link.up as (λ v. (if v then sent atom tag link else link).generation ≡ link.generation) [
-  | true ↦ refl
-  | false ↦ refl
-]
+-- a link that is handed a command is up, and of the generation, as it was, and so is one that receives many
+handed_to_stays : (tag : Tag) (atom : Atom (List ℕ)) (link : LinkState)
+    → ((handed_to tag atom link).generation ≡ link.generation) × ((handed_to tag atom link).up ≡ link.up)
+handed_to_stays tag atom link =
+    elim link.up as (λ v. ((if v then sent atom tag link else link).generation ≡ link.generation) × ((if v then sent atom tag link else link).up ≡ link.up)) [
+      | true ↦ (refl, refl)
+      | false ↦ (refl, refl)
+    ]
 
-received_stays : (cs : List Tagged) (link : LinkState) → (received cs link).generation ≡ link.generation
-received_stays [] link = refl
-received_stays (c ∷ cs) link = received_stays cs (handed_to c.1 c.0 link) ∙ handed_to_stays c.1 c.0 link
+received_stays : (cs : List Tagged) (link : LinkState) → ((received cs link).generation ≡ link.generation) × ((received cs link).up ≡ link.up)
+received_stays [] link = (refl, refl)
+received_stays (c ∷ cs) link =
+    let others = received_stays cs (handed_to c.1 c.0 link) in
+    let first = handed_to_stays c.1 c.0 link in
+    (others.0 ∙ first.0, others.1 ∙ first.1)
 
 -- where links are the same
 same_links : (old new : List LinkState) → new ≡ old → SameGenerations old new
-same_links old new is place = ap (λ (ls : List LinkState). (link_at ls place).generation) is
+same_links old new is place = (ap (λ (ls : List LinkState). (link_at ls place).generation) is, ap (λ (ls : List LinkState). (link_at ls place).up) is)
 
--- where the link of one place is another of the same generation
-one_link : (place : ℕ) (link : LinkState) (old new : List LinkState) → (link_at old place).up ≡ true → link.generation ≡ (link_at old place).generation → new ≡ with_link place link old
-    → SameGenerations old new
-one_link place link old new up same is other =
-    ap (λ (ls : List LinkState). (link_at ls other).generation) is
-    ∙ ⊎_elim
-    (λ e. subst (λ (p : ℕ). (link_at (with_link place link old) p).generation ≡ (link_at old p).generation) e.1
-    (ap (λ (l : LinkState). l.generation) (link_own place link old (up_is_there place old up)) ∙ same))
-    (λ e. ap (λ (l : LinkState). l.generation) (link_other place other link old e.1))
+-- where the link of one place is another, up and of the same generation
+one_link : (place : ℕ) (link : LinkState) (old new : List LinkState) → (link_at old place).up ≡ true → link.generation ≡ (link_at old place).generation
+    → link.up ≡ (link_at old place).up → new ≡ with_link place link old → SameGenerations old new
+one_link place link old new up same still is other =
+    let all = ap (λ (ls : List LinkState). link_at ls other) is in
+    ⊎_elim
+    (λ e.
+    let own : link_at (with_link place link old) other ≡ link = subst (λ (p : ℕ). link_at (with_link place link old) p ≡ link) e.1 (link_own place link old (up_is_there place old up)) in
+    let was : link_at old place ≡ link_at old other = ap (λ (p : ℕ). link_at old p) e.1 in (
+      ap (λ (l : LinkState). l.generation) (all ∙ own) ∙ same ∙ ap (λ (l : LinkState). l.generation) was,
+      ap (λ (l : LinkState). l.up) (all ∙ own) ∙ still ∙ ap (λ (l : LinkState). l.up) was,
+    ))
+    (λ e. (
+      ap (λ (l : LinkState). l.generation) (all ∙ link_other place other link old e.1),
+      ap (λ (l : LinkState). l.up) (all ∙ link_other place other link old e.1),
+    ))
     (eqb_tells place other)
+
+-- a site is of another link that is as the one was
+moved : (old new : LinkState) (site : SiteState) → (new.generation ≡ old.generation) × (new.up ≡ old.up) → IsOfLink old site → IsOfLink new site
+moved old new site same h = record { same = h.same ∙ sym same.0; rising = h.rising; most = h.most; below = λ up. h.below (sym same.1 ∙ up) }
+
+-- a site whose lost generations are some of those of another, in order
+fewer : (link : LinkState) (site now : SiteState) (from : ℕ → ℕ) → ((j k : ℕ) → j < k → from j < from k)
+    → ((j : ℕ) (w : WayState) → slice_get now.lost j ≡ Some w → (v : WayState) × (slice_get site.lost (from j) ≡ Some v) × (v.generation ≡ w.generation))
+    → now.generation ≡ site.generation → IsOfLink link site → IsOfLink link now
+fewer link site now from rises was same h = record {
+  same = same ∙ h.same;
+  rising = λ i j v w at_v at_w before.
+      let first = was i v at_v in
+      let second = was j w at_w in
+      let less = h.rising (from i) (from j) first.0 second.0 first.1 second.1 (rises i j before) in
+      let v_is = first.2 in
+      let w_is = second.2 in
+      omega (arith, less, v_is, w_is);
+  most = λ i w at. let old = was i w at in let less = h.most (from i) old.0 old.1 in let is = old.2 in omega (arith, less, is, same);
+  below = λ up i w at. let old = was i w at in let less = h.below up (from i) old.0 old.1 in let is = old.2 in omega (arith, less, is, same);
+}
+
+-- the same are lost; one of them is another of its generation; one of them has ended
+kept : (site now : SiteState) → now.generation ≡ site.generation → now.lost ≡ site.lost → (link : LinkState) → IsOfLink link site → IsOfLink link now
+kept site now same lost link h =
+    fewer link site now (λ j. j) (λ j k below. below) (λ j w at. (w, ap (λ (ws : List WayState). slice_get ws j) (sym lost) ∙ at, refl)) same h
+
+kept_set : (site now : SiteState) (i : ℕ) (way other : WayState) → slice_get site.lost i ≡ Some way → other.generation ≡ way.generation
+    → now.generation ≡ site.generation → now.lost ≡ slice_set site.lost i other → (link : LinkState) → IsOfLink link site → IsOfLink link now
+kept_set site now i way other at is same lost link h =
+    fewer link site now (λ j. j) (λ j k below. below)
+    (λ j w at_w. ⊎_elim
+    (λ own. (way, ap (λ (k : ℕ). slice_get site.lost k) own.0 ∙ at, sym is ∙ ap (λ (x : WayState). x.generation) (sym own.1)))
+    (λ elsewhere. (w, elsewhere.1, refl))
+    (get_set site.lost i other j w (ap (λ (ws : List WayState). slice_get ws j) (sym lost) ∙ at_w))) same h
+
+kept_removed : (site now : SiteState) (i : ℕ) → now.generation ≡ site.generation → now.lost ≡ remove site.lost i → (link : LinkState) → IsOfLink link site → IsOfLink link now
+kept_removed site now i same lost link h =
+    fewer link site now (shift i) (shift_rises i) (λ j w at. (w, sym (get_removed site.lost i j) ∙ ap (λ (ws : List WayState). slice_get ws j) (sym lost) ∙ at, refl)) same h
 
 -- where the sites are the same
 same_sites : (old new : PoolState) → new.sites ≡ old.sites → SameGenerations old.proxy.links new.proxy.links → HaveOneGeneration old → HaveOneGeneration new
-same_sites old new sites links h place site at = h place site (ap (λ (ss : List SiteState). slice_get ss place) (sym sites) ∙ at) ∙ sym (links place)
+same_sites old new sites links h place site at =
+    moved (link_at old.proxy.links place) (link_at new.proxy.links place) site (links place) (h place site (ap (λ (ss : List SiteState). slice_get ss place) (sym sites) ∙ at))
 
--- where the site of one place is another of the same generation
-one_site : (place : ℕ) (site now : SiteState) (old new : PoolState) → slice_get old.sites place ≡ Some site → now.generation ≡ site.generation → new.sites ≡ slice_set old.sites place now
-    → SameGenerations old.proxy.links new.proxy.links → HaveOneGeneration old → HaveOneGeneration new
-one_site place site now old new at same sites links h other s at_s =
+-- where the site of one place is another, of its link
+other_site : (place : ℕ) (now : SiteState) (old new : PoolState) → new.sites ≡ slice_set old.sites place now → IsOfLink (link_at new.proxy.links place) now
+    → ((other : ℕ) → place ≢ other → ((link_at new.proxy.links other).generation ≡ (link_at old.proxy.links other).generation) × ((link_at new.proxy.links other).up ≡ (link_at old.proxy.links other).up))
+    → HaveOneGeneration old → HaveOneGeneration new
+other_site place now old new sites of links h other s at_s =
     ⊎_elim
-    (λ own. ap (λ (x : SiteState). x.generation) own.1 ∙ same ∙ h place site at ∙ sym (links place) ∙ ap (λ (p : ℕ). (link_at new.proxy.links p).generation) own.0)
-    (λ elsewhere. h other s elsewhere.1 ∙ sym (links other))
+    (λ own. subst (λ (x : SiteState). IsOfLink (link_at new.proxy.links other) x) (sym own.1) (subst (λ (p : ℕ). IsOfLink (link_at new.proxy.links p) now) own.0 of))
+    (λ elsewhere. moved (link_at old.proxy.links other) (link_at new.proxy.links other) s (links other elsewhere.0) (h other s elsewhere.1))
     (set_site old.sites place now other s (ap (λ (ss : List SiteState). slice_get ss other) (sym sites) ∙ at_s))
 
+one_site : (place : ℕ) (site now : SiteState) (old new : PoolState) → slice_get old.sites place ≡ Some site → ((link : LinkState) → IsOfLink link site → IsOfLink link now)
+    → new.sites ≡ slice_set old.sites place now → SameGenerations old.proxy.links new.proxy.links → HaveOneGeneration old → HaveOneGeneration new
+one_site place site now old new at keeps sites links h =
+    other_site place now old new sites (moved (link_at old.proxy.links place) (link_at new.proxy.links place) now (links place) (keeps (link_at old.proxy.links place) (h place site at)))
+    (λ other differ. links other) h
+
 -- the same at a site whose link is up
-there_stays : (place : ℕ) (old new : PoolState) → (there : AtSite place old new) → there.now.generation ≡ there.site.generation
+there_stays : (place : ℕ) (old new : PoolState) → (there : AtSite place old new) → there.now.generation ≡ there.site.generation → there.now.lost ≡ there.site.lost
     → SameGenerations old.proxy.links new.proxy.links → HaveOneGeneration old → HaveOneGeneration new
-there_stays place old new there same links h = one_site place there.site there.now old new there.at same there.sites links h
+there_stays place old new there same lost links h = one_site place there.site there.now old new there.at (kept there.site there.now same lost) there.sites links h
+
+-- a site that just came up is of its link
+pub first_of_link : (opening : CacheState) → IsOfLink (up_link 1) (first_site opening)
+first_of_link opening = record {
+  same = refl;
+  rising = λ i j v w at_v at_w before. absurd (none-some v (sym (get_none i) ∙ at_v));
+  most = λ i w at. absurd (none-some w (sym (get_none i) ∙ at));
+  below = λ up i w at. absurd (none-some w (sym (get_none i) ∙ at));
+}
+
+-- a link that is lost was above those that were lost before
+cut_stays : (place : ℕ) (old new : PoolState) → LosesLink place old new → HaveOneGeneration old → HaveOneGeneration new
+cut_stays place old new e h =
+    let link = link_at old.proxy.links place in
+    let site = e.there.site in
+    let was = h place site e.there.at in
+    let links_are : new.proxy.links ≡ with_link place (down_link link.generation) old.proxy.links = ap (λ (p : ProxyState). p.links) e.proxy in
+    let own_link : link_at new.proxy.links place ≡ down_link link.generation =
+    ap (λ (ls : List LinkState). link_at ls place) links_are ∙ link_own place (down_link link.generation) old.proxy.links (up_is_there place old.proxy.links e.there.up) in
+    let cut = cut_off link site in
+    let way : WayState = record {
+      generation = site.generation;
+      connection = site.connection;
+      going = link.output;
+      untaken = drop site.ahead (map (λ (w : Waiting). w.1) link.waiting);
+    } in
+    let of : IsOfLink (down_link link.generation) cut = record {
+      same = was.same;
+      rising = λ i j v w at_v at_w before. ⊎_elim
+          (λ here. ⊎_elim
+          (λ too. was.rising i j v w here too before)
+          (λ last. let less = was.below e.there.up i v here in let is = ap (λ (x : WayState). x.generation) last.1 in omega (arith, less, is))
+          (get_pushed site.lost way j w at_w))
+          (λ here. ⊎_elim
+          (λ too. let inside = got_inside site.lost j w too in let is = here.0 in absurd (omega (arith, inside, is, before)))
+          (λ last. let is = here.0 in let also = last.0 in absurd (omega (arith, is, also, before)))
+          (get_pushed site.lost way j w at_w))
+          (get_pushed site.lost way i v at_v);
+      most = λ i w at. ⊎_elim
+          (λ here. was.most i w here)
+          (λ last. let is = ap (λ (x : WayState). x.generation) last.1 in omega (arith, is))
+          (get_pushed site.lost way i w at);
+      below = λ up. absurd cc;
+    } in
+    other_site place e.there.now old new e.there.sites
+    (subst (λ (l : LinkState). IsOfLink l e.there.now) (sym own_link) (subst (λ (s : SiteState). IsOfLink (down_link link.generation) s) (sym e.cut) of))
+    (λ other differ.
+    let is = ap (λ (ls : List LinkState). link_at ls other) links_are ∙ link_other place other (down_link link.generation) old.proxy.links differ in
+    (ap (λ (l : LinkState). l.generation) is, ap (λ (l : LinkState). l.up) is)) h
 
 -- a link that is back is of the next generation, and so is its site
 back_stays : (place : ℕ) (old new : PoolState) → LinkReturns place old new → HaveOneGeneration old → HaveOneGeneration new
-back_stays place old new e h other s at =
-    let links_are : new.proxy.links ≡ with_link place (up_link ((link_at old.proxy.links place).generation + 1)) old.proxy.links = ap (λ (p : ProxyState). p.links) e.proxy in
-    let own_link : (link_at new.proxy.links place).generation ≡ (link_at old.proxy.links place).generation + 1 =
-    ap (λ (ls : List LinkState). (link_at ls place).generation) links_are
-    ∙ ap (λ (l : LinkState). l.generation) (link_own place (up_link ((link_at old.proxy.links place).generation + 1)) old.proxy.links e.inside) in
-    ⊎_elim
-    (λ own. ap (λ (x : SiteState). x.generation) (own.1 ∙ e.back.all_else) ∙ sym own_link ∙ ap (λ (p : ℕ). (link_at new.proxy.links p).generation) own.0)
-    (λ elsewhere. h other s elsewhere.1
-    ∙ sym (ap (λ (ls : List LinkState). (link_at ls other).generation) links_are
-    ∙ ap (λ (l : LinkState). l.generation) (link_other place other (up_link ((link_at old.proxy.links place).generation + 1)) old.proxy.links elsewhere.0)))
-    (set_site old.sites place e.now other s (ap (λ (ss : List SiteState). slice_get ss other) (sym e.sites) ∙ at))
+back_stays place old new e h =
+    let link = link_at old.proxy.links place in
+    let was = h place e.site e.at in
+    let links_are : new.proxy.links ≡ with_link place (up_link (link.generation + 1)) old.proxy.links = ap (λ (p : ProxyState). p.links) e.proxy in
+    let own_link : link_at new.proxy.links place ≡ up_link (link.generation + 1) =
+    ap (λ (ls : List LinkState). link_at ls place) links_are ∙ link_own place (up_link (link.generation + 1)) old.proxy.links e.inside in
+    let number : e.now.generation ≡ link.generation + 1 = ap (λ (s : SiteState). s.generation) e.back.all_else in
+    let lost : e.now.lost ≡ e.site.lost = ap (λ (s : SiteState). s.lost) e.back.all_else in
+    let there : (i : ℕ) (w : WayState) → slice_get e.now.lost i ≡ Some w → slice_get e.site.lost i ≡ Some w = λ i w at. ap (λ (ws : List WayState). slice_get ws i) (sym lost) ∙ at in
+    let same = was.same in
+    let of : IsOfLink (up_link (link.generation + 1)) e.now = record {
+      same = number;
+      rising = λ i j v w at_v at_w before. was.rising i j v w (there i v at_v) (there j w at_w) before;
+      most = λ i w at. let less = was.most i w (there i w at) in omega (arith, less, same, number);
+      below = λ up i w at. let less = was.most i w (there i w at) in omega (arith, less, same, number);
+    } in
+    other_site place e.now old new e.sites (subst (λ (l : LinkState). IsOfLink l e.now) (sym own_link) of)
+    (λ other differ.
+    let is = ap (λ (ls : List LinkState). link_at ls other) links_are ∙ link_other place other (up_link (link.generation + 1)) old.proxy.links differ in
+    (ap (λ (l : LinkState). l.generation) is, ap (λ (l : LinkState). l.up) is)) h
 
 -- each event that happens
 one_stays : (event : Event (List ℕ)) (old new : PoolState) → Happens event old new → HaveOneGeneration old → HaveOneGeneration new
@@ -97,44 +219,50 @@ one_stays (ClientGone client) old new e h =
     same_sites old new e.1.sites (same_links old.proxy.links new.proxy.links (ap (λ (p : ProxyState). p.links) e.1.proxy)) h
 one_stays (ProxyTurn client) old new e h =
     same_sites old new e.sites
-    (λ place. ap (λ (ls : List LinkState). (link_at ls place).generation) e.steps.step.1.sent
-    ∙ ap (λ (l : LinkState). l.generation) (handed_at place client e.steps.before.taken 0 (route_of_taken old.proxy.ring e.steps.step.0) old.proxy.links)
-    ∙ received_stays (commands_from place client e.steps.before.taken 0 (route_of_taken old.proxy.ring e.steps.step.0)) (link_at old.proxy.links place)) h
+    (λ place.
+    let is = ap (λ (ls : List LinkState). link_at ls place) e.steps.step.1.sent
+    ∙ handed_at place client e.steps.before.taken 0 (route_of_taken old.proxy.ring e.steps.step.0) old.proxy.links in
+    let stays = received_stays (commands_from place client e.steps.before.taken 0 (route_of_taken old.proxy.ring e.steps.step.0)) (link_at old.proxy.links place) in
+    (ap (λ (l : LinkState). l.generation) is ∙ stays.0, ap (λ (l : LinkState). l.up) is ∙ stays.1)) h
 one_stays (ToServer server generation count) old new e h = elim e [
   | inl here ↦
-      there_stays server old new here.0.there (ap (λ (s : SiteState). s.generation) here.0.arrives.all_else)
-      (one_link server (record (link_at old.proxy.links server) { output = drop count (link_at old.proxy.links server).output }) old.proxy.links new.proxy.links here.0.there.up refl
+      there_stays server old new here.0.there (ap (λ (s : SiteState). s.generation) here.0.arrives.all_else) (ap (λ (s : SiteState). s.lost) here.0.arrives.all_else)
+      (one_link server (record (link_at old.proxy.links server) { output = drop count (link_at old.proxy.links server).output }) old.proxy.links new.proxy.links here.0.there.up refl refl
       (ap (λ (p : ProxyState). p.links) here.0.proxy)) h
   | inr late ↦
-      one_site server late.1.there.site late.1.there.now old new late.1.there.at (ap (λ (s : SiteState). s.generation) late.1.arrives.all_else) late.1.there.sites
+      one_site server late.1.there.site late.1.there.now old new late.1.there.at
+      (kept_set late.1.there.site late.1.there.now late.0 late.1.arrives.way (record late.1.arrives.way { going = drop count late.1.arrives.way.going }) late.1.arrives.way_at refl
+      (ap (λ (s : SiteState). s.generation) late.1.arrives.all_else) (ap (λ (s : SiteState). s.lost) late.1.arrives.all_else)) late.1.there.sites
       (same_links old.proxy.links new.proxy.links (ap (λ (p : ProxyState). p.links) late.1.there.proxy)) h
 ]
 one_stays (ServerTurn server generation moment) old new e h = elim e.1 [
   | inl here ↦
-      there_stays server old new here.0.there (ap (λ (s : SiteState). s.generation) here.0.enters.all_else)
+      there_stays server old new here.0.there (ap (λ (s : SiteState). s.generation) here.0.enters.all_else) (ap (λ (s : SiteState). s.lost) here.0.enters.all_else)
       (same_links old.proxy.links new.proxy.links (ap (λ (p : ProxyState). p.links) here.0.proxy)) h
   | inr late ↦
-      one_site server late.1.there.site late.1.there.now old new late.1.there.at (ap (λ (s : SiteState). s.generation) late.1.enters.all_else) late.1.there.sites
+      one_site server late.1.there.site late.1.there.now old new late.1.there.at
+      (kept_set late.1.there.site late.1.there.now late.0 late.1.enters.way (record late.1.enters.way { untaken = late.1.enters.tags }) late.1.enters.way_at refl
+      (ap (λ (s : SiteState). s.generation) late.1.enters.all_else) (ap (λ (s : SiteState). s.lost) late.1.enters.all_else)) late.1.there.sites
       (same_links old.proxy.links new.proxy.links (ap (λ (p : ProxyState). p.links) late.1.there.proxy)) h
 ]
 one_stays (ToProxy server count) old new e h =
-    there_stays server old new e.there (ap (λ (s : SiteState). s.generation) e.leaves)
+    there_stays server old new e.there (ap (λ (s : SiteState). s.generation) e.leaves) (ap (λ (s : SiteState). s.lost) e.leaves)
     (one_link server (record (link_at old.proxy.links server) {
       unread = (link_at old.proxy.links server).unread ++ take count (output_of (connection_at e.there.site.server e.there.site.connection));
-    }) old.proxy.links new.proxy.links e.there.up refl (ap (λ (p : ProxyState). p.links) e.proxy)) h
+    }) old.proxy.links new.proxy.links e.there.up refl refl (ap (λ (p : ProxyState). p.links) e.proxy)) h
 one_stays (ReplyTurn server) old new e h =
-    there_stays server old new e.there (ap (λ (s : SiteState). s.generation) e.counts)
-    (one_link server e.answers.link old.proxy.links new.proxy.links e.there.up (ap (λ (l : LinkState). l.generation) e.answers.takes.others) e.answers.links) h
+    there_stays server old new e.there (ap (λ (s : SiteState). s.generation) e.counts) (ap (λ (s : SiteState). s.lost) e.counts)
+    (one_link server e.answers.link old.proxy.links new.proxy.links e.there.up (ap (λ (l : LinkState). l.generation) e.answers.takes.others)
+    (ap (λ (l : LinkState). l.up) e.answers.takes.others) e.answers.links) h
 one_stays (Emit client) old new e h = same_sites old new e.sites (same_links old.proxy.links new.proxy.links e.steps.step.0) h
 one_stays (ClientTakes client count) old new e h =
     same_sites old new e.1.sites
     (same_links old.proxy.links new.proxy.links (ap (λ (p : ProxyState). p.links) e.1.proxy ∙ links_sent client count (session_at old.proxy client) old.proxy)) h
-one_stays (LinkLost server) old new e h =
-    there_stays server old new e.there (ap (λ (s : SiteState). s.generation) e.cut)
-    (one_link server (down_link (link_at old.proxy.links server).generation) old.proxy.links new.proxy.links e.there.up refl (ap (λ (p : ProxyState). p.links) e.proxy)) h
+one_stays (LinkLost server) old new e h = cut_stays server old new e h
 one_stays (LinkBack server) old new e h = back_stays server old new e h
 one_stays (ServerSeesEnd server generation) old new e h =
-    one_site server e.1.there.site e.1.there.now old new e.1.there.at (ap (λ (s : SiteState). s.generation) e.1.ends.all_else) e.1.there.sites (same_links old.proxy.links new.proxy.links (ap (λ (p : ProxyState). p.links) e.1.there.proxy)) h
+    one_site server e.1.there.site e.1.there.now old new e.1.there.at
+    (kept_removed e.1.there.site e.1.there.now e.0 (ap (λ (s : SiteState). s.generation) e.1.ends.all_else) (ap (λ (s : SiteState). s.lost) e.1.ends.all_else)) e.1.there.sites (same_links old.proxy.links new.proxy.links (ap (λ (p : ProxyState). p.links) e.1.there.proxy)) h
 
 -- servers that have admitted as many connections as those that were at their places
 abbrev AdmitAs : PoolState → PoolState → Type 0

@@ -27,7 +27,7 @@ use Rattle.mc_account.proofs.OpenSessions.{other_number}
 use Rattle.mc_account.proofs.HoldsLemmas.{changed-other, changed-own}
 use Rattle.mc_account.proofs.WithinLemmas.{commands_within, within-more}
 use Rattle.mc_history.specs.Named.{AreReplied}
-use Rattle.mc_world.specs.CourseHolds.{CourseHolds, HaveOneConnection, HaveOneGeneration}
+use Rattle.mc_world.specs.CourseHolds.{CourseHolds, HaveOneConnection, HaveOneGeneration, IsOfLink}
 use Rattle.mc_world.specs.Joins.{HasServerJoined, ServerJoins}
 use Rattle.mc_world.specs.LogHolds.{LogHolds, ServersHold}
 use Rattle.mc_world.specs.Logs.{HasJoined, IsRingAfter, Log, loses, number_of}
@@ -38,6 +38,7 @@ use Rattle.mc_world.specs.Worlds.{CourseState, first_site, put_out_of, taken_by,
 use Rattle.mc_world.specs.declared.logs.Logged.{Logged}
 use Rattle.mc_world.specs.declared.logs.Logged.TheVariants.{Happened, Joined}
 use Rattle.mc_world.proofs.DoneLemmas.{same_clients}
+use Rattle.mc_world.proofs.GenerationStayLemmas.{first_of_link}
 use Rattle.mc_world.proofs.LogCommandLemmas.{commands_still}
 use Rattle.mc_world.proofs.LogEntryLemmas.{HasUntakenAt, got_inside, got_pushed}
 use Rattle.mc_world.proofs.LogHistoryLemmas.{histories_go}
@@ -194,13 +195,15 @@ join_generations address opening old new e same h other site at =
     elim (got_pushed old.sites (first_site opening) other site (ap (λ (ss : List SiteState). slice_get ss other) (sym e.sites) ∙ at)) [
       | inl there ↦ (
           let below = got_inside old.sites other site there in
-          h other site there
-          ∙ ap (λ (l : LinkState). l.generation) (sym (ap (λ (ls : List LinkState). link_at ls other) e.proxy.links ∙ link_there old.proxy.links (up_link 1) other (omega (arith, below, same)))))
+          subst (λ (l : LinkState). IsOfLink l site)
+          (sym (ap (λ (ls : List LinkState). link_at ls other) e.proxy.links ∙ link_there old.proxy.links (up_link 1) other (omega (arith, below, same))))
+          (h other site there))
       | inr last ↦ (
           let is : length old.proxy.links ≡ other = same ∙ sym last.0 in
-          ap (λ (s : SiteState). s.generation) last.1
-          ∙ ap (λ (l : LinkState). l.generation) (sym (ap (λ (ls : List LinkState). link_at ls other) e.proxy.links
-          ∙ ap (λ (n : ℕ). link_at (old.proxy.links ++ up_link 1 ∷ []) n) (sym is) ∙ link_new old.proxy.links (up_link 1))))
+          subst (λ (l : LinkState). IsOfLink l site)
+          (sym (ap (λ (ls : List LinkState). link_at ls other) e.proxy.links
+          ∙ ap (λ (n : ℕ). link_at (old.proxy.links ++ up_link 1 ∷ []) n) (sym is) ∙ link_new old.proxy.links (up_link 1)))
+          (subst (λ (s : SiteState). IsOfLink (up_link 1) s) (sym last.1) (first_of_link opening)))
     ]
 
 -- a server that joins has admitted one connection

@@ -39,7 +39,7 @@ use Rattle.mc_world.proofs.SiteLemmas.{appended, commands_push_other, commands_p
 use Rattle.mc_history.specs.Named.{IsNamed, tags_made, times}
 
 -- what is in a list in which one is another
-get_set : (ways : List WayState) (i : ℕ) (way : WayState) (j : ℕ) (w : WayState) → slice_get (slice_set ways i way) j ≡ Some w
+pub get_set : (ways : List WayState) (i : ℕ) (way : WayState) (j : ℕ) (w : WayState) → slice_get (slice_set ways i way) j ≡ Some w
     → ((j ≡ i) × (w ≡ way)) ⊎ ((j ≢ i) × (slice_get ways j ≡ Some w))
 get_set [] i way j w e = absurd (none-some w (sym (get_none j) ∙ e))
 get_set (x ∷ xs) zero way zero w e = inl (refl, sym (same_Some way w e))
@@ -213,7 +213,7 @@ site_late_turned place order lane link opening site server moment i way tag tags
     }
 
 -- what is in a list of which one is taken out
-shift : ℕ → ℕ → ℕ
+pub shift : ℕ → ℕ → ℕ
 shift zero j = suc j
 shift (suc i) zero = zero
 shift (suc i) (suc j) = suc (shift i j)
@@ -226,13 +226,21 @@ shift_apart (suc i) zero (suc k) differ same = omega (arith, same)
 shift_apart (suc i) (suc j) zero differ same = omega (arith, same)
 shift_apart (suc i) (suc j) (suc k) differ same = shift_apart i j k (λ e. differ (ap suc e)) (omega (arith, same))
 
+pub shift_rises : (i j k : ℕ) → j < k → shift i j < shift i k
+unfolding shift
+shift_rises zero j k below = omega (arith, below)
+shift_rises (suc i) zero zero below = omega (arith, below)
+shift_rises (suc i) zero (suc k) below = omega arith
+shift_rises (suc i) (suc j) zero below = absurd (omega (arith, below))
+shift_rises (suc i) (suc j) (suc k) below = let less = shift_rises i j k (omega (arith, below)) in omega (arith, less)
+
 shift_past : (i j : ℕ) → i ≢ shift i j
 unfolding shift
 shift_past zero j same = omega (arith, same)
 shift_past (suc i) zero same = omega (arith, same)
 shift_past (suc i) (suc j) same = shift_past i j (omega (arith, same))
 
-get_removed : (ways : List WayState) (i j : ℕ) → slice_get (remove ways i) j ≡ slice_get ways (shift i j)
+pub get_removed : (ways : List WayState) (i j : ℕ) → slice_get (remove ways i) j ≡ slice_get ways (shift i j)
 unfolding shift
 get_removed [] zero zero = refl
 get_removed [] zero (suc j) = refl

@@ -26,7 +26,7 @@ use Rattle.mc_world.proofs.SiteLemmas.{get_none, good_since, tags_wait}
 use Rattle.mc_history.specs.Named.{IsNamed, tags_of, times}
 
 -- what is in a list with one more after
-get_pushed : (ways : List WayState) (way : WayState) (i : ℕ) (w : WayState) → slice_get (ways ++ way ∷ []) i ≡ Some w
+pub get_pushed : (ways : List WayState) (way : WayState) (i : ℕ) (w : WayState) → slice_get (ways ++ way ∷ []) i ≡ Some w
     → (slice_get ways i ≡ Some w) ⊎ ((i ≡ length ways) × (w ≡ way))
 get_pushed [] way zero w e = inr (refl, sym (same_Some way w e))
 get_pushed [] way (suc i) w e = absurd (none-some w (sym (get_none i) ∙ e))

@@ -24,13 +24,14 @@ use Rattle.mc_account.proofs.HoldsLemmas.{holds-admitted}
 use Rattle.mc_history.specs.Generations.{is_good}
 use Rattle.mc_history.specs.Made.{Each}
 use Rattle.mc_history.specs.Named.{AreReplied, IsNamed}
-use Rattle.mc_world.specs.CourseHolds.{CourseHolds}
+use Rattle.mc_world.specs.CourseHolds.{CourseHolds, IsOfLink}
 use Rattle.mc_world.specs.LogHolds.{IsFresh, LogHolds}
 use Rattle.mc_world.specs.Pools.{PoolHolds}
 use Rattle.mc_world.specs.Sites.{SiteHolds}
 use Rattle.mc_world.specs.WorldState.{SiteState, histories_of}
 use Rattle.mc_world.specs.Worlds.{ClientState, client_at, first_site, fresh_sessions, nobody, opening_pool, opening_proxy, opening_world}
 use Rattle.mc_world.proofs.DoneLemmas.{stood_as}
+use Rattle.mc_world.proofs.GenerationStayLemmas.{first_of_link}
 use Rattle.mc_world.proofs.LogAccountLemmas.{log_begins}
 
 no_requests : requests_of [] ≡ []
@@ -210,10 +211,10 @@ nobody_there (suc n) (suc client) = nobody_there n client
 
 -- its sites and links are of the first generation
 opening_generations : (opening : CacheState) (n place : ℕ) (site : SiteState) → slice_get (replicate n (first_site opening)) place ≡ Some site
-    → site.generation ≡ (link_at (replicate n (up_link 1)) place).generation
+    → IsOfLink (link_at (replicate n (up_link 1)) place) site
 opening_generations opening zero zero site at = absurd (none-some site at)
 opening_generations opening zero (suc place) site at = absurd (none-some site at)
-opening_generations opening (suc n) zero site at = ap (λ (s : SiteState). s.generation) (sym (same_Some (first_site opening) site at))
+opening_generations opening (suc n) zero site at = subst (λ (s : SiteState). IsOfLink (up_link 1) s) (same_Some (first_site opening) site at) (first_of_link opening)
 opening_generations opening (suc n) (suc place) site at = opening_generations opening n place site at
 
 -- a world that was just opened

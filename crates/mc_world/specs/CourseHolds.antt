@@ -1,6 +1,7 @@
 -- Where a world is, after all that was done.
-use Rattle.std.specs.Prelude.{ℕ, ◌≡◌, length, Some, slice_get}
+use Rattle.std.specs.Prelude.{ℕ, ◌≡◌, ◌<◌, ◌≤◌, true, length, Some, slice_get}
 use Rattle.mc_ring.specs.Rings.{RingState}
+use Rattle.mc_link.specs.LinkState.{LinkState}
 use Rattle.mc_cache.specs.CacheState.{CacheState, IsWithinBounds, opening_cache}
 use Rattle.mc_session.specs.SessionState.{link_at}
 use Rattle.mc_account.specs.Lanes.{Lane}
@@ -8,12 +9,19 @@ use Rattle.mc_account.specs.Orders.{Order}
 use Rattle.mc_world.specs.LogHolds.{LogHolds}
 use Rattle.mc_world.specs.Logs.{Log, loses, number_of}
 use Rattle.mc_world.specs.Pools.{PoolHolds}
-use Rattle.mc_world.specs.WorldState.{PoolState, SiteState}
+use Rattle.mc_world.specs.WorldState.{IsRising, PoolState, SiteState, WayState}
 use Rattle.mc_world.specs.Worlds.{CourseState, WorldState, put_out_of, taken_by, text_of}
 
--- each site is of the generation of its link
+-- A site is of the generation of its link. Those that were lost rise up to it, and are below it while it lives.
+pub record IsOfLink (link : LinkState) (site : SiteState) : Type 0 where
+  pub same : site.generation ≡ link.generation
+  pub rising : IsRising site.lost
+  pub most : (i : ℕ) (way : WayState) → slice_get site.lost i ≡ Some way → way.generation ≤ site.generation
+  pub below : link.up ≡ true → (i : ℕ) (way : WayState) → slice_get site.lost i ≡ Some way → way.generation < site.generation
+
+-- so it is at each site
 abbrev pub HaveOneGeneration : PoolState → Type 0
-HaveOneGeneration pool = (place : ℕ) (site : SiteState) → slice_get pool.sites place ≡ Some site → site.generation ≡ (link_at pool.proxy.links place).generation
+HaveOneGeneration pool = (place : ℕ) (site : SiteState) → slice_get pool.sites place ≡ Some site → IsOfLink (link_at pool.proxy.links place) site
 
 -- a server whose link was never lost admitted one connection
 abbrev pub HaveOneConnection : Log → PoolState → Type 0

@@ -1,7 +1,8 @@
 -- In which order a drain does what is left: this project's own.
-use Rattle.std.specs.Prelude.{ℕ, zero, suc, ◌≡◌, length}
+use Rattle.std.specs.Prelude.{ℕ, zero, suc, ◌≡◌, length, Some, slice_get}
 use Rattle.mc_world.specs.Acts.{IsIdle, IsRested, event_of}
 use Rattle.mc_world.specs.Courses.{Applies, IsDone}
+use Rattle.mc_world.specs.WorldState.{IsRising, SiteState}
 use Rattle.mc_world.specs.Worlds.{CourseState}
 use Rattle.mc_world.specs.declared.acts.Act.{Act}
 use Rattle.mc_world.specs.declared.acts.Act.TheVariants.{PutAnswer, ReachProxy, ReachServer, SeeEnd, Serve, TakeBytes, TakeReply, TakeRequest}
@@ -49,9 +50,13 @@ pub record IsRound (moment : ℕ) (old new : CourseState) : Type 0 where
   pub servers : EachServer (λ place. Then (Alternates moment (ReachServer place) (Serve place)) (Alternates moment (ReachProxy place) (TakeReply place))) taken served
   pub answers : EachClient (λ client. Alternates moment (PutAnswer client) (TakeBytes client)) served new
 
--- A drain: each server sees the ends of its lost generations, in the order in which they were lost. Then it goes in rounds, until no act
--- applies.
+-- the ends: the lost generations of each server rise, and it sees their ends from the first on
+pub record SeesEnds (moment : ℕ) (old new : CourseState) : Type 0 where
+  pub rising : (place : ℕ) (site : SiteState) → slice_get old.pool.sites place ≡ Some site → IsRising site.lost
+  pub ends : EachServer (λ place. Repeats moment (SeeEnd place)) old new
+
+-- a drain: servers see the ends of their lost generations, and then it goes in rounds, until no act applies
 pub record DrainsInRounds (moment : ℕ) (old new : CourseState) : Type 0 where
   pub ended : CourseState
-  pub ends : EachServer (λ place. Repeats moment (SeeEnd place)) old ended
+  pub ends : SeesEnds moment old ended
   pub rounds : Until (IsRested moment) (IsRound moment) ended new

@@ -1,5 +1,5 @@
 -- A world, as contracts see it.
-use Rattle.std.specs.Prelude.{ℕ, zero, suc, List, [], ◌∷◌}
+use Rattle.std.specs.Prelude.{ℕ, zero, suc, ◌≡◌, ◌<◌, List, [], ◌∷◌, Some, slice_get}
 use Rattle.mc_link.specs.declared.turns.Tag.{Tag}
 use Rattle.mc_server.specs.ServerState.{ServerState}
 use Rattle.mc_proxy.specs.ProxyState.{ProxyState}
@@ -12,6 +12,10 @@ pub record WayState : Type 0 where
   pub connection : ℕ
   pub going : List ℕ
   pub untaken : List Tag
+
+-- the generations of these rise
+abbrev pub IsRising : List WayState → Type 0
+IsRising ways = (i j : ℕ) (v w : WayState) → slice_get ways i ≡ Some v → slice_get ways j ≡ Some w → i < j → v.generation < w.generation
 
 -- a server with its ways: what it took; the living generation, its connection, and how many commands it took there whose replies the
 -- proxy has not taken; and the lost generations

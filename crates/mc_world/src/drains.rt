@@ -8,7 +8,7 @@ use mc_store::Store;
 
 impl<S: Store + Drop> World<S> {
     ghost use Rattle.mc_world.specs.Acts.{HasDrained, IsIdle, IsOver, IsRested, NoClient, NoServer};
-    ghost use Rattle.mc_world.specs.Rounds.{Alternates, DrainsInRounds, EachClient, EachServer, IsActed, IsRound, Repeats, Then};
+    ghost use Rattle.mc_world.specs.Rounds.{Alternates, DrainsInRounds, EachClient, EachServer, IsActed, IsRound, Repeats, SeesEnds, Then};
     ghost use Rattle.mc_world.specs.declared.acts.Act.TheVariants.{PutAnswer, ReachProxy, ReachServer, SeeEnd, Serve, TakeBytes, TakeReply, TakeRequest};
     ghost use Rattle.mc_world.specs.Drains.{Drains};
     ghost use Rattle.mc_world.specs.Quiet.{IsQuiet};
@@ -80,7 +80,7 @@ impl<S: Store + Drop> World<S> {
     fn see_ends(&mut self, moment: u64) -> Result<(), WorldError>
         requires moment { moment < 2 ^ 63 }
         ensures drained { HasDrained moment self.old self.new }
-        ensures ends { OnOk result (EachServer (λ place. Repeats moment (SeeEnd place)) self.old.course self.new.course) }
+        ensures ends { OnOk result (SeesEnds moment self.old.course self.new.course) }
         ensures ended { OnOk result (NoServer moment SeeEnd self.new.course) }
         ensures cause { IfErr result (λ e. e ≡ WorldError.Memory) }
     {

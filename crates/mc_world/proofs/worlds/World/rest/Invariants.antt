@@ -1,5 +1,5 @@
 use Rattle.mc_world.specs.Acts.{HasDrained, NoServer}
-use Rattle.mc_world.specs.Rounds.{EachServer, IsRound, Repeats}
+use Rattle.mc_world.specs.Rounds.{IsRound, SeesEnds}
 use Rattle.mc_world.specs.WorkLeft.{work_left}
 use Rattle.mc_world.specs.Worlds.{CourseState}
 use Rattle.mc_world.specs.declared.acts.Act.TheVariants.{SeeEnd}
@@ -11,7 +11,7 @@ abbrev pub invariant-loop : goal.invariant-loop
 invariant-loop g l = record {
   drained : HasDrained l.moment l.fn.self l.self;
   ended : NoServer l.moment (λ place. SeeEnd place) l.self.course;
-  rounds : (first : CourseState) × EachServer (λ place. Repeats l.moment (SeeEnd place)) l.fn.self.course first × Times (IsRound l.moment) first l.self.course;
+  rounds : (first : CourseState) × SeesEnds l.moment l.fn.self.course first × Times (IsRound l.moment) first l.self.course;
 }
 
 -- less is left each time

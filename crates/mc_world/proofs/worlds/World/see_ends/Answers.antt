@@ -1,6 +1,8 @@
 use Rattle.std.proofs.Common.{rules, ◌≡◌, ℕ, length, refl, subst, arith}
 use Rattle.mc_world.specs.Acts.{HasDrained}
+use Rattle.mc_world.specs.CourseHolds.{WorldHolds}
 use Rattle.mc_world.specs.Rounds.{InOrder, Repeats}
+use Rattle.mc_world.specs.Worlds.{WorldState}
 use Rattle.mc_world.specs.declared.acts.Act.TheVariants.{SeeEnd}
 use Rattle.mc_world.proofs.DrainLemmas.{drained, drained_none, drained_then}
 use Rattle.mc_world.proofs.RoundLemmas.{below_next, ended_all, order_more}
@@ -33,7 +35,10 @@ returns g c =
     let all : c.loop-place.place ≡ length c.args.self.now.course.pool.sites = search rules in
     record {
       drained = c.loop-place.invariant.drained;
-      ends = subst (λ (n : ℕ). InOrder (λ place. Repeats c.args.moment (SeeEnd place)) n c.args.self.now.course c.loop-place.self.course) all c.loop-place.invariant.ends;
+      ends = record {
+        rising = λ place site at. ((subst (λ (w : WorldState). WorldHolds w) c.self.view_is c.self.invariant).course.generations.one place site at).rising;
+        ends = subst (λ (n : ℕ). InOrder (λ place. Repeats c.args.moment (SeeEnd place)) n c.args.self.now.course c.loop-place.self.course) all c.loop-place.invariant.ends;
+      };
       ended = ended_all c.args.moment c.args.self.now c.loop-place.self c.loop-place.invariant.drained
           (λ k inside. c.loop-place.invariant.ended k (omega (arith, all, inside)));
       cause = tt;
