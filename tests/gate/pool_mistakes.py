@@ -299,11 +299,21 @@ class LaterFirst(Pool):
     def told(self, done):
         told = super().told(done)
         for history in told.histories:
-            if len(history) > 1 and history[-1].client == history[-2].client:
+            if len(history) > 1 and self.exchanges(history[-2], history[-1]):
                 history[-2:] = [
                     history[-1]._replace(moment=history[-2].moment), history[-2]._replace(moment=history[-1].moment)
                 ]  # fmt: skip
         return told
+
+    def exchanges(self, first, second):
+        return first.client == second.client
+
+
+class OthersFirst(LaterFirst):
+    """A server takes two clients' commands the other way round, where none of the replies tells."""
+
+    def exchanges(self, first, second):
+        return first.client != second.client and first.moment == second.moment and first.reply == second.reply == b"OK\r\n"
 
 
 class AnsweredUnserved(Forgiving):
@@ -383,7 +393,7 @@ class GoneIsServed(Pool):
 MISTAKES = [
     SentAgain, KeptAndSent, WaitingKept, OutOfOrder, Padded, Doubled, LateUnwritten, LateIgnored, RoutedByTheLast, NeighbourOwns,
     StoredWhenDown, AlwaysLost, LosesTheTaken, RisingMoments, OtherBytes, Unfinished, OtherText, SilentFaults, LostOften, ToldRefused,
-    LaterFirst, AnsweredUnserved, LostInvents, ForgetsTheFlush, LeavesTheLast, DrainsAtZero, KeepsTheLate,
+    LaterFirst, OthersFirst, AnsweredUnserved, LostInvents, ForgetsTheFlush, LeavesTheLast, DrainsAtZero, KeepsTheLate,
 ]  # fmt: skip
 
 

@@ -1,8 +1,10 @@
 //! What an account of a pool promises to somebody who sees only texts, what was put out, histories and the log.
 //!
 //! No program uses this crate. Its functions do nothing: their contracts are the laws. Each is proved from `Account` of `mc_world` alone,
-//! whatever order it has. Each clause of the record `Accounts` has a law here that needs it: `docs/LAWS.md` has the table.
-//! `specs/Sent.antt` says what a client's text tells of a command, `specs/Followed.antt` what the proxy sent to a server, `specs/Told.antt` what the histories and the log tell of it.
+//! whatever order it has, but those of a drain. Each clause of the record `Accounts` has a law here that needs it: `docs/LAWS.md` has
+//! the table. `specs/Sent.antt` says what a client's text tells of a command, `specs/Followed.antt` what the proxy sent to a server, and
+//! `specs/Told.antt` what the histories and the log tell of a command. `specs/Wanted.antt` says which commands memory may be refused to,
+//! `specs/Drained.antt` what a drain adds to a log.
 #![tactic(auto)]
 
 mod answers;
