@@ -1,5 +1,5 @@
 #!/usr/bin/env python3
-"""Sees that each file and folder that the documents and the crates' own comments cite is there.
+"""Sees that each file and folder that the documents and the crates' own comments cite is there, and that the toolchain is named right.
 
 Usage: cited.py      (README.md, CONTRIBUTING.md, docs/*.md, bench/RESULTS.md, and the `//!` and `///` comments of crates/*/src)
 
@@ -9,10 +9,14 @@ A word in backquotes is a path where it has a slash, or ends as a source, a scri
 one that was named last. A folder of all crates (`specs/`) and a file without a folder may be anywhere. The words NAME and
 CRATE are any name (`tests/must-fail/CRATE/NAME.edit`). The targets of a document's links are looked for from its folder.
 
-It prints a line for each path that is not there; the last line is 'N passed, M failed', one for each document and crate.
+The documents name the toolchain once, as `rt version` prints it.
+
+It prints a line for each path that is not there, and for each line that names another toolchain; the last line is 'N passed, M failed', one
+for each document and crate, and one for the toolchain.
 """
 import pathlib
 import re
+import subprocess
 import sys
 
 sys.path.insert(0, str(pathlib.Path(__file__).resolve().parents[1] / "lib"))
@@ -24,6 +28,7 @@ QUOTED = re.compile(r"`([^`\s]+)`")
 LINK = re.compile(r"\]\(([^()\s]+)\)")
 CRATE = re.compile(r"\bmc_[a-z_]+\b")
 ANY_NAME = re.compile(r"\b(?:NAME|CRATE)\b")
+TOOLCHAIN = re.compile(r"\brattle-kit-\w+(?: logic \w+)?")
 
 # What is no file of this repository: memcached's own document, what a build leaves in the folders out/, and what the system has.
 ELSEWHERE = re.compile(r"doc/protocol\.txt$|(.*/)?out(/|$)|/")
@@ -94,12 +99,30 @@ def is_right(file, lines, own=None):
     return not faults
 
 
+def names_the_toolchain(documents):
+    """Prints each line of the documents that names another toolchain than this one, and says whether there is none, and one line that names it."""
+    own = subprocess.run(["rt", "version"], stdout=subprocess.PIPE, text=True, check=True).stdout.strip()
+    named = [
+        (f"{document.relative_to(TOP)}:{number}", name)
+        for document in documents
+        for number, line in enumerate(document.read_text().splitlines(), 1)
+        for name in TOOLCHAIN.findall(line)
+    ]
+    for line, name in named:
+        if name != own:
+            print(f"{line}: change {name} to {own}, once the gate has passed with it")
+    if len(named) != 1:
+        print(f"the documents name the toolchain {len(named)} times: {', '.join(line for line, _ in named)}")
+    return [name for _, name in named] == [own]
+
+
 def main():
     documents = [TOP / "README.md", TOP / "CONTRIBUTING.md", *sorted(TOP.glob("docs/*.md")), TOP / "bench" / "RESULTS.md"]
     told = [is_right(document, document.read_text().splitlines()) for document in documents]
     for crate in sorted(path for path in CRATES.iterdir() if (path / "src").is_dir()):
         sources = sorted(crate.glob("src/**/*.rt"))
         told.append(all([is_right(source, comments(source), crate.name) for source in sources]))
+    told.append(names_the_toolchain(documents))
     return counted(told)
 
 
