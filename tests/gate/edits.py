@@ -4,24 +4,27 @@
 Usage: edits.py [--read] [CRATE ...]       (all crates that have such edits, where none is named)
 
 The crates are copied to a temporary folder, what is built of them too, and have these edits there in the place of the gate's;
-`rt must-fail` tries them. That takes a crate's proof and some 20 seconds an edit, and first the proof of each library below that
-is not built. With --read it is only seen that each edit can be made: each text that it names is in its file exactly once.
-That is a part of `make test`. The last line is 'N passed, M failed', one for each edit.
+`rt must-fail` tries them, crate by crate. That takes a crate's proof and some 20 seconds an edit, and first the proof of each library below
+that is not built; all that there are take some two hours of processor time. A line for each crate says how many were refused and how long it
+took, and at the end there is one for each edit that was not. With --read it is only seen that each edit can be made: each text that it
+names is in its file exactly once. That is a part of `make test`. The last line is 'N passed, M failed', one for each edit.
 """
 import argparse
+import itertools
 import pathlib
 import re
 import shutil
 import subprocess
 import sys
 import tempfile
+import time
 
 sys.path.insert(0, str(pathlib.Path(__file__).resolve().parents[1] / "lib"))
 
 from suite import CRATES, TESTS, TOP
 
 EDITS = TESTS / "must-fail"
-REFUSED = re.compile(r"must-fail \S+: refused, as it must be")
+REFUSED = re.compile(r"must-fail (\S+): refused, as it must be")
 
 
 def faults_of(edit):
@@ -56,18 +59,31 @@ def read(edits):
 
 def refused(edits):
     """Has rt try the edits in a copy of the crates, and says how many are refused."""
+    passed = set()
     with tempfile.TemporaryDirectory() as room:
         for name in ("HANDLES", "crates.txt"):
             shutil.copy(TOP / name, room)
         copy = pathlib.Path(room, "crates")
         shutil.copytree(CRATES, copy, ignore=shutil.ignore_patterns("must-fail"))
-        for edit in edits:
-            (copy / edit.parent.name / "must-fail").mkdir(exist_ok=True)
-            shutil.copy(edit, copy / edit.parent.name / "must-fail")
-        names = sorted({edit.parent.name for edit in edits})
-        ran = subprocess.run(["rt", "must-fail", *names], cwd=room, stdout=subprocess.PIPE, stderr=subprocess.STDOUT, text=True)
-    print(ran.stdout, end="")
-    return len(REFUSED.findall(ran.stdout))
+        for name, own in itertools.groupby(edits, lambda edit: edit.parent.name):
+            passed |= refused_of(name, list(own), copy)
+    for edit in edits:
+        if f"{edit.parent.name}/{edit.name}" not in passed:
+            print(f"{edit.relative_to(TOP)} was not refused")
+    return len(passed)
+
+
+def refused_of(crate, edits, copy):
+    """Has rt try the edits of a crate in a copy of all crates, and gives the names of those that are refused."""
+    (copy / crate / "must-fail").mkdir()
+    for edit in edits:
+        shutil.copy(edit, copy / crate / "must-fail")
+    begun = time.monotonic()
+    ran = subprocess.run(["rt", "must-fail", crate], cwd=copy.parent, stdout=subprocess.PIPE, stderr=subprocess.STDOUT, text=True)
+    passed = set(REFUSED.findall(ran.stdout))
+    took = time.monotonic() - begun
+    print(f"{ran.stdout}{crate}: {len(passed)} of {len(edits)} refused, in {took:.0f} seconds", flush=True)
+    return passed
 
 
 def main():

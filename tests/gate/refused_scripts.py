@@ -7,12 +7,16 @@ Where an allocation is refused, mc_sim ends with status 4, says that it is out o
 where none is refused; or one store is refused: it is answered `SERVER_ERROR out of memory storing object`, and all else is what
 a model prints that then leaves its items, their order and its numbers as they were (model.py, pool_model.py). The library that
 refuses is that of refusing.py. It prints a line for each script that fails; the last line is 'N passed, M failed'.
+
+A script NAME.txt that has a NAME.refused is played over each store that mc_sim has, with one, two or three allocations refused from each on
+(a block that is refused is asked for once more): one of these runs must print what that file has.
 """
 import concurrent.futures
 import functools
 import itertools
 import os
 import pathlib
+import subprocess
 import sys
 import tempfile
 
@@ -72,18 +76,18 @@ def with_one_refused(script):
         told.add(text.encode())
 
 
-def run(library, program, script, number):
-    """The status, the output and the errors of a run with this allocation refused, and whether there was one."""
-    ran, refused = refusing.run(library, [program], number, 1, input=script)
+def run(library, words, script, number, count=1):
+    """The status, the output and the errors of a run with so many allocations refused from this one on, and whether there was one."""
+    ran, refused = refusing.run(library, words, number, count, input=script)
     return (ran.returncode, ran.stdout, ran.stderr), refused > 0
 
 
 def fault_of(library, program, script):
     """What is wrong where an allocation of a script is refused, if anything is."""
-    calm, _ = run(library, program, script, 0)
+    calm, _ = run(library, [program], script, 0)
     others = with_one_refused(script) if calm[0] == 0 else set()
     for number in itertools.count(1):
-        ended, was_refused = run(library, program, script, number)
+        ended, was_refused = run(library, [program], script, number)
         if not was_refused:
             return None if number > 1 else "nothing was refused"
         status, output, errors = ended
@@ -91,15 +95,47 @@ def fault_of(library, program, script):
             return f"wrong where allocation {number} is refused"
 
 
+def stores(program):
+    """The words for each store that mc_sim has; none, where it has one alone."""
+    words = [["--store", name] for name in ("list", "lru", "table")]
+    script = examples()[0].read_bytes()
+    return [each for each in words if subprocess.run([program, *each], input=script, capture_output=True).returncode == 0] or [[]]
+
+
+def is_printed(library, words, script, wanted):
+    """Whether a script prints this where some allocations are refused."""
+    for count in (1, 2, 3):
+        for number in itertools.count(1):
+            ended, was_refused = run(library, words, script, number, count)
+            if ended == (0, wanted, b""):
+                return True
+            if not was_refused:
+                break
+    return False
+
+
+def are_refused(library, program, scripts):
+    """Says of each script that has a text for a refusal, over each store, whether the text is printed."""
+    for script in scripts:
+        wanted = script.with_suffix(".refused")
+        for words in stores(program) if wanted.is_file() else ():
+            printed = is_printed(library, [program, *words], script.read_bytes(), wanted.read_bytes())
+            if not printed:
+                print(f"{script}: no refusal prints {wanted.name}, {' '.join(words)}")
+            yield printed
+
+
 def main(program):
     scripts = [path for path in examples() if path.stat().st_size]
     with tempfile.TemporaryDirectory() as folder, concurrent.futures.ThreadPoolExecutor(os.cpu_count()) as pool:
-        looks = functools.partial(fault_of, refusing.build(folder), program)
+        library = refusing.build(folder)
+        looks = functools.partial(fault_of, library, program)
         faults = list(pool.map(looks, (script.read_bytes() for script in scripts)))
+        refused = list(are_refused(library, program, scripts))
     for script, fault in zip(scripts, faults):
         if fault:
             print(f"{script}: {fault}")
-    return counted(fault is None for fault in faults)
+    return counted([fault is None for fault in faults] + refused)
 
 
 if __name__ == "__main__":
