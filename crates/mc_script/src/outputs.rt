@@ -21,10 +21,7 @@ use std::alloc::{AllocError, Global};
 /// The outputs are the answers of one legal history: each turn takes the next request or fault of its connection's
 /// text, if it has come whole, and no other. Once it is said which stores were refused memory, no other outputs are
 /// right.
-pub fn played_server<S: ScriptStore>(
-    alloc: Global,
-    script: &Script,
-) -> Result<Server<S>, SimError>
+pub fn played_server<S: ScriptStore>(alloc: Global, script: &Script) -> Result<Server<S>, SimError>
     ensures outputs { IfOk result (λ server. Answers (script_seen script.now) (outputs_of script.now.connections server)) }
     ensures only_memory { IsOkUnless result SimError.Memory }
 {

@@ -25,6 +25,7 @@ pub struct EpochCache<M: Recent> {
     epoch: u64,
     /// How many entries are live: the first ones.
     count: usize,
+    /// How many items there may be.
     most: usize,
 }
 
@@ -53,13 +54,6 @@ impl<M: Recent> EpochCache<M> {
             count: 0,
             most,
         }
-    }
-
-    /// The most items that there may be.
-    pub fn most(&self) -> usize
-        ensures { result ≡ self.now.most }
-    {
-        self.most
     }
 
     /// How many items there are.
@@ -163,7 +157,7 @@ impl<M: Recent> EpochCache<M> {
     }
 
     /// Puts a body under a key that is held, moves its item to the front, and gives the old body. Then it lets dead entries go: all, or
-    /// two at least that cost at least as many bytes as the value has.
+    /// two at least that cost at least as many bytes as the value has, and no more than that takes.
     ///
     /// Where the key is not held, `Err` hands the body back.
     pub fn replace(&mut self, key: &[u8], body: Body) -> Result<Body, Body>
@@ -189,7 +183,7 @@ impl<M: Recent> EpochCache<M> {
     }
 
     /// Puts an item in front, under a key that is not held. Before that it lets dead entries go: all, or two at least that cost at least as
-    /// much as the item.
+    /// much as the item, and no more than that takes; and then a dead entry of the key.
     ///
     /// Where there is no memory, `Err` hands the key and the body back.
     pub fn put_front(&mut self, key: Key, body: Body) -> Result<(), (Key, Body)>

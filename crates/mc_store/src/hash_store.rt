@@ -68,8 +68,8 @@ pub type TableStore<H> = HashStore<Table<Key, Held, H>>;
 ///
 /// # Memory
 ///
-/// The constructor takes what the entries are in whole, with a search table for 9 * 2^k items, the least such number that is enough. The blocks of
-/// dead entries stay taken until they are let go. A key that is taken out of a crowded part of the search table leaves its
+/// The constructor takes the search table whole, for 9 * 2^k items, the least such number that is enough; and a [`TableStore`] room for
+/// all entries, where a [`LruStore`] takes a node for each new item. The blocks of dead entries stay taken until they are let go. A key that is taken out of a crowded part of the search table leaves its
 /// place counted as taken; where no place is left by that count, as may be after long eviction or a clear, `put_front` first
 /// lays that table out anew, which takes time for each entry but hashes none. That is done in place where the entries, the
 /// new one with them, are at most half of what it is for. Else it is doubled, and only that takes memory; then they are at
