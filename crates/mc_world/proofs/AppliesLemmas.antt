@@ -193,6 +193,20 @@ comes_back (Err e) links place inside can no_link state only = elim only [
   | inr is ↦ (let clash : true ≡ false = sym can ∙ state (ap (λ (x : ProxyError). Err x) is) in absurd cc)
 ]
 
+-- a turn of a link that is up gives up only where a command waits
+pub gives_up : {X : Type 0} (r : Result X ProxyError) (links : List LinkState) (place : ℕ) → (link_at links place).up ≡ true
+    → (IsErrOf r causes.Memory → 0 < length (link_at links place).waiting) → (IsErrOf r causes.NoLink → length links ≤ place)
+    → (IsErrOf r causes.LinkState → (link_at links place).up ≡ false)
+    → IfErr r (λ (e : ProxyError). (e ≡ causes.NoLink) ⊎ (e ≡ causes.LinkState) ⊎ (e ≡ causes.Memory)) → OnErr r (0 < length (link_at links place).waiting)
+gives_up (Ok x) links place up memory no_link state only = tt
+gives_up (Err e) links place up memory no_link state only = elim only [
+  | inl is ↦ (let past = no_link (ap (λ (x : ProxyError). Err x) is) in let inside = up_is_there place links up in absurd (omega (arith, inside, past)))
+  | inr other ↦ elim other [
+    | inl is ↦ (let clash : true ≡ false = sym up ∙ state (ap (λ (x : ProxyError). Err x) is) in absurd cc)
+    | inr is ↦ memory (ap (λ (x : ProxyError). Err x) is)
+  ]
+]
+
 -- the way of a generation
 pub record FoundWay (generation : ℕ) (ways : List WayState) (i : ℕ) : Type 0 where
   pub way : WayState

@@ -1,5 +1,5 @@
 //! What happens on the living generations of a pool's links.
-ghost use Rattle.std.specs.Prelude.{◌≡◌, ◌<◌, ◌^◌, ◌↔◌, IsTrue, IfOk, OnErr};
+ghost use Rattle.std.specs.Prelude.{◌≡◌, ◌<◌, ◌^◌, ◌↔◌, length, IsTrue, IfOk, OnErr};
 
 use crate::errors::{Step, WorldError};
 use crate::pools::Pool;
@@ -7,6 +7,7 @@ use mc_proxy::LinkTurn;
 use mc_store::Store;
 
 impl<S: Store + Drop> Pool<S> {
+    ghost use Rattle.mc_session.specs.SessionState.{link_at};
     ghost use Rattle.mc_world.specs.Applies.{CanReachProxy, CanReachServer, CanReturn, CanServe, CanTakeReply, IsUp, Lives};
     ghost use Rattle.mc_world.specs.Happens.{Does};
     ghost use Rattle.mc_world.specs.Pools.{LinkReturns, LosesLink, ReachesProxy, ReachesServer, ServerTakes, TakesReply};
@@ -107,6 +108,7 @@ impl<S: Store + Drop> Pool<S> {
         ensures takes { IfOk result (λ step. Does step (TakesReply place self.old self.new) (self.new ≡ self.old)) }
         ensures applies { IfOk result (λ step. (step ≡ Step.Done) ↔ CanTakeReply place self.old) }
         ensures err { OnErr result (self.new ≡ self.old) }
+        ensures err_waits { OnErr result (IsUp place self.old × (0 < length (link_at self.old.proxy.links place).waiting)) }
     {
         if !self.proxy.is_up(place) {
             return Ok(Step::Nothing);

@@ -4,7 +4,7 @@ use Rattle.mc_session.specs.SessionState.{link_at}
 use Rattle.mc_world.specs.Serving.{PoolServes}
 use Rattle.mc_proxy.specs.LinkTurns.{Answers, IsLinkTurn}
 use Rattle.mc_proxy.specs.declared.turns.LinkTurn.{LinkTurn}
-use Rattle.mc_world.proofs.AppliesLemmas.{it_does_not, not_whole, pool_of, rests, site_there}
+use Rattle.mc_world.proofs.AppliesLemmas.{at_error, gives_up, it_does_not, not_whole, pool_of, rests, site_there}
 use Rattle.mc_world.proofs.MoveLemmas.{get_some}
 use Rattle.mc_world.proofs.StillLemmas.{same_pool}
 use Rattle.mc_world.proofs.pools.Pool.take_reply.Goals as goal
@@ -21,6 +21,7 @@ returns-in_default g c =
       takes = rw (← c.self.view_is) (same_pool _ _ _ rest.same);
       applies = rw (← c.self.view_is) (it_does_not (λ can. not_whole (link_at c.self.inside.proxy.links c.args.place) can.tag can.reply can.after rest.idle can.takes));
       err = tt;
+      err_waits = tt;
     }
 
 pub index_mut-requires : goal.index_mut-requires
@@ -58,3 +59,11 @@ returns-clause-takes g c =
       answers = answers;
       counts = search rules;
     })
+
+-- memory is refused only where a command waits
+pub returns-in_err-link_turn-clause-err_waits : goal.returns-in_err-link_turn-clause-err_waits
+returns-in_err-link_turn-clause-err_waits g c =
+    let up : (link_at c.self.inside.proxy.links c.args.place).up ≡ true = search rules in
+    let told = c.in_err-link_turn.ensures in
+    rw (← c.self.view_is) (at_error _ c.from_residual.result
+    (up, gives_up _ c.self.inside.proxy.links c.args.place up told.memory told.no_link.0 (λ is. (told.state.0 is).1) told.only))
