@@ -6,6 +6,19 @@
 //! interrupted or fails, their [`Calls`] say. Nothing here is part of a program.
 #![tactic(auto)]
 
+/// A call, which is made again where it is refused memory.
+#[macro_export]
+macro_rules! again {
+    ($call:expr) => {{
+        for _ in 0..3 {
+            if let Ok(done) = $call {
+                return Ok(done);
+            }
+        }
+        $call
+    }};
+}
+
 mod meagre;
 mod servers;
 mod streams;

@@ -4,19 +4,6 @@
 //! figure, and is never taken from what the program wrote.
 #![tactic(auto)]
 
-/// A call, which is made again where it is refused memory.
-#[cfg(test)]
-macro_rules! again {
-    ($call:expr) => {{
-        for _ in 0..3 {
-            if let Ok(done) = $call {
-                return Ok(done);
-            }
-        }
-        $call
-    }};
-}
-
 #[cfg(test)]
 mod errors;
 #[cfg(test)]

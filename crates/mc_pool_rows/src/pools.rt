@@ -3,6 +3,7 @@
 //! A call that is refused memory is made again. So a dialogue goes the same way whichever allocation of it is refused, and
 //! `tests/gate/refused.py` refuses each of them in turn.
 
+use mc_fixtures::again;
 use mc_proxy::LinkTurn::{self, Idle, Strange, Took};
 use mc_proxy::{Emit, Proxy, ProxyError, Turn};
 use mc_ring::{Address, Point, Ring, RingError};
@@ -35,7 +36,7 @@ enum Step {
 use Step::{Asks, Comes, Goes, Hears, Joins, Loses, Returns, Sends, Tells};
 
 /// `a` belongs to the second server, `abc` and `b` to the first. Both links are up, and two clients are there.
-const DIALOGUES: [&[Step]; 8] = [
+const DIALOGUES: [&[Step]; 10] = [
     // two clients, each answered in the order of its keys and requests, though replies come in another
     &[
         Asks(0, b"get abc a\r\n", 1),
@@ -201,6 +202,52 @@ const DIALOGUES: [&[Step]; 8] = [
             5,
             b"STORED\r\nVALUE b 7 2\r\nxy\r\nEND\r\nVALUE a 0 1\r\nx\r\nEND\r\nHD\r\nVA 2 f7 kb O1\r\nxy\r\n",
         ),
+    ],
+    // where both links are down each command is lost, and what needs no server is answered
+    &[
+        Loses(0, b""),
+        Loses(1, b""),
+        Asks(0, b"set a 0 0 1 noreply\r\nx\r\nget a b\r\nversion\r\n", 3),
+        Tells(
+            0,
+            3,
+            b"SERVER_ERROR link lost\r\nSERVER_ERROR link lost\r\nVERSION 1.6.0\r\n",
+        ),
+    ],
+    // a reply that its command cannot have loses the link at the first byte that shows it, and all that wait are answered
+    &[
+        Asks(0, b"set a 0 0 1\r\nx\r\nget a\r\n", 2),
+        Hears(1, b"STORED\n", Strange),
+        Tells(
+            0,
+            2,
+            b"SERVER_ERROR link lost\r\nSERVER_ERROR link lost\r\n",
+        ),
+        Returns(1, 2),
+        Asks(0, b"incr a 1\r\nget a\r\n", 2),
+        Hears(1, b"00", Strange),
+        Tells(
+            0,
+            2,
+            b"SERVER_ERROR link lost\r\nSERVER_ERROR link lost\r\n",
+        ),
+        Returns(1, 3),
+        Asks(0, b"incr a 1\r\nget a\r\n", 2),
+        Hears(1, b"18446744073709551616", Strange),
+        Tells(
+            0,
+            2,
+            b"SERVER_ERROR link lost\r\nSERVER_ERROR link lost\r\n",
+        ),
+        Returns(1, 4),
+        Asks(0, b"mg a v\r\nget a\r\n", 2),
+        Hears(1, b"VA 1 t", Strange),
+        Tells(
+            0,
+            2,
+            b"SERVER_ERROR link lost\r\nSERVER_ERROR link lost\r\n",
+        ),
+        Returns(1, 5),
     ],
 ];
 

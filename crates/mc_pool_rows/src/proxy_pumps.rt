@@ -17,7 +17,7 @@ struct Exchange {
     answers: &'static [(&'static [u8], bool)],
 }
 
-const EXCHANGES: [Exchange; 2] = [
+const EXCHANGES: [Exchange; 3] = [
     Exchange {
         sent: b"set a 0 0 1\r\nx\r\nget a\r\n",
         answers: &[
@@ -36,10 +36,22 @@ const EXCHANGES: [Exchange; 2] = [
             (b"VALUE b 7 2\r\nxy\r\nEND\r\n", true),
         ],
     },
+    Exchange {
+        sent: b"add a 0 0 1\r\nx\r\nadd a 0 0 1\r\ny\r\nappend a 9 9 1\r\nz\r\nreplace b 0 0 1\r\ny\r\nget a\r\ndelete a 0\r\ndelete a\r\n",
+        answers: &[
+            (b"STORED\r\n", true),
+            (b"NOT_STORED\r\n", true),
+            (b"STORED\r\n", true),
+            (b"NOT_STORED\r\n", true),
+            (b"VALUE a 0 2\r\nxz\r\nEND\r\n", true),
+            (b"DELETED\r\n", true),
+            (b"NOT_FOUND\r\n", true),
+        ],
+    },
 ];
 
 /// The most requests of an exchange.
-const REQUESTS: usize = 6;
+const REQUESTS: usize = 7;
 
 /// What a client is told where the first `known` of its requests were answered, and the link was lost then.
 fn told(alloc: Global, exchange: &Exchange, known: usize) -> Result<Vec<u8>, AllocError> {
@@ -238,7 +250,7 @@ fn ends_alone(
         last == Pumped::Failed && told(alloc, exchange, REQUESTS)?.starts_with(&taken)
     };
     mend(alloc, &mut pool, calm.link)?;
-    let [first, _] = &EXCHANGES;
+    let [first, _, _] = &EXCHANGES;
     let next = calls_of(alloc, &mut pool, first, calm.client)?;
     Ok(is_so && next.is_some())
 }

@@ -1,6 +1,6 @@
 //! Rings against figures that others compute.
 
-use mc_ring::{Address, Ring, RingError};
+use mc_ring::{Address, Point, Ring, RingError};
 use mc_text::Key;
 use std::alloc::Global;
 use std::test::Fail;
@@ -14,11 +14,17 @@ struct Known {
     ends: (u32, u32),
     /// The sum of all points.
     sum: u64,
-    /// The sum of the owners, each multiplied by its key's number, counted from 1.
+    /// What [`owners`] gives.
     owners: u64,
 }
 
 const KEYS: usize = 1_000;
+
+/// The hash of `a`, as the first server's point.
+const AT_A: Point = Point {
+    point: 0xb975_c10c,
+    place: 0,
+};
 
 const KNOWN: [Known; 3] = [
     Known {
@@ -49,6 +55,17 @@ fn server(alloc: Global, number: usize) -> Result<Address, RingError> {
     Address::new(alloc, text.as_bytes())
 }
 
+/// The sum of the owners of `k0` to `k999`, each multiplied by its key's number, counted from 1.
+fn owners(alloc: Global, ring: &Ring) -> Result<u64, Fail> {
+    let mut owners = 0u64;
+    for number in 0..KEYS {
+        let text = format!(in alloc; "k{number}")?;
+        let owner = ring.owner(&Key::plain(alloc, text.as_bytes())?);
+        owners = owners.wrapping_add((owner as u64).wrapping_mul(number as u64 + 1));
+    }
+    Ok(owners)
+}
+
 /// A ring grows by one server after another; one with its points given is the same.
 #[test]
 fn points_and_owners_are_those_of_others(rt: HostRuntime) -> Result<(), Fail> {
@@ -70,13 +87,19 @@ fn points_and_owners_are_those_of_others(rt: HostRuntime) -> Result<(), Fail> {
             sum = sum.wrapping_add(u64::from(p.point));
         }
         assert_eq!(rt; sum, known.sum);
-        let mut owners = 0u64;
-        for number in 0..KEYS {
-            let text = format!(in alloc; "k{number}")?;
-            let owner = ring.owner(&Key::plain(alloc, text.as_bytes())?);
-            owners = owners.wrapping_add((owner as u64).wrapping_mul(number as u64 + 1));
-        }
+        let owners = owners(alloc, &same)?;
         assert_eq!(rt; owners, known.owners, "{} servers", known.servers);
     }
+    Ok(())
+}
+
+/// Of a server that has one point, the hash of `a`, and owns every key: what the next one takes when it joins. Hashlib gives the figure.
+#[test]
+fn keys_stay_or_go_to_the_server_that_joins(rt: HostRuntime) -> Result<(), Fail> {
+    let alloc = rt.alloc();
+    let ring = Ring::of_points(alloc, &[server(alloc, 0)?], &[AT_A])?;
+    assert_eq!(rt; owners(alloc, &ring)?, 0);
+    let ring = ring.with_server(alloc, server(alloc, 1)?)?;
+    assert_eq!(rt; owners(alloc, &ring)?, 500500);
     Ok(())
 }

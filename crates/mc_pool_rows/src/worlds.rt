@@ -5,6 +5,7 @@
 ghost use Rattle.std.specs.Prelude.{◌<◌, ◌^◌};
 ghost use Rattle.mc_pool_script.specs.PoolLines.{HasMoment};
 
+use mc_fixtures::again;
 use mc_pool_script::{PoolLine, PoolScript, read_pool_script};
 use mc_script::SimError;
 use mc_store::ListStore;
@@ -19,7 +20,7 @@ struct Script {
     outputs: &'static [&'static [u8]],
 }
 
-const SCRIPTS: [Script; 2] = [
+const SCRIPTS: [Script; 5] = [
     // a command that never arrives, one that is served though its reply is lost, one that is served late, and one that comes after
     // the end of its generation and is dropped
     Script {
@@ -93,6 +94,90 @@ drain 102
             b"SERVER_ERROR out of memory storing object\r\nNOT_FOUND\r\nSERVER_ERROR link lost\r\nEND\r\n",
             b"STORED\r\nSERVER_ERROR out of memory storing object\r\nSERVER_ERROR link lost\r\nVALUE n 0 2\r\n99\r\nEND\r\n",
             b"STORED\r\n10\r\nSERVER_ERROR link lost\r\nVALUE n 0 2\r\n10\r\nEND\r\n",
+        ],
+    },
+    // two servers: the first one's replies come first, and the second one owns what was asked first
+    Script {
+        text: b"pool 2 1 67108864 1000
+point 98500190 0
+point b975c10c 1
+bytes 0 set a 0 0 1\\r\\nx\\r\\nset abc 0 0 1\\r\\ny\\r\\nget a abc\\r\\n
+turn 0
+turn 0
+turn 0
+toserver 0 1 all
+toserver 1 1 all
+serve 0 1 100
+serve 0 1 100
+serve 1 1 100
+serve 1 1 100
+toproxy 0 all
+reply 0
+reply 0
+emit 0
+toproxy 1 all
+reply 1
+reply 1
+emit 0
+emit 0
+emit 0
+",
+        outputs: &[
+            b"STORED\r\nSTORED\r\nVALUE a 0 1\r\nx\r\nVALUE abc 0 1\r\ny\r\nEND\r\n",
+            b"SERVER_ERROR out of memory storing object\r\nSTORED\r\nVALUE abc 0 1\r\ny\r\nEND\r\n",
+            b"STORED\r\nSERVER_ERROR out of memory storing object\r\nVALUE a 0 1\r\nx\r\nEND\r\n",
+        ],
+    },
+    // a lost command is served after a newer one
+    Script {
+        text: b"pool 1 1 67108864 1000
+bytes 0 set n 0 0 1\\r\\n1\\r\\n
+drain 100
+bytes 0 incr n 1\\r\\n
+turn 0
+lost 0
+emit 0
+back 0
+bytes 0 set n 0 0 1\\r\\n5\\r\\n
+turn 0
+toserver 0 2 all
+serve 0 2 101
+toproxy 0 all
+reply 0
+emit 0
+toserver 0 1 10
+serve 0 1 101
+bytes 0 get n\\r\\n
+drain 102
+",
+        outputs: &[
+            b"STORED\r\nSERVER_ERROR link lost\r\nSTORED\r\nVALUE n 0 1\r\n6\r\nEND\r\n",
+            b"SERVER_ERROR out of memory storing object\r\nSERVER_ERROR link lost\r\nSTORED\r\nVALUE n 0 1\r\n6\r\nEND\r\n",
+        ],
+    },
+    // a drain drops a lost command
+    Script {
+        text: b"pool 1 1 67108864 1000
+bytes 0 set n 0 0 1\\r\\n1\\r\\n
+drain 100
+bytes 0 incr n 1\\r\\n
+turn 0
+lost 0
+emit 0
+back 0
+bytes 0 set n 0 0 1\\r\\n5\\r\\n
+turn 0
+toserver 0 2 all
+serve 0 2 101
+toproxy 0 all
+reply 0
+emit 0
+bytes 0 get n\\r\\n
+drain 102
+",
+        outputs: &[
+            b"STORED\r\nSERVER_ERROR link lost\r\nSTORED\r\nVALUE n 0 1\r\n5\r\nEND\r\n",
+            b"SERVER_ERROR out of memory storing object\r\nSERVER_ERROR link lost\r\nSTORED\r\nVALUE n 0 1\r\n5\r\nEND\r\n",
         ],
     },
 ];
