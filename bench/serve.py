@@ -1,9 +1,10 @@
 #!/usr/bin/env python3
 """Measures what a request costs a server, beside Debian's memcached with one thread; or a proxy, beside Debian's nutcracker.
 
-Usage: serve.py SERVER [--through PROXY] [--beside PROGRAM] [--cases NAME,NAME ..] [--seconds S] [--rounds N]
+Usage: serve.py SERVER [--through PROXY] [--stores KIND,KIND] [--beside PROGRAM] [--cases NAME,NAME ..] [--seconds S] [--rounds N]
 
-SERVER is the built mc_serverd. (memcached in its place measures memcached beside itself: all ratios are to be about 1.)
+SERVER is the built mc_serverd. It is measured with each of its stores, `table` and `lru`, or those of --stores. (memcached in its
+place measures memcached beside itself, with --stores table: all ratios are to be about 1.)
 Both servers are filled, and loaded in turn within one run: for each case many short rounds, each of both servers.
 The load is load.c, which is built by `cc -O2` into a temporary folder: it keeps a batch of requests of each connection
 outstanding and looks at every reply. Where there are two processors or more, both servers have one of their own and the
@@ -42,6 +43,7 @@ sys.path.insert(0, str(HERE.parent / "tests" / "lib"))
 
 from servers import Proxy, Server, connected
 
+STORES = ["table", "lru"]  # the first is SERVER's default
 COST_OF_AN_ITEM = 64
 KEY_SIZE = 20
 WARM_UP = 0.3
@@ -177,7 +179,8 @@ class Pair:
 
     def server(self, program):
         budget = self.data.keys * (KEY_SIZE + self.data.size + COST_OF_AN_ITEM) * 11 // 10
-        return self.stack.enter_context(Server(program, budget, self.data.keys * 11 // 10))
+        words = self.bench.words_of(program)
+        return self.stack.enter_context(Server(program, budget, self.data.keys * 11 // 10, words=words))
 
     def load(self, each, words):
         return Load(self.bench.load, each, self.bench.processor(1), self.data, words)
@@ -228,8 +231,8 @@ class PairOfProxies(Pair):
 class Bench:
     """The programs that are measured, and where."""
 
-    def __init__(self, asked, folder):
-        self.server, self.is_of_proxies = asked.server, asked.through is not None
+    def __init__(self, asked, folder, store):
+        self.server, self.store, self.is_of_proxies = asked.server, store, asked.through is not None
         self.programs = [asked.through or asked.server, asked.beside]
         self.seconds, self.rounds = asked.seconds, asked.rounds
         self.processors = processors()
@@ -241,6 +244,10 @@ class Bench:
         if number < len(self.processors):
             return self.processors[number]
         return self.processors[2] if len(self.processors) > 2 else None
+
+    def words_of(self, program):
+        """The words for SERVER's store, where it is not the default."""
+        return ["--store", self.store] if program == self.server and self.store != STORES[0] else []
 
     def pair(self, data):
         return (PairOfProxies if self.is_of_proxies else Pair)(self, data)
@@ -331,8 +338,8 @@ def told_machine(bench, versions):
     print(f"Load of the machine at the start: {os.getloadavg()[0]:.2f}.\n")
 
 
-def names_of(programs):
-    names = [pathlib.Path(program).name for program in programs]
+def names_of(bench):
+    names = [" ".join([pathlib.Path(program).name, *bench.words_of(program)]) for program in bench.programs]
     return names if names[0] != names[1] else [f"{names[0]} 1", f"{names[1]} 2"]
 
 
@@ -372,7 +379,7 @@ def others_told(others, is_of_proxies):
 
 
 def run(bench, all_cases, wanted):
-    names = names_of(bench.programs)
+    names = names_of(bench)
     told_machine(bench, versions(bench))
     heads_told(bench, names)
     rows = {"memory": memory_rows_of_proxies if bench.is_of_proxies else memory_rows, "flush": flush_rows}
@@ -398,6 +405,7 @@ def main():
     words = argparse.ArgumentParser(description=__doc__, formatter_class=argparse.RawDescriptionHelpFormatter)
     words.add_argument("server", metavar="SERVER")
     words.add_argument("--through", metavar="PROXY")
+    words.add_argument("--stores", default=",".join(STORES), help="the kinds of SERVER's store (table,lru)")
     words.add_argument("--beside", metavar="PROGRAM", help="memcached, or for a proxy nutcracker")
     words.add_argument("--cases", help="the names of some, with commas; all, where none are given")
     words.add_argument("--seconds", type=float, default=0.25, help="of a round, for each server (0.25)")
@@ -408,6 +416,9 @@ def main():
     wanted = asked.cases.split(",") if asked.cases else names
     if not set(wanted) <= set(names):
         words.error(f"the cases are {', '.join(names)}")
+    stores = asked.stores.split(",") if asked.through is None else STORES[:1]
+    if not set(stores) <= set(STORES):
+        words.error(f"the stores are {', '.join(STORES)}")
     if asked.rounds < 2:
         words.error("a case has two rounds or more")
     beside = "nutcracker" if asked.through else "memcached"
@@ -415,7 +426,8 @@ def main():
     if asked.beside is None:
         words.error(f"{beside} is not installed (Debian: {beside})")
     with tempfile.TemporaryDirectory() as folder:
-        run(Bench(asked, pathlib.Path(folder)), cases, wanted)
+        for store in stores:
+            run(Bench(asked, pathlib.Path(folder), store), cases, wanted)
 
 
 if __name__ == "__main__":

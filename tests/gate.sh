@@ -43,6 +43,7 @@ add tests/gate/uncited.py
 add tests/gate/believed.py --check
 add tests/gate/proving.py
 add tests/gate/tutorial.py
+add tests/gate/hashes.py
 add bench/plot.py --check
 add tests/gate/examples.sh
 add tests/gate/prefixes.py

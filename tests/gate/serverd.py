@@ -32,8 +32,8 @@ ANSWER = b"VALUE k 0 1000000\r\n" + VALUE + b"\r\nEND\r\n"
 SETTINGS = {
     "the_defaults": ("", "listen 127.0.0.1:11211 budget 67108864 items 65536 accept 0"),
     "the_least": (
-        "--listen a:1 --budget 1 --items 1 --accept 0 --answer 1024 --idle 0 --report 0",
-        "listen a:1 budget 1 items 1 accept 0 answer 1024",
+        "--listen a:1 --budget 1 --items 1 --store lru --accept 0 --answer 1024 --idle 0 --report 0",
+        "listen a:1 budget 1 items 1 accept 0 store lru answer 1024",
     ),
     "the_greatest": (
         "--listen=Cache-7.example.org:65535 --budget=1099511627776 --items=16777216 --accept=18446744073709551615"
@@ -42,7 +42,7 @@ SETTINGS = {
         " answer 1099511627776 idle 18446744073709551615 report 18446744073709551615",
     ),
     "the_defaults_in_words": (
-        "--answer 268435456 --idle 0 --report 0 --items 65536",
+        "--answer 268435456 --idle 0 --report 0 --items 65536 --store table",
         "listen 127.0.0.1:11211 budget 67108864 items 65536 accept 0",
     ),
     "in_another_order": (
@@ -75,6 +75,7 @@ REFUSED = {
     ),
     "no_seconds": (["--idle", "1s"], "invalid value '1s' for '--idle <seconds>': invalid digit found in string"),
     "seconds_below_0": (["--report=-1"], "invalid value '-1' for '--report <seconds>': invalid digit found in string"),
+    "an_unknown_store": (["--store", "list"], "invalid value 'list' for '--store <kind>'\n  [possible values: table, lru]"),
     "no_number": (["--accept", "x"], "invalid value 'x' for '--accept <n>': invalid digit found in string"),
     "a_number_below_0": (["--accept=-1"], "invalid value '-1' for '--accept <n>': invalid digit found in string"),
     "too_large_a_number": (
@@ -97,6 +98,20 @@ def no_memory_to_start_is_told():
     words = ["--listen", f"{HOST}:{free_port()}", "--items", "16777216"]
     status, _, errors = PROGRAM.run(*words, limits=[(resource.RLIMIT_AS, 100_000 * KILOBYTE)])
     want((status, errors), (4, "mc_serverd: out of memory\n"))
+
+
+def more_than_65535_items_are_stored():
+    """Either store holds 70,000 items, its limit; one more evicts the one that was used least recently, and no other."""
+    count = 70_000
+    for kind in ("table", "lru"):
+        with start(f"--items {count} --store {kind}") as server, server.connected() as client:
+            client.sendall(b"".join(b"set %d 0 0 1 noreply\r\nx\r\n" % key for key in range(count)))
+            asked(client, b"get 0\r\n", b"VALUE 0 0 1\r\nx\r\nEND\r\n")
+            asked(client, b"set new 0 0 1\r\nx\r\nget 1\r\n", b"STORED\r\nEND\r\n")
+            for first in range(2, count, 100):
+                keys = range(first, min(first + 100, count))
+                values = b"".join(b"VALUE %d 0 1\r\nx\r\n" % key for key in keys)
+                asked(client, b"get %s\r\n" % b" ".join(b"%d" % key for key in keys), values + b"END\r\n")
 
 
 def a_slow_reader_is_waited_for():
@@ -208,6 +223,7 @@ def checks():
     yield from checks_of_connections(start, "mc_serverd", 5)
     for check in (
         no_memory_to_start_is_told,
+        more_than_65535_items_are_stored,
         a_slow_reader_is_waited_for,
         too_large_an_answer_is_refused,
         a_report_is_said,

@@ -155,13 +155,13 @@ class Listener:
 
 
 class Server(Listener):
-    """A server, with a budget of bytes and a limit of items (memcached has its own ways with both)."""
+    """A server, with a budget of bytes and a limit of items (memcached has its own ways with both), and further words."""
 
-    def __init__(self, program, budget=67108864, items=65536, port=None):
+    def __init__(self, program, budget=67108864, items=65536, port=None, words=()):
         port = port or free_port()
         self.says_where = not is_memcached(program)
         if self.says_where:
-            words = f"--listen {HOST}:{port} --budget {budget} --items {items}".split()
+            words = [*f"--listen {HOST}:{port} --budget {budget} --items {items}".split(), *words]
             super().__init__(program, words, port)
         else:
             megabytes = 64 + 2 * budget // 2**20

@@ -18,11 +18,13 @@ mod counted;
 mod counts;
 mod handlers;
 mod hosts;
+mod kinds;
 mod options;
 mod serving;
 mod settings;
 
 pub use clocks::{Seconds, SystemSeconds};
+pub use kinds::{KINDS, StoreKind, kind_named};
 pub use mc_program::ServeError;
 pub use mc_socket::{PIECE_LEN, bind};
 pub use options::{Options, PROGRAM, command};

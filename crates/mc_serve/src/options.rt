@@ -1,5 +1,6 @@
 //! The command line of a server.
 
+use crate::kinds::{KINDS, StoreKind, kind_named};
 use crate::settings::{Service, Settings, USUAL_ANSWER};
 use clap::builder::ValueParser;
 use clap::{Arg, ArgMatches, Command};
@@ -31,13 +32,14 @@ impl<'a> Options<'a> {
     pub fn of(matches: &ArgMatches<'a>) -> Option<Options<'a>> {
         let budget = matches.get_one::<u64>("budget")?;
         let items = matches.get_one::<usize>("items")?;
+        let kind = kind_named(matches.get_str("store")?);
         let service = Service {
             terms: Terms::of(matches),
             answer: matches.get_one::<usize>("answer")?,
         };
         Some(Options {
             listen: matches.get_str("listen")?,
-            settings: Settings::new(budget, items, service)?,
+            settings: Settings::new(budget, items, kind, service)?,
             check: matches.get_flag("check"),
         })
     }
@@ -50,6 +52,7 @@ impl Display for Options<'_> {
         let Settings {
             budget,
             items,
+            kind,
             service,
         } = self.settings;
         let Terms {
@@ -62,6 +65,9 @@ impl Display for Options<'_> {
             f,
             "listen {listen} budget {budget} items {items} accept {accept}"
         )?;
+        if kind == StoreKind::Lru {
+            f.write_str(" store lru")?;
+        }
         if service.answer != USUAL_ANSWER {
             write!(f, " answer {}", service.answer)?;
         }
@@ -82,6 +88,7 @@ pub fn command<'a>(alloc: Global) -> Result<Command<'a>, AllocError> {
         .arg(listen(alloc, "127.0.0.1:11211"))?
         .arg(budget(alloc))?
         .arg(items(alloc))?
+        .arg(store(alloc))?
         .arg(answer(alloc))?
         .arg(idle(alloc))?
         .arg(report(alloc))?
@@ -114,6 +121,17 @@ fn items<'a>(alloc: Global) -> Arg<'a> {
         .value_parser(ValueParser::unsigned(1, MAX_ITEMS as u64))
         .default_value("65536")
         .help("The most items: 1 to 16777216; their table is reserved at the start")
+}
+
+fn store<'a>(alloc: Global) -> Arg<'a> {
+    Arg::new(alloc, "store")
+        .long("store")
+        .value_name("kind")
+        .value_parser(ValueParser::Names(&KINDS))
+        .default_value("table")
+        .help(
+            "What items are kept in: a table of the server's own, or the crate lru's cache with the standard library's hasher",
+        )
 }
 
 fn answer<'a>(alloc: Global) -> Arg<'a> {

@@ -2,6 +2,7 @@
 ghost use Rattle.std.specs.Prelude.{◌≡◌, ◌↔◌, IfSome, IsSome};
 ghost use Rattle.mc_cache.specs.CacheState.{IsWithinBounds};
 
+use crate::kinds::StoreKind;
 use mc_cache::is_within_bounds;
 use mc_program::Terms;
 
@@ -38,6 +39,8 @@ pub struct Settings {
     pub budget: u64,
     /// The most items: 1 to [`MAX_ITEMS`](mc_cache::MAX_ITEMS).
     pub items: usize,
+    /// What the items are kept in.
+    pub kind: StoreKind,
     /// How clients are served.
     pub service: Service,
     ghost within: { IsWithinBounds budget items },
@@ -45,9 +48,9 @@ pub struct Settings {
 
 impl Settings {
     /// These settings, where the budget and the items are within the bounds of a cache.
-    pub fn new(budget: u64, items: usize, service: Service) -> Option<Settings>
+    pub fn new(budget: u64, items: usize, kind: StoreKind, service: Service) -> Option<Settings>
         ensures some { IsSome result ↔ IsWithinBounds budget items }
-        ensures are { IfSome result (λ s. (s.budget ≡ budget) × (s.items ≡ items) × (s.service ≡ service)) }
+        ensures are { IfSome result (λ s. (s.budget ≡ budget) × (s.items ≡ items) × (s.kind ≡ kind) × (s.service ≡ service)) }
     {
         if !is_within_bounds(budget, items) {
             return None;
@@ -55,6 +58,7 @@ impl Settings {
         Some(Settings {
             budget,
             items,
+            kind,
             service,
         })
     }

@@ -1,0 +1,26 @@
+//! Kinds of stores that a server can be over.
+ghost use Rattle.std.specs.Prelude.{◌≡◌};
+ghost use Rattle.mc_serve.specs.Kinds.{kind_named};
+
+/// What a server keeps its items in.
+#[derive(Clone, Copy, Debug, PartialEq, Eq)]
+pub enum StoreKind {
+    /// Our own table, whose keys [`mc_hasher`] hashes.
+    Table,
+    /// lru's cache, whose keys the standard library's `RandomState` hashes.
+    Lru,
+}
+
+/// The names of the kinds. The first is the default.
+pub const KINDS: [&str; 2] = ["table", "lru"];
+
+/// The kind of this name. That of any other is the table.
+pub fn kind_named(name: &str) -> StoreKind
+    ensures { result ≡ kind_named name.now }
+{
+    if name == "lru" {
+        StoreKind::Lru
+    } else {
+        StoreKind::Table
+    }
+}
