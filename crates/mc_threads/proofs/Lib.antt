@@ -3,6 +3,7 @@ pub mod ListLemmas
 pub mod TalkLemmas
 pub mod AtLemmas
 pub mod OpeningLemmas
+pub mod LeastLemmas
 pub mod JoinLemmas
 pub mod GoodLemmas
 pub mod HistoryLemmas

@@ -1,5 +1,5 @@
 -- Which of several causes ends a run, and what is answered for it.
-use Rattle.std.specs.Prelude.{ℕ}
+use Rattle.std.specs.Prelude.{ℕ, ◌≡◌, ◌≤◌, ◌⊎◌, List, Result, Ok, Err, Some, slice_get}
 use Rattle.mc_threads.specs.declared.errors.Ended.{Ended}
 use Rattle.mc_threads.specs.declared.errors.Ended.TheVariants.{GateShut, EndsDiffer, StartFailed, Strange, Memory, Stopped}
 use Rattle.mc_threads.specs.declared.errors.ThreadsError.{ThreadsError}
@@ -13,6 +13,15 @@ rank_of StartFailed = 6
 rank_of Strange = 7
 rank_of Memory = 8
 rank_of Stopped = 9
+
+-- a thread ended by a cause: the caller's, which ended so, or one of the workers, which ended so
+abbrev pub IsCause : {T : Type 0} → Result (Unit {0}) Ended → List (Result T Ended) → Ended → Type 0
+IsCause {T} own results cause = (own ≡ Err cause) ⊎ ((server : ℕ) × (slice_get results server ≡ Some (Err cause)))
+
+-- The cause by which a run ends is that of a thread, and none comes before it; there is none only where no thread ended by a cause.
+abbrev pub IsLeast : {T : Type 0} → Result (Unit {0}) Ended → List (Result T Ended) → Result (Unit {0}) Ended → Type 0
+IsLeast {T} own results (Ok nothing) = (cause : Ended) → IsCause own results cause → ⊥
+IsLeast {T} own results (Err least) = IsCause own results least × ((cause : Ended) → IsCause own results cause → rank_of least ≤ rank_of cause)
 
 -- what is answered for a cause: a thread is stopped only where another one failed
 abbrev pub told_of : Ended → ThreadsError

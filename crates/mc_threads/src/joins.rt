@@ -1,98 +1,83 @@
 //! Joining the workers.
-ghost use Rattle.std.specs.Prelude.{◌≡◌, ◌≤◌, ◌+◌, ◌++◌, ◌∷◌, [], vec_len, map, None, Ok, IfOk};
+ghost use Rattle.std.specs.Prelude.{◌≡◌, ℕ, ◌<◌, ◌≤◌, Ok, Some, vec_len, vec_capacity, slice_get, slice_index_or, IfOk};
+ghost use Rattle.std.specs.PromisedHandle.{KeepsEach};
 ghost use Rattle.rtrb.specs.Ring.{sent, received};
-ghost use Rattle.mc_threads.specs.Accounts.{at};
-ghost use Rattle.mc_threads.specs.Causes.{rank_of};
-ghost use Rattle.mc_threads.specs.Starts.{Each1, Each2, HasWorked, IsOf};
-ghost use Rattle.mc_threads.specs.Talks.{came_from, went_to};
+ghost use Rattle.mc_threads.specs.Causes.{IsLeast};
+ghost use Rattle.mc_threads.specs.Starts.{AreEndsOf, HasSettled};
 
-use crate::errors::{Ended, lesser, rank};
+use crate::errors::{Ended, with_worker};
 use crate::links::Ends;
-use crate::start::{Child, add};
+use crate::start::add;
 use crate::traits::Clock;
 use crate::worker::Done;
 use std::alloc::Global;
-use std::thread::Threads;
+use std::sync::atomic::{AtomicBool, Ordering};
+use std::thread::{Promise, PromisedHandle, Threads};
 
-/// Joins a worker, and brings both ends of both its rings together: nothing is on the way.
-fn join_one<C: Clock + Drop, R: Threads>(
+/// Joins all workers, once the caller's thread has ended: the least cause of all threads, if one failed. What each worker ended with is kept.
+pub fn join_all<T: Drop, P: Promise<Result<T, Ended>>, R: Threads>(
     rt: &R,
-    child: Child<C>,
-    ends: &mut Ends,
-) -> Result<C, Ended>
-    requires { IsOf ends.old child.promise }
-    ensures { IfOk result (λ clock. HasWorked child.promise (C.times child.promise.clock.value) (C.times clock) (sent ends.old.to) (received ends.old.from)) }
+    stop: &AtomicBool,
+    children: Vec<PromisedHandle<Result<T, Ended>, P>>,
+    own: Result<(), Ended>,
+    results: &mut Vec<Result<T, Ended>>,
+) -> Result<(), Ended>
+    requires room { (vec_len results.old ≡ 0) × (vec_len children ≤ vec_capacity results.old) }
+    ensures len { vec_len results.new ≡ vec_len children }
+    ensures joined { KeepsEach P.Promise (vec_len children) children.items results.new.items }
+    ensures least { IsLeast own results.new.items result }
+{
+    if own.is_err() {
+        stop.store(true, Ordering::SeqCst);
+    }
+    let mut least = own;
+    for child in children {
+        let joined = child.join(rt);
+        least = with_worker(least, &joined);
+        let Ok(()) = results.push(joined) else {
+            unreachable!()
+        };
+    }
+    least
+}
+
+/// Brings both ends of both rings of a worker together: nothing is on the way.
+fn settle<C: Drop>(done: Done<C>, ends: &mut Ends) -> Result<C, Ended>
+    requires { AreEndsOf ends.old done }
+    ensures clock { IfOk result (λ clock. clock ≡ done.clock) }
+    ensures went { IfOk result (λ _. received done.from ≡ sent ends.old.to) }
+    ensures came { IfOk result (λ _. sent done.to ≡ received ends.old.from) }
 {
     let Done {
         mut to,
         mut from,
         clock,
-    } = child.join(rt)?;
+    } = done;
     if from.slots_beside(&mut ends.to) != 0 || ends.from.slots_beside(&mut to) != 0 {
         return Err(Ended::EndsDiffer);
     }
     Ok(clock)
 }
 
-/// Keeps the clock, unless something failed.
-fn keep<C: Drop>(
-    clocks: &mut Vec<C>,
-    joined: Result<C, Ended>,
-    failed: Option<Ended>,
-) -> Option<Ended>
-    ensures { result ≡ None → (failed ≡ None) × ((clock : C) × (joined ≡ Ok clock) × (clocks.new.items ≡ clocks.old.items ++ clock ∷ []) × (vec_len clocks.new ≡ vec_len clocks.old + 1)) }
-{
-    match joined {
-        Ok(clock) => match add(clocks, clock) {
-            Ok(()) => failed,
-            Err(error) => lesser(failed, error),
-        },
-        Err(ended) => lesser(failed, ended),
-    }
-}
-
-/// Joins all workers. Of several errors it answers the least.
-pub fn join_all<C: Clock + Drop, R: Threads>(
-    rt: &R,
+/// Brings the ends of all workers' rings together, and gives the workers' clocks.
+pub fn settle_all<C: Clock + Drop>(
     alloc: Global,
-    children: Vec<Child<C>>,
+    results: Vec<Result<Done<C>, Ended>>,
     ends: &mut Vec<Ends>,
 ) -> Result<Vec<C>, Ended>
-    requires len { vec_len children ≡ vec_len ends.old }
-    requires rings { Each2 (λ e child. IsOf e child.promise) (vec_len children) ends.old.items children.items }
-    ensures len { IfOk result (λ clocks. vec_len clocks ≡ vec_len children) }
-    ensures worked { IfOk result (λ clocks. Each1 (λ server child. HasWorked child.promise (C.times child.promise.clock.value)
-        (at (map C.times clocks.items) server) (went_to ends.old.items server) (came_from ends.old.items server)) (vec_len children) children.items) }
+    requires len { vec_len results ≡ vec_len ends.old }
+    requires rings { (server : ℕ) (done : Done C) (e : Ends) → slice_get results.items server ≡ Some (Ok done) → AreEndsOf (slice_index_or ends.old.items server e) done }
+    ensures len { IfOk result (λ clocks. vec_len clocks ≡ vec_len results) }
+    ensures settled { IfOk result (λ clocks. (server : ℕ) → server < vec_len results
+        → HasSettled C C.times results.items clocks.items ends.old.items server) }
 {
     let mut clocks = Vec::new(alloc);
-    let mut failed = None;
     let mut place = 0;
-    for child in children {
-        let joined = join_one(rt, child, &mut ends[place]);
-        failed = keep(&mut clocks, joined, failed);
+    for joined in results {
+        let done = joined?;
+        let clock = settle(done, &mut ends[place])?;
+        add(&mut clocks, clock)?;
         place += 1;
     }
-    match failed {
-        Some(ended) => Err(ended),
-        None => Ok(clocks),
-    }
-}
-
-/// Joins all workers after an error, and answers the least.
-pub fn join_failed<C: Clock + Drop, R: Threads>(
-    rt: &R,
-    children: Vec<Child<C>>,
-    ended: Ended,
-) -> Ended
-    ensures { rank_of result ≤ rank_of ended }
-{
-    let mut least = ended;
-    for child in children {
-        if let Err(other) = child.join(rt) {
-            if rank(other) < rank(least) {
-                least = other;
-            }
-        }
-    }
-    least
+    Ok(clocks)
 }

@@ -3,9 +3,10 @@ ghost use Rattle.std.specs.Prelude.{◌≡◌, ℕ, ◌≢◌, ◌<◌, ◌↔�
 ghost use Rattle.mc_cache.specs.CacheState.{IsWithinBounds, opening_cache};
 ghost use Rattle.mc_proxy.specs.declared.limits.TheConstants.{MAX_SESSIONS};
 ghost use Rattle.mc_threads.specs.Accounts.{Account, at, outs_of, texts_of};
+ghost use Rattle.mc_threads.specs.Workers.{AreLet};
 
 use crate::errors::{Ended, ThreadsError, error_of};
-use crate::joins::{join_all, join_failed};
+use crate::joins::{join_all, settle_all};
 use crate::links::Ends;
 use crate::opening::opened_proxy;
 use crate::rounds::talk;
@@ -16,7 +17,7 @@ use mc_proxy::MAX_SESSIONS;
 use mc_ring::Ring;
 use std::alloc::Global;
 use std::sync::Wait;
-use std::sync::atomic::{AtomicBool, Ordering};
+use std::sync::atomic::AtomicBool;
 use std::thread;
 use std::thread::{Scope, Threads};
 use std::time::Clock as Time;
@@ -70,6 +71,7 @@ fn run_in<'s, E: 's, C: Clock + Send + Drop + 's, G: Gate + Sync, R: Threads + W
         (at (map C.times clocks.items)) (at (map C.times ran.clocks.items))) }
     ensures outputs { IfOk result (λ ran. vec_len ran.outputs ≡ length inputs.now) }
     ensures clocks { IfOk result (λ ran. vec_len ran.clocks ≡ vec_len clocks) }
+    ensures let_in { IfOk result (λ ran. AreLet (vec_len clocks) (G.lets gate.now) (G.knows gate.now) (at (map C.times clocks.items)) (at (map C.times ran.clocks.items))) }
 {
     let mut proxy = opened_proxy(alloc, &config.ring, inputs)?;
     let mut outputs = empty_outputs(alloc, inputs.len())?;
@@ -79,6 +81,7 @@ fn run_in<'s, E: 's, C: Clock + Send + Drop + 's, G: Gate + Sync, R: Threads + W
     };
     let mut ends = Vec::new(alloc);
     let mut children = Vec::new(alloc);
+    let mut results = Vec::with_capacity(alloc, clocks.len())?;
     let started = start_all(
         rt,
         scope,
@@ -91,19 +94,13 @@ fn run_in<'s, E: 's, C: Clock + Send + Drop + 's, G: Gate + Sync, R: Threads + W
         &mut children,
     );
     if let Err(ended) = started {
-        stop.store(true, Ordering::SeqCst);
-        return Err(join_failed(rt, children, ended));
+        join_all(rt, stop, children, Err(ended), &mut results)?;
+        return Err(ended);
     }
-    match talk(rt, stop, alloc, &mut proxy, &mut ends, &mut outputs) {
-        Ok(()) => {
-            let clocks = join_all(rt, alloc, children, &mut ends)?;
-            Ok(Ran { outputs, clocks })
-        }
-        Err(ended) => {
-            stop.store(true, Ordering::SeqCst);
-            Err(join_failed(rt, children, ended))
-        }
-    }
+    let own = talk(rt, stop, alloc, &mut proxy, &mut ends, &mut outputs);
+    join_all(rt, stop, children, own, &mut results)?;
+    let clocks = settle_all(alloc, results, &mut ends)?;
+    Ok(Ran { outputs, clocks })
 }
 
 /// Runs a pool until all requests of its clients are answered: a server on a thread of its own for each clock, and the proxy on the
@@ -127,6 +124,7 @@ pub fn run_threads<C: Clock + Send + Drop, G: Gate + Sync, R: Threads + Wait + T
         (at (map C.times clocks.items)) (at (map C.times ran.clocks.items))) }
     ensures outputs { IfOk result (λ ran. vec_len ran.outputs ≡ length inputs.now) }
     ensures clocks { IfOk result (λ ran. vec_len ran.clocks ≡ vec_len clocks) }
+    ensures let_in { IfOk result (λ ran. AreLet (vec_len clocks) (G.lets gate.now) (G.knows gate.now) (at (map C.times clocks.items)) (at (map C.times ran.clocks.items))) }
     ensures clock_count { IsErrOf result ThreadsError.ClockCount ↔ (vec_len clocks ≢ length config.now.ring.servers) }
     ensures too_many { IsErrOf result ThreadsError.TooManyClients
         ↔ ((vec_len clocks ≡ length config.now.ring.servers) × (MAX_SESSIONS < length inputs.now)) }
@@ -149,6 +147,7 @@ pub fn run_threads<C: Clock + Send + Drop, G: Gate + Sync, R: Threads + Wait + T
                 (at (map C.times clocks.items)) (at (map C.times ran.clocks.items))) }
             ensures outputs { IfOk result (λ ran. vec_len ran.outputs ≡ length inputs.entry.now) }
             ensures clocks { IfOk result (λ ran. vec_len ran.clocks ≡ vec_len clocks) }
+            ensures let_in { IfOk result (λ ran. AreLet (vec_len clocks) (G.lets gate.entry.now) (G.knows gate.entry.now) (at (map C.times clocks.items)) (at (map C.times ran.clocks.items))) }
         { run_in(rt, scope, alloc, config, inputs, clocks, gate, shared) },
     );
     ran.map_err(error_of)

@@ -1,19 +1,15 @@
-use Rattle.std.proofs.Common.{◌≡◌, ℕ, ◌≤◌, ◌+◌, drop, map, vec_len, get_or, None}
+use Rattle.std.proofs.Common.{◌≡◌, ℕ, ◌+◌, ◌<◌, ◌≤◌, get_or, vec_items, vec_len, vec_capacity}
 use Rattle.std.specs.Vec.Iter.{into_iter_items, into_iter_len}
-use Rattle.mc_threads.specs.Accounts.{at}
-use Rattle.mc_threads.specs.Starts.{Each1, HasWorked}
-use Rattle.mc_threads.specs.Talks.{came_from, went_to}
-use Rattle.mc_threads.specs.declared.links.Ends.{Ends}
+use Rattle.std.specs.PromisedHandle.{KeepsAt}
+use Rattle.mc_threads.specs.Causes.{IsLeast}
 use Rattle.mc_threads.proofs.joins.join_all.Given as goal
 
--- the workers so far were joined, and each clock kept where none failed; the others' rings are as they were
+-- the first so many workers were joined, in order; of their causes the least is known
 abbrev pub invariant-loop-child : goal.invariant-loop-child
 invariant-loop-child g l = record {
-  ends : vec_len l.ends ≡ vec_len l.fn.children;
-  few : l.place + into_iter_len l.child-iterator ≡ vec_len l.fn.children;
-  left : into_iter_items l.child-iterator ≡ drop l.place l.fn.children.items;
-  others : (i : ℕ) (e : Ends) → l.place ≤ i → get_or l.ends.items i e ≡ get_or l.initial.ends.items i e;
-  len : l.failed ≡ None → vec_len l.clocks ≡ l.place;
-  worked : l.failed ≡ None → Each1 (λ server child. HasWorked child.promise (g.C.Clock.times child.promise.clock.value)
-      (at (map g.C.Clock.times l.clocks.items) server) (went_to l.initial.ends.items server) (came_from l.initial.ends.items server)) l.place l.fn.children.items;
+  count : vec_len l.results + into_iter_len l.child-iterator ≡ into_iter_len l.initial.child-iterator;
+  left : (k : ℕ) (d : _) → k < into_iter_len l.child-iterator → get_or (into_iter_items l.child-iterator) k d ≡ get_or (into_iter_items l.initial.child-iterator) (vec_len l.results + k) d;
+  kept : (k : ℕ) (x : _) → k < vec_len l.results → KeepsAt g.P.Promise (into_iter_items l.initial.child-iterator) k (get_or (vec_items l.results) k x);
+  room : into_iter_len l.initial.child-iterator ≤ vec_capacity l.results;
+  least : IsLeast l.fn.own (vec_items l.results) l.least;
 }

@@ -1,28 +1,60 @@
-use Rattle.std.proofs.Common.{rules, ◌≡◌, ◌∙◌, ℕ, List, [], arith, length, map, refl, vec_len, sym, subst}
+use Rattle.std.proofs.Common.{rules, ◌≡◌, ◌∙◌, ℕ, ◌<◌, List, [], Ok, Some, arith, get_or, length, map, refl, slice_get, vec_len, sym, ap, subst}
+use Rattle.std.proofs.lemmas.Option.{get_or_from_slice_get, slice_get_within}
 use Rattle.mc_cache.specs.CacheState.{opening_cache}
 use Rattle.mc_cache_laws.proofs.GoodStepLemmas.{opening_is_good}
 use Rattle.mc_threads.specs.Accounts.{at, outs_of, texts_of}
-use Rattle.mc_threads.specs.Talks.{came_from, went_to}
+use Rattle.mc_threads.specs.Starts.{Each2, IsOf}
+use Rattle.mc_threads.specs.Links.{SameEnds}
+use Rattle.mc_threads.specs.Talks.{HasEnded, came_from, went_to}
 use Rattle.mc_threads.specs.Workers.{IsWorked}
-use Rattle.mc_threads.proofs.JoinLemmas.{fresh_ends, worked_at}
-use Rattle.mc_threads.proofs.ListLemmas.{still_of}
+use Rattle.mc_threads.specs.declared.worker.Bounds.{Bounds}
+use Rattle.rtrb.specs.Ring.{received, sent}
+use Rattle.mc_threads.proofs.AtLemmas.{some_at}
+use Rattle.mc_threads.proofs.JoinLemmas.{fresh_ends, let_at, worked_at}
+use Rattle.mc_threads.proofs.LeastLemmas.{went_well}
+use Rattle.mc_threads.proofs.ListLemmas.{still_ends, still_of}
 use Rattle.mc_threads.proofs.CompleteLemmas.{completes}
 use Rattle.mc_threads.proofs.TalkLemmas.{talks_as}
 use Rattle.mc_threads.proofs.runs.run_in.Goals as goal
 
-pub join_all-requires-clause-rings : goal.join_all-requires-clause-rings
-join_all-requires-clause-rings g c =
-    still_of (λ h. h.promise) _ _ _ (vec_len c.start_all-started.new.children) (λ i x y lt. c.in_default.ensures.rings i x y (omega (arith, lt, c.in_default.ensures.lens.1)))
-    (λ i x y lt. c.in-Ok.ensures.rings i x y (omega (arith, lt, c.in_default.ensures.lens.0, c.in_default.ensures.lens.1)))
+pub settle_all-requires-clause-rings : goal.settle_all-requires-clause-rings
+settle_all-requires-clause-rings g c server done e is =
+    let results = c.join_all-2.new.results.items in
+    let children = c.start_all-started.new.children.items in
+    let size : length c.join_all-2.new.results.items ≡ vec_len c.join_all-2.new.results = search rules in
+    let inside = slice_get_within results server (Ok done) is in
+    let low : server < vec_len c.start_all-started.new.children = omega (arith, inside, size, c.join_all-2.ensures.len) in
+    let k = (c.join_all-2.ensures.joined server (Ok done) low).1 in
+    let kept = rw (get_or_from_slice_get results server (Ok done) (Ok done) is) at k.kept in
+    let still : Each2 SameEnds (vec_len c.start_all-started.new.all) c.start_all-started.new.all.items c.talk-own.new.ends.items =
+    went_well c.talk-own.result results _ c.in_ok-join_all-2.ensures.least c.talk-own.ensures.rings in
+    let rings = still_of (λ h. h.promise) _ _ _ (vec_len c.start_all-started.new.children) (λ i x y lt. c.in_default.ensures.rings i x y (omega (arith, lt, c.in_default.ensures.lens.1)))
+    (λ i x y lt. still i x y (omega (arith, lt, c.in_default.ensures.lens.0, c.in_default.ensures.lens.1))) in
+    let own : IsOf (get_or c.talk-own.new.ends.items server e) k.handle.promise =
+    subst (λ h. IsOf (get_or c.talk-own.new.ends.items server e) h.promise) (sym k.handle_is) (rings server e k.handle low) in
+    still_ends (get_or c.talk-own.new.ends.items server e) k.handle.promise done own kept.0 kept.1
 
-pub returns-in-Ok-clause-account : goal.returns-in-Ok-clause-account
-returns-in-Ok-clause-account g c =
+pub returns-clause-let_in : goal.returns-clause-let_in
+returns-clause-let_in g c server low =
+    let results = c.join_all-2.new.results.items in
+    let clocks : length c.args.clocks.items ≡ vec_len c.args.clocks = search rules in
+    let lens = c.in_default.ensures.lens in
+    let below : server < vec_len c.join_all-2.new.results = omega (arith, low, lens.1, c.join_all-2.ensures.len) in
+    let s = c.in_ok-clocks.ensures.settled server below in
+    let k = (c.join_all-2.ensures.joined server (Ok s.done) (omega (arith, low, lens.1))).1 in
+    let kept = rw (get_or_from_slice_get results server (Ok s.done) (Ok s.done) s.ended) at k.kept in
+    let_at (λ h. h.promise) g.C.Clock.times g.G.Gate.lets g.G.Gate.knows c.args.gate.now (vec_len c.args.clocks) server c.start_all-started.new.children.items c.args.clocks.items k.handle _ (g.C.Clock.times s.done.clock)
+    (omega (arith, clocks)) k.handle_is c.in_default.ensures.gates c.in_default.ensures.clocks low s.clock kept.3
+
+pub returns-clause-account : goal.returns-clause-account
+returns-clause-account g c =
     let ring = c.args.config.now.ring in
     let clients : ℕ = length c.args.inputs.now in
     let texts = texts_of c.args.inputs.now in
     let outputs = c.in_ok-outputs.outputs.items in
+    let results = c.join_all-2.new.results.items in
     let began = c.start_all-started.new.all.items in
-    let ends = c.talk.new.ends.items in
+    let ends = c.talk-own.new.ends.items in
     let servers : vec_len c.args.clocks ≡ length c.args.config.now.ring.servers = c.requires.clocks in
     let lens = c.in_default.ensures.lens in
     let many : length c.start_all-started.new.all.items ≡ vec_len c.start_all-started.new.all = search rules in
@@ -32,16 +64,25 @@ returns-in-Ok-clause-account g c =
     let fresh = fresh_ends c.start_all-started.new.all.items c.start_all-started.new.children.items (vec_len c.args.clocks) (many ∙ lens.0) (omega (arith, handles, lens.1)) c.in_default.ensures.fresh in
     let talks = talks_as ring clients texts texts (λ _. []) (outs_of outputs) (λ _. []) (went_to began) (λ _. []) (came_from began) c.in_ok-proxy.proxy
     (λ n. refl) (λ n. sym (c.in_ok-outputs.ensures.empty n)) (λ n. sym (fresh n).0) (λ n. sym (fresh n).1) c.in_ok-proxy.ensures in
-    let ended = c.in-Ok.ensures.ended ring clients texts (many ∙ lens.0 ∙ servers) (several ∙ c.in_ok-outputs.ensures.len) talks in
-    completes ring (opening_cache c.args.config.now.budget c.args.config.now.items 0) clients texts (outs_of c.talk.new.outputs.items) ended.went (came_from ends)
-    (at (map g.C.Clock.times c.args.clocks.items)) (at (map g.C.Clock.times c.in_ok-clocks-in-Ok.clocks.items)) c.talk.new.proxy
+    let talked : HasEnded c.in_ok-outputs.outputs.items c.talk-own.new.outputs.items c.start_all-started.new.all.items c.talk-own.new.ends.items c.in_ok-proxy.proxy c.talk-own.new.proxy =
+    went_well c.talk-own.result results _ c.in_ok-join_all-2.ensures.least c.talk-own.ensures.ended in
+    let ended = talked ring clients texts (many ∙ lens.0 ∙ servers) (several ∙ c.in_ok-outputs.ensures.len) talks in
+    completes ring (opening_cache c.args.config.now.budget c.args.config.now.items 0) clients texts (outs_of c.talk-own.new.outputs.items) ended.went (came_from ends)
+    (at (map g.C.Clock.times c.args.clocks.items)) (at (map g.C.Clock.times c.in_ok-clocks.clocks.items)) c.talk-own.new.proxy
     (opening_is_good c.args.config.now.budget c.args.config.now.items 0 c.requires.bounds.some_items (omega arith)) ended.talks ended.quiet
     (λ server low.
-    let w = worked_at (λ h. h.promise) g.C.Clock.times (record { budget = c.args.config.now.budget; items = c.args.config.now.items }) (vec_len c.args.clocks) server
-    c.start_all-started.new.children.items c.start_all-started.new.all.items c.args.clocks.items (at (map g.C.Clock.times c.in_ok-clocks-in-Ok.clocks.items) server) (went_to ends server) (came_from ends server)
-    (omega (arith, handles, lens.1)) (omega (arith, many, lens.0)) (omega (arith, clocks)) c.in_default.ensures.bounds c.in_default.ensures.clocks (omega (arith, low, servers))
-    (λ h. c.in_ok-clocks-in-Ok.ensures.worked server h (omega (arith, low, servers, lens.1))) in (
+    let at_own : server < vec_len c.args.clocks = omega (arith, low, servers) in
+    let below : server < vec_len c.join_all-2.new.results = omega (arith, low, servers, lens.1, c.join_all-2.ensures.len) in
+    let s = c.in_ok-clocks.ensures.settled server below in
+    let k = (c.join_all-2.ensures.joined server (Ok s.done) (omega (arith, low, servers, lens.1))).1 in
+    let kept = rw (get_or_from_slice_get results server (Ok s.done) (Ok s.done) s.ended) at k.kept in
+    let bounds : Bounds = record { budget = c.args.config.now.budget; items = c.args.config.now.items } in
+    let w = worked_at (λ h. h.promise) g.C.Clock.times bounds (vec_len c.args.clocks) server c.start_all-started.new.children.items c.args.clocks.items k.handle
+    (at (map g.C.Clock.times c.in_ok-clocks.clocks.items) server) (went_to ends server) (came_from ends server) (g.C.Clock.times s.done.clock) (received s.done.from) (sent s.done.to)
+    (omega (arith, handles, lens.1)) (omega (arith, clocks))
+    (ap (λ h. h.promise.bounds.value) k.handle_is ∙ c.in_default.ensures.bounds server (some_at c.start_all-started.new.all.items server (omega (arith, low, servers, many, lens.0))) k.handle at_own)
+    k.handle_is c.in_default.ensures.clocks at_own s.clock (sym s.went) (sym s.came) kept.2 in (
       w.0,
       subst (λ (bytes : List ℕ). IsWorked (opening_cache c.args.config.now.budget c.args.config.now.items 0) (at (map g.C.Clock.times c.args.clocks.items) server)
-          (at (map g.C.Clock.times c.in_ok-clocks-in-Ok.clocks.items) server) bytes (came_from ends server) w.0) (ended.quit server low) w.1,
+          (at (map g.C.Clock.times c.in_ok-clocks.clocks.items) server) bytes (came_from ends server) w.0) (ended.quit server low) w.1,
     ))
