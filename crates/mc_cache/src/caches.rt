@@ -133,8 +133,10 @@ impl<S: Store + Drop> Cache<S> {
             → length (value_at other self.new.items) ≤ length (value_at other self.old.items) }
     {
         let Some(found) = self.settle_in_front(key, moment) else {
+            self.store.retrieved(false);
             return Reply::Miss;
         };
+        self.store.retrieved(true);
         self.touch_front(key, exptime, moment);
         Reply::Hit {
             flags: found.flags,

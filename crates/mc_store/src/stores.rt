@@ -97,4 +97,8 @@ pub trait Store {
     fn clear(&mut self)
         ensures items { items self.new ≡ [] }
         ensures most { most self.new ≡ most self.old };
+
+    /// Is told that a retrieval of a key was answered, and whether an item is shown. A store that counts them says what it does with
+    /// that; no other does anything.
+    fn retrieved(&self, _is_hit: bool) {}
 }

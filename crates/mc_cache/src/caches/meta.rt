@@ -34,8 +34,14 @@ impl<S: Store + Drop> Cache<S> {
         ensures distinct { (key : List ℕ) → body_at key (without key self.old.items) ≡ None }
     {
         match self.settle_in_front(key, moment) {
-            Some(found) => self.show_found(key, get, found, moment),
-            None => self.show_made(key, get, moment),
+            Some(found) => {
+                self.store.retrieved(true);
+                self.show_found(key, get, found, moment)
+            }
+            None => {
+                self.store.retrieved(false);
+                self.show_made(key, get, moment)
+            }
         }
     }
 
