@@ -8,6 +8,7 @@ server listens at a port of 127.0.0.1 that was free a moment ago, and is ended w
 as well is in connections.py.
 """
 
+import contextlib
 import pathlib
 import resource
 import subprocess
@@ -82,6 +83,50 @@ REFUSED = {
         ["--accept", "18446744073709551616"],
         "invalid value '18446744073709551616' for '--accept <n>': number too large to fit in target type",
     ),
+}
+
+
+# What is there before a command: nothing, the item `k`, or a dead one.
+BEFORE = {"absent": [], "held": [b"set k 0 0 1\r\n5\r\n"], "dead": [b"set k 0 -1 1\r\n5\r\n"]}
+
+# A command on the key `k`, and by how much it moves (hits, misses, stores, expired) where `k` is absent, held and dead.
+NOTHING, HIT, MISS, STORE = (0, 0, 0, 0), (1, 0, 0, 0), (0, 1, 0, 0), (0, 0, 1, 0)
+DEAD_MISS, DEAD, DEAD_STORE = (0, 1, 0, 1), (0, 0, 0, 1), (0, 0, 1, 1)
+COUNTED = {
+    **dict.fromkeys(
+        (b"get k", b"gets k", b"gat 60 k", b"gats 60 k", b"mg k", b"mg k v", b"mg k t T30 v q", b"mg k v R30"),
+        (MISS, HIT, DEAD_MISS),
+    ),
+    b"get k k": ((0, 2, 0, 0), (2, 0, 0, 0), (0, 2, 0, 1)),
+    b"get a k b": ((0, 3, 0, 0), (1, 2, 0, 0), (0, 3, 0, 1)),
+    b"mg k N30 v": ((0, 1, 1, 0), HIT, (0, 1, 1, 1)),
+    b"set k 0 0 1\r\nx": (STORE, STORE, DEAD_STORE),
+    b"set k 0 0 1 noreply\r\nx": (STORE, STORE, DEAD_STORE),
+    b"add k 0 0 1\r\nx": (STORE, NOTHING, DEAD_STORE),
+    b"replace k 0 0 1\r\nx": (NOTHING, STORE, DEAD),
+    b"append k 0 0 1\r\nx": (NOTHING, STORE, DEAD),
+    b"prepend k 0 0 1\r\nx": (NOTHING, STORE, DEAD),
+    b"cas k 0 0 1 1\r\nx": (NOTHING, STORE, DEAD),
+    b"cas k 0 0 1 9\r\nx": (NOTHING, NOTHING, DEAD),
+    b"ms k 1\r\nx": (STORE, STORE, DEAD_STORE),
+    b"ms k 1 ME\r\nx": (STORE, NOTHING, DEAD_STORE),
+    b"ms k 1 MA\r\nx": (NOTHING, STORE, DEAD),
+    b"ms k 1 MP\r\nx": (NOTHING, STORE, DEAD),
+    b"ms k 1 MR\r\nx": (NOTHING, STORE, DEAD),
+    b"ms k 1 C9\r\nx": (NOTHING, NOTHING, DEAD),
+    b"ms k 1 C1\r\nx": (NOTHING, STORE, DEAD),
+    b"ms k 1 z\r\nx": (NOTHING, NOTHING, NOTHING),
+    b"touch k 60": (NOTHING, NOTHING, DEAD),
+    b"delete k": (NOTHING, NOTHING, DEAD),
+    b"md k": (NOTHING, NOTHING, DEAD),
+    b"md k C9": (NOTHING, NOTHING, DEAD),
+    b"md k I": (NOTHING, NOTHING, DEAD),
+    b"incr k 1": (NOTHING, STORE, DEAD),
+    b"decr k 1": (NOTHING, STORE, DEAD),
+    b"ma k": (NOTHING, STORE, DEAD),
+    b"ma k N0": (STORE, STORE, DEAD_STORE),
+    b"ma k C9": (NOTHING, NOTHING, DEAD),
+    **dict.fromkeys((b"flush_all", b"flush_all 9", b"version", b"mn", b"stats", b"get"), (NOTHING, NOTHING, NOTHING)),
 }
 
 
@@ -175,6 +220,30 @@ def a_report_is_said():
         want(fields, {key: str(number) for key, number in wanted.items()})
 
 
+def counts_of(server, requests):
+    """What a server reports of hits, misses, stores and dead items, once it has taken so many requests."""
+    fields = {"requests": ""}
+    for _ in range(9):
+        fields = fields_of(lines_said(server)[0], "mc_serverd")
+        if fields["requests"] == str(requests):
+            break
+    return tuple(int(fields[key]) for key in ("requests", "hits", "misses", "stores", "expired"))
+
+
+def each_command_is_counted(at, before):
+    """Which counts each command moves, and by how much, where its key is absent, held or dead: each by a server of its own."""
+    with contextlib.ExitStack() as stack:
+        tried = []
+        for command, moves in COUNTED.items():
+            server = stack.enter_context(start("--report 1 --items 10"))
+            client = stack.enter_context(server.connected())
+            client.sendall(b"".join(before) + command + b"\r\nmn\r\n")
+            tried.append((command, server, moves[at]))
+        for command, server, (hits, misses, stores, expired) in tried:
+            wanted = (len(before) + 2, hits, misses, stores + len(before), expired)
+            want((command, counts_of(server, len(before) + 2)), (command, wanted))
+
+
 def idle_connections_hold_little():
     """1,000 clients each store and read a large value. Idle, they cost less than 100 MB beside the items. One of them has
     stored a value for a second, which is gone by then."""
@@ -231,6 +300,8 @@ def checks():
         no_memory_closes_connections_alone,
     ):
         yield check.__name__, check, ()
+    for at, (name, before) in enumerate(BEFORE.items()):
+        yield f"each command is counted, {name}", each_command_is_counted, (at, before)
 
 
 if __name__ == "__main__":

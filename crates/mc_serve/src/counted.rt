@@ -5,7 +5,6 @@ use crate::counts::Counts;
 use mc_item::{Body, Deadline};
 use mc_store::Store;
 use mc_text::Key;
-use std::cell::Cell;
 use std::rc::Rc;
 
 /// A store that does what another does, and counts it: so no layer between has to count. What it counts no contract says.
@@ -13,8 +12,6 @@ use std::rc::Rc;
 pub struct Counted<S: Store + Drop> {
     store: S,
     counts: Rc<Counts>,
-    /// Whether an item was brought to the front and not looked at since.
-    brought: Cell<bool>,
 }
 
 impl<S: Store + Drop> Counted<S> {
@@ -22,24 +19,12 @@ impl<S: Store + Drop> Counted<S> {
     pub fn new(store: S, counts: Rc<Counts>) -> Counted<S>
         ensures { result.store ≡ store }
     {
-        Counted {
-            store,
-            counts,
-            brought: Cell::new(false),
-        }
+        Counted { store, counts }
     }
 
     /// Whether a body is dead at the moment.
     fn is_dead(&self, body: &Body) -> bool {
         body.expiry.is_dead(self.counts.moment())
-    }
-
-    /// Notes that a retrieval looks at the item that it brought to the front: a dead one is no hit.
-    fn note_shown(&self, front: Option<&Body>) {
-        match front {
-            Some(body) if !self.is_dead(body) => self.counts.hit(),
-            _ => self.counts.miss(),
-        }
     }
 
     /// Notes what the store holds.
@@ -70,21 +55,11 @@ impl<S: Store + Drop> Store for Counted<S> {
     }
 
     fn front(&self) -> Option<&Body> {
-        let front = self.store.front();
-        if self.brought.get() {
-            self.brought.set(false);
-            self.note_shown(front);
-        }
-        front
+        self.store.front()
     }
 
     fn bring(&mut self, key: &[u8]) -> bool {
-        let held = self.store.bring(key);
-        self.brought.set(held);
-        if !held {
-            self.counts.miss();
-        }
-        held
+        self.store.bring(key)
     }
 
     fn expire(&mut self, key: &[u8], expiry: Deadline) -> bool {
@@ -143,5 +118,13 @@ impl<S: Store + Drop> Store for Counted<S> {
     fn clear(&mut self) {
         self.store.clear();
         self.note_held();
+    }
+
+    fn retrieved(&self, is_hit: bool) {
+        if is_hit {
+            self.counts.hit();
+        } else {
+            self.counts.miss();
+        }
     }
 }

@@ -29,12 +29,12 @@ impl Counts {
         self.moment.get()
     }
 
-    /// A key of a retrieval was held.
+    /// A retrieval of a key was answered by an item.
     pub fn hit(&self) {
         add_one(&self.hits);
     }
 
-    /// A key of a retrieval was not held.
+    /// A retrieval of a key found none.
     pub fn miss(&self) {
         add_one(&self.misses);
     }
