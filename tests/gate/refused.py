@@ -1,7 +1,8 @@
 #!/usr/bin/env python3
 """Refuses each allocation of a test in turn, and sees that the test passes all the same.
 
-Usage: refused.py PROGRAM TEST     (crates/mc_pool_rows/out/mc_pool_rows_tests, as `rt ci` or `rt test` built it, and a test's name)
+Usage: refused.py PROGRAM TEST     (crates/mc_rows/out/mc_rows_tests or crates/mc_pool_rows/out/mc_pool_rows_tests, as `rt ci` or `rt test` built
+it, and a test's name)
 
 The program is run again and again with a library in front of the C library, which refuses the Nth allocation, for N from 1
 until none is left to refuse; and once more so with the two after it refused too. The test has to make a call again that was

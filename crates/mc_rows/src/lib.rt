@@ -14,6 +14,10 @@ mod limits;
 #[cfg(test)]
 mod pumps;
 #[cfg(test)]
+mod readers;
+#[cfg(test)]
+mod refusals;
+#[cfg(test)]
 mod replies;
 #[cfg(test)]
 mod texts;
