@@ -1,11 +1,11 @@
-//! What the tests lend to a run: clocks, and a gate.
+//! What the tests lend to a run: clocks, and gates.
 
-use mc_threads::{Clock, Gate};
+use mc_threads::{Clock, Gate, REFUSALS};
 use std::sync::atomic::{AtomicU64, Ordering};
 use std::thread;
 
 /// So often a server looks for another one that did not come yet.
-const LOOKS: u32 = 10_000_000;
+const LOOKS: u64 = 10_000_000;
 
 /// A clock that gives one moment again and again, or none.
 #[derive(Drop)]
@@ -30,13 +30,43 @@ impl Clock for Ticks {
     }
 }
 
-/// A gate that is open or shut. At the first request of a server it waits until each other server has come to its own first one.
+/// Looks at a count so often until it is as large, and says whether it was.
+fn reaches(count: &AtomicU64, least: u64, looks: u64) -> bool {
+    for _ in 0..looks {
+        if count.load(Ordering::SeqCst) >= least {
+            return true;
+        }
+        thread::yield_now();
+    }
+    false
+}
+
+/// How often a server's gate was asked, and how many requests it was told of.
+#[derive(Drop)]
+pub struct Calls {
+    pub asked: AtomicU64,
+    pub took: AtomicU64,
+}
+
+impl Calls {
+    /// No call yet.
+    fn none() -> Self {
+        Calls {
+            asked: AtomicU64::new(0),
+            took: AtomicU64::new(0),
+        }
+    }
+}
+
+/// A gate that is open or shut, and counts its calls. At the first request of a server it waits until each other server has come to its
+/// own first one.
 #[derive(Drop)]
 pub struct Meeting {
     pub is_open: bool,
     pub servers: usize,
-    pub came: [AtomicU64; 5],
+    pub calls: [Calls; 5],
     pub missed: AtomicU64,
+    pub wrong: AtomicU64,
 }
 
 impl Meeting {
@@ -45,49 +75,103 @@ impl Meeting {
         Meeting {
             is_open,
             servers: servers.min(5),
-            came: [
-                AtomicU64::new(0),
-                AtomicU64::new(0),
-                AtomicU64::new(0),
-                AtomicU64::new(0),
-                AtomicU64::new(0),
+            calls: [
+                Calls::none(),
+                Calls::none(),
+                Calls::none(),
+                Calls::none(),
+                Calls::none(),
             ],
             missed: AtomicU64::new(0),
+            wrong: AtomicU64::new(0),
         }
-    }
-
-    /// Looks for a server until it has come, and counts it as missed where it does not.
-    fn look_for(&self, server: usize) {
-        for _ in 0..LOOKS {
-            if self.came_to(server) > 0 {
-                return;
-            }
-            thread::yield_now();
-        }
-        self.missed.fetch_add(1, Ordering::SeqCst);
     }
 
     /// How many requests a server has taken.
     pub fn came_to(&self, server: usize) -> u64 {
-        match self.came.get(server) {
-            Some(count) => count.load(Ordering::SeqCst),
+        match self.calls.get(server) {
+            Some(calls) => calls.took.load(Ordering::SeqCst),
             None => 0,
         }
+    }
+
+    /// Whether each server asked once before each request that it took, with the number of those before.
+    pub fn is_asked_for_each(&self) -> bool {
+        for calls in &self.calls {
+            if calls.asked.load(Ordering::SeqCst) != calls.took.load(Ordering::SeqCst) {
+                return false;
+            }
+        }
+        self.wrong.load(Ordering::SeqCst) == 0
     }
 }
 
 impl Gate for Meeting {
-    fn may_take(&self, _server: usize, _taken: u64) -> bool {
+    ghost lets = { λ g server taken. Unit {0} };
+
+    ghost refuses = { λ g server taken. Unit {0} };
+
+    ghost knows = { λ g server. Unit {0} };
+
+    fn may_take(&self, server: usize, taken: u64) -> bool {
+        if let Some(calls) = self.calls.get(server) {
+            calls.asked.fetch_add(1, Ordering::SeqCst);
+        }
+        if taken != self.came_to(server) {
+            self.wrong.fetch_add(1, Ordering::SeqCst);
+        }
         self.is_open
     }
 
     fn took(&self, server: usize) {
-        if let Some(count) = self.came.get(server) {
-            if count.fetch_add(1, Ordering::SeqCst) == 0 {
-                for other in 0..self.servers {
-                    self.look_for(other);
-                }
+        let Some(calls) = self.calls.get(server) else {
+            return;
+        };
+        if calls.took.fetch_add(1, Ordering::SeqCst) > 0 {
+            return;
+        }
+        for other in self.calls.iter().take(self.servers) {
+            if !reaches(&other.took, 1, LOOKS) {
+                self.missed.fetch_add(1, Ordering::SeqCst);
             }
         }
     }
+}
+
+/// A gate that stays shut for the second server. The first one it lets go on once the second was refused so often that its thread ends.
+#[derive(Drop)]
+pub struct ShutForOne {
+    asked: AtomicU64,
+    refused: AtomicU64,
+}
+
+impl ShutForOne {
+    /// One that was not asked yet.
+    pub fn new() -> Self {
+        ShutForOne {
+            asked: AtomicU64::new(0),
+            refused: AtomicU64::new(0),
+        }
+    }
+}
+
+impl Gate for ShutForOne {
+    ghost lets = { λ g server taken. Unit {0} };
+
+    ghost refuses = { λ g server taken. Unit {0} };
+
+    ghost knows = { λ g server. Unit {0} };
+
+    fn may_take(&self, server: usize, _taken: u64) -> bool {
+        if server == 0 {
+            self.asked.fetch_add(1, Ordering::SeqCst);
+            reaches(&self.refused, u64::from(REFUSALS), u64::MAX)
+        } else {
+            reaches(&self.asked, 1, u64::MAX);
+            self.refused.fetch_add(1, Ordering::SeqCst);
+            false
+        }
+    }
+
+    fn took(&self, _server: usize) {}
 }

@@ -1,8 +1,8 @@
 //! Runs of a pool on threads.
 
-use crate::lent::{Meeting, Ticks};
-use mc_ring::{Address, Ring, RingError};
-use mc_threads::{Clock, PoolConfig, Ran, ThreadsError, run_threads};
+use crate::lent::{Meeting, ShutForOne, Ticks};
+use mc_ring::{Address, Point, Ring, RingError};
+use mc_threads::{Clock, Gate, PoolConfig, Ran, ThreadsError, run_threads};
 use std::alloc::{AllocError, Global};
 use std::sync::Wait;
 use std::sync::atomic::Ordering;
@@ -24,19 +24,42 @@ const ASKED: &[u8] =
 const ANSWERED: &[u8] =
     b"STORED\r\nNOT_STORED\r\nSTORED\r\nNOT_STORED\r\nVALUE a 0 2\r\nxz\r\nEND\r\nDELETED\r\nNOT_FOUND\r\n";
 
-/// A ring of the first so many addresses.
-fn ring_of(alloc: Global, servers: usize) -> Result<Ring, RingError> {
+/// What the clocks of servers give that do not fail.
+const MOMENTS: [Option<u32>; 5] = [Some(100); 5];
+
+/// The first so many addresses.
+fn addresses(alloc: Global, servers: usize) -> Result<Vec<Address>, RingError> {
     let mut all = Vec::new(alloc);
     for address in ADDRESSES.iter().take(servers) {
         all.push(Address::new(alloc, address)?)?;
     }
-    Ring::new(alloc, all.as_slice())
+    Ok(all)
 }
 
-/// So many clocks that give this moment.
-fn clocks(alloc: Global, count: usize, moment: Option<u32>) -> Result<Vec<Ticks>, Fail> {
+/// A ring of the first so many addresses.
+fn ring_of(alloc: Global, servers: usize) -> Result<Ring, RingError> {
+    Ring::new(alloc, addresses(alloc, servers)?.as_slice())
+}
+
+/// A ring of two servers, of which the first has the key `abc` and the second has `a`.
+fn ring_of_two(alloc: Global) -> Result<Ring, RingError> {
+    let points = [
+        Point {
+            point: 0x9850_0190,
+            place: 0,
+        },
+        Point {
+            point: 0xb975_c10c,
+            place: 1,
+        },
+    ];
+    Ring::of_points(alloc, addresses(alloc, 2)?.as_slice(), points.as_slice())
+}
+
+/// The first so many clocks, each of which gives its moment.
+fn clocks(alloc: Global, count: usize, moments: &[Option<u32>]) -> Result<Vec<Ticks>, Fail> {
     let mut all = Vec::new(alloc);
-    for _ in 0..count {
+    for &moment in moments.iter().take(count) {
         all.push(Ticks {
             times: Vec::new(alloc),
             moment,
@@ -64,13 +87,13 @@ fn inputs(
 }
 
 /// A run over a ring, with small caches.
-fn run<R: Threads + Wait + Time + Sync>(
+fn run<G: Gate + Sync, R: Threads + Wait + Time + Sync>(
     rt: &R,
     alloc: Global,
     ring: Ring,
     inputs: &Vec<Vec<Vec<u8>>>,
     clocks: Vec<Ticks>,
-    gate: &Meeting,
+    gate: &G,
 ) -> Result<Ran<Ticks>, ThreadsError> {
     let config = PoolConfig {
         ring,
@@ -80,16 +103,20 @@ fn run<R: Threads + Wait + Time + Sync>(
     run_threads(rt, alloc, &config, inputs.as_slice(), clocks, gate)
 }
 
-/// A run over so many servers that ends well.
+/// A run over a ring that ends well. Each of its servers asked the gate before each request.
 fn ran<R: Threads + Wait + Time + Sync>(
     rt: &R,
     alloc: Global,
-    servers: usize,
+    ring: Ring,
     inputs: &Vec<Vec<Vec<u8>>>,
     gate: &Meeting,
 ) -> Result<Ran<Ticks>, Fail> {
-    let clocks = clocks(alloc, servers, Some(100))?;
-    Ok(run(rt, alloc, ring_of(alloc, servers)?, inputs, clocks, gate)?)
+    let clocks = clocks(alloc, ring.servers().len(), MOMENTS.as_slice())?;
+    let ran = run(rt, alloc, ring, inputs, clocks, gate)?;
+    if !gate.is_asked_for_each() {
+        return Err("the gate was asked otherwise".into());
+    }
+    Ok(ran)
 }
 
 /// Whether the first client was answered so.
@@ -111,7 +138,8 @@ fn a_dialogue_over_servers(rt: HostRuntime) -> Result<(), Fail> {
     let alloc = rt.alloc();
     for servers in [1usize, 2, 5] {
         let asked = inputs(alloc, 1, 1, ASKED)?;
-        let ran = ran(&rt, alloc, servers, &asked, &Meeting::of(1, true))?;
+        let ring = ring_of(alloc, servers)?;
+        let ran = ran(&rt, alloc, ring, &asked, &Meeting::of(1, true))?;
         assert!(rt; is_answered(&ran, ANSWERED));
         assert_eq!(rt; moments(&ran), servers.saturating_add(7));
     }
@@ -143,7 +171,13 @@ fn numbers_in(alloc: Global, output: &[u8]) -> Result<Vec<u32>, Fail> {
 fn three_clients_count(rt: HostRuntime) -> Result<(), Fail> {
     let alloc = rt.alloc();
     let asked = inputs(alloc, 3, 100, b"ma n N0 J1 v\r\n")?;
-    let ran = ran(&rt, alloc, 1, &asked, &Meeting::of(1, true))?;
+    let ran = ran(
+        &rt,
+        alloc,
+        ring_of(alloc, 1)?,
+        &asked,
+        &Meeting::of(1, true),
+    )?;
     let mut all = Vec::new(alloc);
     for output in &ran.outputs {
         let numbers = numbers_in(alloc, output.as_slice())?;
@@ -161,33 +195,55 @@ fn three_clients_count(rt: HostRuntime) -> Result<(), Fail> {
     Ok(())
 }
 
+/// A run of one client over a ring, whose servers wait for each other. Each takes its first request, and `quit`. It says what was
+/// answered, and how often one server missed another.
+fn met<R: Threads + Wait + Time + Sync>(
+    rt: &R,
+    alloc: Global,
+    ring: Ring,
+    text: &[u8],
+    answer: &[u8],
+) -> Result<(bool, u64), Fail> {
+    let servers = ring.servers().len();
+    let gate = Meeting::of(servers, true);
+    let asked = inputs(alloc, 1, 1, text)?;
+    let ran = ran(rt, alloc, ring, &asked, &gate)?;
+    let mut is_well = is_answered(&ran, answer);
+    for server in 0..servers {
+        is_well = is_well && gate.came_to(server) == 2;
+    }
+    Ok((is_well, gate.missed.load(Ordering::SeqCst)))
+}
+
 /// Each server waits for each other one to take its first request: workers that run one after another, on one thread or on fewer
 /// than there are servers, miss each other, and threads that always refuse do not come so far.
 #[test]
-fn five_servers_meet(rt: HostRuntime) -> Result<(), Fail> {
+fn servers_meet(rt: HostRuntime) -> Result<(), Fail> {
     let alloc = rt.alloc();
-    let gate = Meeting::of(5, true);
-    let asked = inputs(alloc, 1, 1, b"flush_all\r\n")?;
-    let ran = ran(&rt, alloc, 5, &asked, &gate)?;
-    assert!(rt; is_answered(&ran, b"OK\r\n"));
-    assert_eq!(rt; gate.missed.load(Ordering::SeqCst), 0);
-    for server in 0..5 {
-        assert_eq!(rt; gate.came_to(server), 2);
-    }
+    let two = met(
+        &rt,
+        alloc,
+        ring_of_two(alloc)?,
+        b"get a abc\r\n",
+        b"END\r\n",
+    )?;
+    assert_eq!(rt; two, (true, 0));
+    let five = met(&rt, alloc, ring_of(alloc, 5)?, b"flush_all\r\n", b"OK\r\n")?;
+    assert_eq!(rt; five, (true, 0));
     Ok(())
 }
 
-/// Why a run of one request gives up, with a clock that gives this moment and a gate that is open or not.
-fn refused<R: Threads + Wait + Time + Sync>(
+/// Why a run over two servers gives up, where so many clients ask for a key of each, the clocks give these moments, and there is this gate.
+fn refused<G: Gate + Sync, R: Threads + Wait + Time + Sync>(
     rt: &R,
     alloc: Global,
-    moment: Option<u32>,
-    is_open: bool,
+    clients: usize,
+    moments: &[Option<u32>],
+    gate: &G,
 ) -> Result<ThreadsError, Fail> {
-    let asked = inputs(alloc, 1, 1, b"get a\r\n")?;
-    let clocks = clocks(alloc, 1, moment)?;
-    let gate = Meeting::of(1, is_open);
-    match run(rt, alloc, ring_of(alloc, 1)?, &asked, clocks, &gate) {
+    let asked = inputs(alloc, clients, 1, b"get a abc\r\n")?;
+    let clocks = clocks(alloc, moments.len(), moments)?;
+    match run(rt, alloc, ring_of_two(alloc)?, &asked, clocks, gate) {
         Ok(_) => Err("the run was not refused".into()),
         Err(error) => Ok(error),
     }
@@ -195,9 +251,26 @@ fn refused<R: Threads + Wait + Time + Sync>(
 
 #[test]
 fn runs_that_give_up(rt: HostRuntime) -> Result<(), Fail> {
-    let unkept = refused(&rt, rt.alloc(), None, true)?;
+    let alloc = rt.alloc();
+    let two = [Some(100), Some(100)];
+    let open = Meeting::of(1, true);
+    let one_clock = refused(&rt, alloc, 1, [Some(100)].as_slice(), &open)?;
+    assert_eq!(rt; one_clock, ThreadsError::ClockCount);
+    let crowded = refused(&rt, alloc, 1_025, two.as_slice(), &open)?;
+    assert_eq!(rt; crowded, ThreadsError::TooManyClients);
+    let unkept = refused(&rt, alloc, 1, [None, None].as_slice(), &open)?;
     assert_eq!(rt; unkept, ThreadsError::Memory);
-    let shut = refused(&rt, rt.alloc(), Some(100), false)?;
+    let shut = refused(&rt, alloc, 1, two.as_slice(), &Meeting::of(1, false))?;
     assert_eq!(rt; shut, ThreadsError::GateShut);
+    Ok(())
+}
+
+/// Two threads fail: the first server's clock gives no moment, and to the second the gate stays shut. Whichever ends first, the least
+/// number is answered, and no memory comes last.
+#[test]
+fn the_least_cause_is_answered(rt: HostRuntime) -> Result<(), Fail> {
+    let moments = [None, Some(100)];
+    let cause = refused(&rt, rt.alloc(), 1, moments.as_slice(), &ShutForOne::new())?;
+    assert_eq!(rt; cause, ThreadsError::GateShut);
     Ok(())
 }
