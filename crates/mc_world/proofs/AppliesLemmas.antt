@@ -15,7 +15,7 @@ use Rattle.mc_route.specs.Routes.{route_of_taken}
 use Rattle.mc_link.specs.LinkState.{LinkState, Waiting, can_come_back, up_link}
 use Rattle.mc_link.specs.Turns.{HasStrange, IsIdle, Takes}
 use Rattle.mc_link.specs.declared.turns.Tag.{Tag}
-use Rattle.mc_server.specs.ServerState.{ConnectionState, ServerState, connection_at, output_of, sent_by}
+use Rattle.mc_server.specs.ServerState.{ConnectionState, ServerState, connection_at, output_of, sent_by, with_fresh}
 use Rattle.mc_session.specs.Looks.{IsReady}
 use Rattle.mc_session.specs.Sending.{is_marked}
 use Rattle.mc_session.specs.SessionState.{SessionState, link_at, with_link}

@@ -27,22 +27,22 @@ use Rattle.mc_account.proofs.OpenSessions.{other_number}
 use Rattle.mc_account.proofs.HoldsLemmas.{changed-other, changed-own}
 use Rattle.mc_account.proofs.WithinLemmas.{commands_within, within-more}
 use Rattle.mc_history.specs.Named.{AreReplied}
-use Rattle.mc_world.specs.CourseHolds.{CourseHolds, HaveOneConnection, HaveOneGeneration, IsOfLink}
+use Rattle.mc_world.specs.CourseHolds.{CourseHolds, HaveOneGeneration, IsOfLink}
 use Rattle.mc_world.specs.Joins.{HasServerJoined, ServerJoins}
 use Rattle.mc_world.specs.LogHolds.{LogHolds, ServersHold}
-use Rattle.mc_world.specs.Logs.{HasJoined, IsRingAfter, Log, loses, number_of}
+use Rattle.mc_world.specs.Logs.{HasJoined, IsRingAfter, Log}
 use Rattle.mc_world.specs.Pools.{PoolHolds}
 use Rattle.mc_world.specs.Sites.{SiteHolds}
 use Rattle.mc_world.specs.WorldState.{PoolState, SiteState, WayState, histories_of}
 use Rattle.mc_world.specs.Worlds.{CourseState, first_site, put_out_of, taken_by, text_of}
-use Rattle.mc_world.specs.declared.logs.Logged.{Logged}
 use Rattle.mc_world.specs.declared.logs.Logged.TheVariants.{Happened, Joined}
+use Rattle.mc_world.proofs.ConnectionLemmas.{connections_join}
 use Rattle.mc_world.proofs.DoneLemmas.{same_clients}
 use Rattle.mc_world.proofs.GenerationStayLemmas.{first_of_link}
 use Rattle.mc_world.proofs.LogCommandLemmas.{commands_still}
 use Rattle.mc_world.proofs.LogEntryLemmas.{HasUntakenAt, got_inside, got_pushed}
 use Rattle.mc_world.proofs.LogHistoryLemmas.{histories_go}
-use Rattle.mc_world.proofs.LogLemmas.{number-push, up-push}
+use Rattle.mc_world.proofs.LogLemmas.{up-push}
 use Rattle.mc_world.proofs.LogOutcomeLemmas.{goes_same}
 use Rattle.mc_world.proofs.LogRequestLemmas.{answers_go, requests_go}
 use Rattle.mc_world.proofs.OutputLemmas.{unsent}
@@ -206,17 +206,6 @@ join_generations address opening old new e same h other site at =
           (subst (λ (s : SiteState). IsOfLink (up_link 1) s) (sym last.1) (first_of_link opening)))
     ]
 
--- a server that joins has admitted one connection
-join_connections : (address : List ℕ) (opening : CacheState) (old new : CourseState) → HasServerJoined address opening old new → HaveOneConnection old.log old.pool
-    → HaveOneConnection new.log new.pool
-join_connections address opening old new e h place site at never =
-    let x : Logged = Joined (length old.pool.proxy.ring.servers) address in
-    let none : number_of (loses place) (old.log ++ x ∷ []) ≡ 0 = ap (λ (l : Log). number_of (loses place) l) (sym e.log) ∙ never in
-    elim (got_pushed old.pool.sites (first_site opening) place site (ap (λ (ss : List SiteState). slice_get ss place) (sym e.pool.sites) ∙ at)) [
-      | inl there ↦ h place site there (omega (arith, none, number-push (loses place) old.log x))
-      | inr last ↦ ap (λ (s : SiteState). s.server.admitted) last.1
-    ]
-
 -- the course holds
 pub course_joins : (ring : RingState) (opening : CacheState) (address : List ℕ) (old new : CourseState) → IsGoodCache opening → CourseHolds ring opening old
     → HasServerJoined address opening old new → CourseHolds ring opening new
@@ -226,7 +215,5 @@ course_joins ring opening address old new good h e =
     (pool_joins opening (text_of old) (taken_by old) h.order h.lanes address old.pool new.pool good e.pool h.log.servers.linked h.log.servers.sited h.log.requests.inside h.pool)
     (subst (λ (log : Log). LogHolds ring h.order (put_out_of old) log new.pool) (sym e.log)
     (log_joins ring h.order (put_out_of old) old.log address opening old.pool new.pool e.pool h.log))
-    (record {
-      one = join_generations address opening old.pool new.pool e.pool (h.log.servers.linked ∙ sym h.log.servers.sited) h.generations.one;
-      first = join_connections address opening old new e h.generations.first;
-    })
+    (join_generations address opening old.pool new.pool e.pool (h.log.servers.linked ∙ sym h.log.servers.sited) h.generations)
+    (connections_join address opening old new e h.connections)

@@ -30,6 +30,7 @@ pub mod WorldOpeningLemmas
 pub mod CourseLemmas
 pub mod OutputLemmas
 pub mod GenerationStayLemmas
+pub mod ConnectionLemmas
 pub mod DoneLemmas
 pub mod JoinLemmas
 pub mod RunLemmas

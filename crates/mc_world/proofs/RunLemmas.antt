@@ -17,7 +17,7 @@ use Rattle.mc_world.proofs.WorldOpeningLemmas.{course_opens}
 pub course_accounts : (ring : RingState) (opening : CacheState) (c : CourseState) → CourseHolds ring opening c
     → Account ring opening (text_of c) (put_out_of c) (history_of c) c.log
 course_accounts ring opening c h =
-    (h.order, log_accounts ring opening (text_of c) (taken_by c) h.order h.lanes (put_out_of c) c.log c.pool h.pool h.log h.generations.first)
+    (h.order, log_accounts ring opening (text_of c) (taken_by c) h.order h.lanes (put_out_of c) c.log c.pool h.pool h.log h.connections)
 
 -- and so it does after every list of calls
 pub course_called : (ring : RingState) (opening : CacheState) (calls : List Call) (old new : CourseState) → IsGoodCache opening → CourseHolds ring opening old

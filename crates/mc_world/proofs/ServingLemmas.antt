@@ -176,6 +176,6 @@ site_serves place order lane link opening site generation h holds = record {
 pub pool_serves : (ring : RingState) (opening : CacheState) (c : CourseState) → CourseHolds ring opening c → PoolServes c.pool
 pool_serves ring opening c h = record {
   sited = h.log.servers.sited ∙ sym h.log.servers.linked;
-  sites = λ place site at. site_serves place h.order (h.lanes place) (link_at c.pool.proxy.links place) opening site (h.generations.one place site at).same
+  sites = λ place site at. site_serves place h.order (h.lanes place) (link_at c.pool.proxy.links place) opening site (h.generations place site at).same
       (h.pool.sites place site at) (h.pool.proxy.links place);
 }

@@ -228,7 +228,5 @@ course_opens ring clients budget items is_ring some =
     (opening_pool_holds (opening_cache budget items 0) ring clients (opening_is_good budget items 0 some (omega arith)))
     (log_opens ring (opening_cache budget items 0) clients is_ring)
     (sym (length-replicate clients nobody))
-    (record {
-      one = opening_generations (opening_cache budget items 0) (length ring.servers);
-      first = λ place site at never. ap (λ (s : SiteState). s.server.admitted) (sym (same_site (opening_cache budget items 0) (length ring.servers) place site at));
-    })
+    (opening_generations (opening_cache budget items 0) (length ring.servers))
+    (λ place site at never. ap (λ (s : SiteState). s.server.admitted) (sym (same_site (opening_cache budget items 0) (length ring.servers) place site at)))

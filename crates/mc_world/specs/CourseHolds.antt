@@ -27,11 +27,6 @@ HaveOneGeneration pool = (place : ℕ) (site : SiteState) → slice_get pool.sit
 abbrev pub HaveOneConnection : Log → PoolState → Type 0
 HaveOneConnection log pool = (place : ℕ) (site : SiteState) → slice_get pool.sites place ≡ Some site → number_of (loses place) log ≡ 0 → site.server.admitted ≡ 1
 
--- the generations of a pool
-pub record GenerationsHold (log : Log) (pool : PoolState) : Type 0 where
-  pub one : HaveOneGeneration pool
-  pub first : HaveOneConnection log pool
-
 -- A course is where its proxy took requests in some order, and that passed over its links: so its pool is there, and its log tells
 -- of it. Each client has a session of its number, and each site is of the generation of its link.
 pub record CourseHolds (ring : RingState) (opening : CacheState) (c : CourseState) : Type 0 where
@@ -40,7 +35,8 @@ pub record CourseHolds (ring : RingState) (opening : CacheState) (c : CourseStat
   pub pool : PoolHolds opening (text_of c) (taken_by c) order lanes c.pool
   pub log : LogHolds ring order (put_out_of c) c.log c.pool
   pub numbered : c.pool.proxy.admitted ≡ length c.clients
-  pub generations : GenerationsHold c.log c.pool
+  pub generations : HaveOneGeneration c.pool
+  pub connections : HaveOneConnection c.log c.pool
 
 -- the same of a world, whose caches may have their bounds
 pub record WorldHolds (w : WorldState) : Type 0 where

@@ -36,7 +36,7 @@ returns g c =
     record {
       drained = c.loop-place.invariant.drained;
       ends = record {
-        rising = λ place site at. ((subst (λ (w : WorldState). WorldHolds w) c.self.view_is c.self.invariant).course.generations.one place site at).rising;
+        rising = λ place site at. ((subst (λ (w : WorldState). WorldHolds w) c.self.view_is c.self.invariant).course.generations place site at).rising;
         ends = subst (λ (n : ℕ). InOrder (λ place. Repeats c.args.moment (SeeEnd place)) n c.args.self.now.course c.loop-place.self.course) all c.loop-place.invariant.ends;
       };
       ended = ended_all c.args.moment c.args.self.now c.loop-place.self c.loop-place.invariant.drained
