@@ -8,6 +8,7 @@ use Rattle.mc_pool_script.specs.declared.lines.PoolLine.TheVariants.{Drain, Even
 use Rattle.mc_world.specs.Drains.{Drains}
 use Rattle.mc_world.specs.Joins.{HasServerJoined}
 use Rattle.mc_world.specs.Quiet.{IsQuiet}
+use Rattle.mc_world.specs.Rounds.{DrainsInRounds}
 use Rattle.mc_world.specs.Steps.{GivesAccount, StepsTo}
 use Rattle.mc_world.specs.Worlds.{CourseState, WorldState, opening_world, put_out_of}
 use Rattle.mc_world.specs.declared.errors.Step.{Step}
@@ -18,11 +19,11 @@ abbrev pub cache_of : PoolSeen → CacheState
 cache_of script = opening_cache script.budget script.items 0
 
 -- what a line does to the course of a world, and what the step of its event answers: a server joins in any case, and a drain is done
--- until nothing is left
+-- in rounds until nothing is left
 abbrev pub Plays : CacheState → PoolLine → Step → CourseState → CourseState → Type 0
 Plays opening (Event event) step old new = StepsTo event step old new
 Plays opening (Join address) step old new = (step ≡ Done) × HasServerJoined address opening old new
-Plays opening (Drain moment) step old new = (step ≡ Done) × Drains moment old new × IsQuiet new
+Plays opening (Drain moment) step old new = (step ≡ Done) × Drains moment old new × DrainsInRounds moment old new × IsQuiet new
 
 -- what lines do, one after another
 abbrev pub PlaysAll : CacheState → List PoolLine → List Step → CourseState → CourseState → Type 0

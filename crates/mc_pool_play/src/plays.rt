@@ -6,6 +6,7 @@ ghost use Rattle.mc_pool_play.specs.Plays.{HasPlayed, KeepsOpening, Plays};
 ghost use Rattle.mc_world.specs.Drains.{Drains};
 ghost use Rattle.mc_world.specs.Joins.{HasServerJoined};
 ghost use Rattle.mc_world.specs.Quiet.{IsQuiet};
+ghost use Rattle.mc_world.specs.Rounds.{DrainsInRounds};
 ghost use Rattle.mc_world.specs.Steps.{GivesAccount};
 
 use crate::worlds::opened_world;
@@ -75,6 +76,7 @@ fn play<S: ScriptStore>(
 fn drain<S: ScriptStore>(world: &mut World<S>, moment: u64) -> Result<(), SimError>
     requires moment { moment < 2 ^ 63 }
     ensures drains { OnOk result (Drains moment world.old.course world.new.course) }
+    ensures rounds { OnOk result (DrainsInRounds moment world.old.course world.new.course) }
     ensures quiet { OnOk result (IsQuiet world.new.course) }
     ensures keeps { OnOk result (KeepsOpening world.old world.new) }
     ensures account { OnOk result (GivesAccount world.new) }
