@@ -1,5 +1,5 @@
 -- The least of several causes, as one worker more is joined.
-use Rattle.std.proofs.Common.{◌≡◌, ◌∙◌, ◌⊎◌, inl, inr, ℕ, zero, suc, ◌≤◌, List, [], ◌∷◌, ◌++◌, length, Result, Ok, Err, Some, slice_get, IfErr, refl, sym, ap, subst, arith}
+use Rattle.std.proofs.Common.{◌≡◌, ◌⊎◌, inl, inr, ℕ, zero, suc, ◌≤◌, List, [], ◌∷◌, ◌++◌, length, Result, Ok, Err, Some, slice_get, IfErr, refl, sym, subst, arith}
 use Rattle.std.specs.Prelude.{OnOk}
 use Rattle.std.proofs.lemmas.Option.{none-some, same_Some}
 use Rattle.mc_threads.specs.Causes.{IsCause, IsLeast, rank_of}
@@ -57,8 +57,8 @@ least_of_own T (Err one) = (
 )
 
 -- no worker was joined yet
-pub least-new : {T : Type 0} (own : Result (Unit {0}) Ended) (rs : List (Result T Ended)) → rs ≡ [] → IsLeast own rs own
-least-new {T} own rs none = subst (λ (xs : List (Result T Ended)). IsLeast own xs own) (sym none) (least_of_own T own)
+pub least_new : {T : Type 0} (own : Result (Unit {0}) Ended) (rs : List (Result T Ended)) → rs ≡ [] → IsLeast own rs own
+least_new {T} own rs none = subst (λ (xs : List (Result T Ended)). IsLeast own xs own) (sym none) (least_of_own T own)
 
 -- one that ended well changes nothing; one that failed may be the least
 pub least-ok : {T : Type 0} (own : Result (Unit {0}) Ended) (rs : List (Result T Ended)) (t : T) (least : Result (Unit {0}) Ended) → IsLeast own rs least → IsLeast own (rs ++ Ok t ∷ []) least

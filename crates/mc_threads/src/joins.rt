@@ -15,6 +15,7 @@ use std::sync::atomic::{AtomicBool, Ordering};
 use std::thread::{Promise, PromisedHandle, Threads};
 
 /// Joins all workers, once the caller's thread has ended: the least cause of all threads, if one failed. What each worker ended with is kept.
+#[tactic(auto, using(crate::proofs::LeastLemmas::least_new))]
 pub fn join_all<T: Drop, P: Promise<Result<T, Ended>>, R: Threads>(
     rt: &R,
     stop: &AtomicBool,

@@ -1,9 +1,8 @@
 use Rattle.std.specs.Prelude.{◌≡◌, ◌+◌, get_or, vec_items, vec_len, [], ◌∷◌, ◌++◌}
 use Rattle.std.specs.Vec.Iter.{into_iter_items}
 use Rattle.std.specs.PromisedHandle.{KeepsAt}
-use Rattle.std.proofs.Common.{rules, arith, below_more, refl, sym, subst}
+use Rattle.std.proofs.Common.{rules, arith, below_more, sym, subst}
 use Rattle.mc_threads.specs.Causes.{IsLeast}
-use Rattle.mc_threads.proofs.LeastLemmas.{least-new}
 use Rattle.mc_threads.proofs.joins.join_all.Goals as goal
 
 pub loop-child-preserved : goal.loop-child-preserved

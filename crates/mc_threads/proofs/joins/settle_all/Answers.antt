@@ -1,4 +1,4 @@
-use Rattle.std.proofs.Common.{rules, ◌≡◌, ℕ, ◌<◌, ◌+◌, Ok, Some, length, vec_len, get_or, slice_get, get_or-set_other, arith, sym, ap, refl, subst, ◌∙◌}
+use Rattle.std.proofs.Common.{rules, ◌≡◌, ℕ, ◌<◌, ◌+◌, Ok, Some, length, vec_len, get_or, get_or-set_other, arith, sym, ap, refl, subst, ◌∙◌}
 use Rattle.mc_threads.specs.Starts.{AreEndsOf}
 use Rattle.mc_threads.specs.declared.links.Ends.{Ends}
 use Rattle.mc_threads.proofs.JoinLemmas.{first_left, settled_push}

@@ -1,4 +1,4 @@
-use Rattle.std.proofs.Common.{rules, ◌≡◌, ◌∙◌, ℕ, ◌<◌, List, [], Ok, Some, arith, get_or, length, map, refl, slice_get, vec_len, sym, ap, subst}
+use Rattle.std.proofs.Common.{rules, ◌≡◌, ◌∙◌, ℕ, ◌<◌, List, [], Ok, arith, get_or, length, map, refl, vec_len, sym, ap, subst}
 use Rattle.std.proofs.lemmas.Option.{get_or_from_slice_get, slice_get_within}
 use Rattle.mc_cache.specs.CacheState.{opening_cache}
 use Rattle.mc_cache_laws.proofs.GoodStepLemmas.{opening_is_good}
