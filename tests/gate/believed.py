@@ -214,7 +214,8 @@ def next_of(it):
 def contract_of(root):
     """The clauses of a function's contract that state a theorem, and what is imported before them."""
     text = (CRATES / root.crate / "src" / root.file).read_text()
-    before, found, after = text.partition(f"fn {root.function}(")
+    found = re.search(rf"fn {root.function}(<[^(]*>)?\(", text)
+    before, after = (text[: found.start()], text[found.end() :]) if found else (text, "")
     clauses = re.findall(r"(?m)^\s*ensures (\w+) \{(.*)\}$", after.split("\n    {\n", 1)[0].split("\n{\n", 1)[0])
     stated = [words for name, words in clauses if name in root.clauses]
     if not found or len(stated) != len(root.clauses):
