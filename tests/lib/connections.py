@@ -13,6 +13,7 @@ import threading
 import time
 
 from checks import KILOBYTE, PATIENCE, Wrong, asked, is_served, received, received_to_the_end, want, want_at_most
+from servers import HOST
 
 LARGE = 1_000_000  # bytes of a large value
 
@@ -230,6 +231,118 @@ def few_open_files_are_told(start, name, own):
             want(select.select([program.process.stderr], [], [], 0)[0], [])
 
 
+# Strangers.
+
+HTTP, BINARY, TLS = (
+    "HTTP: set the client to memcached's text protocol",
+    "binary protocol: set the client to text",
+    "TLS: set the client to connect without TLS",
+)
+
+# What a stranger sends first, and what is said of it. After it comes a command that nobody meant.
+STRANGERS = {
+    **{f"{method.lower()} of a path": (method.encode() + b" /a HTTP/1.1\r\nHost: a\r\n\r\n", HTTP) for method in (
+        "GET", "POST", "PUT", "HEAD", "DELETE", "PATCH", "OPTIONS",
+    )},
+    "post of an address": (b"POST http://a:11211/ HTTP/1.1\r\nContent-Length: 25\r\n\r\n", HTTP),
+    "options of all": (b"OPTIONS * HTTP/1.1\r\n\r\n", HTTP),
+    "binary get": (b"\x80\x00\x00\x01" + bytes(19) + b"k", BINARY),
+    "tls hello": (b"\x16\x03\x01\x02\x00\x01\x00\x01\xfc\x03\x03\r\n", TLS),
+}  # fmt: skip
+
+# What is text all the same, and its answer.
+TEXTS = {
+    "get in capitals": (b"GET a\r\n", b"ERROR\r\n"),
+    "a name alone": (b"POST\r\n", b"ERROR\r\n"),
+    "no target": (b"GET \r\n", b"ERROR\r\n"),
+    "a star": (b"GET *\r\n", b"ERROR\r\n"),
+    "half an address": (b"PUT htt\r\n", b"ERROR\r\n"),
+    "options of none": (b"OPTIONS\r\n", b"ERROR\r\n"),
+    "a path in small letters": (b"get /a\r\n", b"END\r\n"),
+    "http as a key": (b"get http\r\n", b"END\r\n"),
+    "an empty line": (b"\n", b"ERROR\r\n"),
+}
+
+
+def answered_to(client, pieces):
+    """What comes to the end for these pieces, each sent by itself, as far as they are taken."""
+    came = b""
+    try:
+        for piece in pieces:
+            client.sendall(piece)
+            if len(pieces) > 1:
+                time.sleep(0.002)
+        came = received_to_the_end(client)
+    except ConnectionError:
+        pass
+    return came
+
+
+def a_stranger_is_turned_away(start, name, sent, told):
+    """Whole and in bytes: nothing is answered or done, it is said with its address, and others are served."""
+    sent += b"set pwn 0 0 4\r\nhack\r\n"
+    for pieces in ([sent], [sent[at : at + 1] for at in range(len(sent))]):
+        with start("--accept 2") as program, program.connected() as other:
+            is_served(other)
+            with program.connected() as stranger:
+                port = stranger.getsockname()[1]
+                want(answered_to(stranger, pieces), b"")
+            want(lines_said(program), [f"{name}: {HOST}:{port} refused: {told}"])
+            asked(other, b"get pwn\r\nquit\r\n", b"END\r\n")
+            want(received_to_the_end(other), b"")
+            want(program.ended(), (0, b""))
+
+
+def a_text_is_none_of_a_stranger(start, sent, answer):
+    """Whole, and each byte by itself."""
+    with start() as program:
+        for pieces in ([sent], [sent[at : at + 1] for at in range(len(sent))]):
+            with program.connected() as client:
+                for piece in pieces:
+                    client.sendall(piece)
+                    time.sleep(0.002)
+                want(received(client, len(answer)), answer)
+                is_served(client)
+
+
+def who_may_be_a_stranger_is_waited_for(start):
+    """A client that sends the first letter alone, and later the rest; others that end after it, or send no more."""
+    with start() as program, program.connected() as other:
+        with program.connected() as slow:
+            slow.sendall(b"G")
+            want(select.select([slow], [], [], 0.3)[0], [])
+            is_served(other)
+            asked(slow, b"ET a\r\nversion\r\n", b"ERROR\r\nVERSION 1.6.0\r\n")
+        for sent in (b"", b"G", b"GET ", b"OPTIONS"):
+            with program.connected() as ended:
+                ended.sendall(sent)
+                time.sleep(0.05)
+                ended.shutdown(socket.SHUT_WR)
+                want(received_to_the_end(ended), b"")
+            is_served(other)
+        with start("--idle 1") as closing, closing.connected() as silent:
+            want(answered_to(silent, [b"GET "]), b"")
+
+
+def strangers_are_told_once_in_a_second(start, name):
+    """Many in a short time have few lines, and a report counts each as refused."""
+    with start("--report 2") as program:
+        begun = time.monotonic()
+        for _ in range(50):
+            with program.connected() as stranger:
+                want(answered_to(stranger, [b"\x80"]), b"")
+        refused, told = None, 0
+        while refused != "50" and time.monotonic() < begun + PATIENCE:
+            line = lines_said(program)[0]
+            if line.endswith(BINARY):
+                told += 1
+            elif "uptime=" in line:
+                refused = fields_of(line, name)["refused"]
+        want(refused, "50")
+        want_at_most(told, int(time.monotonic() - begun) + 2)
+        want(told > 0, True)
+
+
 # Clients that do nothing.
 
 
@@ -271,6 +384,12 @@ def checks_of_connections(start, program, own, more_dialogues={}):
         who_sends_without_end_holds_nobody_up,
         no_descriptors_are_waited_for,
         idle_clients_are_closed,
+        who_may_be_a_stranger_is_waited_for,
     ):
         yield check.__name__, check, (start,)
+    for stranger, (sent, told) in STRANGERS.items():
+        yield f"stranger, {stranger}", a_stranger_is_turned_away, (start, program, sent, told)
+    for text, (sent, answer) in TEXTS.items():
+        yield f"no stranger, {text}", a_text_is_none_of_a_stranger, (start, sent, answer)
+    yield strangers_are_told_once_in_a_second.__name__, strangers_are_told_once_in_a_second, (start, program)
     yield few_open_files_are_told.__name__, few_open_files_are_told, (start, program, own)

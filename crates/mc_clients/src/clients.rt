@@ -3,8 +3,10 @@ ghost use Rattle.std.specs.Prelude.{◌<◌, ◌^◌};
 
 use crate::handlers::{Client, Handler};
 use crate::reports::Report;
+use crate::strangers::{Refusal, opening};
 use mc_socket::{Edge, KEPT_ROOM, Step};
-use mc_watch::{Tally, earlier};
+use mc_stranger::{Opening, Stranger};
+use mc_watch::{Pace, Tally, earlier};
 use mio::event::Event;
 use mio::net::TcpStream;
 use mio::{Interest, Registry, Token};
@@ -16,6 +18,8 @@ use std::mem;
 #[derive(Drop)]
 struct Seat<K> {
     client: Client<K>,
+    /// Whether its first bytes are known to be the text protocol.
+    known: bool,
     /// Whether it goes on in the next round, though nothing happens.
     queued: bool,
     /// Whether anything has happened since the last rest.
@@ -42,7 +46,14 @@ pub struct Clients<K: Drop> {
     due: Option<u64>,
     /// How many clients were closed as they came.
     refused: u64,
+    /// A stranger of whom it was not said yet that it is turned away.
+    turned_away: Option<Refusal>,
+    /// When that may be said.
+    told: Pace,
 }
+
+/// In how many seconds it is said once, at most, that a stranger was turned away.
+const TOLD_EVERY: u64 = 1;
 
 impl<K: Default + Drop> Clients<K> {
     /// Nobody, with room for so many. A client that is idle for longer than so many seconds is closed; 0 for never.
@@ -56,6 +67,11 @@ impl<K: Default + Drop> Clients<K> {
             idle,
             due: None,
             refused: 0,
+            turned_away: None,
+            told: Pace {
+                every: TOLD_EVERY,
+                next: 0,
+            },
         })
     }
 
@@ -139,6 +155,7 @@ impl<K: Default + Drop> Clients<K> {
                 edge: Edge::new(),
                 kept: K::default(),
             },
+            known: false,
             queued: false,
             busy: false,
             used: moment,
@@ -188,13 +205,24 @@ impl<K: Default + Drop> Clients<K> {
         }
     }
 
-    /// Serves the client of a key as far as it goes.
+    /// Serves the client of a key as far as it goes, once its first bytes are known. A stranger is turned away before anything of it
+    /// is read.
     pub fn serve<H: Handler<K>>(&mut self, handler: &mut H, key: usize, moment: u64)
         requires { moment < 2 ^ 63 }
     {
         let Some(seat) = self.seats.get_mut(key) else {
             return;
         };
+        if !seat.known {
+            match opening(&seat.client.stream, seat.client.edge) {
+                Opening::Unsettled => return,
+                Opening::Text => seat.known = true,
+                Opening::Strange(stranger) => {
+                    self.turn_away(handler, key, stranger);
+                    return;
+                }
+            }
+        }
         self.busy = true;
         seat.busy = true;
         match handler.serve(&mut seat.client, moment) {
@@ -206,6 +234,27 @@ impl<K: Default + Drop> Clients<K> {
             }
             Step::Wait => handler.give_back(seat.client.number, KEPT_ROOM),
             Step::Close => self.close(handler, key),
+        }
+    }
+
+    /// Closes a client that is a stranger, and notes whom to tell of.
+    fn turn_away<H: Handler<K>>(&mut self, handler: &mut H, key: usize, stranger: Stranger) {
+        let address = self
+            .seats
+            .get(key)
+            .and_then(|seat| seat.client.stream.peer_addr().ok());
+        self.refused = self.refused.saturating_add(1);
+        self.turned_away = Some(Refusal { stranger, address });
+        self.close(handler, key);
+    }
+
+    /// Says on standard error, as the program of a name and at most once in a second, that a stranger was turned away.
+    pub fn tell<R: Eprint>(&mut self, rt: &R, program: &str, second: u64) {
+        if let Some(refusal) = self.turned_away.take()
+            && self.told.comes(second)
+        {
+            // Where it cannot be said, all are served all the same.
+            let _ = eprintln!(rt; "{program}: {refusal}");
         }
     }
 

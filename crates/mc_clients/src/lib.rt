@@ -6,6 +6,9 @@
 //! What serves them is a [`Handler`]: it admits a client, carries its bytes and says what is done with it then. [`patience`] says
 //! how long a round waits, and a [`Report`] what was done.
 //!
+//! A client is served once its first bytes are known to be the text protocol ([`mc_stranger::opening_of`]). A stranger is closed with
+//! all its bytes unread, and that is said on standard error ([`Clients::tell`]).
+//!
 //! [`serve_rounds`] waits, and may wait for ever; no other call does. What a socket carries, and who comes, no contract says.
 //! Proved is that all calls are safe, and that each but [`serve_rounds`] ends.
 #![tactic(auto)]
@@ -14,6 +17,7 @@ mod clients;
 mod handlers;
 mod reports;
 mod rounds;
+mod strangers;
 
 pub use clients::Clients;
 pub use handlers::{Client, Handler};

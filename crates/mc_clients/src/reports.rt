@@ -13,7 +13,7 @@ pub struct Report {
     pub connections: usize,
     /// How many clients were accepted.
     pub accepted: u64,
-    /// How many of these were closed as they came.
+    /// How many of these were closed as they came: there was no place or no memory for them, or they were strangers.
     pub refused: u64,
     /// Requests, and bytes of clients.
     pub tally: Tally,

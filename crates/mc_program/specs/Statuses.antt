@@ -1,9 +1,13 @@
 -- The exit status of a program where it fails: this project's own.
 use Rattle.std.specs.Prelude.{ℕ}
+use Rattle.clap.specs.Values.{kind_of}
+use Rattle.clap.specs.declared.error.Error.{Error}
+use Rattle.clap.specs.declared.error.kind.ErrorKind.{ErrorKind}
+use Rattle.clap.specs.declared.error.kind.ErrorKind.TheVariants.{OutOfMemory}
 use Rattle.mc_program.specs.declared.errors.ServeError.{ServeError}
 use Rattle.mc_program.specs.declared.errors.ServeError.TheVariants.{Listen, Memory}
 use Rattle.mc_program.specs.declared.failures.Failure.{Failure}
-use Rattle.mc_program.specs.declared.failures.Failure.TheVariants.{Output, Serve}
+use Rattle.mc_program.specs.declared.failures.Failure.TheVariants.{Output, Serve, Words}
 
 -- what it ends with where it cannot serve
 abbrev pub status_of_error : ServeError → ℕ
@@ -15,3 +19,11 @@ abbrev pub status_of : Failure → ℕ
 status_of Output = 1
 status_of (Serve error) = status_of_error error
 status_of other = 2
+
+-- what an error of the command line is, by its kind: want of memory, or words that are refused
+abbrev pub failure_by_kind : ErrorKind → Error → Failure
+failure_by_kind OutOfMemory error = Serve Memory
+failure_by_kind other error = Words error
+
+abbrev pub failure_by : Error → Failure
+failure_by error = failure_by_kind (kind_of error) error

@@ -1,6 +1,8 @@
 //! Why a program ends with another status than 0.
 ghost use Rattle.std.specs.Prelude.{◌≡◌, MatchResult};
-ghost use Rattle.mc_program.specs.Statuses.{status_of};
+ghost use Rattle.mc_program.specs.Statuses.{status_of, failure_by};
+ghost use Rattle.mc_program.specs.declared.failures.Failure.TheVariants.{Serve};
+ghost use Rattle.mc_program.specs.declared.errors.ServeError.TheVariants.{Memory};
 
 use crate::errors::ServeError;
 use clap::error::ErrorKind;
@@ -57,6 +59,8 @@ pub fn exit_status(served: &Result<(), Failure>) -> u8
 }
 
 impl From<clap::Error> for Failure {
+    ghost from_gives = { λ error failure. failure ≡ failure_by error };
+
     fn from(error: clap::Error) -> Failure {
         if error.kind() == ErrorKind::OutOfMemory {
             Failure::Serve(ServeError::Memory)
@@ -67,13 +71,17 @@ impl From<clap::Error> for Failure {
 }
 
 impl From<AllocError> for Failure {
+    ghost from_gives = { λ _ failure. failure ≡ Serve Memory };
+
     fn from(_e: AllocError) -> Failure {
         Failure::Serve(ServeError::Memory)
     }
 }
 
 impl From<ServeError> for Failure {
-    fn from(error: ServeError) -> Failure {
-        Failure::Serve(error)
+    ghost from_gives = { λ error failure. failure ≡ Serve error };
+
+    fn from(why: ServeError) -> Failure {
+        Failure::Serve(why)
     }
 }

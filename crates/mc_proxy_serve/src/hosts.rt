@@ -251,6 +251,7 @@ impl<'a, R: Net + Clock + Eprint> Rounds<R, Stopwatch> for Host<'a> {
     }
 
     fn finish(&mut self, rt: &R, accepted: u64) {
+        self.clients.tell(rt, PROGRAM, self.second);
         if self.second == self.rested {
             return;
         }

@@ -1,4 +1,7 @@
 //! The command line of a proxy, and the pool that its words name.
+ghost use Rattle.std.specs.Prelude.{◌≡◌};
+ghost use Rattle.mc_proxy_serve.specs.Lists.{list_error_by};
+ghost use Rattle.mc_proxy_serve.specs.declared.options.ListError.TheVariants.{Memory};
 
 use crate::settings::ProxySettings;
 use clap::builder::ValueParser;
@@ -40,12 +43,16 @@ pub enum ListError {
 }
 
 impl From<AllocError> for ListError {
+    ghost from_gives = { λ _ e. e ≡ Memory };
+
     fn from(_e: AllocError) -> ListError {
         ListError::Memory
     }
 }
 
 impl From<RingError> for ListError {
+    ghost from_gives = { λ error e. e ≡ list_error_by error };
+
     fn from(error: RingError) -> ListError {
         match error {
             RingError::Memory => ListError::Memory,

@@ -98,6 +98,7 @@ impl<R: Eprint, C: Seconds, S: Store + Drop> Rounds<R, C> for Host<S> {
 
     fn finish(&mut self, rt: &R, accepted: u64) {
         self.handler.tell(rt, self.moment);
+        self.clients.tell(rt, PROGRAM, self.moment);
         if self.moment == self.rested {
             return;
         }

@@ -1,5 +1,7 @@
 //! Where to listen, and where a peer is.
-ghost use Rattle.std.specs.Prelude.{◌≡◌, true, IfOk};
+ghost use Rattle.std.specs.Prelude.{◌≡◌, true, IfOk, IfSome};
+ghost use Rattle.std.specs.Net.Addr.{is_ipv4};
+ghost use Rattle.std.specs.Net.Socket.{socket_ip};
 ghost use Rattle.mc_address.specs.Addresses.{is_address};
 
 use crate::keeping::keep_alive;
@@ -26,7 +28,9 @@ pub fn bind<R: Net>(rt: &R, listen: &str) -> Result<TcpListener, ServeError>
 /// The first IPv4 address of a host and a port, `<host>:<port>`; none where the host is not known, or has none.
 ///
 /// A host that is a name is looked up, as by [`bind`].
-pub fn first_address<R: Net>(rt: &R, place: &str) -> Option<SocketAddr> {
+pub fn first_address<R: Net>(rt: &R, place: &str) -> Option<SocketAddr>
+    ensures { IfSome result (λ address. is_ipv4 (socket_ip address) ≡ true) }
+{
     let mut found = place.to_socket_addrs(rt).ok()?;
     found.find(|address| address.is_ipv4())
 }

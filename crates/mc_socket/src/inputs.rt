@@ -1,5 +1,6 @@
 //! The input of a stream of which events tell.
-ghost use Rattle.std.specs.Prelude.{◌≡◌, ◌&&◌, true, IfOk, IsErr, length, nat_lt, not};
+ghost use Rattle.std.specs.Prelude.{◌≡◌, ◌&&◌, ◌||◌, true, false, IfOk, IsErr, length, nat_lt, not};
+ghost use Rattle.mio.specs.Event.{is_error, is_read_closed, is_readable};
 ghost use Rattle.std.specs.Io.{ReadsAtMost};
 ghost use Rattle.std.specs.Io.KnownBytes.{ReadConsumes};
 
@@ -18,15 +19,36 @@ pub struct Edge {
 
 impl Edge {
     /// The edge of a stream of which no event has told: nothing has come.
-    pub fn new() -> Edge {
+    pub fn new() -> Edge
+        ensures drained { result.drained ≡ true }
+        ensures to_the_end { result.to_the_end ≡ false }
+    {
         Edge {
             drained: true,
             to_the_end: false,
         }
     }
 
-    /// Notes what an event says of the stream.
-    pub fn note(&mut self, event: &Event) {
+    /// Whether all that had come is read: until the next event there is no more.
+    pub fn is_drained(&self) -> bool
+        ensures { result ≡ self.now.drained }
+    {
+        self.drained
+    }
+
+    /// Whether the peer has said that it will send no more, or has failed.
+    pub fn is_to_the_end(&self) -> bool
+        ensures { result ≡ self.now.to_the_end }
+    {
+        self.to_the_end
+    }
+
+    /// Notes what an event says of the stream: whether something has come, and whether it has ended or failed.
+    pub fn note(&mut self, event: &Event)
+        ensures drained { self.new.drained
+            ≡ (self.old.drained && not (is_read_closed event.now || is_error event.now || is_readable event.now)) }
+        ensures to_the_end { self.new.to_the_end ≡ (self.old.to_the_end || is_read_closed event.now || is_error event.now) }
+    {
         let ended = event.is_read_closed() || event.is_error();
         if ended || event.is_readable() {
             self.drained = false;

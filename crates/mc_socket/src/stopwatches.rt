@@ -1,9 +1,10 @@
 //! How long a program has served, to the millisecond.
-ghost use Rattle.std.specs.Prelude.{◌≡◌, ◌≤◌, ℕ};
+ghost use Rattle.std.specs.Prelude.{◌≡◌, ◌≤◌, ◌/◌, ◌-◌, ◌^◌, ℕ, min};
+ghost use Rattle.std.specs.Duration.{as_nanos};
 
 use std::marker::Model;
 use std::rt::Clock;
-use std::time::Instant;
+use std::time::{Duration, Instant};
 
 /// How long a program has served, in milliseconds of a clock that nobody sets. It never goes back. Contracts see the
 /// milliseconds that it told last.
@@ -37,13 +38,17 @@ impl Stopwatch {
         ensures never_back { self.old ≤ result }
     {
         let passed = match self.start.and_then(|start| start.elapsed(rt).ok()) {
-            Some(elapsed) => elapsed
-                .as_secs()
-                .saturating_mul(1000)
-                .saturating_add(elapsed.subsec_millis() as u64),
+            Some(elapsed) => millis_of(elapsed),
             None => self.millis.saturating_add(1000),
         };
         self.millis = self.millis.max(passed);
         self.millis
     }
+}
+
+/// The whole milliseconds of a time, as far as 64 bits count.
+fn millis_of(time: Duration) -> u64
+    ensures { result ≡ min (as_nanos time / 1_000_000) (2 ^ 64 - 1) }
+{
+    time.as_millis().min(u64::MAX as u128) as u64
 }
