@@ -18,10 +18,7 @@ use std::alloc::Global;
 /// The contract has no condition: it holds of every input, wherever its bytes came from. Where the call succeeds, the input
 /// is a script, and the lines are those of a world that has played it, and that gives account. Where it names a line, the input
 /// is no script, and that line is its first bad one.
-pub fn text_of_pool_script<S: ScriptStore>(
-    alloc: Global,
-    input: &[u8],
-) -> Result<Vec<u8>, SimError>
+pub fn text_of_pool_script<S: ScriptStore>(alloc: Global, input: &[u8]) -> Result<Vec<u8>, SimError>
     ensures text { IfOk result (λ text. IsPoolTextOf input.now text.items) }
     ensures error { IfErr result (λ error. Explains error (pool_script_of input.now)) }
 {
