@@ -5,6 +5,9 @@
 //! then the list, then `--check` is obeyed, then it listens.
 #![tactic(auto)]
 
+ghost use Rattle.std.specs.Prelude.{◌≡◌};
+ghost use Rattle.mc_program.specs.Statuses.{status_of};
+
 use mc_program::{Failure, ServeError, exit_status, read_words};
 use mc_proxy::MAX_SESSIONS;
 use mc_proxy_serve::{ListError, Options, PROGRAM, command, serve};
@@ -52,7 +55,10 @@ where
 }
 
 /// How the program ends where the words name no pool.
-fn failure_of(error: ListError) -> Failure {
+fn failure_of(error: ListError) -> Failure
+    ensures bad { error ≡ ListError.Bad → status_of result ≡ 2 }
+    ensures memory { error ≡ ListError.Memory → result ≡ Failure.Serve ServeError.Memory }
+{
     match error {
         ListError::Bad => Failure::Refused("bad server list"),
         ListError::Memory => Failure::Serve(ServeError::Memory),
