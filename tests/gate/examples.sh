@@ -8,8 +8,8 @@
 # tests/lib/model.py can take the place of the one, and tests/lib/pool_model.py that of the other.
 #
 # NAME.txt is the script and NAME.out what is printed; NAME.args are words for mc_sim, where there are any. NAME.err, where there is one,
-# is what is written on standard error, with status 2. mc_sim is played each script twice, as it is and with its bytes fed one by
-# one, but for those with words, which ask for an account of each line. Then it is seen that a read and a write that fail are told, and
+# is what is written on standard error, with status 2. mc_sim is played each script over each of its stores, and once more with its bytes
+# fed one by one, but for those with words, which ask for an account of each line. Then it is seen that a read and a write that fail are told, and
 # that the program's words do what they say (sim.help, sim.trace). The program must be built (`make run`, or `rt ci`). It prints a
 # line for each script that fails; the last line is 'N passed, M failed'.
 set -u
@@ -33,21 +33,23 @@ is_of_pool() {
     head -c 5 "$1" | grep -q '^pool '
 }
 
-# Whether a program given a script writes what is beside an example, and ends as it is to.
+# Whether a program given a script, and words beside those of the example, writes what is beside the example, and ends as it is to.
 plays() {
     local err=/dev/null status=0 words=
     [ -f "$3.err" ] && err=$3.err status=2
     [ -f "$3.args" ] && words=$(cat "$3.args")
-    "$1" $words < "$2" > "$scratch/out" 2> "$scratch/err"
+    "$1" $words ${4:-} < "$2" > "$scratch/out" 2> "$scratch/err"
     [ $? -eq "$status" ] && cmp -s "$scratch/out" "$3.out" && cmp -s "$scratch/err" "$err"
 }
 
-# Whether mc_sim plays an example as each compiler built it, whole and in bytes. (In bytes a bad line has another number.)
+# Whether mc_sim plays an example as each compiler built it, over each store, and in bytes. (In bytes a bad line has another number.)
 plays_however() {
     LC_ALL=C awk -f in_bytes.awk "$1.txt" > "$scratch/in_bytes"
     for each in "$built" "$built.by-rattle"; do
         [ -x "$each" ] || continue
-        plays "$each" "$1.txt" "$1" || return 1
+        for kind in list lru table; do
+            plays "$each" "$1.txt" "$1" "--store $kind" || return 1
+        done
         [ -f "$1.err" ] || [ -f "$1.args" ] || plays "$each" "$scratch/in_bytes" "$1" || return 1
     done
 }

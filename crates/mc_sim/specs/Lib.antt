@@ -1,3 +1,4 @@
 pub mod Endings
+pub mod Kinds
 pub mod Printed
 pub mod Runs

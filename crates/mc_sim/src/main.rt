@@ -1,5 +1,5 @@
 //! Plays the script on standard input, of a server or of a pool, and prints what its clients were sent. Options ask for the account of a
-//! pool ([`options`]).
+//! pool ([`options`]), or choose what the servers keep their items in.
 //!
 //! The exit status is 0 where the script was played to its end. Else it is 2 at a bad line, and where words are refused or ask for
 //! help; 3 where a read or a write failed; and 4 where there was no memory. Standard error says why. The words are read before
@@ -7,6 +7,7 @@
 #![tactic(auto)]
 
 mod endings;
+mod kinds;
 mod options;
 mod runs;
 mod texts;
@@ -41,12 +42,24 @@ where
     let options = Options::of(&matches);
     let mut writer = io::writer(rt);
     if !options.trace {
-        run(alloc, options.printed, &mut rt.reader(), &mut writer)?;
+        run(
+            alloc,
+            options.kind,
+            options.printed,
+            &mut rt.reader(),
+            &mut writer,
+        )?;
         return Ok(());
     }
     // The script is read first, so that each line can be told.
     let input = read_input(alloc, &mut rt.reader())?;
     trace(rt, alloc, input.as_slice())?;
-    run(alloc, options.printed, &mut input.as_slice(), &mut writer)?;
+    run(
+        alloc,
+        options.kind,
+        options.printed,
+        &mut input.as_slice(),
+        &mut writer,
+    )?;
     Ok(())
 }

@@ -1,13 +1,17 @@
 //! The command line of the program.
 
+use crate::kinds::{KINDS, StoreKind, kind_named};
 use crate::texts::Printed;
-use clap::{ArgMatches, Command};
+use clap::builder::ValueParser;
+use clap::{Arg, ArgMatches, Command};
 use mc_program::flag;
 use std::alloc::{AllocError, Global};
 
 /// What a command line asks for.
 #[derive(Clone, Copy, Debug)]
 pub struct Options {
+    /// What servers keep their items in.
+    pub kind: StoreKind,
     /// What to print.
     pub printed: Printed,
     /// Whether to say what each line does.
@@ -22,8 +26,11 @@ impl Options {
         } else {
             Printed::Outputs
         };
-        let trace = matches.get_flag("trace");
-        Options { printed, trace }
+        Options {
+            kind: kind_named(matches.get_str("store").unwrap_or("lru")),
+            printed,
+            trace: matches.get_flag("trace"),
+        }
     }
 }
 
@@ -36,6 +43,14 @@ pub fn command<'a>(alloc: Global) -> Result<Command<'a>, AllocError> {
         .after_help(
             "The line 'drain <moment>' of a pool's script does all that is left to do, at that second",
         )
+        .arg(
+            Arg::new(alloc, "store")
+                .long("store")
+                .value_name("kind")
+                .value_parser(ValueParser::Names(&KINDS))
+                .default_value("lru")
+                .help("What servers keep their items in; what is printed does not depend on it"),
+        )?
         .arg(flag(
             alloc,
             "account",

@@ -2,6 +2,7 @@
 ghost use Rattle.std.specs.Prelude.{IfErr, IfSome, OnOk};
 ghost use Rattle.mc_sim.specs.Runs.{IsBadLineOf, Prints, StopsBeforeWriting};
 
+use crate::kinds::StoreKind;
 use crate::texts::{Printed, text_of_input};
 use mc_script::{SimError, read_input, write_text};
 use std::alloc::Global;
@@ -15,6 +16,7 @@ use std::io::{Read, Write};
 /// it all that was read, and hands on all that it answers, is seen by reading its three lines.
 pub fn run<R: Read, W: Write>(
     alloc: Global,
+    kind: StoreKind,
     printed: Printed,
     reader: &mut R,
     writer: &mut W,
@@ -26,6 +28,6 @@ pub fn run<R: Read, W: Write>(
         (λ error. StopsBeforeWriting error (W.contents writer.old) (W.contents writer.new)) }
 {
     let input = read_input(alloc, reader)?;
-    let text = text_of_input(alloc, printed, input.as_slice())?;
+    let text = text_of_input(alloc, kind, printed, input.as_slice())?;
     write_text(writer, text.as_slice())
 }

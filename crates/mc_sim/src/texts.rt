@@ -3,9 +3,11 @@ ghost use Rattle.std.specs.Prelude.{IfErr, IfOk};
 ghost use Rattle.mc_pool_script.specs.Kinds.{is_of_pool};
 ghost use Rattle.mc_sim.specs.Printed.{ExplainsFor, IsTextFor};
 
+use crate::kinds::StoreKind;
 use mc_pool_play::{account_of_pool_script, text_of_pool_script};
 use mc_pool_script::is_of_pool;
-use mc_script::{SimError, text_of_script};
+use mc_script::{ScriptStore, SimError, text_of_script};
+use mc_store::{FixedHasher, ListStore, LruStore, TableStore};
 use std::alloc::Global;
 
 /// What is to be printed.
@@ -17,16 +19,38 @@ pub enum Printed {
     Account,
 }
 
-/// The text that is printed for a script of a server or of a pool.
-pub fn text_of_input(alloc: Global, printed: Printed, input: &[u8]) -> Result<Vec<u8>, SimError>
+/// The text that is printed for a script of a server or of a pool, which is played over stores of a kind. What it is does not depend
+/// on the kind.
+pub fn text_of_input(
+    alloc: Global,
+    kind: StoreKind,
+    printed: Printed,
+    input: &[u8],
+) -> Result<Vec<u8>, SimError>
+    ensures text { IfOk result (λ text. IsTextFor (is_of_pool input.now) printed input.now text.items) }
+    ensures error { IfErr result (λ error. ExplainsFor (is_of_pool input.now) error input.now) }
+{
+    match kind {
+        StoreKind::List => text_over::<ListStore>(alloc, printed, input),
+        StoreKind::Lru => text_over::<LruStore<FixedHasher>>(alloc, printed, input),
+        StoreKind::Table => text_over::<TableStore<FixedHasher>>(alloc, printed, input),
+    }
+}
+
+/// The same, over such stores.
+fn text_over<S: ScriptStore>(
+    alloc: Global,
+    printed: Printed,
+    input: &[u8],
+) -> Result<Vec<u8>, SimError>
     ensures text { IfOk result (λ text. IsTextFor (is_of_pool input.now) printed input.now text.items) }
     ensures error { IfErr result (λ error. ExplainsFor (is_of_pool input.now) error input.now) }
 {
     if !is_of_pool(input) {
-        return text_of_script(alloc, input);
+        return text_of_script::<S>(alloc, input);
     }
     match printed {
-        Printed::Outputs => text_of_pool_script(alloc, input),
-        Printed::Account => account_of_pool_script(alloc, input),
+        Printed::Outputs => text_of_pool_script::<S>(alloc, input),
+        Printed::Account => account_of_pool_script::<S>(alloc, input),
     }
 }

@@ -3,6 +3,7 @@
 use mc_pool_play::steps_of_pool_script;
 use mc_pool_script::is_of_pool;
 use mc_script::{SimError, lines_of};
+use mc_store::{FixedHasher, LruStore};
 use mc_world::Step;
 use std::alloc::Global;
 use std::str;
@@ -13,7 +14,7 @@ pub fn trace<R: Eprint>(rt: &R, alloc: Global, input: &[u8]) -> Result<(), SimEr
     if !is_of_pool(input) {
         return Ok(());
     }
-    let steps = steps_of_pool_script(alloc, input)?;
+    let steps = steps_of_pool_script::<LruStore<FixedHasher>>(alloc, input)?;
     tell_all(rt, input, steps.as_slice());
     Ok(())
 }
