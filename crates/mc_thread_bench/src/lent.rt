@@ -29,7 +29,9 @@ pub struct Open;
 
 impl Gate for Open {
     ghost lets = { λ g server taken. Unit {0} };
+
     ghost refuses = { λ g server taken. Unit {0} };
+
     ghost knows = { λ g server. Unit {0} };
 
     fn may_take(&self, _server: usize, _taken: u64) -> bool {
