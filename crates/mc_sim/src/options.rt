@@ -1,4 +1,5 @@
 //! The command line of the program.
+ghost use Rattle.std.specs.Prelude.{◌≡◌, if◌then◌else◌};
 
 use crate::texts::Printed;
 use clap::{ArgMatches, Command};
@@ -17,13 +18,21 @@ pub struct Options {
 impl Options {
     /// What matches of [`command`] ask for.
     pub fn of(matches: &ArgMatches<'_>) -> Options {
-        let printed = if matches.get_flag("account") {
-            Printed::Account
-        } else {
-            Printed::Outputs
-        };
-        let trace = matches.get_flag("trace");
-        Options { printed, trace }
+        Options {
+            printed: printed_by(matches.get_flag("account")),
+            trace: matches.get_flag("trace"),
+        }
+    }
+}
+
+/// What to print, where the account is asked for or not.
+fn printed_by(account: bool) -> Printed
+    ensures { result ≡ (if account then Printed.Account else Printed.Outputs) }
+{
+    if account {
+        Printed::Account
+    } else {
+        Printed::Outputs
     }
 }
 
