@@ -1,6 +1,9 @@
 //! Why the program ends with another status than 0.
 ghost use Rattle.std.specs.Prelude.{◌≡◌, MatchResult};
+ghost use Rattle.mc_program.specs.Statuses.{failure_by};
+ghost use Rattle.mc_script.specs.declared.errors.SimError.TheVariants.{Memory};
 ghost use Rattle.mc_sim.specs.Endings.{status_of};
+ghost use Rattle.mc_sim.specs.declared.endings.Ending.TheVariants.{Script, Words};
 
 use mc_program::Failure;
 use mc_script::SimError;
@@ -49,24 +52,32 @@ pub fn exit_status(ended: &Result<(), Ending>) -> u8
 }
 
 impl From<Failure> for Ending {
+    ghost from_gives = { λ failure ending. ending ≡ Words failure };
+
     fn from(failure: Failure) -> Ending {
         Ending::Words(failure)
     }
 }
 
 impl From<clap::Error> for Ending {
+    ghost from_gives = { λ error ending. ending ≡ Words (failure_by error) };
+
     fn from(error: clap::Error) -> Ending {
         Ending::Words(Failure::from(error))
     }
 }
 
 impl From<AllocError> for Ending {
+    ghost from_gives = { λ _ ending. ending ≡ Script Memory };
+
     fn from(_e: AllocError) -> Ending {
         Ending::Script(SimError::Memory)
     }
 }
 
 impl From<SimError> for Ending {
+    ghost from_gives = { λ error ending. ending ≡ Script error };
+
     fn from(error: SimError) -> Ending {
         Ending::Script(error)
     }

@@ -1,4 +1,5 @@
 //! The command line of the program.
+ghost use Rattle.std.specs.Prelude.{◌≡◌, if◌then◌else◌};
 
 use crate::kinds::{KINDS, StoreKind, kind_named};
 use crate::texts::Printed;
@@ -21,16 +22,22 @@ pub struct Options {
 impl Options {
     /// What matches of [`command`] ask for.
     pub fn of(matches: &ArgMatches<'_>) -> Options {
-        let printed = if matches.get_flag("account") {
-            Printed::Account
-        } else {
-            Printed::Outputs
-        };
         Options {
             kind: kind_named(matches.get_str("store").unwrap_or("lru")),
-            printed,
+            printed: printed_by(matches.get_flag("account")),
             trace: matches.get_flag("trace"),
         }
+    }
+}
+
+/// What to print, where the account is asked for or not.
+fn printed_by(account: bool) -> Printed
+    ensures { result ≡ (if account then Printed.Account else Printed.Outputs) }
+{
+    if account {
+        Printed::Account
+    } else {
+        Printed::Outputs
     }
 }
 
