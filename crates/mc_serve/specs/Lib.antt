@@ -1,2 +1,3 @@
+pub mod Chosen
 pub mod Clocks
 pub mod Kinds

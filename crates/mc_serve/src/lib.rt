@@ -13,6 +13,7 @@
 //! the clock tells, and what is done with it afterwards; of the system's clock, that it never goes back.
 #![tactic(auto)]
 
+mod chosen;
 mod clocks;
 mod counted;
 mod counts;

@@ -1,6 +1,8 @@
 //! Serving a listener.
-ghost use Rattle.std.specs.Prelude.{◌≡◌, ◌<◌, [], IfSome};
+ghost use Rattle.std.specs.Prelude.{◌≡◌, ◌+◌, [], IfOk};
+ghost use Rattle.mc_serve.specs.Chosen.{held_by};
 
+use crate::chosen::ChosenStore;
 use crate::clocks::Seconds;
 use crate::counted::Counted;
 use crate::counts::Counts;
@@ -13,7 +15,7 @@ use mc_hasher::SecretState;
 use mc_item::CasCounter;
 use mc_program::ServeError;
 use mc_server::Server;
-use mc_store::{LruStore, Store, TableStore};
+use mc_store::{LruStore, TableStore};
 use mio::net::TcpListener;
 use std::alloc::Global;
 use std::hash::RandomState;
@@ -34,42 +36,51 @@ pub fn serve<R: Net + RandomSource + Wait + Eprint, C: Seconds>(
     settings: &Settings,
     clock: &mut C,
 ) -> Result<(), ServeError> {
-    match settings.kind {
-        StoreKind::Table => {
-            let hasher = SecretState::new(rt).map_err(|_| ServeError::Listen)?;
-            let store = TableStore::with_hasher(alloc, settings.items, hasher).map_err(
-                |_| ServeError::Memory,
-            )?;
-            serve_over(rt, alloc, listener, settings, clock, store)
-        }
-        StoreKind::Lru => {
-            let hasher = RandomState::new(rt).map_err(|_| ServeError::Listen)?;
-            let store = LruStore::with_hasher(alloc, settings.items, hasher).map_err(
-                |_| ServeError::Memory,
-            )?;
-            serve_over(rt, alloc, listener, settings, clock, store)
-        }
-    }
-}
-
-/// The same over an empty store, which counts what it does.
-fn serve_over<R: Net + Wait + Eprint, C: Seconds, S: Store + Drop>(
-    rt: &R,
-    alloc: Global,
-    listener: TcpListener,
-    settings: &Settings,
-    clock: &mut C,
-    store: S,
-) -> Result<(), ServeError>
-    requires empty { S.items store ≡ [] }
-    requires room { IfSome (S.most store) (λ most. settings.now.items < most) }
-{
     let counts = Rc::new(alloc, Counts::default()).map_err(|_| ServeError::Memory)?;
-    let store = Counted::new(store, counts.clone()?);
-    let counter = CasCounter::starting_at(0);
-    let cache = Cache::new(alloc, store, settings.budget, settings.items, counter);
-    let server = Server::new(alloc, cache);
+    let server = new_server(rt, alloc, settings, counts.clone()?)?;
     let service = settings.service;
     let mut host = Host::new(alloc, server, counts, service, clock.now())?;
     serve_rounds(rt, alloc, listener, service.terms.accept, clock, &mut host)
+}
+
+/// A server without a connection, over an empty cache whose hashes nobody can foretell, and whose store counts what it does.
+fn new_server<R: RandomSource>(
+    rt: &R,
+    alloc: Global,
+    settings: &Settings,
+    counts: Rc<Counts>,
+) -> Result<Server<Counted<ChosenStore>>, ServeError> {
+    let store = new_store(rt, alloc, settings.kind, settings.items)?;
+    let counter = CasCounter::starting_at(0);
+    let store = Counted::new(store, counts);
+    let cache = Cache::new(alloc, store, settings.budget, settings.items, counter);
+    Ok(Server::new(alloc, cache))
+}
+
+/// A store of this kind with no item, and room for so many and one more.
+fn new_store<R: RandomSource>(
+    rt: &R,
+    alloc: Global,
+    kind: StoreKind,
+    items: usize,
+) -> Result<ChosenStore, ServeError>
+    ensures empty { IfOk result (λ store. (held_by store).items ≡ []) }
+    ensures most { IfOk result (λ store. (held_by store).most ≡ items + 1) }
+{
+    match kind {
+        StoreKind::Table => {
+            let hasher = SecretState::new(rt).map_err(|_| ServeError::Listen)?;
+            let store = TableStore::with_hasher(alloc, items, hasher).map_err(
+                |_| ServeError::Memory,
+            )?;
+            Ok(ChosenStore::Table(store))
+        }
+        StoreKind::Lru => {
+            let hasher = RandomState::new(rt).map_err(|_| ServeError::Listen)?;
+            let store = LruStore::with_hasher(alloc, items, hasher).map_err(
+                |_| ServeError::Memory,
+            )?;
+            Ok(ChosenStore::Lru(store))
+        }
+    }
 }
