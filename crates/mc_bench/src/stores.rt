@@ -7,7 +7,7 @@ use mc_cache::{Cache, is_within_bounds};
 use mc_item::CasCounter;
 use mc_reply::Reply;
 use mc_request::{StoreMode, Update};
-use mc_store::{FixedHasher, ListStore, LruStore, Store};
+use mc_store::{FixedHasher, ListStore, LruStore, Store, TableStore};
 use mc_text::Key;
 use std::alloc::Global;
 use std::time::Instant;
@@ -19,14 +19,17 @@ const BUDGET: u64 = 1_099_511_627_776;
 const VALUE: [u8; 100] = [b'x'; 100];
 
 /// Prints how long gets, sets of held keys and sets of other keys take, each over as many items as the cache's limit: a
-/// list of 1,000, and a hashed store of 1,000 and of 1,000,000.
+/// list of 1,000, and each hashed store of 1,000 and of 1,000,000.
 pub fn measure(rt: &HostRuntime) -> anyhow::Result<()> {
     let alloc = rt.alloc();
     let counter = CasCounter::starting_at(0);
     let list = Cache::new(alloc, ListStore::new(alloc), BUDGET, 1_000, counter);
     measure_cache(rt, "list", list, 1_000)?;
     for items in [1_000, 1_000_000] {
-        measure_cache(rt, "hashed", hashed(alloc, items)?, items as u64)?;
+        ensure!(is_within_bounds(BUDGET, items), "no limit of items");
+        let lru = Cache::new(alloc, LruStore::new(alloc, items)?, BUDGET, items, counter);
+        measure_cache(rt, "lru", lru, items as u64)?;
+        measure_cache(rt, "table", table(alloc, items)?, items as u64)?;
     }
     Ok(())
 }
@@ -34,7 +37,7 @@ pub fn measure(rt: &HostRuntime) -> anyhow::Result<()> {
 /// Sets so many items of a key of 20 bytes and a value of 100 bytes, and prints what they cost. A tool that tells how much
 /// memory a process took tells by two such runs how much an item takes.
 pub fn hold(rt: &HostRuntime, items: u64) -> anyhow::Result<()> {
-    let mut cache = hashed(rt.alloc(), items.max(1) as usize)?;
+    let mut cache = table(rt.alloc(), items.max(1) as usize)?;
     let mut stored = 0u64;
     for number in 0..items {
         stored = stored.saturating_add(u64::from(is_set(&mut cache, &key(rt.alloc(), number)?)?));
@@ -43,10 +46,10 @@ pub fn hold(rt: &HostRuntime, items: u64) -> anyhow::Result<()> {
     Ok(())
 }
 
-/// A cache of this limit over a hashed store, which holds nothing.
-fn hashed(alloc: Global, items: usize) -> anyhow::Result<Cache<LruStore<FixedHasher>>> {
+/// A cache of this limit over a table, which holds nothing.
+fn table(alloc: Global, items: usize) -> anyhow::Result<Cache<TableStore<FixedHasher>>> {
     ensure!(is_within_bounds(BUDGET, items), "no limit of items");
-    let store = LruStore::new(alloc, items)?;
+    let store = TableStore::new(alloc, items)?;
     Ok(Cache::new(alloc, store, BUDGET, items, CasCounter::starting_at(0)))
 }
 
