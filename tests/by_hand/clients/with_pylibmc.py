@@ -150,7 +150,7 @@ def of_client_alone(client, port):
     yield "ThreadMappedPool", lambda: with_pool(threads), (True, b"x")
     yield "ClientPool", lambda: with_pool(pool), (True, b"x")
     binary = pylibmc.Client([f"127.0.0.1:{port}"], binary=True, behaviors={"_poll_timeout": 300, "receive_timeout": 300000})
-    yield "binary protocol: set", lambda: binary.set("a", b"x"), Raises("Error"), NO_BINARY
+    yield "binary protocol: set", lambda: binary.set("a", b"x"), Raises("ConnectionError"), NO_BINARY
 
 
 def buffered(client):
