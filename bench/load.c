@@ -10,18 +10,22 @@
  *     keys=100000      the keys are `key-0000000000000000` and so on
  *     size=100         bytes of a value, at least 20
  *     zipf=0           exponent of Zipf's law by which keys are chosen; 0 chooses each alike
+ *     rate=0           of `wait`: requests a second that fall due, whatever comes back; 0 for as many as are answered
  *
  * It connects, and then does what the lines of standard input say, and answers each with a line:
  *
  *     fill             sets each key once
  *     run SECONDS      sends requests for so long
+ *     wait SECONDS     the same, with one request in a batch, and tells how long each waited for its reply
  *
- * The answer is the number of requests and the seconds. A value begins with its key, so that it can be told whether a
+ * The answer is the number of requests and the seconds, and after `wait` the microseconds within which half of the replies came, 99 and
+ * 99.9 in a hundred, and the last. A request that fell due while no connection was free waits from then on. A value begins with its key, so that it can be told whether a
  * reply is the right one: each has to have the right key and size, and ends where it should. Anything else, or no answer
  * within ten seconds, ends the program with status 1 and says what came.
  *
- * It is one thread and never sleeps while replies are awaited. All replies that have come are read and looked at before
- * the next batches are sent, all at once: so the server finds as many connections ready as it would with a fast client.
+ * It is one thread and never sleeps while replies are awaited. After `run` all replies that have come are read and looked at before
+ * the next batches are sent, all at once: so the server finds as many connections ready as it would with a fast client. After `wait`
+ * each request is sent at once.
  */
 
 #define _GNU_SOURCE
@@ -43,6 +47,7 @@
 #define KEY_SIZE 20
 #define PATIENCE 10.0
 #define SAMPLES (1 << 20)
+#define WAITS (1 << 25)
 
 enum kind { GET, SET, MG };
 
@@ -59,10 +64,11 @@ struct peer {
     size_t out_size, out_sent;
     char *in;
     size_t in_wanted, in_size;
+    double due; /* when the request that is on its way fell due */
 };
 
 static long connections = 50, pipeline = 1, gets = 100, sets = 0, mgs = 0, many = 1, keys = 100000, size = 100;
-static double zipf = 0;
+static double zipf = 0, rate = 0;
 static struct peer *peers;
 static int watcher;
 static char *value;        /* what a value is after its key */
@@ -335,6 +341,68 @@ static long serve_until(double end)
     return done;
 }
 
+static uint32_t *waits; /* tenths of a microsecond */
+static long waited;
+
+static int by_size(const void *one, const void *other)
+{
+    uint32_t a = *(const uint32_t *)one, b = *(const uint32_t *)other;
+    return a < b ? -1 : a > b;
+}
+
+static double wait_within(double part)
+{
+    return waited == 0 ? 0 : waits[(long)((waited - 1) * part)] / 10.0;
+}
+
+static void send_one(struct peer *peer, double due)
+{
+    peer->due = due;
+    make_batch(peer);
+    send_batch(peer);
+}
+
+/* Sends single requests until the time is up, and notes how long each waited for its reply. Gives their number. */
+static long wait_until(double end)
+{
+    static struct epoll_event events[1024];
+    struct peer **idle = room(sizeof *idle * connections);
+    long done = 0, free_ones = 0;
+    double last = now(), due = last;
+    for (long at = 0; at < connections; at++)
+        idle[free_ones++] = &peers[at];
+    for (;;) {
+        double time = now();
+        while (free_ones > 0 && time < end && (rate == 0 || due <= time)) {
+            send_one(idle[--free_ones], rate == 0 ? time : due);
+            if (rate > 0)
+                due += 1 / rate;
+        }
+        if (free_ones == connections && time >= end)
+            break;
+        int found = epoll_wait(watcher, events, 1024, 0);
+        time = now();
+        if (found > 0 || free_ones == connections)
+            last = time;
+        else if (time > last + PATIENCE)
+            late();
+        for (int at = 0; at < found; at++) {
+            struct peer *peer = events[at].data.ptr;
+            if (events[at].events & EPOLLOUT)
+                send_batch(peer);
+            if ((events[at].events & ~EPOLLOUT) && receive_batch(peer)) {
+                if (waited < WAITS)
+                    waits[waited++] = (now() - peer->due) * 1e7;
+                done++;
+                idle[free_ones++] = peer;
+            }
+        }
+    }
+    free(idle);
+    qsort(waits, waited, sizeof *waits, by_size);
+    return done;
+}
+
 static void connect_peer(struct peer *peer, int port)
 {
     struct sockaddr_in address = {.sin_family = AF_INET, .sin_port = htons(port)};
@@ -368,9 +436,12 @@ static void read_word(const char *word)
             return;
         }
     }
-    if (strncmp(word, "zipf=", 5) != 0)
+    if (strncmp(word, "zipf=", 5) == 0)
+        zipf = atof(word + 5);
+    else if (strncmp(word, "rate=", 5) == 0)
+        rate = atof(word + 5);
+    else
         fail("a word is NAME=NUMBER, of the names that are at the top of load.c");
-    zipf = atof(word + 5);
 }
 
 int main(int count, char **words)
@@ -392,13 +463,21 @@ int main(int count, char **words)
     for (long at = 0; at < connections; at++)
         connect_peer(&peers[at], atoi(words[1]));
     while (fgets(line, sizeof line, stdin) != NULL) {
+        bool waiting = strncmp(line, "wait ", 5) == 0;
         filling = strcmp(line, "fill\n") == 0;
-        if (!filling && strncmp(line, "run ", 4) != 0)
-            fail("a line is `fill` or `run SECONDS`");
-        next_to_fill = 0;
+        if (!filling && !waiting && strncmp(line, "run ", 4) != 0)
+            fail("a line is `fill`, `run SECONDS` or `wait SECONDS`");
+        if (waiting && pipeline > 1)
+            fail("a batch has one request where waits are told");
+        next_to_fill = waited = 0;
         double start = now();
-        long done = serve_until(filling ? 0 : start + atof(line + 4));
-        printf("%ld %.6f\n", done, now() - start);
+        if (waiting && waits == NULL)
+            waits = room(sizeof *waits * WAITS);
+        long done = waiting ? wait_until(start + atof(line + 5)) : serve_until(filling ? 0 : start + atof(line + 4));
+        printf("%ld %.6f", done, now() - start);
+        if (waiting)
+            printf(" %.1f %.1f %.1f %.1f", wait_within(0.5), wait_within(0.99), wait_within(0.999), wait_within(1));
+        printf("\n");
         fflush(stdout);
     }
     return 0;

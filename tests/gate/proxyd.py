@@ -10,6 +10,7 @@ the servers: so it sees what each is sent, and answers what it likes. All that i
 """
 
 import contextlib
+import math
 import os
 import pathlib
 import resource
@@ -364,19 +365,19 @@ def a_join_that_is_refused_is_said_and_tried_again():
 def at_most_one_line_is_said_in_a_second():
     """Of a server whose link is lost by its first bytes, each time that it is back."""
     with Played() as pool:
-        address, seconds = pool.servers[0].address, 4
-        deadline = time.monotonic() + seconds
+        address, begun = pool.servers[0].address, time.monotonic()
         pool.servers[0].listener.settimeout(QUIET)
-        while time.monotonic() < deadline:
+        while time.monotonic() < begun + 4:
             with contextlib.suppress(OSError):
                 pool.links[0].sendall(b"?\r\n")
             with contextlib.suppress(TimeoutError):
                 pool.links[0] = pool.stack.enter_context(pool.servers[0].accept())
         pool.proxy.process.kill()
+        most = math.ceil(time.monotonic() - begun) + 1
         said = pool.proxy.process.stderr.read().decode().splitlines()
         lost, back = (f"mc_proxyd: {address} {what}" for what in ("lost: strange reply", "back"))
-        want(said, ([lost, back] * seconds)[: len(said)])
-        want(2 <= len(said) <= seconds + 1, True)
+        want(said, ([lost, back] * most)[: len(said)])
+        want((len(said), 2 <= len(said) <= most), (len(said), True))
 
 
 def nothing_is_said_where_it_cannot_be():

@@ -46,6 +46,13 @@ SETTINGS = {
         "--answer 268435456 --idle 0 --report 0 --items 65536 --store table",
         "listen 127.0.0.1:11211 budget 67108864 items 65536 accept 0",
     ),
+    "items_of_a_budget": ("--budget 1000000000", "listen 127.0.0.1:11211 budget 1000000000 items 8333333 accept 0"),
+    "items_of_a_small_budget": ("--budget 7864439", "listen 127.0.0.1:11211 budget 7864439 items 65536 accept 0"),
+    "items_of_the_least_larger_budget": ("--budget 7864440", "listen 127.0.0.1:11211 budget 7864440 items 65537 accept 0"),
+    "items_of_the_greatest_budget": (
+        "--budget 1099511627776",
+        "listen 127.0.0.1:11211 budget 1099511627776 items 16777216 accept 0",
+    ),
     "in_another_order": (
         "--report 4 --accept 3 --items 2",
         "listen 127.0.0.1:11211 budget 67108864 items 2 accept 3 report 4",

@@ -18,6 +18,13 @@ pub record Takes (old : LinkState) (tag : Tag) (reply : Reply (List ℕ)) (new :
   pub spelled : old.unread ≡ spelling_of head reply ++ new.unread
   pub others : new ≡ record old { waiting = new.waiting; unread = new.unread }
 
+-- a whole reply to the command that waits longest is next: a turn can take it
+pub record HasReply (link : LinkState) : Type 0 where
+  pub tag : Tag
+  pub reply : Reply (List ℕ)
+  pub after : LinkState
+  pub takes : Takes link tag reply after
+
 -- no reply can be taken until more bytes come
 abbrev pub IsIdle : List Waiting → List ℕ → Type 0
 IsIdle [] unread = unread ≡ []

@@ -1,5 +1,5 @@
 //! A link.
-ghost use Rattle.std.specs.Prelude.{◌≡◌, ◌+◌, ◌-◌, ◌^◌, ◌<◌, ◌≤◌, ◌++◌, ◌↔◌, ◌⊎◌, ◌∷◌, [], ℕ, true, false, length, drop, slice_get, option_map, IfOk, IsOk, IsOkUnless, IsErrOf, OnOk, OnErr};
+ghost use Rattle.std.specs.Prelude.{◌≡◌, ◌+◌, ◌-◌, ◌^◌, ◌<◌, ◌≤◌, ◌++◌, ◌↔◌, ◌⊎◌, ◌∷◌, [], ℕ, true, false, length, drop, slice_get, option_map, IfOk, IsOk, IsOkUnless, IsErrOf, IsTrue, OnOk, OnErr};
 ghost use Rattle.std.specs.Bool.{OnFalse};
 
 use crate::turns::{LinkError, LinkTurn, LostLink, Tag};
@@ -43,7 +43,7 @@ impl Link {
     ghost use Rattle.mc_request.specs.Atoms.{head_of};
     ghost use Rattle.mc_spelling.specs.Spellings.{spelling_of_atom};
     ghost use Rattle.mc_link.specs.LinkState.{LinkState, KeepsRoom, down_link, up_link, sent, can_come_back};
-    ghost use Rattle.mc_link.specs.Turns.{IsLinkTurn};
+    ghost use Rattle.mc_link.specs.Turns.{HasReply, IsLinkTurn};
 
     /// A link that is down and has never been up: its generation is 0. It takes no memory.
     pub fn new(alloc: Global) -> Link
@@ -216,7 +216,7 @@ impl Link {
     pub fn turn(&mut self, alloc: Global) -> Result<LinkTurn, LinkError>
         ensures turn { IfOk result (λ turn. IsLinkTurn self.old.state turn self.new.state) }
         ensures state { IsErrOf result LinkError.State ↔ (self.old.state.up ≡ false) }
-        ensures cause { IsErrOf result LinkError.Memory → 0 < length self.old.state.waiting }
+        ensures cause { IsErrOf result LinkError.Memory → HasReply self.old.state }
         ensures err { OnErr result (self.new.state ≡ self.old.state) }
         ensures room { KeepsRoom self.old self.new }
     {
@@ -244,6 +244,16 @@ impl Link {
                 Ok(LinkTurn::Idle)
             }
             NextReply::Strange => Ok(LinkTurn::Strange),
+        }
+    }
+
+    /// Whether a whole reply to the command that waits longest has come, which a turn takes. It takes no memory.
+    pub fn has_reply(&self) -> bool
+        ensures { IsTrue result ↔ HasReply self.now.state }
+    {
+        match self.waiting.front() {
+            Some((head, _)) => self.reader.has_next(head),
+            None => false,
         }
     }
 

@@ -1,8 +1,10 @@
 -- What a call of a session does to the proxy.
-use Rattle.std.specs.Prelude.{ℕ, ◌≡◌, List, [], Option, Some, None}
+use Rattle.std.specs.Prelude.{ℕ, ◌≡◌, ◌≢◌, List, [], Option, Some, None}
 use Rattle.mc_request.specs.declared.parts.Taken.{Taken}
 use Rattle.mc_request_reader.specs.Reader.{rest_of}
 use Rattle.mc_link.specs.LinkState.{LinkState}
+use Rattle.mc_session.specs.Emits.{emitted}
+use Rattle.mc_session.specs.Looks.{IsReady}
 use Rattle.mc_session.specs.SessionState.{SessionState}
 use Rattle.mc_proxy.specs.ProxyState.{ProxyState, session_at, updated}
 
@@ -10,6 +12,14 @@ use Rattle.mc_proxy.specs.ProxyState.{ProxyState, session_at, updated}
 abbrev pub waiting_of : Option SessionState → List Taken
 waiting_of None = []
 waiting_of (Some session) = rest_of session.reader []
+
+-- a request of a session can be taken: one has come whole, and no mark is reached by it
+abbrev pub CanTurn : ℕ → ProxyState → Type 0
+CanTurn number p = (session : SessionState) × (session_at p number ≡ Some session) × IsReady p.ring p.links session
+
+-- an answer can be put out: of each command of the session's oldest unanswered request it is known what became of it
+abbrev pub HasAnswer : ℕ → ProxyState → Type 0
+HasAnswer number p = (session : SessionState) × (session_at p number ≡ Some session) × (emitted session ≢ None)
 
 -- the session of a number takes a step, with the links; all else of the proxy is as it was
 pub record Steps (number : ℕ) (old new : ProxyState) (Step : List LinkState → List LinkState → SessionState → SessionState → Type 0) : Type 0 where

@@ -1,6 +1,6 @@
 //! The proxy's links.
 ghost use Rattle.mc_proxy.specs.Joins.{joined_link};
-ghost use Rattle.std.specs.Prelude.{◌≡◌, ◌+◌, ◌-◌, ◌^◌, ◌<◌, ◌≤◌, ◌↔◌, ◌⊎◌, ◌++◌, true, false, length, drop, option_map, slice_get, IsErrOf, IsOkUnless, IfOk, IfErr, OnOk, OnErr};
+ghost use Rattle.std.specs.Prelude.{◌≡◌, ◌+◌, ◌-◌, ◌^◌, ◌<◌, ◌≤◌, ◌↔◌, ◌⊎◌, ◌++◌, true, false, length, drop, option_map, slice_get, IsErrOf, IsOkUnless, IsTrue, IfOk, IfErr, OnOk, OnErr};
 
 use crate::errors::ProxyError;
 use crate::proxies::Proxy;
@@ -12,6 +12,7 @@ use std::alloc::Global;
 
 impl Proxy {
     ghost use Rattle.mc_link.specs.LinkState.{can_come_back, up_link};
+    ghost use Rattle.mc_link.specs.Turns.{HasReply};
     ghost use Rattle.mc_ring.specs.Rings.{RingState};
     ghost use Rattle.mc_session.specs.SessionState.{link_at, with_link};
     ghost use Rattle.mc_proxy.specs.Joins.{JoinsServer, has_server};
@@ -69,7 +70,7 @@ impl Proxy {
     /// It takes memory only for a value, which is copied out once.
     pub fn link_turn(&mut self, server: usize) -> Result<LinkTurn, ProxyError>
         ensures turn { IfOk result (λ turn. IsLinkTurn server turn self.old self.new) }
-        ensures memory { IsErrOf result ProxyError.Memory → 0 < length (link_at self.old.links server).waiting }
+        ensures memory { IsErrOf result ProxyError.Memory → HasReply (link_at self.old.links server) }
         ensures no_link { IsErrOf result ProxyError.NoLink ↔ (length self.old.links ≤ server) }
         ensures state { IsErrOf result ProxyError.LinkState ↔ ((server < length self.old.links) × ((link_at self.old.links server).up ≡ false)) }
         ensures only { IfErr result (λ e. (e ≡ ProxyError.NoLink) ⊎ (e ≡ ProxyError.LinkState) ⊎ (e ≡ ProxyError.Memory)) }
@@ -89,6 +90,14 @@ impl Proxy {
                 Ok(LinkTurn::Strange)
             }
         }
+    }
+
+    /// Whether a whole reply to the oldest command that waits on a link has come, which a turn of the link takes. It is false
+    /// where the link is down or not there. It takes no memory.
+    pub fn has_reply(&self, server: usize) -> bool
+        ensures { IsTrue result ↔ HasReply (link_at self.now.links server) }
+    {
+        self.links.get(server).is_some_and(Link::has_reply)
     }
 
     /// Loses a link that is up: each command that waits on it is lost, and what came of no reply is forgotten. It gives the

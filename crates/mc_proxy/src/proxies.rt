@@ -45,7 +45,7 @@ impl Proxy {
     ghost use Rattle.mc_session.specs.Looks.{IsReady, waits_for};
     ghost use Rattle.mc_session.specs.Turns.{IsFed, IsTurn};
     ghost use Rattle.mc_proxy.specs.ProxyState.{is_finished, output_of, sent_by, session_at, unanswered_of, with_fresh, without};
-    ghost use Rattle.mc_proxy.specs.Turns.{Alone, Steps, waiting_of};
+    ghost use Rattle.mc_proxy.specs.Turns.{Alone, CanTurn, HasAnswer, Steps, waiting_of};
 
     /// A proxy with no session, whose links are down and have never been up.
     pub fn new(alloc: Global, ring: Ring) -> Result<Proxy, ProxyError>
@@ -89,6 +89,13 @@ impl Proxy {
             return Err(ProxyError::TooManySessions);
         }
         Ok(self.sessions.push(Session::new(self.alloc))?)
+    }
+
+    /// Whether a session is open.
+    pub fn is_open(&self, number: u64) -> bool
+        ensures { IsTrue result ↔ (session_at self.now number ≢ None) }
+    {
+        self.sessions.get(number).is_some()
     }
 
     /// Takes the next piece of a session's text.
@@ -135,6 +142,17 @@ impl Proxy {
         self.sessions.get(number).is_some_and(Session::ready)
     }
 
+    /// Whether a turn of a session would take a request or fault: one has come whole, and need not wait for a mark. It is false
+    /// where the session is not open. It takes no memory.
+    pub fn can_turn(&self, number: u64) -> bool
+        ensures { IsTrue result ↔ CanTurn number self.now }
+    {
+        match self.sessions.get(number) {
+            Some(session) => session.can_turn(&self.ring, self.links.as_slice()),
+            None => false,
+        }
+    }
+
     /// Whether the first request or fault of a session that has come whole has a command for the server of a place. It is
     /// false where none has come, or the session is not open. It takes no memory.
     pub fn waits_for(&self, number: u64, server: usize) -> bool
@@ -144,6 +162,14 @@ impl Proxy {
             Some(session) => session.waits_for(&self.ring, server),
             None => false,
         }
+    }
+
+    /// Whether it is known of each command of the oldest unanswered request of a session what became of it. It is false where
+    /// the session is not open. It takes no memory.
+    pub fn has_answer(&self, number: u64) -> bool
+        ensures { IsTrue result ↔ HasAnswer number self.now }
+    {
+        self.sessions.get(number).is_some_and(Session::has_answer)
     }
 
     /// Puts the answer to the oldest unanswered request of a session out, where it is known of each of its commands what

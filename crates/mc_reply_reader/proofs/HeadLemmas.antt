@@ -1,8 +1,12 @@
 -- What is read for a command, by its head, is what is spelled.
-use Rattle.std.proofs.Common.{◌≡◌, ◌≢◌, ◌∙◌, ℕ, ℤ, ◌+◌, ◌-◌, ◌<◌, ◌≤◌, Bool, true, false, List, [], ◌++◌, length, take, append-nil, ◌⊎◌, inl, inr, Option, Some, None, Ok, Err, refl, sym, ap, subst, arith}
+use Rattle.std.proofs.Common.{◌≡◌, ◌≢◌, ◌∙◌, ℕ, ℤ, ◌+◌, ◌-◌, ◌<◌, ◌≤◌, Bool, true, false, List, [], ◌++◌, length, take, append_assoc, append-nil, ◌⊎◌, inl, inr, Option, Some, None, Result, Ok, Err, refl, sym, ap, subst, arith}
 use Rattle.std.proofs.lemmas.List.{length-append}
 use Rattle.std.specs.Option.{is_some}
+use Rattle.std.specs.Prelude.{◌↔◌, IsTrue, OnErr}
+use Rattle.std.specs.Result.{is_ok}
 use Rattle.mc_forms.specs.Forms.{Form, Or, or_if, read, text_at, number_at}
+use Rattle.mc_forms.specs.Seen.{seen_by}
+use Rattle.mc_forms.specs.declared.unready.Unready.{Unready}
 use Rattle.mc_forms.specs.declared.unready.Unready.TheVariants.{More, Strange}
 use Rattle.mc_forms.proofs.CoverLaws.{Covers, Begins, BegunFor, read_ok, read_more, read_strange, are_apart}
 use Rattle.mc_request.specs.Parts.{meta_map, update_map}
@@ -20,7 +24,7 @@ use Rattle.mc_reply.specs.declared.replies.Reply.TheVariants as replies
 use Rattle.mc_reply.specs.CanHave.{can_have}
 use Rattle.mc_reply.specs.Spelling.{spelling_of}
 use Rattle.mc_reply_reader.specs.Examples.{IsStrangeFrom}
-use Rattle.mc_reply_reader.specs.NextReply.{IsBegun, IsShortOf, IsStrange}
+use Rattle.mc_reply_reader.specs.NextReply.{HasReply, IsBegun, IsShortOf, IsStrange}
 use Rattle.mc_reply_reader.specs.ReplyForms.{Answer, count_faults, get_form, store_faults, update_form, update_line}
 use Rattle.mc_reply_reader.specs.MetaForms.{code_line, form_of, read_if, shown_form, unmet_form}
 use Rattle.mc_reply_reader.proofs.ClassicLemmas.{Head, covers_get, covers_update}
@@ -79,6 +83,41 @@ pub reply_begun : (head : Head) (u : List ℕ) → read_if (form_of head) u ≡ 
 reply_begun head u e =
     let short = reply_short head u 1 (length u + 1) e (λ some. omega arith) (omega arith) in
     subst (IsBegun head) (append-nil u) (short.begun [] (omega (arith, length-append u [])))
+
+-- the beginning of a reply is no whole one
+pub begun_is_not_whole : (head : Head) (u : List ℕ) → IsBegun head u → HasReply head u → ⊥
+begun_is_not_whole head u begun has =
+    let whole : spelling_of head has.reply ++ (has.rest ++ begun.more) ≡ spelling_of head begun.reply ++ [] =
+    sym (append_assoc (spelling_of head has.reply) has.rest begun.more) ∙ ap (λ (bytes : List ℕ). bytes ++ begun.more) (sym has.spelled) ∙ begun.spelled
+    ∙ sym (append-nil (spelling_of head begun.reply)) in
+    let rest = (replies_apart head has.reply begun.reply (has.rest ++ begun.more) [] has.can begun.can whole).1 in
+    let size : length (has.rest ++ begun.more) ≡ 0 = ap (λ (bytes : List ℕ). length bytes) rest in
+    omega (arith, size, length-append has.rest begun.more, begun.missing)
+
+-- what is read is a whole reply or none
+pub reply_whole : (head : Head) (u : List ℕ) (x : Answer × List ℕ) → read_if (form_of head) u ≡ Ok x → HasReply head u
+reply_whole head u x e =
+    let begins = reply_read head u x e in
+    record { reply = x.0; can = begins.allowed; rest = x.1; spelled = begins.spelled }
+
+not_more : (head : Head) (u : List ℕ) (n : ℕ) → read_if (form_of head) u ≡ Err (More n) → HasReply head u → ⊥
+not_more head u n e has =
+    let short = reply_short head u n (length u + n) e (λ some. omega (arith, some)) (omega arith) in
+    begun_is_not_whole head u (subst (IsBegun head) (append-nil u) (short.begun [] (omega (arith, short.short, length-append u [])))) has
+
+not_strange : (head : Head) (u : List ℕ) → read_if (form_of head) u ≡ Err Strange → HasReply head u → ⊥
+not_strange head u e has = reply_strange head u e has.reply [] has.rest has.can (append-nil u ∙ has.spelled)
+
+pub whole_if_read : {X : Type 0} (view : X → Answer × List ℕ) (head : Head) (u : List ℕ) (r : Result X Unready) → seen_by view r ≡ read_if (form_of head) u
+    → IsTrue (is_ok r) ↔ HasReply head u
+whole_if_read view head u (Ok x) e = (λ _. reply_whole head u (view x) (sym e), λ _. refl)
+whole_if_read view head u (Err (More n)) e = (λ never. absurd cc, λ has. absurd (not_more head u n (sym e) has))
+whole_if_read view head u (Err Strange) e = (λ never. absurd cc, λ has. absurd (not_strange head u (sym e) has))
+
+-- what is so is so at an error
+pub at_error : {T E P : Type 0} (r : Result T E) → P → OnErr r P
+at_error (Ok x) is = tt
+at_error (Err e) is = is
 
 -- WORKED EXAMPLES
 

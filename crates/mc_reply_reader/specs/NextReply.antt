@@ -18,6 +18,13 @@ pub record ReplyReaderState : Type 0 where
 abbrev pub fresh_reply_reader : ReplyReaderState
 fresh_reply_reader = record { unread = []; held = 0 }
 
+-- a whole reply that the command can have is next
+pub record HasReply (head : Atom (Unit {0})) (unread : List ℕ) : Type 0 where
+  pub reply : Reply (List ℕ)
+  pub can : can_have head reply ≡ true
+  pub rest : List ℕ
+  pub spelled : unread ≡ spelling_of head reply ++ rest
+
 -- a proper beginning of the spelling of a reply that a command can have
 pub record IsBegun (head : Atom (Unit {0})) (unread : List ℕ) : Type 0 where
   pub reply : Reply (List ℕ)

@@ -1,6 +1,6 @@
 //! The reader of replies.
-ghost use Rattle.std.specs.Prelude.{◌≡◌, ◌≤◌, ◌*◌, ◌++◌, length, IfOk, OnOk, OnErr};
-ghost use Rattle.mc_reply_reader.specs.NextReply.{Gives, fresh_reply_reader};
+ghost use Rattle.std.specs.Prelude.{◌≡◌, ◌≤◌, ◌*◌, ◌++◌, ◌↔◌, length, IfOk, IsTrue, OnOk, OnErr};
+ghost use Rattle.mc_reply_reader.specs.NextReply.{Gives, HasReply, fresh_reply_reader};
 
 use crate::next_replies::NextReply;
 use crate::replies::{owned, read_reply};
@@ -54,6 +54,7 @@ impl ReplyReader {
     /// changes, nor where there is no memory for the value.
     pub fn next(&mut self, alloc: Global, head: &Head) -> Result<NextReply, ReplyError>
         ensures given { IfOk result (λ next. Gives head.now self.old next self.new) }
+        ensures cause { OnErr result (HasReply head.now self.old.unread) }
         ensures err { OnErr result (self.new ≡ self.old) }
     {
         let (_, unread) = self.buffer.split_at(self.start);
@@ -69,6 +70,14 @@ impl ReplyReader {
             )),
             Err(Unready::Strange) => Ok(NextReply::Strange),
         }
+    }
+
+    /// Whether a whole reply is next, for the command that it answers. It takes no memory.
+    pub fn has_next(&self, head: &Head) -> bool
+        ensures { IsTrue result ↔ HasReply head.now self.now.unread }
+    {
+        let (_, unread) = self.buffer.split_at(self.start);
+        read_reply(head, unread).is_ok()
     }
 
     /// How many bytes have come that are of no reply that was given.

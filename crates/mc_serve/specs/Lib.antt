@@ -1,3 +1,4 @@
+pub mod Bounds
 pub mod Chosen
 pub mod Clocks
 pub mod Kinds

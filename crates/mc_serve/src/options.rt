@@ -1,7 +1,7 @@
 //! The command line of a server.
 
 use crate::kinds::{KINDS, StoreKind, kind_named};
-use crate::settings::{Service, Settings, USUAL_ANSWER};
+use crate::settings::{Service, Settings, USUAL_ANSWER, USUAL_BUDGET, items_for};
 use clap::builder::ValueParser;
 use clap::{Arg, ArgMatches, Command};
 use mc_cache::{MAX_BUDGET, MAX_ITEMS};
@@ -30,8 +30,12 @@ pub struct Options<'a> {
 impl<'a> Options<'a> {
     /// What matches of [`command`] ask for; none where numbers are not within their limits, which the command refuses.
     pub fn of(matches: &ArgMatches<'a>) -> Option<Options<'a>> {
-        let budget = matches.get_one::<u64>("budget")?;
-        let items = matches.get_one::<usize>("items")?;
+        let given = matches.get_one::<u64>("budget");
+        let budget = given.unwrap_or(USUAL_BUDGET);
+        let items = match matches.get_one::<usize>("items") {
+            Some(items) => items,
+            None => items_for(given),
+        };
         let kind = kind_named(matches.get_str("store")?);
         let service = Service {
             terms: Terms::of(matches),
@@ -108,9 +112,8 @@ fn budget<'a>(alloc: Global) -> Arg<'a> {
         .long("budget")
         .value_name("bytes")
         .value_parser(ValueParser::unsigned(1, MAX_BUDGET))
-        .default_value("67108864")
         .help(
-            "What the items may cost in all, an item its key's and its value's bytes and 64: 1 to 1099511627776",
+            "What the items may cost in all, an item its key's and its value's bytes and 64: 1 to 1099511627776; 67108864 if not given",
         )
 }
 
@@ -119,8 +122,9 @@ fn items<'a>(alloc: Global) -> Arg<'a> {
         .long("items")
         .value_name("n")
         .value_parser(ValueParser::unsigned(1, MAX_ITEMS as u64))
-        .default_value("65536")
-        .help("The most items: 1 to 16777216; their table is reserved at the start")
+        .help(
+            "The most items: 1 to 16777216; their table is reserved at the start. If not given, 65536, or one for each 120 bytes of --budget if there are more",
+        )
 }
 
 fn store<'a>(alloc: Global) -> Arg<'a> {

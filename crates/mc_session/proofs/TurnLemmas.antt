@@ -1,6 +1,7 @@
 -- What a turn does, by what its steps did.
-use Rattle.std.proofs.Common.{◌≡◌, ℕ, zero, suc, ◌+◌, ◌<◌, ◌≤◌, ◌==◌, inl, inr, Bool, true, false, ◌&&◌, ◌||◌, List, [], ◌∷◌, ◌++◌, length, map, Result, Ok, Err, OnErr, refl, sym, subst, arith}
+use Rattle.std.proofs.Common.{◌≡◌, ◌∙◌, ℕ, zero, suc, ◌+◌, ◌<◌, ◌≤◌, ◌==◌, inl, inr, Bool, true, false, not, ◌&&◌, ◌||◌, List, [], ◌∷◌, ◌++◌, length, map, Result, Ok, Err, OnErr, refl, sym, subst, arith}
 use Rattle.std.specs.List.{list_any}
+use Rattle.std.specs.Prelude.{◌↔◌, IsTrue}
 use Rattle.std.proofs.lemmas.Bool.{cases_lt}
 use Rattle.std.proofs.lemmas.Bool.Decides.{nat_tests}
 use Rattle.mc_request.specs.declared.parts.Taken.{Taken}
@@ -16,7 +17,7 @@ use Rattle.mc_route.specs.declared.routes.Routed.{Routed}
 use Rattle.mc_route.specs.declared.outcomes.Outcome.{Outcome}
 use Rattle.mc_link.specs.LinkState.{LinkState}
 use Rattle.mc_session.specs.SessionState.{SessionState, link_at}
-use Rattle.mc_session.specs.Sending.{at_once, handed, is_link_marked, is_session_marked}
+use Rattle.mc_session.specs.Sending.{at_once, handed, is_link_marked, is_marked, is_session_marked}
 use Rattle.mc_session.specs.Looks.{IsReady, waits_for}
 use Rattle.mc_session.specs.Turns.{IsHeldUp, Takes}
 
@@ -129,6 +130,34 @@ ready ring links session what front shows own others = record {
   first = shown_waits session.reader what front shows;
   unmarked = rw own others;
 }
+
+-- a request that is ready is the one that is shown
+or_none : (a b : Bool) → (a || b) ≡ false → (a ≡ false) × (b ≡ false)
+or_none false false none = (refl, refl)
+or_none false true none = absurd cc
+or_none true b none = absurd cc
+
+ready_unmarked : (ring : RingState) (links : List LinkState) (session : SessionState) (what : Taken) (front : Front) → Shows session.reader what front
+    → IsReady ring links session → (is_session_marked session ≡ false) × (any_marked links (route_of_taken ring what) ≡ false)
+ready_unmarked ring links session what front shows is =
+    let same : is.what ∷ is.others ≡ what ∷ rest_of (past front session.reader) [] = sym is.first ∙ shown_waits session.reader what front shows in
+    let one : is.what ≡ what = cc in
+    or_none (is_session_marked session) (any_marked links (route_of_taken ring what))
+    (subst (λ (w : Taken). is_marked session links (route_of_taken ring w) ≡ false) one is.unmarked)
+
+pub ready_if : (ring : RingState) (links : List LinkState) (session : SessionState) (what : Taken) (front : Front) → Shows session.reader what front
+    → (own others : Bool) → own ≡ is_session_marked session → others ≡ any_marked links (route_of_taken ring what)
+    → IsTrue (not own && not others) ↔ IsReady ring links session
+ready_if ring links session what front shows false false own others =
+    (λ _. ready ring links session what front shows (sym own) (sym others), λ _. refl)
+ready_if ring links session what front shows false true own others = (
+  λ never. absurd cc,
+  λ is. let unmarked = (ready_unmarked ring links session what front shows is).1 in let clash : true ≡ false = others ∙ unmarked in absurd cc,
+)
+ready_if ring links session what front shows true others_is own others = (
+  λ never. absurd cc,
+  λ is. let unmarked = (ready_unmarked ring links session what front shows is).0 in let clash : true ≡ false = own ∙ unmarked in absurd cc,
+)
 
 -- what holds anyhow holds of an error
 pub at_error : {T E P : Type 0} (r : Result T E) → P → OnErr r P

@@ -134,6 +134,16 @@ impl Session {
         self.reader.ready()
     }
 
+    /// Whether a turn would take a request or fault: one has come whole, and need not wait for a mark. It takes no memory.
+    pub fn can_turn(&self, ring: &Ring, links: &[Link]) -> bool
+        ensures { IsTrue result ↔ IsReady ring.now (states links.now) self.now }
+    {
+        match self.reader.peek() {
+            Peek::First(asked, _) => !self.is_marked() && !is_any_marked(links, &asked, ring),
+            Peek::More | Peek::Closed => false,
+        }
+    }
+
     /// Whether the first request or fault that has come whole has a command for the server of a place of the ring. It takes no
     /// memory.
     pub fn waits_for(&self, ring: &Ring, place: usize) -> bool
@@ -158,6 +168,13 @@ impl Session {
         if place < self.unanswered.len() {
             self.unanswered[place].note(tag.atom, outcome);
         }
+    }
+
+    /// Whether it is known of each command of the oldest request that is not answered what became of it. It takes no memory.
+    pub fn has_answer(&self) -> bool
+        ensures { IsTrue result ↔ (emitted self.now ≢ None) }
+    {
+        self.unanswered.front().is_some_and(Unanswered::is_known)
     }
 
     /// Appends the answer to the oldest request that is not answered, where it is known of each of its commands what became

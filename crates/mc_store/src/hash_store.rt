@@ -68,13 +68,15 @@ pub type TableStore<H> = HashStore<Table<Key, Held, H>>;
 ///
 /// # Memory
 ///
-/// The constructor takes the search table whole, for 9 * 2^k items, the least such number that is enough; and a [`TableStore`] room for
-/// all entries, where a [`LruStore`] takes a node for each new item. The blocks of dead entries stay taken until they are let go. A key that is taken out of a crowded part of the search table leaves its
-/// place counted as taken; where no place is left by that count, as may be after long eviction or a clear, `put_front` first
-/// lays that table out anew, which takes time for each entry but hashes none. That is done in place where the entries, the
-/// new one with them, are at most half of what it is for. Else it is doubled, and only that takes memory; then they are at
-/// most half of it, so this comes once in a store's life. Where memory is refused, so is the item, and the items are as they
-/// were.
+/// The constructor of a [`TableStore`] takes room for all entries and its search table, which is never laid out anew: no call takes time for
+/// each entry, but the end of the store. That of a [`LruStore`] takes its search table alone, for 9 * 2^k items, the least such number that
+/// is enough; each new item then takes a node. The blocks of dead entries stay taken until they are let go.
+///
+/// In the search table of a [`LruStore`] a key that is taken out of a crowded part leaves its place counted as taken. If no place is left by
+/// that count, as may be after long eviction or a clear, `put_front` first lays that table out anew, which takes time for each entry
+/// but hashes none. That is done in place if the entries, the new one with them, are at most half of what it is for. Else it is
+/// doubled, and only that takes memory; then they are at most half of it, so this comes once in a store's life. If memory is
+/// refused, so is the item, and the items are as they were.
 #[derive(Drop)]
 pub struct HashStore<M: Recent> {
     cache: EpochCache<M>,

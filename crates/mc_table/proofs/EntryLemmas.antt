@@ -1,13 +1,12 @@
 -- Entries in the order of places: what is found, taken out, written and put.
-use Rattle.std.proofs.Common.{◌≡◌, ℕ, zero, suc, ◌+◌, ◌-◌, ◌<◌, ◌≤◌, inl, inr, Bool, true, false, cond, not, eqb, List, [], ◌∷◌, ◌++◌, length, take, set, get_or, Option, Some, None, refl, sym, ap, ◌∙◌, subst, arith}
-use Rattle.std.specs.Prelude.{slice_get, nat_lt, is_some, IfSome, IfNone}
+use Rattle.std.proofs.Common.{◌≡◌, ℕ, zero, suc, ◌-◌, ◌<◌, ◌≤◌, inl, inr, Bool, true, false, cond, eqb, List, [], ◌∷◌, ◌++◌, length, take, set, get_or, Option, Some, None, refl, ap, ◌∙◌, subst, arith}
+use Rattle.std.specs.Prelude.{slice_get}
 use Rattle.std.specs.Option.{option_map}
-use Rattle.std.specs.List.{IsDistinct, AllByRecursion, swap_remove, position, position_or_len}
-use Rattle.std.specs.Map.{keys_of, lookup, lookup_entry, remove_entry}
-use Rattle.std.proofs.lemmas.Bool.{cases_eq, cases_lt}
+use Rattle.std.specs.List.{swap_remove}
+use Rattle.std.specs.Map.{lookup, lookup_entry, remove_entry}
+use Rattle.std.proofs.lemmas.Bool.{cases_eq}
 use Rattle.std.proofs.lemmas.Bool.Decides.{nat_tests}
 use Rattle.std.proofs.lemmas.List.{length-set, length-take-le}
-use Rattle.indexmap.specs.IndexMap.{insert_entry}
 use Rattle.mc_table.specs.Places.{Member, Apart, UpTo, last_from, left_out, renumbered}
 use Rattle.mc_table.specs.Tables.{put_some, in_order, IsAt, IsNowhere}
 use Rattle.mc_table.proofs.PlaceLemmas.{UpTo-member, member_apart}
@@ -30,114 +29,37 @@ got_within [] i x is = absurd cc
 got_within (y ∷ xs) zero x is = omega arith
 got_within (y ∷ xs) (suc i) x is = let rest : i < length xs = got_within xs i x is in omega arith
 
-got_or : {X : Type 0} (xs : List X) (i : ℕ) (d : X) → i < length xs → slice_get xs i ≡ Some (get_or xs i d)
+pub got_or : {X : Type 0} (xs : List X) (i : ℕ) (d : X) → i < length xs → slice_get xs i ≡ Some (get_or xs i d)
 got_or [] i d within = absurd (omega arith)
 got_or (x ∷ xs) zero d within = refl
 got_or (x ∷ xs) (suc i) d within = got_or xs i d (omega arith)
 
-got-take : {X : Type 0} (n : ℕ) (xs : List X) (i : ℕ) → i < n → slice_get (take n xs) i ≡ slice_get xs i
+pub got-take : {X : Type 0} (n : ℕ) (xs : List X) (i : ℕ) → i < n → slice_get (take n xs) i ≡ slice_get xs i
 got-take zero xs i less = absurd (omega arith)
 got-take (suc n) [] i less = refl
 got-take (suc n) (x ∷ xs) zero less = refl
 got-take (suc n) (x ∷ xs) (suc i) less = got-take n xs i (omega arith)
 
-got-set_other : {X : Type 0} (xs : List X) (i j : ℕ) (y : X) → (j ≡ i → ⊥) → slice_get (set xs i y) j ≡ slice_get xs j
+pub got-set_other : {X : Type 0} (xs : List X) (i j : ℕ) (y : X) → (j ≡ i → ⊥) → slice_get (set xs i y) j ≡ slice_get xs j
 got-set_other [] i j y apart = refl
 got-set_other (x ∷ xs) zero zero y apart = absurd (apart refl)
 got-set_other (x ∷ xs) zero (suc j) y apart = refl
 got-set_other (x ∷ xs) (suc i) zero y apart = refl
 got-set_other (x ∷ xs) (suc i) (suc j) y apart = got-set_other xs i j y (λ same. apart (ap suc same))
 
-got-set_same : {X : Type 0} (xs : List X) (i : ℕ) (y : X) → i < length xs → slice_get (set xs i y) i ≡ Some y
+pub got-set_same : {X : Type 0} (xs : List X) (i : ℕ) (y : X) → i < length xs → slice_get (set xs i y) i ≡ Some y
 got-set_same [] i y within = absurd (omega arith)
 got-set_same (x ∷ xs) zero y within = refl
 got-set_same (x ∷ xs) (suc i) y within = got-set_same xs i y (omega arith)
 
-got-front : {X : Type 0} (xs ys : List X) (i : ℕ) → i < length xs → slice_get (xs ++ ys) i ≡ slice_get xs i
+pub got-front : {X : Type 0} (xs ys : List X) (i : ℕ) → i < length xs → slice_get (xs ++ ys) i ≡ slice_get xs i
 got-front [] ys i within = absurd (omega arith)
 got-front (x ∷ xs) ys zero within = refl
 got-front (x ∷ xs) ys (suc i) within = got-front xs ys i (omega arith)
 
-got-last : {X : Type 0} (xs : List X) (y : X) → slice_get (xs ++ y ∷ []) (length xs) ≡ Some y
+pub got-last : {X : Type 0} (xs : List X) (y : X) → slice_get (xs ++ y ∷ []) (length xs) ≡ Some y
 got-last [] y = refl
 got-last (x ∷ xs) y = got-last xs y
-
--- a key that the map below finds
-
-first_passes : {K V : Type 0} (test : K → Bool) (es : List (K × V)) → position_or_len test (keys_of es) < length es
-    → (e : K × V) × (slice_get es (position_or_len test (keys_of es)) ≡ Some e) × (test e.0 ≡ true)
-first_passes test [] less = absurd (omega arith)
-first_passes {K} {V} test (e ∷ es) less =
-    let place : ℕ = position_or_len test (keys_of es) in
-    (elim (test e.0) as (λ v. test e.0 ≡ v → cond (not v) (1 + place) 0 < length (e ∷ es) → (x : K × V) × (slice_get (e ∷ es) (cond (not v) (1 + place) 0) ≡ Some x) × (test x.0 ≡ true)) [
-      | true ↦ λ t within. (e, refl, t)
-      | false ↦ λ t within.
-          let below : place < length es = omega arith in
-          let rest = first_passes test es below in
-          let next : suc place ≡ 1 + place = omega arith in
-          (rest.0, subst (λ (n : ℕ). slice_get (e ∷ es) n ≡ Some rest.0) next rest.1, rest.2)
-    ]) refl less
-
-position_is : (found : Bool) (place index : ℕ) → Some index ≡ cond found (Some place) None → index ≡ place
-position_is true place index is = cc
-position_is false place index is = absurd cc
-
-none_is : {X : Type 0} (o : Option X) → false ≡ is_some o → None ≡ o
-none_is None is = refl
-none_is (Some x) is = absurd cc
-
-none_passes : {K V : Type 0} (test : K → Bool) (es : List (K × V)) → None ≡ lookup test es → IsNowhere test es
-none_passes test [] none other e is = absurd cc
-none_passes {K} {V} test (x ∷ es) none zero e is = grind arith
-none_passes {K} {V} test (x ∷ es) none (suc other) e is =
-    let again : None ≡ lookup test es → test e.0 ≡ false = λ found. none_passes test es found other e is in
-    grind arith
-
-apart_head : {K V : Type 0} (eq : K → K → Bool) (k : K) (es : List (K × V)) (j : ℕ) (b : K × V) → AllByRecursion (λ y. eq k y ≡ false) (keys_of es) → slice_get es j ≡ Some b → eq k b.0 ≡ false
-apart_head eq k [] j b all is = absurd cc
-apart_head {K} {V} eq k (e ∷ es) zero b all is = let same : e ≡ b = cc in subst (λ (y : K × V). eq k y.0 ≡ false) same all.0
-apart_head eq k (e ∷ es) (suc j) b all is = apart_head eq k es j b all.1 is
-
-apart_at : {K V : Type 0} (eq : K → K → Bool) (es : List (K × V)) (i j : ℕ) (a b : K × V) → IsDistinct eq (keys_of es) → i < j → slice_get es i ≡ Some a → slice_get es j ≡ Some b → eq a.0 b.0 ≡ false
-unfolding IsDistinct
-apart_at eq [] i j a b distinct less ia jb = absurd cc
-apart_at {K} {V} eq (e ∷ es) zero zero a b distinct less ia jb = absurd (omega arith)
-apart_at {K} {V} eq (e ∷ es) zero (suc j) a b distinct less ia jb =
-    let same : e ≡ a = cc in
-    subst (λ (y : K × V). eq y.0 b.0 ≡ false) same (apart_head eq e.0 es j b distinct.0 jb)
-apart_at eq (e ∷ es) (suc i) zero a b distinct less ia jb = absurd (omega arith)
-apart_at eq (e ∷ es) (suc i) (suc j) a b distinct less ia jb = apart_at eq es i j a b distinct.1 (omega arith) ia jb
-
-pub found_at : {K V : Type 0} (eq : K → K → Bool) (test : K → Bool) → ((x y : K) → test x ≡ true → test y ≡ eq x y) → (es : List (K × V)) (i : ℕ)
-    → IsDistinct eq (keys_of es) → i < length es → Some i ≡ position test (keys_of es) → IsAt test es i
-found_at {K} {V} eq test one es i distinct within found =
-    let place : i ≡ position_or_len test (keys_of es) = position_is (nat_lt (position_or_len test (keys_of es)) (length (keys_of es))) (position_or_len test (keys_of es)) i found in
-    let here = first_passes test es (subst (λ (n : ℕ). n < length es) place within) in
-    let is : slice_get es i ≡ Some here.0 = subst (λ (n : ℕ). slice_get es n ≡ Some here.0) (sym place) here.1 in
-    let passes : test here.0.0 ≡ true = here.2 in
-    record {
-      entry = here.0;
-      within = within;
-      is = is;
-      passes = passes;
-      alone = λ other e at t. elim (cases_eq other i) as (λ _. other ≡ i) [
-        | inl same ↦ same
-        | inr apart ↦ elim (cases_lt other i) as (λ _. other ≡ i) [
-          | inl less ↦ let differ : eq e.0 here.0.0 ≡ false = apart_at eq es other i e here.0 distinct less at is in let same : test here.0.0 ≡ eq e.0 here.0.0 = one e.0 here.0.0 t in absurd cc
-          | inr more ↦ let differ : eq here.0.0 e.0 ≡ false = apart_at eq es i other here.0 e distinct (omega arith) is at in let same : test e.0 ≡ eq here.0.0 e.0 = one here.0.0 e.0 passes in absurd cc
-        ]
-      ];
-    }
-
-pub found_none : {K V : Type 0} (test : K → Bool) (es : List (K × V)) → false ≡ is_some (lookup test es) → IsNowhere test es
-found_none test es none = none_passes test es (none_is (lookup test es) none)
-
--- what a search tells
-pub find_is : {K V : Type 0} (eq : K → K → Bool) (test : K → Bool) → ((x y : K) → test x ≡ true → test y ≡ eq x y) → (es : List (K × V)) (r : Option ℕ)
-    → IsDistinct eq (keys_of es) → r ≡ position test (keys_of es) → is_some r ≡ is_some (lookup test es) → IfSome r (λ i. i < length es)
-    → IfSome r (λ i. IsAt test es i) × IfNone r (IsNowhere test es)
-find_is eq test one es None distinct index found within = (tt, found_none test es found)
-find_is eq test one es (Some i) distinct index found within = (found_at eq test one es i distinct within index, tt)
 
 -- entries in the order of places
 
@@ -292,8 +214,3 @@ nowhere_from {K} {V} test es (p ∷ ps) i e none held is =
             ]
           ]) refl none
     ]) refl none
-
-pub insert_new : {K V : Type 0} (eq : K → K → Bool) (es : List (K × V)) (k : K) (v : V) → IsNowhere (eq k) es → insert_entry eq es k v ≡ es ++ (k, v) ∷ []
-insert_new eq [] k v nowhere = refl
-insert_new {K} {V} eq (e ∷ es) k v nowhere =
-    rw (nowhere 0 e refl) (ap (λ (l : List (K × V)). e ∷ l) (insert_new eq es k v (λ other x is. nowhere (suc other) x is)))

@@ -5,3 +5,8 @@ pub mod AllLemmas
 pub mod OrderLemmas
 pub mod EntryLemmas
 pub mod TableLemmas
+pub mod ChainLemmas
+pub mod SlotLemmas
+pub mod WalkLemmas
+pub mod HashedLemmas
+pub mod BucketLemmas

@@ -1,16 +1,14 @@
 -- Tables: what each call leaves of the entries in their order.
 use Rattle.std.proofs.Common.{◌≡◌, ℕ, zero, suc, ◌+◌, ◌-◌, ◌<◌, ◌≤◌, ◌^◌, inl, inr, Bool, true, List, [], ◌∷◌, ◌++◌, length, drop, Option, Some, None, refl, sym, ap, ◌∙◌, subst, arith}
-use Rattle.std.specs.Prelude.{slice_get, IfSome, IfNone}
+use Rattle.std.specs.Prelude.{slice_get, IfSome}
 use Rattle.std.specs.Option.{option_map, option_map_or}
 use Rattle.std.specs.Map.{values_of, lookup, lookup_entry, remove_entry, set_value}
-use Rattle.indexmap.specs.IndexMap.{set_value_at}
-use Rattle.indexmap.specs.Layout.{length-set_value_at}
 use Rattle.std.specs.List.{swap_remove}
 use Rattle.std.proofs.lemmas.Bool.{cases_eq}
 use Rattle.std.proofs.lemmas.List.{length_push}
 use Rattle.mc_table.proofs.OrderLemmas.{out_apart}
 use Rattle.mc_table.specs.Places.{Member, Apart, AllApart, UpTo, first_of, last_from, last_of, left_out, renumbered, AreAll}
-use Rattle.mc_table.specs.Tables.{in_order, promoted, put_entry, IsAt, IsNowhere, IsTable}
+use Rattle.mc_table.specs.Tables.{with_value, in_order, promoted, put_entry, IsAt, IsNowhere, IsTable}
 use Rattle.mc_table.proofs.PlaceLemmas.{renumbered-same, renumbered-between, Apart-out, UpTo-back, AllApart-cross_back, UpTo-member, SplitAt, split_at, member_apart}
 use Rattle.mc_table.proofs.AllLemmas.{length_mid, AreAll-front, AreAll-more, AreAll-last_out, AreAll-other_out, split_last}
 use Rattle.mc_table.proofs.EntryLemmas.{got, in_order-same, got_within, in_order-append, in_order-removed, in_order-more, length-renumbered, length-swap_remove, last_cut, left_out-last, left_out-head, nowhere_from, length-in_order, in_order-cons, entry_found, entry_none, remove_found, lookup_by_entry}
@@ -24,7 +22,7 @@ table_member es ps i table within = let same : length ps ≡ length es = table.s
 pub table_length : {X : Type 0} (es : List X) (ps : List ℕ) → IsTable es ps → length es ≡ length (in_order es ps)
 table_length es ps table = sym (length-in_order es ps (table_within es ps table) ∙ table.same)
 
-got-values : {K V : Type 0} (es : List (K × V)) (i : ℕ) (e : K × V) → slice_get es i ≡ Some e → slice_get (values_of es) i ≡ Some e.1
+pub got-values : {K V : Type 0} (es : List (K × V)) (i : ℕ) (e : K × V) → slice_get es i ≡ Some e → slice_get (values_of es) i ≡ Some e.1
 got-values [] i e is = absurd cc
 got-values {K} {V} (x ∷ es) zero e is = let same : x ≡ e = cc in ap (λ (y : K × V). Some y.1) same
 got-values (x ∷ es) (suc i) e is = got-values es i e is
@@ -147,9 +145,6 @@ last_taken {X} es after ps place r last is left = grind arith
     next : 0 < place → suc (place - 1) ≡ place
     next low = omega arith
 
-pub last_there : {X : Type 0} (es : List X) (ps : List ℕ) (place : ℕ) (r : Option X) (Q : Type 0) → HasLast es ps place → r ≡ slice_get es (place - 1) → IfNone r Q
-last_there {X} es ps place r Q last is = grind arith
-
 -- a table of no entry
 pub table_empty : {X : Type 0} (es : List X) (ps : List ℕ) → IsTable es ps → last_of ps ≡ 0 → ps ≡ []
 table_empty es [] table is = refl
@@ -213,11 +208,6 @@ pub table_nowhere : {K V : Type 0} (test : K → Bool) (es : List (K × V)) (ps 
 table_nowhere test es ps table none other e is =
     nowhere_from test es ps other e none (table_member es ps other table (got_within es other e is)) is
 
--- what was taken out is known
-pub some_swap : {X : Type 0} (es fs : List X) (i : ℕ) (x : X) (r : Option X) → r ≡ slice_get es i → slice_get es i ≡ Some x → IfSome r (λ p. fs ≡ swap_remove es i p)
-    → fs ≡ swap_remove es i x
-some_swap {X} es fs i x r is at swap = let P : Option X → Type 0 = λ o. IfSome o (λ p. fs ≡ swap_remove es i p) in subst P (is ∙ at) swap
-
 pub no_items : {X : Type 0} (es : List X) (ps : List ℕ) → IsTable es ps → last_of ps ≡ 0 → in_order es ps ≡ []
 no_items es ps table is = ap (λ (l : List ℕ). in_order es l) (table_empty es ps table is)
 
@@ -230,25 +220,30 @@ undone_by new ps after first is head made = grind (arith, undone)
 
 -- what writing to the value of an entry leaves
 
-got-written : {K V : Type 0} (es : List (K × V)) (i : ℕ) (e : K × V) (w : V) → slice_get es i ≡ Some e → slice_get (set_value_at es i w) i ≡ Some (e.0, w)
+got-written : {K V : Type 0} (es : List (K × V)) (i : ℕ) (e : K × V) (w : V) → slice_get es i ≡ Some e → slice_get (with_value es i w) i ≡ Some (e.0, w)
 got-written [] i e w is = absurd cc
 got-written {K} {V} (x ∷ es) zero e w is = let same : x ≡ e = cc in ap (λ (y : K × V). Some (y.0, w)) same
 got-written (x ∷ es) (suc i) e w is = got-written es i e w is
 
-got-written_other : {K V : Type 0} (es : List (K × V)) (i j : ℕ) (w : V) → (j ≡ i → ⊥) → slice_get (set_value_at es i w) j ≡ slice_get es j
+got-written_other : {K V : Type 0} (es : List (K × V)) (i j : ℕ) (w : V) → (j ≡ i → ⊥) → slice_get (with_value es i w) j ≡ slice_get es j
 got-written_other [] i j w apart = refl
 got-written_other (x ∷ es) zero zero w apart = absurd (apart refl)
 got-written_other (x ∷ es) zero (suc j) w apart = refl
 got-written_other (x ∷ es) (suc i) zero w apart = refl
 got-written_other (x ∷ es) (suc i) (suc j) w apart = got-written_other es i j w (λ same. apart (ap suc same))
 
-pub table_written : {K V : Type 0} (es : List (K × V)) (ps : List ℕ) (i : ℕ) (w : V) → IsTable es ps → IsTable (set_value_at es i w) ps
+length-with_value : {K V : Type 0} (es : List (K × V)) (i : ℕ) (w : V) → length (with_value es i w) ≡ length es
+length-with_value [] i w = refl
+length-with_value (e ∷ es) zero w = refl
+length-with_value (e ∷ es) (suc i) w = ap suc (length-with_value es i w)
+
+pub table_written : {K V : Type 0} (es : List (K × V)) (ps : List ℕ) (i : ℕ) (w : V) → IsTable es ps → IsTable (with_value es i w) ps
 table_written es ps i w table =
-    let size : length (set_value_at es i w) ≡ length es = length-set_value_at es i w in
+    let size : length (with_value es i w) ≡ length es = length-with_value es i w in
     grind arith
 
 pub written_order : {K V : Type 0} (test : K → Bool) (es : List (K × V)) (ps after : List ℕ) (i place : ℕ) (w : V) → IsTable es ps → IsAt test es i → place ≡ suc i
-    → after ≡ place ∷ left_out place ps → in_order (set_value_at es i w) after ≡ set_value test (promoted test (in_order es ps)) w
+    → after ≡ place ∷ left_out place ps → in_order (with_value es i w) after ≡ set_value test (promoted test (in_order es ps)) w
 written_order {K} {V} test es ps after i place w table at same is =
     let low : 0 < place = omega arith in
     let high : place ≤ length es = let within = at.within in omega arith in
@@ -256,17 +251,17 @@ written_order {K} {V} test es ps after i place w table at same is =
     let front = table_front es ps place table low high in
     let index : place - 1 ≡ i = omega arith in
     let apart : Apart place (left_out place ps) = out_apart place ps table.all.once cut in
-    let own : slice_get (set_value_at es i w) (place - 1) ≡ Some (at.entry.0, w) = ap (λ (n : ℕ). slice_get (set_value_at es i w) n) index ∙ got-written es i at.entry w at.is in
+    let own : slice_get (with_value es i w) (place - 1) ≡ Some (at.entry.0, w) = ap (λ (n : ℕ). slice_get (with_value es i w) n) index ∙ got-written es i at.entry w at.is in
     let old : slice_get es (place - 1) ≡ Some at.entry = ap (λ (n : ℕ). slice_get es n) index ∙ at.is in
-    let rest : in_order (set_value_at es i w) (left_out place ps) ≡ in_order es (left_out place ps) =
-    in_order-same es (set_value_at es i w) (left_out place ps)
+    let rest : in_order (with_value es i w) (left_out place ps) ≡ in_order es (left_out place ps) =
+    in_order-same es (with_value es i w) (left_out place ps)
     (λ p held. got-written_other es i (p - 1) w (differs p (UpTo-member (length (place ∷ left_out place ps)) p (place ∷ left_out place ps) front.all.within (inr held)).0 (member_apart place p (left_out place ps) apart held))) in
-    let new : in_order (set_value_at es i w) (place ∷ left_out place ps) ≡ (at.entry.0, w) ∷ in_order es (left_out place ps) =
-    in_order-cons (set_value_at es i w) place (left_out place ps) (at.entry.0, w) own ∙ ap (λ (l : List (K × V)). (at.entry.0, w) ∷ l) rest in
+    let new : in_order (with_value es i w) (place ∷ left_out place ps) ≡ (at.entry.0, w) ∷ in_order es (left_out place ps) =
+    in_order-cons (with_value es i w) place (left_out place ps) (at.entry.0, w) own ∙ ap (λ (l : List (K × V)). (at.entry.0, w) ∷ l) rest in
     let set : set_value test (at.entry ∷ in_order es (left_out place ps)) w ≡ (at.entry.0, w) ∷ in_order es (left_out place ps) = rw at.passes refl in
     let promoted_is : at.entry ∷ in_order es (left_out place ps) ≡ promoted test (in_order es ps) =
     sym (in_order-cons es place (left_out place ps) at.entry old) ∙ promoted_found test es ps i place table at same in
-    ap (λ (l : List ℕ). in_order (set_value_at es i w) l) is ∙ new ∙ sym set ∙ ap (λ (l : List (K × V)). set_value test l w) promoted_is
+    ap (λ (l : List ℕ). in_order (with_value es i w) l) is ∙ new ∙ sym set ∙ ap (λ (l : List (K × V)). set_value test l w) promoted_is
   where
     differs : (p : ℕ) → 0 < p → (p ≡ place → ⊥) → p - 1 ≡ i → ⊥
     differs p positive other index = other (omega arith)

@@ -1,4 +1,6 @@
 pub mod Places
 pub mod Rings
+pub mod Chains
+pub mod Slots
 pub mod Tables
 pub mod Lends

@@ -1,5 +1,5 @@
 -- Entries by their places, and what a search of them finds. This project's own.
-use Rattle.std.specs.Prelude.{◌≡◌, ℕ, ◌-◌, ◌<◌, ◌^◌, Bool, true, false, List, [], ◌∷◌, length, Option, Some, None, slice_get}
+use Rattle.std.specs.Prelude.{◌≡◌, ℕ, zero, suc, ◌-◌, ◌<◌, ◌^◌, Bool, true, false, List, [], ◌∷◌, length, Option, Some, None, slice_get}
 use Rattle.std.specs.Option.{option_map_or}
 use Rattle.std.specs.Map.{lookup_entry, remove_entry}
 use Rattle.mc_table.specs.Places.{AreAll}
@@ -21,6 +21,12 @@ promoted test entries = option_map_or (λ e. e ∷ remove_entry test entries) (l
 -- a value under a key goes first: a key that is there stays, with the new value
 abbrev pub put_entry : {K V : Type 0} → (K → K → Bool) → K → V → List (K × V) → List (K × V)
 put_entry eq key value entries = option_map_or (λ e. (e.0, value) ∷ remove_entry (eq key) entries) (lookup_entry (eq key) entries) ((key, value) ∷ entries)
+
+-- the value at an index is another
+abbrev pub with_value : {K V : Type 0} → List (K × V) → ℕ → V → List (K × V)
+with_value [] index value = []
+with_value (e ∷ entries) zero value = (e.0, value) ∷ entries
+with_value (e ∷ entries) (suc index) value = e ∷ with_value entries index value
 
 -- this entry alone has a key that passes the test
 pub record IsAt {K V : Type 0} (test : K → Bool) (entries : List (K × V)) (index : ℕ) : Type 0 where

@@ -1,15 +1,14 @@
 //! Tables: entries that are found by a hash, in the order of their last use.
-ghost use Rattle.std.specs.Prelude.{◌≡◌, ◌^◌, ◌<◌, [], ◌∷◌, ◌++◌, suc, length, drop, slice_get, IfOk, IfErr, IfSome, IfNone, OnOk, OnErr, None};
+ghost use Rattle.std.specs.Prelude.{◌≡◌, ◌^◌, ◌<◌, [], ◌∷◌, ◌++◌, suc, length, drop, slice_get, IfOk, IfErr, IfSome, IfNone, OnOk, OnErr, None, Some};
 ghost use Rattle.std.specs.Option.{option_copied, option_copied_mut, option_map};
 ghost use Rattle.std.specs.Borrow.{sem};
 ghost use Rattle.std.specs.Map.{lookup, lookup_entry, remove_entry};
 ghost use Rattle.std.specs.Map.Iter.{deref_pair};
 ghost use Rattle.mc_table.specs.Places.{left_out};
-ghost use Rattle.mc_table.specs.Tables.{in_order, promoted, put_entry, IsAt, IsNowhere, IsTable};
+ghost use Rattle.mc_table.specs.Tables.{in_order, promoted, put_entry, IsTable};
 
+use crate::chained::Chained;
 use crate::orders::Order;
-use crate::queries::Query;
-use indexmap::IndexMap;
 use std::alloc::{AllocError, AllocFailed, Global};
 use std::collections::hash_map::Equivalent;
 use std::hash::{BuildHasher, Hash};
@@ -22,18 +21,20 @@ use std::mem;
 ///
 /// # Work
 ///
-/// A call with a key hashes it once and searches once, but `put`, which does both twice where the key is not there. The others do
-/// neither.
+/// A call with a key hashes it once and searches once, but `put`, which hashes it again if the key is not there. The others hash
+/// nothing. A search passes the entries of one bucket. The constructor settles how many buckets there are: at least one for each
+/// entry that it takes room for (up to 2^31). So no call but `clear` does work that grows with the entries, as long as no more are in the
+/// table than it was made for and hashes spread. Nothing is ever laid out anew.
 ///
 /// # Memory
 ///
-/// The constructor takes room for so many entries. A table holds fewer than 2^32: one more is refused as where there is no memory. An
-/// entry takes its own size, 8 bytes in the order, 8 for its hash and slot, and 64 bytes of the search table for each nine
-/// entries that there may be.
+/// The constructor takes room for so many entries. A table holds fewer than 2^32: one more is refused as if there were no memory. An
+/// entry takes its key, its value, 8 bytes beside them, 8 in the order, and 4 to 8 for the heads of the buckets (4 bytes each, of
+/// which there are at least 16 and at most 2^31).
 #[derive(Drop)]
 pub struct Table<K: Eq + Hash, V, S: BuildHasher> {
-    map: IndexMap<K, V, S>,
-    /// The place of each entry: its index in the map, and one more.
+    entries: Chained<K, V, S>,
+    /// The place of each entry: its index, and one more.
     order: Order,
 }
 
@@ -46,9 +47,9 @@ impl<K: Eq + Hash, V, S: BuildHasher> Model for Table<K, V, S> {
 
     ghost coded = { coded_list (coded× K.code V.code) };
 
-    ghost view = { λ t. in_order t.map.entries t.order };
+    ghost view = { λ t. in_order t.entries t.order };
 
-    ghost invariant = { λ t. IsTable t.map.entries t.order };
+    ghost invariant = { λ t. IsTable t.entries t.order };
 }
 
 impl<K: Eq + Hash, V, S: BuildHasher + Drop> Table<K, V, S> {
@@ -57,8 +58,8 @@ impl<K: Eq + Hash, V, S: BuildHasher + Drop> Table<K, V, S> {
         ensures { IfOk result (λ t. t ≡ []) }
     {
         let order = Order::with_capacity(alloc, entries)?;
-        let map = IndexMap::with_capacity_and_hasher(alloc, entries, hasher)?;
-        Ok(Table { map, order })
+        let entries = Chained::with_hasher(alloc, entries, hasher)?;
+        Ok(Table { entries, order })
     }
 }
 
@@ -70,15 +71,15 @@ impl<K: Eq + Hash, V, S: BuildHasher> Table<K, V, S> {
         ensures len { result ≡ length self.now }
         ensures fits { result < 2 ^ 63 }
     {
-        self.map.len()
+        self.entries.len()
     }
 
     /// The value of the key. The order stays as it is.
     pub fn peek<Q: Equivalent<K>>(&self, k: Q) -> Option<&V>
         ensures { option_copied result ≡ lookup (Q.equivalent k) self.now }
     {
-        let index = find(&self.map, k)?;
-        Some(&self.map[index])
+        let index = self.entries.get_index_of(k)?;
+        Some(self.entries.at(index).1)
     }
 
     /// Takes out the key and its value.
@@ -86,10 +87,10 @@ impl<K: Eq + Hash, V, S: BuildHasher> Table<K, V, S> {
         ensures value { result ≡ lookup_entry (Q.equivalent k) self.old }
         ensures entries { self.new ≡ remove_entry (Q.equivalent k) self.old }
     {
-        let Some(index) = find(&self.map, k) else {
+        let Some(index) = self.entries.get_index_of(k) else {
             return None;
         };
-        remove_at(&mut self.map, &mut self.order, index)
+        Some(remove_at(&mut self.entries, &mut self.order, index))
     }
 
     /// Takes out the entry that was used least recently.
@@ -101,7 +102,7 @@ impl<K: Eq + Hash, V, S: BuildHasher> Table<K, V, S> {
         if place == 0 {
             return None;
         }
-        remove_at(&mut self.map, &mut self.order, place as usize - 1)
+        Some(remove_at(&mut self.entries, &mut self.order, place as usize - 1))
     }
 
     /// Takes out the entry that was used most recently.
@@ -113,7 +114,7 @@ impl<K: Eq + Hash, V, S: BuildHasher> Table<K, V, S> {
         if place == 0 {
             return None;
         }
-        remove_at(&mut self.map, &mut self.order, place as usize - 1)
+        Some(remove_at(&mut self.entries, &mut self.order, place as usize - 1))
     }
 
     /// The entry that was used most recently.
@@ -124,7 +125,7 @@ impl<K: Eq + Hash, V, S: BuildHasher> Table<K, V, S> {
         if place == 0 {
             return None;
         }
-        self.map.get_index(place as usize - 1)
+        Some(self.entries.at(place as usize - 1))
     }
 
     /// The value of the key to write to. Makes it the most recently used.
@@ -132,9 +133,9 @@ impl<K: Eq + Hash, V, S: BuildHasher> Table<K, V, S> {
         ensures* writes_back { sem 𝓛 (lends_value K.row V.row S.row S.Hasher.row K.Hash S.BuildHasher S.Hasher.Hasher self.entry (Q.equivalent k) (promoted (Q.equivalent k) self.old) result) }
         ensures value { option_copied_mut result ≡ lookup (Q.equivalent k) self.old }
     {
-        let index = find(&self.map, k)?;
+        let index = self.entries.get_index_of(k)?;
         self.order.to_front(index as u32 + 1);
-        Some(&mut self.map[index])
+        Some(self.entries.value_mut(index))
     }
 
     /// Puts a value under a key, in front, and gives the old value where the key is there: then the old key stays.
@@ -156,14 +157,14 @@ impl<K: Eq + Hash, V, S: BuildHasher> Table<K, V, S> {
         Ok(None)
     }
 
-    /// Takes out all entries. It takes one after the other.
+    /// Takes out all entries, one after the other, and empties each bucket.
     pub fn clear(&mut self)
     where
         K: Drop,
         V: Drop,
         ensures { self.new ≡ [] }
     {
-        self.map.clear();
+        self.entries.clear();
         self.order.clear();
     }
 
@@ -182,8 +183,8 @@ impl<K: Eq + Hash, V, S: BuildHasher> Table<K, V, S> {
         let Ok(()) = self.order.push_front() else {
             return Err(AllocFailed { value: (k, v) });
         };
-        match self.map.insert_full(k, v) {
-            Ok(_) => Ok(()),
+        match self.entries.push(k, v) {
+            Ok(()) => Ok(()),
             Err(failed) => {
                 let place = self.order.first();
                 self.order.remove(place);
@@ -193,30 +194,19 @@ impl<K: Eq + Hash, V, S: BuildHasher> Table<K, V, S> {
     }
 }
 
-/// The index of the entry that a key is found at.
-fn find<K: Eq + Hash, V, S: BuildHasher, Q: Equivalent<K>>(
-    map: &IndexMap<K, V, S>,
-    k: Q,
-) -> Option<usize>
-    ensures found { IfSome result (λ index. IsAt (Q.equivalent k) map.now.entries index) }
-    ensures none { IfNone result (IsNowhere (Q.equivalent k) map.now.entries) }
-{
-    map.get_index_of(Query(k))
-}
-
-/// Takes out the entry at an index of the map, and its place.
+/// Takes out the entry at an index, and its place.
 fn remove_at<K: Eq + Hash, V, S: BuildHasher>(
-    map: &mut IndexMap<K, V, S>,
+    entries: &mut Chained<K, V, S>,
     order: &mut Order,
     index: usize,
-) -> Option<(K, V)>
-    requires table { IsTable map.old.entries order.old }
-    requires within { index < length map.old.entries }
-    ensures entry { result ≡ slice_get map.old.entries index }
-    ensures table { IsTable map.new.entries order.new }
-    ensures others { in_order map.new.entries order.new ≡ in_order map.old.entries (left_out (suc index) order.old) }
+) -> (K, V)
+    requires table { IsTable entries.old order.old }
+    requires within { index < length entries.old }
+    ensures entry { slice_get entries.old index ≡ Some result }
+    ensures table { IsTable entries.new order.new }
+    ensures others { in_order entries.new order.new ≡ in_order entries.old (left_out (suc index) order.old) }
 {
-    let entry = map.swap_remove_index(index);
+    let entry = entries.swap_remove(index);
     order.remove((index + 1) as u32);
     entry
 }

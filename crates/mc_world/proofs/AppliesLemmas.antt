@@ -1,21 +1,20 @@
 -- When events apply to a pool, and what was done where they did.
-use Rattle.std.proofs.Common.{◌≡◌, ◌≢◌, ◌∙◌, ℕ, zero, suc, ◌+◌, ◌-◌, ◌^◌, ◌<◌, ◌≤◌, ◌==◌, ◌&&◌, ◌⊎◌, inl, inr, Bool, true, false, not, min, List, [], ◌∷◌, ◌++◌, length, drop, take, Option, Some, None, Result, Ok, Err, slice_get, slice_set, refl, sym, ap, subst, append_assoc, append-nil, arith}
+use Rattle.std.proofs.Common.{◌≡◌, ◌≢◌, ◌∙◌, ℕ, zero, suc, ◌+◌, ◌-◌, ◌^◌, ◌<◌, ◌≤◌, ◌==◌, ◌&&◌, ◌⊎◌, inl, inr, Bool, true, false, not, min, List, [], ◌∷◌, ◌++◌, length, drop, take, Option, Some, None, Result, Ok, Err, slice_get, slice_set, refl, sym, ap, subst, arith}
 use Rattle.std.specs.Prelude.{IfErr, OnErr, IsErrOf, IsOkUnless, IsTrue, nat_lt, slice_index_or}
 use Rattle.std.specs.Result.{IsOk}
 use Rattle.std.proofs.lemmas.Bool.{and_from, and_parts, eqb-true, lt-ltb, ltb-true}
-use Rattle.std.proofs.lemmas.List.{drop_min, length-append, take_min}
+use Rattle.std.proofs.lemmas.List.{drop_min, take_min}
 use Rattle.std.proofs.lemmas.List.Quantifiers.{position-Some}
 use Rattle.std.proofs.lemmas.Option.{none-some, same_Some, slice_get-get_or}
 use Rattle.mc_request.specs.declared.parts.Taken.{Taken}
 use Rattle.mc_request_reader.specs.Reader.{ReaderState, rest_from, rest_of}
-use Rattle.mc_reply.specs.Spelling.{spelling_of}
 use Rattle.mc_reply.specs.declared.replies.Reply.{Reply as AReply}
-use Rattle.mc_reply_reader.proofs.HeadLemmas.{replies_apart}
+use Rattle.mc_reply_reader.proofs.HeadLemmas.{begun_is_not_whole}
 use Rattle.mc_route.specs.Routes.{route_of_taken}
 use Rattle.mc_link.specs.LinkState.{LinkState, Waiting, can_come_back, up_link}
-use Rattle.mc_link.specs.Turns.{HasStrange, IsIdle, Takes}
+use Rattle.mc_link.specs.Turns.{HasReply, HasStrange, IsIdle, Takes}
 use Rattle.mc_link.specs.declared.turns.Tag.{Tag}
-use Rattle.mc_server.specs.ServerState.{ConnectionState, ServerState, connection_at, output_of, sent_by, with_fresh}
+use Rattle.mc_server.specs.ServerState.{ConnectionState, ServerState, connection_at, output_of, sent_by}
 use Rattle.mc_session.specs.Looks.{IsReady}
 use Rattle.mc_session.specs.Sending.{is_marked}
 use Rattle.mc_session.specs.SessionState.{SessionState, link_at, with_link}
@@ -151,13 +150,8 @@ idle_by head tag waiting waits unread is idle = subst (λ (ws : List Waiting). I
 
 pub not_whole : (link : LinkState) (tag : Tag) (reply : AReply (List ℕ)) (after : LinkState) → IsIdle link.waiting link.unread → Takes link tag reply after → ⊥
 not_whole link tag reply after idle takes =
-    let begun = idle_by takes.head tag after.waiting link.waiting link.unread takes.oldest idle in
-    let whole : spelling_of takes.head reply ++ (after.unread ++ begun.more) ≡ spelling_of takes.head begun.reply ++ [] =
-    sym (append_assoc (spelling_of takes.head reply) after.unread begun.more)
-    ∙ ap (λ (bytes : List ℕ). bytes ++ begun.more) (sym takes.spelled) ∙ begun.spelled ∙ sym (append-nil (spelling_of takes.head begun.reply)) in
-    let rest = (replies_apart takes.head reply begun.reply (after.unread ++ begun.more) [] takes.can begun.can whole).1 in
-    let size : length (after.unread ++ begun.more) ≡ 0 = ap (λ (bytes : List ℕ). length bytes) rest in
-    omega (arith, size, length-append after.unread begun.more, begun.missing)
+    begun_is_not_whole takes.head link.unread (idle_by takes.head tag after.waiting link.waiting link.unread takes.oldest idle)
+    (record { reply = reply; can = takes.can; rest = after.unread; spelled = takes.spelled })
 
 -- a turn of a link that takes nothing, where nothing strange is unread
 pub record RestsIdle (place : ℕ) (old new : ProxyState) : Type 0 where
@@ -193,11 +187,11 @@ comes_back (Err e) links place inside can no_link state only = elim only [
   | inr is ↦ (let clash : true ≡ false = sym can ∙ state (ap (λ (x : ProxyError). Err x) is) in absurd cc)
 ]
 
--- a turn of a link that is up gives up only where a command waits
+-- a turn of a link that is up gives up only where a whole reply has come
 pub gives_up : {X : Type 0} (r : Result X ProxyError) (links : List LinkState) (place : ℕ) → (link_at links place).up ≡ true
-    → (IsErrOf r causes.Memory → 0 < length (link_at links place).waiting) → (IsErrOf r causes.NoLink → length links ≤ place)
+    → (IsErrOf r causes.Memory → HasReply (link_at links place)) → (IsErrOf r causes.NoLink → length links ≤ place)
     → (IsErrOf r causes.LinkState → (link_at links place).up ≡ false)
-    → IfErr r (λ (e : ProxyError). (e ≡ causes.NoLink) ⊎ (e ≡ causes.LinkState) ⊎ (e ≡ causes.Memory)) → OnErr r (0 < length (link_at links place).waiting)
+    → IfErr r (λ (e : ProxyError). (e ≡ causes.NoLink) ⊎ (e ≡ causes.LinkState) ⊎ (e ≡ causes.Memory)) → OnErr r (HasReply (link_at links place))
 gives_up (Ok x) links place up memory no_link state only = tt
 gives_up (Err e) links place up memory no_link state only = elim only [
   | inl is ↦ (let past = no_link (ap (λ (x : ProxyError). Err x) is) in let inside = up_is_there place links up in absurd (omega (arith, inside, past)))

@@ -8,6 +8,7 @@ pub mod PoolLemmas
 pub mod TurnLemmas
 pub mod TagLemmas
 pub mod AppliesLemmas
+pub mod ApplyingLemmas
 pub mod StillLemmas
 pub mod CommandLemmas
 pub mod LogLemmas

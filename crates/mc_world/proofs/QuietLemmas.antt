@@ -83,7 +83,7 @@ link_quiet ring opening c h stuck place =
           record {
             waiting = living_none place h.order (h.lanes place) (link_at c.pool.proxy.links place) opening there.0 up (h.pool.sites place there.0 there.1)
                 ((h.pool.proxy.links place).0 up) no_output (coming_none c.pool place there.0 stuck there.1 up) (unserved c.pool place there.0 stuck there.1 up)
-                (λ tag reply after takes. stuck (ReplyTurn place) refl (record { up = up; tag = tag; reply = reply; after = after; takes = takes }));
+                (λ tag reply after takes. stuck (ReplyTurn place) refl (up, record { tag = tag; reply = reply; after = after; takes = takes }));
             output = no_output;
           }
       | false ↦ λ down.

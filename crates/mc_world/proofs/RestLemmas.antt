@@ -97,7 +97,7 @@ rested_stuck ring opening moment c fits h rested (ToProxy place count) inner app
     rested.coming place (got_inside c.pool.sites place applies.site applies.at)
     (record { site = applies.site; at = applies.at; up = applies.up; moves = (omega (arith, same, some), some) })
 rested_stuck ring opening moment c fits h rested (ReplyTurn place) inner applies =
-    let inside = up_is_there place c.pool.proxy.links applies.up in
+    let inside = up_is_there place c.pool.proxy.links applies.0 in
     let linked = h.log.servers.linked in
     let sited = h.log.servers.sited in
     rested.replies place (omega (arith, inside, linked, sited)) applies

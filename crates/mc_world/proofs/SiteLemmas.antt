@@ -11,7 +11,6 @@ use Rattle.mc_reply.specs.Spelling.{spelling_of}
 use Rattle.mc_link.specs.LinkState.{LinkState, Waiting}
 use Rattle.mc_link.specs.declared.turns.Tag.{Tag}
 use Rattle.mc_cache.specs.CacheState.{CacheState}
-use Rattle.mc_cache.specs.Replay.{replies}
 use Rattle.mc_cache.specs.Step.{step_of}
 use Rattle.mc_cache_laws.specs.GoodCaches.{IsGoodCache}
 use Rattle.mc_cache_laws.proofs.GoodStepLemmas.{answers_as_it_can, stays_good}

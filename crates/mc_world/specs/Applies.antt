@@ -1,16 +1,13 @@
 -- When an event applies to a pool: where it does not, nothing happens.
 use Rattle.std.specs.Prelude.{ℕ, ◌≡◌, ◌≢◌, ◌-◌, ◌^◌, ◌<◌, ◌==◌, true, List, length, Option, None, Some, position, slice_get}
-use Rattle.mc_reply.specs.declared.replies.Reply.{Reply as AReply}
-use Rattle.mc_link.specs.LinkState.{LinkState, can_come_back}
-use Rattle.mc_link.specs.Turns.{Takes}
-use Rattle.mc_link.specs.declared.turns.Tag.{Tag}
+use Rattle.mc_link.specs.LinkState.{can_come_back}
+use Rattle.mc_link.specs.Turns.{HasReply}
 use Rattle.mc_server.specs.ServerState.{ServerState, connection_at, output_of}
 use Rattle.mc_server.specs.Turns.{waiting_of}
 use Rattle.mc_server.specs.declared.servers.TheConstants.{MAX_CONNECTIONS}
-use Rattle.mc_session.specs.Emits.{emitted}
-use Rattle.mc_session.specs.Looks.{IsReady}
-use Rattle.mc_session.specs.SessionState.{SessionState, link_at}
+use Rattle.mc_session.specs.SessionState.{link_at}
 use Rattle.mc_proxy.specs.ProxyState.{output_of as output_at, session_at}
+use Rattle.mc_proxy.specs.Turns.{CanTurn, HasAnswer}
 use Rattle.mc_world.specs.WorldState.{PoolState, SiteState, WayState}
 
 -- bytes can be moved: there are some, and some are asked for
@@ -27,11 +24,11 @@ CanHear client piece pool = IsThere client pool × (0 < length piece)
 
 -- the proxy takes a request of a client: one has come whole, and no mark is reached by it
 abbrev pub CanTakeRequest : ℕ → PoolState → Type 0
-CanTakeRequest client pool = (session : SessionState) × (session_at pool.proxy client ≡ Some session) × IsReady pool.proxy.ring pool.proxy.links session
+CanTakeRequest client pool = CanTurn client pool.proxy
 
 -- an answer is put out to a client: of each command of its oldest unanswered request it is known what became of it
 abbrev pub CanPutAnswer : ℕ → PoolState → Type 0
-CanPutAnswer client pool = (session : SessionState) × (session_at pool.proxy client ≡ Some session) × (emitted session ≢ None)
+CanPutAnswer client pool = HasAnswer client pool.proxy
 
 -- a client takes bytes of those that were put out to it
 abbrev pub CanTakeBytes : ℕ → ℕ → PoolState → Type 0
@@ -60,12 +57,8 @@ pub record CanReachProxy (place count : ℕ) (pool : PoolState) : Type 0 where
   pub moves : CanMove count (output_of (connection_at site.server site.connection))
 
 -- the proxy takes a reply: the link is up, and a reply to the oldest command that waits has come whole
-pub record CanTakeReply (place : ℕ) (pool : PoolState) : Type 0 where
-  pub up : IsUp place pool
-  pub tag : Tag
-  pub reply : AReply (List ℕ)
-  pub after : LinkState
-  pub takes : Takes (link_at pool.proxy.links place) tag reply after
+abbrev pub CanTakeReply : ℕ → PoolState → Type 0
+CanTakeReply place pool = IsUp place pool × HasReply (link_at pool.proxy.links place)
 
 -- a server can admit a connection
 abbrev pub CanAdmit : ServerState → Type 0

@@ -41,13 +41,17 @@ impl<S: Store + Drop> Course<S> {
     ghost use Rattle.mc_event.specs.declared.events.Event.TheVariants.{ClientBytes, ClientGone, ClientTakes, ServerTurn, ToServer};
 
     /// Does what an event says, where it applies, and puts it down in the log, in which there is room first: so the log is out of
-    /// reach of what happens. At an error nothing has changed.
+    /// reach of what happens. Where the event does not apply no memory is asked for. At an error nothing has changed.
     pub(crate) fn step(&mut self, event: &Event<Block>) -> Result<Step, WorldError>
         requires serves { CourseServes self.old }
         ensures done { IfOk result (λ step. Does step (IsDone event.now self.old self.new) (self.new ≡ self.old)) }
         ensures applies { IfOk result (λ step. (step ≡ Done) ↔ Applies event.now self.old.pool) }
         ensures err { OnErr result (self.new ≡ self.old) }
+        ensures err_applies { OnErr result (Applies event.now self.old.pool) }
     {
+        if !self.pool.applies(event) {
+            return Ok(Step::Nothing);
+        }
         self.log.reserve(1)?;
         let log = mem::replace(&mut self.log, Vec::new(self.alloc));
         let happened = self.happen(event);

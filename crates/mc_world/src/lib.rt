@@ -15,11 +15,12 @@
 //! ask, until it sees the end. [`courses_go_on`] says that where a pool is after all that was done (`CourseHolds`) is kept by each event.
 //!
 //! [`Pool`] has a call for each event, over servers with their ways ([`Site`]): it does what the event's record says exactly where
-//! the event applies (`specs/Applies.antt`), and changes nothing else. What its calls rest on ([`courses_serve`]) holds wherever a course
+//! the event applies ([`Pool::applies`], `specs/Applies.antt`), and changes nothing else. What its calls rest on ([`courses_serve`]) holds wherever a course
 //! is. [`Pool::join`] lets a server join, or gives it back. No call waits.
 #![tactic(auto)]
 
 mod acts;
+mod applying;
 mod clients;
 mod courses;
 mod drains;

@@ -108,7 +108,7 @@ impl<S: Store + Drop> Pool<S> {
         ensures takes { IfOk result (λ step. Does step (TakesReply place self.old self.new) (self.new ≡ self.old)) }
         ensures applies { IfOk result (λ step. (step ≡ Step.Done) ↔ CanTakeReply place self.old) }
         ensures err { OnErr result (self.new ≡ self.old) }
-        ensures err_waits { OnErr result (IsUp place self.old × (0 < length (link_at self.old.proxy.links place).waiting)) }
+        ensures err_applies { OnErr result (CanTakeReply place self.old) }
     {
         if !self.proxy.is_up(place) {
             return Ok(Step::Nothing);

@@ -1,5 +1,5 @@
 //! A server with its ways.
-ghost use Rattle.std.specs.Prelude.{◌≡◌, ◌≤◌, ◌<◌, ◌+◌, ◌-◌, ◌^◌, ◌↔◌, length, IfOk, OnOk, OnErr};
+ghost use Rattle.std.specs.Prelude.{◌≡◌, ◌≤◌, ◌<◌, ◌+◌, ◌-◌, ◌^◌, ◌↔◌, length, IfOk, IsTrue, OnOk, OnErr};
 
 use crate::errors::{Step, WorldError};
 use crate::turning::serve;
@@ -83,6 +83,16 @@ impl<S: Store + Drop> Site<S> {
         ensures { result ≡ self.now.generation }
     {
         self.generation
+    }
+
+    /// Whether a request of a connection has come whole.
+    pub(crate) fn has_request(&self, connection: u64) -> bool
+        ensures { IsTrue result ↔ (0 < length (waiting_of (connection_at self.now.server connection))) }
+    {
+        match self.server.ready(connection) {
+            Ok(ready) => ready,
+            Err(_) => false,
+        }
     }
 
     /// Bytes arrive on the living generation.

@@ -76,6 +76,7 @@ impl World<ListStore> {
 
 impl<S: Store + Drop> World<S> {
     ghost use Rattle.mc_cache.specs.CacheState.{HasRoom};
+    ghost use Rattle.mc_world.specs.Courses.{Applies};
     ghost use Rattle.mc_world.specs.Joins.{HasServerJoined};
     ghost use Rattle.mc_world.specs.Refusals.{refusal_in, refusal_of};
     ghost use Rattle.mc_world.specs.Openings.{CanOpen};
@@ -119,12 +120,13 @@ impl<S: Store + Drop> World<S> {
         })
     }
 
-    /// Does what an event says, where it applies. At `Memory` nothing has changed.
+    /// Does what an event says, where it applies. At `Memory` nothing has changed, and the event applies.
     pub fn step(&mut self, event: &Event<Block>) -> Result<Step, WorldError>
         ensures steps { IfOk result (λ step. StepsTo event.now step self.old.course self.new.course) }
         ensures opened { (self.new.opening ≡ self.old.opening) × (self.new.budget ≡ self.old.budget) × (self.new.items ≡ self.old.items) }
         ensures account { GivesAccount self.new }
         ensures err { OnErr result (self.new ≡ self.old) }
+        ensures err_applies { OnErr result (Applies event.now self.old.course.pool) }
         ensures cause { IfErr result (λ e. e ≡ WorldError.Memory) }
     {
         self.course.step(event).map_err(|_| WorldError::Memory)

@@ -5,8 +5,8 @@ use Rattle.mc_reply.specs.CanHave.{can_have}
 use Rattle.mc_reply.specs.Seen.{bytes_seen}
 use Rattle.mc_reply.specs.Spelling.{spelling_of}
 use Rattle.mc_reply_reader.specs.ReplyForms.{Answer}
-use Rattle.mc_reply_reader.specs.NextReply.{IsShortOf, IsStrange}
-use Rattle.mc_reply_reader.proofs.HeadLemmas.{reply_read, reply_short, reply_strange}
+use Rattle.mc_reply_reader.specs.NextReply.{HasReply, IsShortOf, IsStrange}
+use Rattle.mc_reply_reader.proofs.HeadLemmas.{at_error, reply_read, reply_short, reply_strange, reply_whole}
 use Rattle.mc_reply_reader.proofs.reader.ReplyReader.next.Goals as goal
 
 pub overflow_sub-taken : goal.overflow_sub-taken
@@ -33,6 +33,15 @@ returns-in_ok-reply-in-Ok-clause-given c =
       ap (λ s. s.unread) (sym c.self.view_is) ∙ sym unread_is ∙ read.spelled ∙ ap (λ (r : Answer). spelling_of head r ++ left) (sym copied)
           ∙ ap (λ (w : List ℕ). spelling_of head c.in_ok-reply-in-Ok.reply ++ w) (sym left_is ∙ sym c.let_go-self-inside.ensures.kept),
     )
+
+-- memory is refused only for the value of a whole reply
+pub returns-in_err-reply-in-Ok-clause-cause : goal.returns-in_err-reply-in-Ok-clause-cause
+returns-in_err-reply-in-Ok-clause-cause c =
+    let head = c.args.head.now in
+    let unread = c.split_at.result.1.now in
+    let unread_is : unread ≡ c.args.self.now.unread = c.split_at.ensures.back ∙ ap (drop c.self.inside.start) c.deref.ensures.value ∙ ap (λ s. s.unread) c.self.view_is in
+    let whole : HasReply head unread = reply_whole head unread (bytes_seen c.in-Ok.reply, c.in-Ok.rest.now) (sym c.in-Ok.ensures) in
+    at_error c.from_residual.result (subst (HasReply head) unread_is whole)
 
 pub returns-in-Err-More-clause-given : goal.returns-in-Err-More-clause-given
 returns-in-Err-More-clause-given c =

@@ -1,5 +1,5 @@
-use Rattle.std.proofs.Common.{sym, ◌∙◌, arith}
-use Rattle.mc_table.proofs.TableLemmas.{no_items, table_last, last_taken, last_there}
+use Rattle.std.proofs.Common.{Some, sym, ◌∙◌, arith}
+use Rattle.mc_table.proofs.TableLemmas.{no_items, table_last, last_taken}
 use Rattle.mc_table.proofs.tables.Table.pop_lru.Goals as goal
 
 pub returns-then-place-eq0-clause-empty : goal.returns-then-place-eq0-clause-empty
@@ -17,9 +17,4 @@ remove_at-requires-clause-within g c =
 pub returns-clause-last : goal.returns-clause-last
 returns-clause-last g c =
     let last = table_last _ _ _ c.self.invariant c.last-place.ensures c.if-place-eq0.false in
-    rw (← c.self.view_is) (last_taken _ _ _ _ _ last c.remove_at.ensures.entry c.remove_at.ensures.others)
-
-pub returns-clause-empty : goal.returns-clause-empty
-returns-clause-empty g c =
-    let last = table_last _ _ _ c.self.invariant c.last-place.ensures c.if-place-eq0.false in
-    last_there _ _ _ _ _ last c.remove_at.ensures.entry
+    rw (← c.self.view_is) (last_taken _ _ _ _ (Some c.remove_at.result) last (sym c.remove_at.ensures.entry) c.remove_at.ensures.others)

@@ -21,7 +21,7 @@ remove_at-requires-clause-within g c =
 
 pub returns-clause-value : goal.returns-clause-value
 returns-clause-value g c =
-    rw (← c.self.view_is) (c.remove_at.ensures.entry ∙ first_is _ _ _ (table_first _ _ _ c.self.invariant c.first-place.ensures c.if-place-eq0.false))
+    rw (← c.self.view_is) (sym c.remove_at.ensures.entry ∙ first_is _ _ _ (table_first _ _ _ c.self.invariant c.first-place.ensures c.if-place-eq0.false))
 
 pub returns-clause-entries : goal.returns-clause-entries
 returns-clause-entries g c =

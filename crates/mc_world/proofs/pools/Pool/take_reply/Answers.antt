@@ -19,9 +19,9 @@ returns-in_default g c =
     let rest = rests c.args.place _ c.self.inside.proxy c.link_turn.new.self c.in_default.not-Took (own.never_strange up) c.in_ok-link_turn.ensures.turn in
     record {
       takes = rw (← c.self.view_is) (same_pool _ _ _ rest.same);
-      applies = rw (← c.self.view_is) (it_does_not (λ can. not_whole (link_at c.self.inside.proxy.links c.args.place) can.tag can.reply can.after rest.idle can.takes));
+      applies = rw (← c.self.view_is) (it_does_not (λ can. not_whole (link_at c.self.inside.proxy.links c.args.place) can.1.tag can.1.reply can.1.after rest.idle can.1.takes));
       err = tt;
-      err_waits = tt;
+      err_applies = tt;
     }
 
 pub index_mut-requires : goal.index_mut-requires
@@ -60,9 +60,9 @@ returns-clause-takes g c =
       counts = search rules;
     })
 
--- memory is refused only where a command waits
-pub returns-in_err-link_turn-clause-err_waits : goal.returns-in_err-link_turn-clause-err_waits
-returns-in_err-link_turn-clause-err_waits g c =
+-- memory is refused only where a whole reply has come
+pub returns-in_err-link_turn-clause-err_applies : goal.returns-in_err-link_turn-clause-err_applies
+returns-in_err-link_turn-clause-err_applies g c =
     let up : (link_at c.self.inside.proxy.links c.args.place).up ≡ true = search rules in
     let told = c.in_err-link_turn.ensures in
     rw (← c.self.view_is) (at_error _ c.from_residual.result
