@@ -53,6 +53,7 @@ SECONDS = {
     "mc_hasher": 19,
     "mc_history": 12,
     "mc_item": 22,
+    "mc_jobs": 200,
     "mc_link": 66,
     "mc_numbered": 25,
     "mc_one_map": 30,

@@ -1,0 +1,21 @@
+//! Why a job was not played to its end.
+
+use std::alloc::AllocError;
+use thiserror::Error;
+
+/// Why a job was not played to its end.
+#[derive(Debug, Drop, Error)]
+pub enum JobError {
+    /// No memory.
+    #[error("out of memory")]
+    Memory,
+    /// A call of a server, a proxy or a script was refused.
+    #[error("a call was refused")]
+    Refused,
+}
+
+impl<E: Into<AllocError> + Drop> From<E> for JobError {
+    fn from(_e: E) -> JobError {
+        JobError::Memory
+    }
+}
