@@ -4,7 +4,9 @@ use Rattle.std.specs.Option.{option_map}
 use Rattle.mc_request.specs.declared.faults.Fault.{Fault}
 use Rattle.mc_request.specs.declared.parts.Taken.{Taken}
 use Rattle.mc_request.specs.declared.parts.Taken.TheVariants.{Whole, Faulty}
+use Rattle.mc_request.specs.declared.parts.Request.TheVariants.{Get}
 use Rattle.mc_request_reader.specs.declared.peeks.Front.{Front}
+use Rattle.mc_request_reader.specs.declared.peeks.LentGet.{LentGet}
 use Rattle.mc_request_reader.specs.declared.peeks.Peek.{Peek}
 use Rattle.mc_request_reader.specs.declared.peeks.Peek.TheVariants as peeks
 use Rattle.mc_request_reader.specs.declared.reader.Next.{Next}
@@ -64,3 +66,7 @@ Gives old (nexts.Request request) new = IsFirst old (Whole request) new × (new.
 Gives old (nexts.Fault fault) new = IsFirst old (Faulty fault) new × (new.closed ≡ closes fault)
 Gives old nexts.More new = HasNone old new
 Gives old nexts.Closed new = (old.closed ≡ true) × (new ≡ old)
+
+-- the request that a look at a retrieval shows
+abbrev pub get_of : LentGet → Taken
+get_of get = Whole (Get get.keys None get.with_cas)

@@ -25,7 +25,7 @@ mod unread;
 pub use laws::{
     requests_are_no_more_than_bytes, requests_are_well_formed, requests_begin, requests_go_on,
 };
-pub use peeks::{Front, Peek, REQUEST_LIMIT};
+pub use peeks::{Front, LentGet, Peek, REQUEST_LIMIT};
 pub use reader::{Next, Reader};
 pub use rows::{
     block_takes_too_much, meta_block_is_swallowed, quit_ends_the_text, refused_block_is_swallowed,

@@ -1,5 +1,6 @@
 //! What is first in a reader, and where it ends.
 use mc_request::Asked;
+use mc_text::WordIter;
 
 /// The most bytes that a request or fault takes: a line, a data block and the line end after it.
 pub const REQUEST_LIMIT: usize = 1_114_114;
@@ -22,4 +23,17 @@ pub enum Peek<'a> {
     More,
     /// Nothing is read any more, after `quit` or a line too long.
     Closed,
+}
+
+/// A `get` or `gets` that is first in a reader. Its keys are lent, and it is not taken yet.
+#[derive(Drop)]
+pub struct LentGet<'a> {
+    /// The words that are its keys: one at least.
+    pub keys: WordIter<'a>,
+    /// Whether it asks for the items' numbers.
+    pub with_cas: bool,
+    /// Where it ends.
+    pub front: Front,
+    /// The bytes that have come, from it on.
+    pub unread: &'a [u8],
 }

@@ -1,7 +1,7 @@
 //! A reader of requests, fed in pieces.
-ghost use Rattle.std.specs.Prelude.{◌≡◌, ◌<◌, ◌≤◌, ◌+◌, ◌↔◌, ℕ, List, [], ◌++◌, length, true, Some, IsTrue, IfOk, OnOk, OnErr};
+ghost use Rattle.std.specs.Prelude.{◌≡◌, ◌<◌, ◌≤◌, ◌+◌, ◌↔◌, ℕ, List, [], ◌++◌, length, true, Some, IsTrue, IfOk, IfSome, OnOk, OnErr};
 
-use crate::peeks::{Front, Peek};
+use crate::peeks::{Front, LentGet, Peek};
 use crate::unread::Unread;
 use mc_request::{Fault, ReadError, Request, Taken};
 use std::alloc::Global;
@@ -47,7 +47,8 @@ impl Model for Reader {
 
 impl Reader {
     ghost use Rattle.mc_request_reader.specs.Reader.{fresh_reader, rest_of, kept_of, KeepsRest, KeepsLittle};
-    ghost use Rattle.mc_request_reader.specs.Peeks.{Peeks, Gives, IsWellFormedPeek, front_of, past};
+    ghost use Rattle.mc_request.specs.WellFormed.{is_well_formed};
+    ghost use Rattle.mc_request_reader.specs.Peeks.{Peeks, Shows, Gives, HasNone, IsWellFormedPeek, front_of, get_of, past};
 
     /// A reader to which nothing has come. It takes no memory.
     pub fn new(alloc: Global) -> Self
@@ -111,6 +112,29 @@ impl Reader {
         ensures little { KeepsLittle self.now }
     {
         self.unread.peek()
+    }
+
+    /// The first request that has come whole, if it is a good `get` or `gets`: what [`Reader::peek`] would show, by small values. None
+    /// says nothing of what is first.
+    ///
+    /// Its line is read once. It takes no memory, and copies nothing.
+    #[inline(always)]
+    pub fn peek_get(&self) -> Option<LentGet<'_>>
+        ensures seen { IfSome result (λ get. Shows self.now (get_of get) get.front) }
+        ensures well_formed { IfSome result (λ get. is_well_formed (get_of get) ≡ true) }
+        ensures little { KeepsLittle self.now }
+    {
+        self.unread.peek_get()
+    }
+
+    /// Whether it is known that nothing is whole until more bytes come: then [`Reader::peek`] would show [`Peek::More`]. No byte is
+    /// looked at, and nothing is copied. False says nothing.
+    #[inline(always)]
+    pub fn is_short(&self) -> bool
+        ensures short { result ≡ true → HasNone self.now self.now }
+        ensures little { KeepsLittle self.now }
+    {
+        self.unread.is_short()
     }
 
     /// Whether a whole request or fault has come, which [`Reader::next`] would give. It takes no memory, and copies

@@ -1,5 +1,5 @@
 //! What the bytes that have come allow.
-ghost use Rattle.std.specs.Prelude.{◌≡◌, ◌≤◌, ◌<◌, ◌+◌, ◌-◌, ◌^◌, true, None, Some, is_some};
+ghost use Rattle.std.specs.Prelude.{◌≡◌, ◌≤◌, ◌<◌, ◌+◌, ◌-◌, ◌^◌, true, None, Some, is_some, IfSome};
 ghost use Rattle.mc_text.specs.Lines.{line_end};
 ghost use Rattle.mc_text.specs.Words.{words};
 ghost use Rattle.mc_request.specs.Meanings.{meaning};
@@ -9,8 +9,10 @@ ghost use Rattle.mc_request_reader.specs.Steps.{IsSearched, ArrivalIs, StartsBy,
 ghost use Rattle.mc_request.specs.WellFormed.{is_good_meaning};
 
 use crate::searched::Searched;
-use mc_request::{Asked, CommandLine, Fault, Storing, announced_in, command_line, plain_get};
-use mc_text::{LINE_LIMIT, Line};
+use mc_request::{
+    Asked, CommandLine, Fault, Request, Storing, Taken, announced_in, command_line, plain_get,
+};
+use mc_text::{LINE_LIMIT, Line, WordIter};
 
 /// What is after a data block.
 const LINE_END: &[u8] = b"\r\n";
@@ -124,6 +126,25 @@ pub fn first_asked(unread: &[u8], searched: Searched) -> Option<(Asked<'_>, usiz
             )),
             None => asked_after(unread, command_line(content), taken),
         },
+    }
+}
+
+/// The keys of the first request of the bytes, of which so many were searched, whether it asks for numbers, and how many bytes it takes, where
+/// it is a good `get` or `gets`. Nothing else of it is read.
+#[inline(always)]
+pub fn first_get(unread: &[u8], searched: Searched) -> Option<(WordIter<'_>, bool, usize)>
+    requires { IsSearched searched unread.now }
+    ensures { IfSome result (λ get. next_request unread.now ≡ Some (Taken.Whole (Request.Get get.0 None get.1), get.2)) }
+{
+    if !matches!(searched, Searched::Ends(_)) {
+        return None;
+    }
+    match searched.line(unread) {
+        Line::Whole { content, taken } => {
+            let (keys, with_cas) = plain_get(content)?;
+            Some((keys, with_cas, taken))
+        }
+        Line::Partial | Line::TooLong => None,
     }
 }
 

@@ -1,9 +1,9 @@
 //! The bytes that have come and are not taken.
-ghost use Rattle.std.specs.Prelude.{◌≡◌, ◌<◌, ◌≤◌, ◌+◌, ◌↔◌, ℕ, List, [], ◌++◌, length, true, false, None, Some, is_some, IsTrue, OnOk, OnErr};
+ghost use Rattle.std.specs.Prelude.{◌≡◌, ◌<◌, ◌≤◌, ◌+◌, ◌↔◌, ℕ, List, [], ◌++◌, length, true, false, None, Some, is_some, IsTrue, IfSome, OnOk, OnErr};
 
-use crate::peeks::{Front, Peek, REQUEST_LIMIT};
+use crate::peeks::{Front, LentGet, Peek, REQUEST_LIMIT};
 use crate::searched::Searched;
-use crate::steps::{Arrival, arrival_of, first_asked, is_whole};
+use crate::steps::{Arrival, arrival_of, first_asked, first_get, is_whole};
 use mc_request::{Asked, Fault, ReadError};
 use mc_text::{Line, drop_front, give_back, let_go};
 use std::alloc::Global;
@@ -44,7 +44,8 @@ impl Model for Unread {
 impl Unread {
     ghost use Rattle.mc_request.specs.Requests.{next_request};
     ghost use Rattle.mc_request_reader.specs.Reader.{fresh_reader, rest_of, kept_of, KeepsRest, KeepsLittle};
-    ghost use Rattle.mc_request_reader.specs.Peeks.{Peeks, IsWellFormedPeek, front_of, past};
+    ghost use Rattle.mc_request.specs.WellFormed.{is_well_formed};
+    ghost use Rattle.mc_request_reader.specs.Peeks.{Peeks, Shows, HasNone, IsWellFormedPeek, front_of, get_of, past};
 
     /// Nothing has come. It takes no memory.
     pub fn new(alloc: Global) -> Self
@@ -209,6 +210,70 @@ impl Unread {
             }
             None => Peek::More,
         }
+    }
+
+    /// The first request that has come whole, if it is a good `get` or `gets` whose line's end is known.
+    #[inline(always)]
+    pub fn peek_get(&self) -> Option<LentGet<'_>>
+        ensures seen { IfSome result (λ get. Shows self.now (get_of get) get.front) }
+        ensures well_formed { IfSome result (λ get. is_well_formed (get_of get) ≡ true) }
+    {
+        if self.closed {
+            return None;
+        }
+        match self.dropping {
+            None => self.get_unread(),
+            Some(_) => None,
+        }
+    }
+
+    /// Whether it is known that nothing is whole until more bytes come. No byte is looked at.
+    #[inline(always)]
+    pub fn is_short(&self) -> bool
+        ensures { result ≡ true → HasNone self.now self.now }
+    {
+        if self.closed {
+            return false;
+        }
+        match self.dropping {
+            None => self.is_unread_short(),
+            Some(_) => false,
+        }
+    }
+
+    /// The same where no block is dropped.
+    #[inline(always)]
+    fn is_unread_short(&self) -> bool
+        requires open { self.now.closed ≡ false }
+        requires whole { self.now.dropping ≡ None }
+        ensures { result ≡ true → HasNone self.now self.now }
+    {
+        let (_, unread) = self.buffer.split_at(self.start);
+        if unread.len() < self.wanted {
+            return true;
+        }
+        false
+    }
+
+    /// The same where no block is dropped.
+    #[inline(always)]
+    fn get_unread(&self) -> Option<LentGet<'_>>
+        requires open { self.now.closed ≡ false }
+        requires whole { self.now.dropping ≡ None }
+        ensures seen { IfSome result (λ get. Shows self.now (get_of get) get.front) }
+        ensures well_formed { IfSome result (λ get. is_well_formed (get_of get) ≡ true) }
+    {
+        let (_, unread) = self.buffer.split_at(self.start);
+        let (keys, with_cas, size) = first_get(unread, self.searched)?;
+        Some(LentGet {
+            keys,
+            with_cas,
+            front: Front {
+                size,
+                closes: false,
+            },
+            unread,
+        })
     }
 
     /// Whether a whole request or fault has come. Where the last call was `advance`, no byte is looked at.
