@@ -132,7 +132,28 @@ impl<S: Store + Drop> Cache<S> {
         ensures shrinks { (other : List ℕ)
             → length (value_at other self.new.items) ≤ length (value_at other self.old.items) }
     {
-        let Some(found) = self.settle_in_front(key, moment) else {
+        self.get_by(key, 0, exptime, with_cas, moment)
+    }
+
+    /// The same, where it is guessed which item the key has ([`Cache::guess_all`]). A guess changes how long it takes, and nothing else.
+    pub fn get_by(
+        &mut self,
+        key: &[u8],
+        guess: u32,
+        exptime: Option<i64>,
+        with_cas: bool,
+        moment: u64,
+    ) -> Reply<()>
+        requires { moment < 2 ^ 63 }
+        ensures step { step_of self.old (Get key.now exptime with_cas) moment false
+            ≡ (self.new, filled result (value_after (Get key.now exptime with_cas) self.new)) }
+        ensures front { step_of self.old (Get key.now exptime with_cas) moment false
+            ≡ (self.new, filled result (front_value self.new.items)) }
+        ensures refusal { is_refusal result ≡ false }
+        ensures shrinks { (other : List ℕ)
+            → length (value_at other self.new.items) ≤ length (value_at other self.old.items) }
+    {
+        let Some(found) = self.settle_in_front(key, guess, moment) else {
             self.store.retrieved(false);
             return Reply::Miss;
         };
@@ -143,6 +164,17 @@ impl<S: Store + Drop> Cache<S> {
             cas: with_cas.then_some(found.cas),
             value: (),
         }
+    }
+
+    /// Whether [`Cache::guess_all`] guesses: several items are found sooner together than each by itself.
+    pub fn guesses(&self) -> bool {
+        self.store.guesses()
+    }
+
+    /// Guesses for each key which item it has, for [`Cache::get_by`]. It changes nothing, takes no memory, and gives a number that says
+    /// nothing ([`Store::guess_all`]).
+    pub fn guess_all(&self, keys: &[&[u8]], guesses: &mut [u32]) -> u8 {
+        self.store.guess_all(keys, guesses)
     }
 
     /// The command `Update`, with the key and the block lent. Its reply shows no value.

@@ -65,6 +65,27 @@ impl Store for ChosenStore {
         }
     }
 
+    fn bring_by(&mut self, key: &[u8], guess: u32) -> bool {
+        match self {
+            ChosenStore::Table(store) => store.bring_by(key, guess),
+            ChosenStore::Lru(store) => store.bring_by(key, guess),
+        }
+    }
+
+    fn guesses(&self) -> bool {
+        match self {
+            ChosenStore::Table(store) => store.guesses(),
+            ChosenStore::Lru(store) => store.guesses(),
+        }
+    }
+
+    fn guess_all(&self, keys: &[&[u8]], guesses: &mut [u32]) -> u8 {
+        match self {
+            ChosenStore::Table(store) => store.guess_all(keys, guesses),
+            ChosenStore::Lru(store) => store.guess_all(keys, guesses),
+        }
+    }
+
     fn expire(&mut self, key: &[u8], expiry: Deadline) -> bool {
         match self {
             ChosenStore::Table(store) => store.expire(key, expiry),

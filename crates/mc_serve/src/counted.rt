@@ -62,6 +62,18 @@ impl<S: Store + Drop> Store for Counted<S> {
         self.store.bring(key)
     }
 
+    fn bring_by(&mut self, key: &[u8], guess: u32) -> bool {
+        self.store.bring_by(key, guess)
+    }
+
+    fn guesses(&self) -> bool {
+        self.store.guesses()
+    }
+
+    fn guess_all(&self, keys: &[&[u8]], guesses: &mut [u32]) -> u8 {
+        self.store.guess_all(keys, guesses)
+    }
+
     fn expire(&mut self, key: &[u8], expiry: Deadline) -> bool {
         self.store.expire(key, expiry)
     }

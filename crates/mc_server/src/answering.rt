@@ -19,6 +19,7 @@ ghost use Rattle.mc_cache.specs.Step.{step_of};
 ghost use Rattle.mc_server.specs.Served.{IsServed};
 ghost use Rattle.mc_server.specs.Rooms.{keys_room, room_of, taken_bound, meta_value_room};
 
+use crate::ahead::Ahead;
 use mc_cache::Cache;
 use mc_reply::{
     KEY_ROOM, LINE_ROOM, META_ROOM, Reply, write_end, write_fault, write_key, write_line,
@@ -46,7 +47,7 @@ pub fn room_for<S: Store + Drop>(asked: &Asked<'_>, cache: &Cache<S>) -> usize
     ensures most { result ≤ room_of (asked_of asked.now) cache.now + ROOM_BY_LONGEST }
 {
     match asked {
-        Asked::Get { keys, .. } => LINE_ROOM.saturating_add(enough_for_keys(keys, cache)),
+        Asked::Get { keys, .. } => room_for_get(keys, cache),
         Asked::Meta { command, form } => {
             META_ROOM.saturating_add(enough_for_value(command, form.coded, cache))
         }
@@ -61,13 +62,29 @@ pub fn bound_for<S: Store + Drop>(asked: &Asked<'_>, cache: &Cache<S>) -> usize
     ensures { result ≡ min (taken_bound (asked_of asked.now) cache.now) (2 ^ 64 - 1) }
 {
     match asked {
-        Asked::Get { keys, .. } => room_for_keys(COMMAND_BOUND, keys.again(), cache),
+        Asked::Get { keys, .. } => bound_for_get(keys, cache),
         Asked::Meta { command, form } => {
             COMMAND_BOUND.saturating_add(room_for_value(command, form.coded, cache))
         }
         Asked::Update { .. } | Asked::MetaNoop | Asked::Version | Asked::Quit | Asked::Faulty(_) =>
             COMMAND_BOUND,
     }
+}
+
+/// Enough bytes of room for the answer to a `get` or `gets` of these keys; [`usize::MAX`] where it may need that or more.
+#[inline]
+pub fn room_for_get<S: Store + Drop>(keys: &WordIter<'_>, cache: &Cache<S>) -> usize
+    ensures enough { min (LINE_ROOM + keys_room KEY_ROOM keys.now cache.now) (2 ^ 64 - 1) ≤ result }
+    ensures most { result ≤ LINE_ROOM + keys_room KEY_ROOM keys.now cache.now + ROOM_BY_LONGEST }
+{
+    LINE_ROOM.saturating_add(enough_for_keys(keys, cache))
+}
+
+/// A bound on the answer to a `get` or `gets` of these keys, as a caller is told it; [`usize::MAX`] where it is that or more.
+pub fn bound_for_get<S: Store + Drop>(keys: &WordIter<'_>, cache: &Cache<S>) -> usize
+    ensures { result ≡ min (keys_room COMMAND_BOUND keys.now cache.now) (2 ^ 64 - 1) }
+{
+    room_for_keys(COMMAND_BOUND, keys.again(), cache)
 }
 
 /// Enough bytes for the values under some keys and what is beside them; [`usize::MAX`] where that may be it or more.
@@ -144,12 +161,13 @@ fn room_for_keys<S: Store + Drop>(beside: usize, keys: WordIter<'_>, cache: &Cac
     room
 }
 
-/// Serves what is asked at a moment. Beside what the cache may take to store an item, memory is taken only for the
+/// Serves what is asked at a moment, where items of the keys to come are guessed. Beside what the cache may take to store an item, memory is taken only for the
 /// block of a value that is stored under a held key, and where there is none nothing has changed.
 pub fn serve<S: Store + Drop>(
     asked: Asked<'_>,
     cache: &mut Cache<S>,
     moment: u64,
+    ahead: &mut Ahead,
     output: &mut Vec<u8>,
 ) -> Result<(), AllocError>
     requires moment { moment < 2 ^ 63 }
@@ -167,7 +185,7 @@ pub fn serve<S: Store + Drop>(
             keys,
             exptime,
             with_cas,
-        } => serve_keys(keys, exptime, with_cas, cache, moment, output),
+        } => serve_keys(keys, exptime, with_cas, cache, moment, ahead, output),
         Asked::Update { update, .. } => serve_update(&update, hides, cache, moment, output)?,
         Asked::Meta { command, form } => {
             serve_meta(&command, &form, hides, cache, moment, output)?;
@@ -268,12 +286,13 @@ fn meta_reply<S: Store + Drop>(
 }
 
 /// Serves a retrieval command, key by key: each value is copied once, from the cache into the output.
-fn serve_keys<S: Store + Drop>(
+pub fn serve_keys<S: Store + Drop>(
     keys: WordIter<'_>,
     exptime: Option<i64>,
     with_cas: bool,
     cache: &mut Cache<S>,
     moment: u64,
+    ahead: &mut Ahead,
     output: &mut Vec<u8>,
 )
     requires moment { moment < 2 ^ 63 }
@@ -284,14 +303,16 @@ fn serve_keys<S: Store + Drop>(
     ensures len { vec_len output.new ≤ vec_len output.old + (LINE_ROOM + keys_room KEY_ROOM keys.entry cache.old) }
 {
     for key in keys {
-        serve_key(key, exptime, with_cas, cache, moment, output);
+        let guess = ahead.next();
+        serve_key(key, guess, exptime, with_cas, cache, moment, output);
     }
     write_end(output).unwrap();
 }
 
-/// Serves a key of a retrieval command. The value that it shows is read from the front of the cache.
+/// Serves a key of a retrieval command, where it is guessed which item it has. The value that it shows is read from the front of the cache.
 fn serve_key<S: Store + Drop>(
     key: &[u8],
+    guess: u32,
     exptime: Option<i64>,
     with_cas: bool,
     cache: &mut Cache<S>,
@@ -309,7 +330,7 @@ fn serve_key<S: Store + Drop>(
     ensures shrinks { (other : List ℕ)
         → length (value_at other cache.new.items) ≤ length (value_at other cache.old.items) }
 {
-    let reply = cache.get(key, exptime, with_cas, moment);
+    let reply = cache.get_by(key, guess, exptime, with_cas, moment);
     let reply = reply.with(cache.front_value());
     write_key(key, &reply, output).unwrap();
 }

@@ -1,11 +1,12 @@
 //! A connection: its reader, and its answers.
 ghost use Rattle.std.specs.Prelude.{◌≡◌, ◌+◌, ◌-◌, ◌≤◌, ◌<◌, ◌^◌, ◌↔◌, ℕ, [], drop, length, min, Ok, IsTrue, IfOk, IsOkUnless, OnOk, OnErr};
 
-use crate::answering::{bound_for, room_for, serve};
+use crate::ahead::Ahead;
+use crate::answering::{bound_for, room_for, room_for_get, serve, serve_keys};
 use crate::limits::AnswerLimit;
 use crate::turns::{Limited, ServerError, Turn};
 use mc_cache::Cache;
-use mc_request_reader::{Peek, Reader};
+use mc_request_reader::{LentGet, Peek, Reader};
 use mc_store::Store;
 use mc_text::{give_back, let_go};
 use std::alloc::Global;
@@ -18,6 +19,8 @@ pub struct Connection {
     output: Vec<u8>,
     /// How many bytes of the output were taken out.
     sent: usize,
+    /// Guesses of the items that are asked for next.
+    ahead: Ahead,
 }
 
 impl Model for Connection {
@@ -46,6 +49,7 @@ impl Connection {
             reader: Reader::new(alloc),
             output: Vec::new(alloc),
             sent: 0,
+            ahead: Ahead::none(),
         }
     }
 
@@ -134,6 +138,27 @@ impl Connection {
         ensures err { OnErr result (self.new ≡ self.old) }
         ensures cache_kept { OnErr result (cache.new ≡ cache.old) }
     {
+        if let Some(get) = self.reader.peek_get() {
+            let LentGet {
+                keys,
+                with_cas,
+                front,
+                unread,
+            } = get;
+            self.ahead.look(unread, cache);
+            let room = room_for_get(&keys, cache);
+            if limit.is_passed_by_get(room, &keys, cache) {
+                return Ok(Limited::Refused);
+            }
+            self.output.reserve(room)?;
+            let ahead = &mut self.ahead;
+            serve_keys(keys, None, with_cas, cache, moment, ahead, &mut self.output);
+            self.reader.consume(front);
+            return Ok(Limited::Turned(Turn::Took));
+        }
+        if self.reader.is_short() {
+            return Ok(Limited::Turned(Turn::Idle));
+        }
         match self.reader.peek() {
             Peek::Closed => Ok(Limited::Turned(Turn::Closing)),
             Peek::More => Ok(Limited::Turned(Turn::Idle)),
@@ -143,7 +168,7 @@ impl Connection {
                     return Ok(Limited::Refused);
                 }
                 self.output.reserve(room)?;
-                serve(asked, cache, moment, &mut self.output)?;
+                serve(asked, cache, moment, &mut self.ahead, &mut self.output)?;
                 self.reader.consume(front);
                 Ok(Limited::Turned(Turn::Took))
             }

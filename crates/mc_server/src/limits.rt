@@ -1,13 +1,15 @@
 //! How large an answer may be.
-ghost use Rattle.std.specs.Prelude.{◌≡◌, ◌≤◌, ◌<◌, ◌^◌, ◌-◌, ◌↔◌, true, min, IsTrue};
+ghost use Rattle.std.specs.Prelude.{◌≡◌, ◌≤◌, ◌<◌, ◌^◌, ◌-◌, ◌+◌, ◌↔◌, true, min, IsTrue};
 ghost use Rattle.mc_request.specs.LinesSeen.{asked_of};
 ghost use Rattle.mc_request.specs.WellFormed.{is_well_formed};
-ghost use Rattle.mc_server.specs.Rooms.{room_of, taken_bound};
+ghost use Rattle.mc_server.specs.Rooms.{keys_room, room_of, taken_bound};
 
-use crate::answering::bound_for;
+use crate::answering::{COMMAND_BOUND, bound_for, bound_for_get};
 use mc_cache::Cache;
+use mc_reply::{KEY_ROOM, LINE_ROOM};
 use mc_request::Asked;
 use mc_store::Store;
+use mc_text::WordIter;
 
 /// No bound is more than so many times the room for the answer.
 const BOUND_BY_ROOM: usize = 16;
@@ -43,5 +45,22 @@ impl AnswerLimit {
             return false;
         }
         bound_for(asked, cache) > self.bytes
+    }
+
+    /// The same of the answer to a `get` or `gets` of these keys.
+    #[inline]
+    pub(crate) fn is_passed_by_get<S: Store + Drop>(
+        self,
+        room: usize,
+        keys: &WordIter<'_>,
+        cache: &Cache<S>,
+    ) -> bool
+        requires { min (LINE_ROOM + keys_room KEY_ROOM keys.now cache.now) (2 ^ 64 - 1) ≤ room }
+        ensures { IsTrue result ↔ (self.bytes < min (keys_room COMMAND_BOUND keys.now cache.now) (2 ^ 64 - 1)) }
+    {
+        if room <= self.bytes / BOUND_BY_ROOM {
+            return false;
+        }
+        bound_for_get(keys, cache) > self.bytes
     }
 }

@@ -91,7 +91,16 @@ impl<M: Recent> EpochCache<M> {
         ensures items { self.new.items ≡ brought key.now (body_at key.now self.old.items) self.old.items }
         ensures most { self.new.most ≡ self.old.most }
     {
-        let Some(held) = self.cache.get_mut(key) else {
+        self.bring_by(key, 0)
+    }
+
+    /// The same, where it is guessed which entry it is.
+    pub fn bring_by(&mut self, key: &[u8], guess: u32) -> bool
+        ensures held { result ≡ is_some (body_at key.now self.old.items) }
+        ensures items { self.new.items ≡ brought key.now (body_at key.now self.old.items) self.old.items }
+        ensures most { self.new.most ≡ self.old.most }
+    {
+        let Some(held) = self.cache.get_mut_by(key, guess) else {
             return false;
         };
         if held.epoch != self.epoch {
@@ -99,6 +108,16 @@ impl<M: Recent> EpochCache<M> {
             return false;
         }
         true
+    }
+
+    /// Whether it guesses.
+    pub fn guesses(&self) -> bool {
+        self.cache.guesses()
+    }
+
+    /// Guesses for each key which entry it has. It gives a number that says nothing ([`Recent::guess_all`]).
+    pub fn guess_all(&self, keys: &[&[u8]], guesses: &mut [u32]) -> u8 {
+        self.cache.guess_all(keys, guesses)
     }
 
     /// Sets the expiry of the key's item, moves it to the front, and says whether there is one.

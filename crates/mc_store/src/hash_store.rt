@@ -189,6 +189,18 @@ impl<M: Recent> Store for HashStore<M> {
         self.cache.bring(key)
     }
 
+    fn bring_by(&mut self, key: &[u8], guess: u32) -> bool {
+        self.cache.bring_by(key, guess)
+    }
+
+    fn guesses(&self) -> bool {
+        self.cache.guesses()
+    }
+
+    fn guess_all(&self, keys: &[&[u8]], guesses: &mut [u32]) -> u8 {
+        self.cache.guess_all(keys, guesses)
+    }
+
     fn expire(&mut self, key: &[u8], expiry: Deadline) -> bool {
         self.cache.expire(key, expiry)
     }

@@ -45,6 +45,25 @@ pub trait Recent {
         ensures* writes_back { sem 𝓛 (lends_held Self.row self.entry result (λ held. lent self.old key.now held)) }
         ensures value { option_copied_mut result ≡ lookup (bytes_eq key.now) (entries self.old) };
 
+    /// The same, where it is guessed which entry it is ([`Recent::guess_all`]). A guess changes how long it takes, and nothing else.
+    fn get_mut_by(&mut self, key: &[u8], _guess: u32) -> Option<&mut Held>
+        ensures* writes_back { sem 𝓛 (lends_held Self.row self.entry result (λ held. lent self.old key.now held)) }
+        ensures value { option_copied_mut result ≡ lookup (bytes_eq key.now) (entries self.old) }
+    {
+        self.get_mut(key)
+    }
+
+    /// Whether [`Recent::guess_all`] guesses: several entries are found sooner together than each by itself.
+    fn guesses(&self) -> bool {
+        false
+    }
+
+    /// Guesses for each key which entry it has, if [`Recent::guesses`]; else no guess changes. 0 is no guess.
+    /// It gives a number made of what was read, which says nothing: so no compiler leaves the reading out.
+    fn guess_all(&self, _keys: &[&[u8]], _guesses: &mut [u32]) -> u8 {
+        0
+    }
+
     /// Takes out the entry of the key.
     fn pop_entry(&mut self, key: &[u8]) -> Option<(Key, Held)>
         ensures value { result ≡ lookup_entry (bytes_eq key.now) (entries self.old) }

@@ -43,6 +43,26 @@ pub trait Store {
         ensures items { items self.new ≡ brought key.now (body_at key.now (items self.old)) (items self.old) }
         ensures most { most self.new ≡ most self.old };
 
+    /// The same, where it is guessed which item it is ([`Store::guess_all`]). A guess changes how long it takes, and nothing else.
+    fn bring_by(&mut self, key: &[u8], _guess: u32) -> bool
+        ensures held { result ≡ is_some (body_at key.now (items self.old)) }
+        ensures items { items self.new ≡ brought key.now (body_at key.now (items self.old)) (items self.old) }
+        ensures most { most self.new ≡ most self.old }
+    {
+        self.bring(key)
+    }
+
+    /// Whether [`Store::guess_all`] guesses: several items are found sooner together than each by itself.
+    fn guesses(&self) -> bool {
+        false
+    }
+
+    /// Guesses for each key which item it has, for [`Store::bring_by`], if [`Store::guesses`]; else no guess changes. 0 is no guess. It gives
+    /// a number made of what was read, which says nothing: so no compiler leaves the reading out.
+    fn guess_all(&self, _keys: &[&[u8]], _guesses: &mut [u32]) -> u8 {
+        0
+    }
+
     /// Sets the expiry of the key's item, moves it to the front, and says whether there is one.
     fn expire(&mut self, key: &[u8], expiry: Deadline) -> bool
         ensures held { result ≡ is_some (body_at key.now (items self.old)) }

@@ -8,6 +8,23 @@ use mc_table::Table;
 use mc_text::{Key, KeyBytes};
 use std::hash::BuildHasher;
 
+/// With fewer entries none is guessed: their memory is near the processor.
+const MANY: usize = 16_384;
+
+/// The most keys whose entries are guessed at once.
+const AT_ONCE: usize = 16;
+
+/// The first bytes of an entry's key and of its value, joined by exclusive or: 0 if there is none. Where they lie in memory of their own,
+/// that is asked for.
+#[inline]
+fn first_bytes(entry: Option<(&Key, &Held)>) -> u8 {
+    let Some((key, held)) = entry else {
+        return 0;
+    };
+    let of_value = held.body.value.as_slice().first().copied().unwrap_or(0);
+    of_value ^ key.as_bytes().first().copied().unwrap_or(0)
+}
+
 impl<H: BuildHasher> Recent for Table<Key, Held, H> {
     ghost entries = { λ t. t };
 
@@ -38,6 +55,29 @@ impl<H: BuildHasher> Recent for Table<Key, Held, H> {
     #[inline]
     fn get_mut(&mut self, key: &[u8]) -> Option<&mut Held> {
         Table::get_mut(self, KeyBytes { bytes: key })
+    }
+
+    #[inline]
+    fn get_mut_by(&mut self, key: &[u8], guess: u32) -> Option<&mut Held> {
+        Table::get_mut_by(self, KeyBytes { bytes: key }, guess)
+    }
+
+    #[inline]
+    fn guesses(&self) -> bool {
+        Table::len(self) >= MANY
+    }
+
+    fn guess_all(&self, keys: &[&[u8]], guesses: &mut [u32]) -> u8 {
+        let mut tags = [0; AT_ONCE];
+        for (tag, key) in tags.iter_mut().zip(keys) {
+            *tag = self.tag(KeyBytes { bytes: key });
+        }
+        Table::guess_all(self, &tags, guesses);
+        let mut read = 0;
+        for guess in guesses {
+            read ^= first_bytes(self.guessed(*guess));
+        }
+        read
     }
 
     #[inline]

@@ -7,7 +7,7 @@ ghost use Rattle.mc_table.specs.Chains.{IsBucketCount};
 ghost use Rattle.mc_table.specs.Slots.{tag_of};
 ghost use Rattle.mc_table.specs.Tables.{IsAt, IsNowhere};
 
-use crate::chains::{bucket_of, search, take_out};
+use crate::chains::{bucket_of, guess_all, search, stands_at, take_out};
 use crate::slots::Slot;
 use std::alloc::{AllocError, AllocFailed, Global};
 use std::collections::hash_map::Equivalent;
@@ -77,6 +77,36 @@ impl<K: Eq + Hash, V, S: BuildHasher> Chained<K, V, S> {
         ensures none { IfNone result (IsNowhere (Q.equivalent query) self.now) }
     {
         search(&self.heads, &self.slots, tag_of(&self.hasher, query), query)
+    }
+
+    /// The index of the entry that a key is found at, where a place is guessed: the entry there is looked at first.
+    #[inline]
+    pub fn get_index_by<Q: Equivalent<K>>(&self, query: Q, place: u32) -> Option<usize>
+        ensures found { IfSome result (IsAt (Q.equivalent query) self.now) }
+        ensures none { IfNone result (IsNowhere (Q.equivalent query) self.now) }
+    {
+        if stands_at(&self.slots, place, query) {
+            return Some(place as usize - 1);
+        }
+        self.get_index_of(query)
+    }
+
+    /// The tag of a key, by which [`Chained::guess_all`] guesses.
+    #[inline]
+    pub fn tag<Q: Hash + Copy>(&self, key: Q) -> u32 {
+        tag_of(&self.hasher, key)
+    }
+
+    /// Guesses the place of the entry of each tag: its index, and one more, or 0. An entry there may have another tag.
+    pub fn guess_all(&self, tags: &[u32], places: &mut [u32]) {
+        guess_all(&self.heads, &self.slots, tags, places);
+    }
+
+    /// The entry of a place, if there is one.
+    #[inline]
+    pub fn entry(&self, place: u32) -> Option<(&K, &V)> {
+        let slot = self.slots.get((place as usize).wrapping_sub(1))?;
+        Some((&slot.key, &slot.value))
     }
 
     /// The entry at an index.

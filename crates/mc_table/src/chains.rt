@@ -2,7 +2,7 @@
 //!
 //! The head of a bucket and the slots of its chain each lead to the next lower place of the bucket, and the last leads to 0. So the
 //! last slot of all is always the first of its chain, and each step of a walk goes down.
-ghost use Rattle.std.specs.Prelude.{◌≡◌, ℕ, ◌<◌, ◌≤◌, ◌-◌, ◌^◌, Some, length, slice_get, slice_set, slice_index_or, IfSome, IfNone};
+ghost use Rattle.std.specs.Prelude.{◌≡◌, true, ℕ, ◌<◌, ◌≤◌, ◌-◌, ◌^◌, Some, length, slice_get, slice_set, slice_index_or, IfSome, IfNone};
 ghost use Rattle.std.specs.List.{swap_remove};
 ghost use Rattle.mc_table.specs.Chains.{bucket_of, falls, at_place, link, heads_with, nexts_with, IsAbove};
 ghost use Rattle.mc_table.specs.Slots.{entries_of, tags_of, nexts_of, Stands, NoneStands, AreChained};
@@ -10,6 +10,9 @@ ghost use Rattle.mc_table.specs.Slots.{entries_of, tags_of, nexts_of, Stands, No
 use crate::slots::Slot;
 use std::collections::hash_map::Equivalent;
 use std::hash::Hash;
+
+/// How many slots of a chain a guess looks at.
+const GUESSED_STEPS: usize = 2;
 
 /// The bucket that a tag falls to.
 #[inline]
@@ -45,6 +48,51 @@ pub(crate) fn search<K: Eq + Hash, V, Q: Equivalent<K>>(
         place = slot.next;
     }
     None
+}
+
+/// Whether the slot of a place is there and has a key that a query stands for.
+#[inline]
+pub(crate) fn stands_at<K: Eq + Hash, V, Q: Equivalent<K>>(
+    slots: &Vec<Slot<K, V>>,
+    place: u32,
+    query: Q,
+) -> bool
+    ensures { result ≡ true → (0 < place) × Stands (Q.equivalent query) (entries_of slots.now.items) (place - 1) }
+{
+    if place == 0 || place as usize > slots.len() {
+        return false;
+    }
+    let slot = &slots[place as usize - 1];
+    query.equivalent(&slot.key)
+}
+
+/// Guesses the place of each tag: one that has another tag, or none, is no harm, since who asks for a key compares it. Of all tags
+/// the heads are read first, and then the slots, so that the processor waits for the memory of many at once.
+pub(crate) fn guess_all<K, V>(
+    heads: &Vec<u32>,
+    slots: &Vec<Slot<K, V>>,
+    tags: &[u32],
+    places: &mut [u32],
+)
+    requires { 0 < length heads.now.items }
+{
+    for (place, tag) in places.iter_mut().zip(tags) {
+        *place = heads[bucket_of(*tag, heads.len())];
+    }
+    for _ in 0..GUESSED_STEPS {
+        for (place, tag) in places.iter_mut().zip(tags) {
+            *place = passed(slots, *place, *tag);
+        }
+    }
+}
+
+/// The place itself if its slot has the tag, or else the next of its chain.
+#[inline]
+fn passed<K, V>(slots: &Vec<Slot<K, V>>, place: u32, tag: u32) -> u32 {
+    match slots.get((place as usize).wrapping_sub(1)) {
+        Some(slot) if slot.tag != tag => slot.next,
+        _ => place,
+    }
 }
 
 /// Takes the slot at an index out of its chain and out of the slots. The last takes its place.

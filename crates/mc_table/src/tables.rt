@@ -138,6 +138,37 @@ impl<K: Eq + Hash, V, S: BuildHasher> Table<K, V, S> {
         Some(self.entries.value_mut(index))
     }
 
+    /// The same, where it is guessed which entry it is ([`Table::guess_all`]): that one is looked at first. A guess changes how long the
+    /// search takes, and nothing else.
+    pub fn get_mut_by<Q: Equivalent<K>>(&mut self, k: Q, guess: u32) -> Option<&mut V>
+        ensures* writes_back { sem 𝓛 (lends_value K.row V.row S.row S.Hasher.row K.Hash S.BuildHasher S.Hasher.Hasher self.entry (Q.equivalent k) (promoted (Q.equivalent k) self.old) result) }
+        ensures value { option_copied_mut result ≡ lookup (Q.equivalent k) self.old }
+    {
+        let index = self.entries.get_index_by(k, guess)?;
+        self.order.to_front(index as u32 + 1);
+        Some(self.entries.value_mut(index))
+    }
+
+    /// The tag of a key, by which [`Table::guess_all`] guesses.
+    #[inline]
+    pub fn tag<Q: Hash + Copy>(&self, k: Q) -> u32 {
+        self.entries.tag(k)
+    }
+
+    /// Guesses for each tag which entry has a key of that tag, and makes no change. A guess may be wrong, and holds until an entry is taken
+    /// out. The heads and the entries of all tags are looked at side by side, so the processor waits for their memory at once (group
+    /// prefetching, as Chen, Ailamaki, Gibbons and Mowry have it for joins by hashes).
+    #[inline]
+    pub fn guess_all(&self, tags: &[u32], guesses: &mut [u32]) {
+        self.entries.guess_all(tags, guesses);
+    }
+
+    /// The entry that a guess says, if there is one.
+    #[inline]
+    pub fn guessed(&self, guess: u32) -> Option<(&K, &V)> {
+        self.entries.entry(guess)
+    }
+
     /// Puts a value under a key, in front, and gives the old value where the key is there: then the old key stays.
     ///
     /// Where there is no memory, `Err` hands the key and the value back, and nothing has changed.

@@ -33,7 +33,7 @@ impl<S: Store + Drop> Cache<S> {
             → may_refuse self.old (AMeta (AGet key.now get.now)) moment ≡ true }
         ensures distinct { (key : List ℕ) → body_at key (without key self.old.items) ≡ None }
     {
-        match self.settle_in_front(key, moment) {
+        match self.settle_in_front(key, 0, moment) {
             Some(found) => {
                 self.store.retrieved(true);
                 self.show_found(key, get, found, moment)

@@ -106,7 +106,15 @@ impl<S: Store + Drop> Cache<S> {
         ensures held { result ≡ is_some (body_at key.now self.old.items) }
         ensures items { self.new ≡ fronted self.old key.now }
     {
-        self.store.bring(key)
+        self.bring_by(key, 0)
+    }
+
+    /// The same, where it is guessed which item it is.
+    pub(super) fn bring_by(&mut self, key: &[u8], guess: u32) -> bool
+        ensures held { result ≡ is_some (body_at key.now self.old.items) }
+        ensures items { self.new ≡ fronted self.old key.now }
+    {
+        self.store.bring_by(key, guess)
     }
 
     /// Sets the expiry of the key's item, moves it to the front, and says whether there is one.

@@ -127,27 +127,28 @@ impl<S: Store + Drop> Cache<S> {
         }
     }
 
-    /// Moves the key's item to the front, and looks at it.
-    pub(super) fn find(&mut self, key: &[u8]) -> Option<Found>
+    /// Moves the key's item to the front, where it is guessed which it is, and looks at it.
+    pub(super) fn find(&mut self, key: &[u8], guess: u32) -> Option<Found>
         ensures found { body_at key.now self.old.items ≡ found_body result (front_value self.new.items) }
         ensures items { self.new ≡ fronted self.old key.now }
     {
-        if !self.bring(key) {
+        if !self.bring_by(key, guess) {
             return None;
         }
         let body = self.store.front()?;
         Some(Found::of(body))
     }
 
-    /// Brings the cache to a moment for a command on a key, moves the key's item to the front, and looks at it.
-    pub(super) fn settle_in_front(&mut self, key: &[u8], moment: u64) -> Option<Found>
+    /// Brings the cache to a moment for a command on a key, moves the key's item to the front, where it is guessed which it is, and looks
+    /// at it.
+    pub(super) fn settle_in_front(&mut self, key: &[u8], guess: u32, moment: u64) -> Option<Found>
         ensures settled { self.new ≡ fronted (settled self.old (Some key.now) moment) key.now }
         ensures found { body_at key.now (settled self.old (Some key.now) moment).items
             ≡ found_body result (front_value self.new.items) }
         ensures distinct { (key : List ℕ) → body_at key (without key self.old.items) ≡ None }
     {
         self.flush_due(moment);
-        let found = self.find(key)?;
+        let found = self.find(key, guess)?;
         if found.expiry.is_dead(moment) {
             let _ = self.take(key);
             return None;
