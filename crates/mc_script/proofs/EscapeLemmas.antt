@@ -1,8 +1,14 @@
 -- Escapes, and what they stand for.
-use Rattle.std.proofs.Common.{◌≡◌, ℕ, suc, ◌+◌, ◌*◌, ◌/◌, ◌%◌, ◌<◌, ◌&&◌, Bool, true, false, cond, List, [], ◌∷◌, ◌++◌, length, Option, Some, None, refl, sym, ap, ◌∙◌, arith, eqb, nat_le, append-nil}
-use Rattle.std.specs.Option.{option_map}
-use Rattle.std.specs.List.{All}
-use Rattle.mc_script.specs.Escapes.{Between, Backslash, NoDigit, Lost, text_from, text_of, hex_value, hex_digit, letter_value, escape_of, escaped}
+use Rattle.std.proofs.Common.{◌≡◌, ℕ, suc, ◌+◌, ◌-◌, ◌*◌, ◌/◌, ◌%◌, ◌<◌, ◌≤◌, ◌&&◌, not, Bool, true, false, cond, List, [], ◌∷◌, ◌++◌, length, take, drop, get_or, Option, Some, None, refl, sym, ap, ◌∙◌, arith, eqb, nat_le, append-nil, append_assoc}
+use Rattle.std.proofs.Math.Seq.{take-add}
+use Rattle.std.proofs.lemmas.List.{length-take-le, take-append-drop, take_rest}
+use Rattle.std.proofs.lemmas.List.Sums.{AllPass-from_list_all, position_or_len_is, prefix_len-le-length, prefix_len_is}
+use Rattle.std.proofs.lemmas.List.Folds.{prefix_len-append}
+use Rattle.std.specs.Option.{option_map, unwrap_or}
+use Rattle.std.specs.List.{All, list_all, prefix_len, position_or_len}
+use Rattle.memchr.specs.Find.{IsFirstByte, is_byte}
+use Rattle.mc_script.proofs.LineLemmas.{not_true}
+use Rattle.mc_script.specs.Escapes.{Between, Backslash, NoDigit, Lost, text_from, text_of, hex_value, hex_digit, letter_value, escape_of, escaped, is_plain, ReadsFront}
 
 same_option : (o : Option (List ℕ)) → option_map (λ text. text) o ≡ o
 same_option None = refl
@@ -86,3 +92,107 @@ unfolding text_from
 text_of-escaped [] small = refl
 text_of-escaped (b ∷ bs) small =
     read_escape b (escaped bs) (small 0 0 (omega arith)) ∙ rw (text_of-escaped bs (λ k d lt. small (suc k) d (omega arith))) refl
+
+-- what is escaped of two texts
+escaped-append : (xs ys : List ℕ) → escaped (xs ++ ys) ≡ escaped xs ++ escaped ys
+escaped-append [] ys = refl
+escaped-append (x ∷ xs) ys = ap (λ (zs : List ℕ). escape_of x ++ zs) (escaped-append xs ys) ∙ sym (append_assoc (escape_of x) (escaped xs) (escaped ys))
+
+-- more bytes, escaped, after those before them
+pub escaped_more : (done count : ℕ) (bytes : List ℕ) → escaped (take (done + count) bytes) ≡ escaped (take done bytes) ++ escaped (take count (drop done bytes))
+escaped_more done count bytes = ap escaped (take-add done count bytes) ∙ escaped-append (take done bytes) (take count (drop done bytes))
+
+-- a byte that stands for itself
+escape_of-plain : (b : ℕ) → is_plain b ≡ true → escape_of b ≡ b ∷ []
+unfolding escape_of
+escape_of-plain b plain = grind (arith, plain)
+
+-- one such byte in front of others
+pub escaped_one : (bytes : List ℕ) → 0 < length bytes → is_plain (get_or bytes 0 0) ≡ true → escaped (take 1 bytes) ≡ get_or bytes 0 0 ∷ []
+escaped_one [] some plain = absurd (omega arith)
+escaped_one (b ∷ bs) some plain = ap (λ (xs : List ℕ). xs ++ []) (escape_of-plain b plain)
+
+-- one byte more of a run
+next_in : (n : ℕ) → 1 + n ≡ suc n
+next_in n = omega arith
+
+-- a run of bytes that stand for themselves
+pub escaped_run : (bytes : List ℕ) → escaped (take (prefix_len is_plain bytes) bytes) ≡ take (prefix_len is_plain bytes) bytes
+escaped_run [] = refl
+escaped_run (b ∷ bs) =
+    let n = prefix_len is_plain bs in
+    (elim (is_plain b) as (λ v. is_plain b ≡ v → escaped (take (cond v (1 + n) 0) (b ∷ bs)) ≡ take (cond v (1 + n) 0) (b ∷ bs)) [
+      | true ↦ λ e. rw (next_in n) (ap (λ (xs : List ℕ). xs ++ escaped (take n bs)) (escape_of-plain b e) ∙ ap (λ (xs : List ℕ). b ∷ xs) (escaped_run bs))
+      | false ↦ λ _. refl
+    ]) refl
+
+-- a run that goes on from the first of two texts to the second
+pub run_goes_on : (xs ys : List ℕ) → prefix_len is_plain xs ≡ length xs → prefix_len is_plain (xs ++ ys) ≡ length xs + prefix_len is_plain ys
+run_goes_on xs ys all = grind (arith, prefix_len-append is_plain xs ys)
+
+-- bytes that all stand for themselves
+run_all : (xs : List ℕ) → list_all is_plain xs ≡ true → prefix_len is_plain xs ≡ length xs
+run_all xs all = prefix_len_is is_plain xs (length xs) 0 (omega arith) (λ k lt. AllPass-from_list_all is_plain xs all k 0 lt) (λ lt. absurd (omega arith))
+
+-- two tests that both pass
+both : (a b : Bool) → (a && b) ≡ true → (a ≡ true) × (b ≡ true)
+both true b e = (refl, e)
+both false b e = absurd cc
+
+-- a run past a block of bytes that all stand for themselves
+pub run_past : (n : ℕ) (xs : List ℕ) → (nat_le n (length xs) && list_all is_plain (take n xs)) ≡ true
+    → (n ≤ length xs) × (prefix_len is_plain xs ≡ n + prefix_len is_plain (drop n xs))
+run_past n xs tested =
+    let tests = both (nat_le n (length xs)) (list_all is_plain (take n xs)) tested in
+    let within : n ≤ length xs = grind (arith, tests.0) in
+    let is : prefix_len is_plain xs ≡ n + prefix_len is_plain (drop n xs) =
+    ap (prefix_len is_plain) (sym (take-append-drop n xs)) ∙ run_goes_on (take n xs) (drop n xs) (run_all (take n xs) tests.1)
+    ∙ ap (λ (k : ℕ). k + prefix_len is_plain (drop n xs)) (length-take-le n xs within) in
+    (within, is)
+
+-- bytes before others, in what a text stands for
+joined : (xs ys : List ℕ) (o : Option (List ℕ)) → option_map (λ more. xs ++ more) (option_map (λ more. ys ++ more) o) ≡ option_map (λ more. (xs ++ ys) ++ more) o
+joined xs ys None = refl
+joined xs ys (Some zs) = ap (λ (bs : List ℕ). Some bs) (sym (append_assoc xs ys zs))
+
+-- a run of bytes before a backslash stands for itself
+run_is : (text : List ℕ) → text_of text ≡ option_map (λ more. take (position_or_len (λ b. eqb b 92) text) text ++ more) (text_of (drop (position_or_len (λ b. eqb b 92) text) text))
+unfolding text_from
+run_is [] = refl
+run_is (b ∷ bs) =
+    let n = position_or_len (λ b. eqb b 92) bs in
+    (elim (eqb b 92) as (λ v. eqb b 92 ≡ v → text_of (b ∷ bs) ≡ option_map (λ more. take (cond (not v) (1 + n) 0) (b ∷ bs) ++ more) (text_of (drop (cond (not v) (1 + n) 0) (b ∷ bs)))) [
+      | true ↦ λ _. sym (same_option (text_of (b ∷ bs)))
+      | false ↦ λ e. rw (next_in n) (read_plain b bs e ∙ ap (λ (o : Option (List ℕ)). option_map (λ more. b ∷ more) o) (run_is bs) ∙ joined (b ∷ []) (take n bs) (text_of (drop n bs)))
+    ]) refl
+
+-- such a run is put after other bytes
+pub reads_run : (before text : List ℕ) (n : ℕ) → n ≡ position_or_len (λ b. eqb b 92) text → ReadsFront before Between text (before ++ take n text) (drop n text)
+reads_run before text n is =
+    let run : text_of text ≡ option_map (λ more. take n text ++ more) (text_of (drop n text)) = rw is (run_is text) in
+    ap (λ (o : Option (List ℕ)). option_map (λ more. before ++ more) o) run ∙ joined before (take n text) (text_of (drop n text))
+
+-- a byte that is no backslash is put after other bytes
+pub reads_one : (before text : List ℕ) → 0 < length text → (get_or text 0 0 ≡ 92 → ⊥)
+    → ReadsFront before Between text (before ++ get_or text 0 0 ∷ []) (take (length text - 1) (drop 1 text))
+reads_one before [] some other = absurd (omega arith)
+reads_one before (b ∷ bs) some other =
+    rw (take_rest (b ∷ bs) 1)
+    (ap (λ (o : Option (List ℕ)). option_map (λ more. before ++ more) o) (read_plain b bs (grind (arith, other))) ∙ joined before (b ∷ []) (text_of bs))
+
+-- what a run ends at is within the text
+pub run_within : (text : List ℕ) → position_or_len (λ b. eqb b 92) text ≤ length text
+run_within text = prefix_len-le-length (λ b. not (eqb b 92)) text
+
+-- where a run ends, as a search for the backslash says
+pub run_end : (text : List ℕ) (found : Option ℕ) → IsFirstByte (is_byte 92) text found → unwrap_or found (length text) ≡ position_or_len (λ b. eqb b 92) text
+run_end text (Some end) first =
+    sym (position_or_len_is (λ b. eqb b 92) text end 0 (omega (arith, first.0.high)) (λ k lt. not_true (eqb (get_or text k 0) 92) (first.0.before k (omega arith) lt)) (λ _. first.1))
+run_end text None nowhere =
+    sym (position_or_len_is (λ b. eqb b 92) text (length text) 0 (omega arith) (λ k lt. not_true (eqb (get_or text k 0) 92) (nowhere k (omega arith) lt)) (λ lt. absurd (omega arith)))
+
+-- a backslash, and what follows it
+pub at_backslash : (text : List ℕ) → 0 < length text → get_or text 0 0 ≡ 92 → text_from Between text ≡ text_from Backslash (take (length text - 1) (drop 1 text))
+unfolding text_from
+at_backslash [] some is = absurd (omega arith)
+at_backslash (b ∷ bs) some is = rw (is, take_rest (b ∷ bs) 1) (same_option (text_from Backslash bs))

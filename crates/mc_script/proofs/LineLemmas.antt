@@ -7,7 +7,8 @@ use Rattle.std.specs.List.{position_or_len}
 use Rattle.memchr.specs.Find.{IsFirstByte, is_byte}
 use Rattle.mc_script.specs.Lines.{lines_from, with_line}
 
-not_true : (b : Bool) → ((b ≡ true) → ⊥) → b ≡ false
+-- a test that does not pass
+pub not_true : (b : Bool) → ((b ≡ true) → ⊥) → b ≡ false
 not_true true h = absurd (h refl)
 not_true false h = refl
 

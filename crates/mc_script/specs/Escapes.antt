@@ -1,5 +1,5 @@
 -- Escapes: how any bytes are in a line of printable ones. Source: this project's own.
-use Rattle.std.specs.Prelude.{◌≡◌, ℕ, ◌+◌, ◌-◌, ◌*◌, ◌/◌, ◌%◌, ◌==◌, ◌&&◌, nat_lt, nat_le, List, [], ◌∷◌, ◌++◌, Option, Some, None, is_some, codes, decimal, if◌then◌else◌}
+use Rattle.std.specs.Prelude.{◌≡◌, ℕ, ◌+◌, ◌-◌, ◌*◌, ◌/◌, ◌%◌, ◌==◌, ◌&&◌, Bool, not, nat_lt, nat_le, List, [], ◌∷◌, ◌++◌, Option, Some, None, is_some, codes, decimal, if◌then◌else◌}
 use Rattle.std.specs.List.{flat_map, enumerate_from}
 use Rattle.std.specs.Option.{option_map, option_map_or}
 
@@ -16,6 +16,10 @@ escape_of b =
     else if b == 10 then codes "\\n"
     else if nat_le 32 b && nat_le b 126 then b ∷ []
     else codes "\\x" ++ hex_digit (b / 16) ∷ hex_digit (b % 16) ∷ []
+
+-- a byte that stands for itself in an escaped text
+abbrev pub is_plain : ℕ → Bool
+is_plain b = nat_le 32 b && nat_le b 126 && not (b == 92)
 
 -- bytes, each escaped
 abbrev pub escaped : List ℕ → List ℕ
@@ -99,3 +103,7 @@ GivesByte place text byte rest = text_from place text ≡ option_map (λ bytes. 
 -- a text after a place has no bytes that it stands for
 abbrev pub GivesNoByte : Place → List ℕ → Type 0
 GivesNoByte place text = text_from place text ≡ None
+
+-- some bytes, and then what a text stands for after a place, are other bytes, and then what the rest stands for
+abbrev pub ReadsFront : List ℕ → Place → List ℕ → List ℕ → List ℕ → Type 0
+ReadsFront before place text after rest = option_map (λ more. before ++ more) (text_from place text) ≡ option_map (λ more. after ++ more) (text_of rest)

@@ -1,10 +1,18 @@
 //! Escapes: how any bytes are in a line of printable ones.
-ghost use Rattle.std.specs.Prelude.{◌≡◌, ◌<◌, ◌++◌, ◌∷◌, ℕ, List, Some, length, IfOk, IfSome, OnOk, OnErr, MatchOption, All, [], take, vec_len};
+ghost use Rattle.std.specs.Prelude.{◌≡◌, ◌<◌, ◌≤◌, ◌==◌, ◌&&◌, ◌++◌, ◌∷◌, ℕ, nat_le, nat_lt, List, Some, length, IfOk, IfSome, OnOk, OnErr, MatchOption, All, [], false, take, vec_len};
+ghost use Rattle.std.specs.List.{list_all, position_or_len, prefix_len};
 ghost use Rattle.std.specs.Option.{option_map};
-ghost use Rattle.mc_script.specs.Escapes.{client_line, escape_of, escaped, named_line, hex_digit, hex_value, letter_value, text_of, GivesByte, GivesNoByte, Between, Backslash, NoDigit};
+ghost use Rattle.mc_script.specs.Escapes.{client_line, escape_of, escaped, is_plain, named_line, hex_digit, hex_value, letter_value, text_of, GivesByte, GivesNoByte, ReadsFront, Between, Backslash, NoDigit};
 
 use itoa::Buffer;
+use memchr::memchr;
 use std::alloc::{AllocError, Global};
+
+/// How many bytes of a run are tested one by one before blocks are, since most runs are short.
+const FEW: usize = 8;
+
+/// How many bytes are tested together.
+const BLOCK: usize = 16;
 
 /// Puts bytes at the end of a text, each escaped: 32 to 126 as they are but for the backslash, which is doubled, 13
 /// and 10 as `\r` and `\n`, and any other as `\x` and two small hexadecimal digits. An error leaves the text as it
@@ -56,10 +64,9 @@ pub fn read_escaped(alloc: Global, text: &[u8]) -> Result<Option<Vec<u8>>, Alloc
     let mut bytes = Vec::with_capacity(alloc, text.len())?;
     let mut rest = text;
     while !rest.is_empty() {
-        let Some((byte, more)) = first_byte(rest) else {
+        let Some(more) = read_front(rest, &mut bytes)? else {
             return Ok(None);
         };
-        bytes.push(byte)?;
         rest = more;
     }
     Ok(Some(bytes))
@@ -74,10 +81,113 @@ fn push_each_escaped(bytes: &[u8], out: &mut Vec<u8>) -> Result<(), AllocError>
     ensures escaped { OnOk result (out.new.items ≡ out.old.items ++ escaped bytes.now) }
     ensures kept { take (vec_len out.old) out.new.items ≡ out.old.items }
 {
-    for byte in bytes {
-        push_escape(*byte, out)?;
+    let mut done = 0;
+    while done < bytes.len() {
+        let (_, rest) = bytes.split_at(done);
+        done += push_front(rest, out)?;
     }
     Ok(())
+}
+
+/// Puts what a text begins with at the end of another, escaped: a run of bytes that stand for themselves, or else one
+/// byte. The answer is how many bytes these are. An error leaves the other text as it was.
+fn push_front(bytes: &[u8], out: &mut Vec<u8>) -> Result<usize, AllocError>
+    requires { 0 < length bytes.now }
+    ensures escaped { IfOk result (λ count. out.new.items ≡ out.old.items ++ escaped (take count bytes.now)) }
+    ensures some { IfOk result (λ count. 0 < count) }
+    ensures inside { IfOk result (λ count. count ≤ length bytes.now) }
+    ensures unchanged { OnErr result (out.new.items ≡ out.old.items) }
+{
+    if !is_plain(bytes[0]) {
+        push_escape(bytes[0], out)?;
+        return Ok(1);
+    }
+    if !begins_plain(&bytes[1..]) {
+        out.push(bytes[0])?;
+        return Ok(1);
+    }
+    let count = plain_length(bytes);
+    let (run, _) = bytes.split_at(count);
+    out.extend_from_slice(run)?;
+    Ok(count)
+}
+
+/// Whether a text begins with a byte that stands for itself.
+fn begins_plain(bytes: &[u8]) -> bool
+    ensures { result ≡ nat_lt 0 (prefix_len is_plain bytes.now) }
+{
+    match bytes {
+        [byte, ..] => is_plain(*byte),
+        [] => false,
+    }
+}
+
+/// How many bytes at the beginning of a text stand for themselves. The first few are tested one by one, those after them
+/// by blocks.
+fn plain_length(bytes: &[u8]) -> usize
+    ensures { result ≡ prefix_len is_plain bytes.now }
+{
+    let (front, rest) = bytes.split_at(bytes.len().min(FEW));
+    let count = count_plain(front);
+    if count < front.len() {
+        return count;
+    }
+    count + count_plain_by_blocks(rest)
+}
+
+/// How many bytes at the beginning of a text stand for themselves, tested by blocks.
+fn count_plain_by_blocks(bytes: &[u8]) -> usize
+    ensures { result ≡ prefix_len is_plain bytes.now }
+{
+    let mut rest = bytes;
+    while begins_with_plain_block(rest) {
+        let (_, more) = rest.split_at(BLOCK);
+        rest = more;
+    }
+    bytes.len() - rest.len() + count_plain(rest)
+}
+
+/// How many bytes at the beginning of a text stand for themselves, tested one by one.
+fn count_plain(bytes: &[u8]) -> usize
+    ensures { result ≡ prefix_len is_plain bytes.now }
+{
+    let mut count = 0;
+    for byte in bytes {
+        if !is_plain(*byte) {
+            return count;
+        }
+        count += 1;
+    }
+    count
+}
+
+/// Whether a text begins with a block of bytes that stand for themselves.
+fn begins_with_plain_block(bytes: &[u8]) -> bool
+    ensures { result ≡ (nat_le BLOCK (length bytes.now) && list_all is_plain (take BLOCK bytes.now)) }
+{
+    if bytes.len() < BLOCK {
+        return false;
+    }
+    let (block, _) = bytes.split_at(BLOCK);
+    are_plain(block)
+}
+
+/// Whether each byte stands for itself. All of them are looked at, so that the processor tests many at once.
+fn are_plain(bytes: &[u8]) -> bool
+    ensures { result ≡ list_all is_plain bytes.now }
+{
+    let mut good = true;
+    for byte in bytes {
+        good &= is_plain(*byte);
+    }
+    good
+}
+
+/// Whether a byte stands for itself in an escaped text.
+fn is_plain(byte: u8) -> bool
+    ensures { result ≡ is_plain byte }
+{
+    byte >= 32 && byte <= 126 && byte != b'\\'
 }
 
 fn push_parts(name: &[u8], number: u64, bytes: &[u8], out: &mut Vec<u8>) -> Result<(), AllocError>
@@ -93,8 +203,10 @@ fn push_parts(name: &[u8], number: u64, bytes: &[u8], out: &mut Vec<u8>) -> Resu
     out.extend_from_slice(b"\n")
 }
 
+/// Puts the escape of a byte that does not stand for itself at the end of a text. An error leaves the text as it was.
 #[tactic(auto, unfolding(crate::specs::Escapes::escape_of))]
 fn push_escape(byte: u8, out: &mut Vec<u8>) -> Result<(), AllocError>
+    requires { is_plain byte ≡ false }
     ensures escape { OnOk result (out.new.items ≡ out.old.items ++ escape_of byte) }
     ensures unchanged { OnErr result (out.new.items ≡ out.old.items) }
 {
@@ -102,7 +214,6 @@ fn push_escape(byte: u8, out: &mut Vec<u8>) -> Result<(), AllocError>
         b'\\' => out.extend_from_slice(b"\\\\"),
         b'\r' => out.extend_from_slice(b"\\r"),
         b'\n' => out.extend_from_slice(b"\\n"),
-        32..=126 => out.extend_from_slice(&[byte]),
         _ => out.extend_from_slice(&[b'\\', b'x', hex_digit(byte / 16), hex_digit(byte % 16)]),
     }
 }
@@ -119,19 +230,55 @@ fn hex_digit(number: u8) -> u8
     }
 }
 
-/// The first byte that a text stands for, and the text after it.
-#[tactic(auto, unfolding(crate::specs::Escapes::text_from))]
-fn first_byte(text: &[u8]) -> Option<(u8, &[u8])>
+/// Puts what a text begins with at the end of some bytes: its bytes up to the first backslash, or what one escape stands
+/// for where it begins with a backslash. The answer is the text after that, or nothing where there is no such escape.
+fn read_front<'a>(text: &'a [u8], bytes: &mut Vec<u8>) -> Result<Option<&'a [u8]>, AllocError>
     requires { 0 < length text.now }
-    ensures byte { MatchOption result (GivesNoByte Between text.now) (λ p. GivesByte Between text.now p.0 p.1.now) }
-    ensures shorter { IfSome result (λ p. length p.1.now < length text.now) }
+    ensures read { IfOk result (λ found. MatchOption found (GivesNoByte Between text.now)
+        (λ rest. ReadsFront bytes.old.items Between text.now bytes.new.items rest.now)) }
+    ensures shorter { IfOk result (λ found. IfSome found (λ rest. length rest.now < length text.now)) }
 {
-    let (byte, rest) = cut_byte(text)?;
-    if byte == b'\\' {
-        byte_of_escape(rest)
-    } else {
-        Some((byte, rest))
+    if text[0] == b'\\' {
+        return read_escape(&text[1..], bytes);
     }
+    if is_run_over(&text[1..]) {
+        bytes.push(text[0])?;
+        return Ok(Some(&text[1..]));
+    }
+    let (run, rest) = text.split_at(run_length(text));
+    bytes.extend_from_slice(run)?;
+    Ok(Some(rest))
+}
+
+/// Puts the byte of what follows a backslash at the end of some bytes. The answer is the text after it, or nothing where
+/// the backslash begins no escape.
+fn read_escape<'a>(text: &'a [u8], bytes: &mut Vec<u8>) -> Result<Option<&'a [u8]>, AllocError>
+    ensures read { IfOk result (λ found. MatchOption found (GivesNoByte Backslash text.now)
+        (λ rest. ReadsFront bytes.old.items Backslash text.now bytes.new.items rest.now)) }
+    ensures shorter { IfOk result (λ found. IfSome found (λ rest. length rest.now < length text.now)) }
+{
+    let Some((byte, rest)) = byte_of_escape(text) else {
+        return Ok(None);
+    };
+    bytes.push(byte)?;
+    Ok(Some(rest))
+}
+
+/// Whether a run has no more bytes: the text is empty, or begins with a backslash.
+fn is_run_over(text: &[u8]) -> bool
+    ensures { result ≡ (position_or_len (λ b. b == 92) text.now == 0) }
+{
+    match text {
+        [byte, ..] => *byte == b'\\',
+        [] => true,
+    }
+}
+
+/// How many bytes of a text are before its first backslash.
+fn run_length(text: &[u8]) -> usize
+    ensures { result ≡ position_or_len (λ b. b == 92) text.now }
+{
+    memchr(b'\\', text).unwrap_or(text.len())
 }
 
 /// The byte of what follows a backslash, and the text after it.
