@@ -1,4 +1,5 @@
 pub mod SessionState
+pub mod Holdings
 pub mod Sending
 pub mod Noting
 pub mod Emits

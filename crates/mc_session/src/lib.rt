@@ -16,6 +16,7 @@
 
 mod errors;
 mod limits;
+mod outcomes;
 mod sending;
 mod sessions;
 mod turns;

@@ -3,6 +3,7 @@ ghost use Rattle.std.specs.Prelude.{◌≡◌, ◌++◌, OnOk, OnErr};
 ghost use Rattle.mc_session.specs.Emits.{awaited_in, count_awaited};
 
 use crate::errors::SessionError;
+use crate::outcomes::Outcomes;
 use mc_reply::write_fault;
 use mc_request::Taken;
 use mc_route::{Outcome, join};
@@ -12,7 +13,7 @@ use std::marker::Model;
 #[derive(Drop)]
 pub struct Unanswered {
     what: Taken,
-    outcomes: Vec<Outcome>,
+    outcomes: Outcomes,
     /// How many of the replies are awaited.
     awaited: usize,
 }
@@ -24,9 +25,9 @@ impl Model for Unanswered {
 
     ghost Value = { Unanswered };
 
-    ghost view = { λ u. record { what = u.what; outcomes = u.outcomes.items } };
+    ghost view = { λ u. record { what = u.what; outcomes = u.outcomes } };
 
-    ghost invariant = { λ u. u.awaited ≡ awaited_in u.outcomes.items };
+    ghost invariant = { λ u. u.awaited ≡ awaited_in u.outcomes };
 }
 
 impl Unanswered {
@@ -34,8 +35,8 @@ impl Unanswered {
     ghost use Rattle.mc_session.specs.Noting.{with_outcome};
 
     /// A request or fault that was just taken, and what became of its commands at once.
-    pub fn new(what: Taken, outcomes: Vec<Outcome>) -> Unanswered
-        ensures { result ≡ record { what = what; outcomes = outcomes.items } }
+    pub fn new(what: Taken, outcomes: Outcomes) -> Unanswered
+        ensures { result ≡ record { what = what; outcomes = outcomes } }
     {
         let awaited = awaited_in(outcomes.as_slice());
         Unanswered {
@@ -60,9 +61,9 @@ impl Unanswered {
         if at >= self.outcomes.len() {
             return;
         }
-        let before = count_awaited(&self.outcomes[at]);
+        let before = count_awaited(&self.outcomes.as_slice()[at]);
         self.awaited = self.awaited - before + count_awaited(&outcome);
-        self.outcomes[at] = outcome;
+        self.outcomes.set(at, outcome);
     }
 
     /// Appends the answer, or nothing where there is no memory.
