@@ -133,9 +133,7 @@ impl<K: Eq + Hash, V, S: BuildHasher> Table<K, V, S> {
         ensures* writes_back { sem 𝓛 (lends_value K.row V.row S.row S.Hasher.row K.Hash S.BuildHasher S.Hasher.Hasher self.entry (Q.equivalent k) (promoted (Q.equivalent k) self.old) result) }
         ensures value { option_copied_mut result ≡ lookup (Q.equivalent k) self.old }
     {
-        let index = self.entries.get_index_of(k)?;
-        self.order.to_front(index as u32 + 1);
-        Some(self.entries.value_mut(index))
+        self.get_mut_by(k, 0)
     }
 
     /// The same, where it is guessed which entry it is ([`Table::guess_all`]): that one is looked at first. A guess changes how long the
