@@ -4,6 +4,9 @@ ghost use Rattle.std.specs.Prelude.{◌≤◌, length};
 use mc_cache::Cache;
 use mc_store::Store;
 
+/// The most keys whose items are guessed by one look.
+const AHEAD: usize = 32;
+
 /// The most keys whose items are guessed at once.
 const AT_ONCE: usize = 16;
 
@@ -14,13 +17,13 @@ const FEW: usize = 3;
 const SHORT: usize = 64;
 
 /// The most words that are looked at, the names of commands and what is empty between two line ends among them.
-const WORDS: usize = 3 * AT_ONCE;
+const WORDS: usize = 3 * AHEAD;
 
 /// Guesses of the items of the keys that come next, in the order of the keys. Who uses a guess looks whether it is right: so it changes how
 /// long that takes, and nothing else.
 #[derive(Clone, Copy)]
 pub struct Ahead {
-    guesses: [u32; AT_ONCE],
+    guesses: [u32; AHEAD],
     /// Of how many keys there are guesses.
     count: u8,
     /// How many of them were used.
@@ -33,7 +36,7 @@ impl Ahead {
     /// There is no guess.
     pub fn none() -> Ahead {
         Ahead {
-            guesses: [0; AT_ONCE],
+            guesses: [0; AHEAD],
             count: 0,
             used: 0,
             read: 0,
@@ -63,22 +66,24 @@ impl Ahead {
     /// The same, where it is known that it is to be done.
     #[inline(never)]
     fn guess<S: Store + Drop>(&mut self, text: &[u8], cache: &Cache<S>) {
-        let mut keys: [&[u8]; AT_ONCE] = [&[]; AT_ONCE];
+        let mut keys: [&[u8]; AHEAD] = [&[]; AHEAD];
         let count = first_keys(text, &mut keys);
         let keys = keys.as_slice().get(..count).unwrap_or_default();
-        self.guesses = [0; AT_ONCE];
+        self.guesses = [0; AHEAD];
         self.used = 0;
         self.count = count as u8;
         if count >= FEW {
-            self.read = cache.guess_all(keys, &mut self.guesses);
+            for (keys, guesses) in keys.chunks(AT_ONCE).zip(self.guesses.chunks_mut(AT_ONCE)) {
+                self.read ^= cache.guess_all(keys, guesses);
+            }
         }
     }
 }
 
 /// Puts the keys of the first lines of a text that are `get` or `gets` in their order, and says how many: up to a line of another command,
 /// one that has not come whole, or as many as there is room for. What is no key may be among them.
-fn first_keys<'a>(text: &'a [u8], keys: &mut [&'a [u8]; AT_ONCE]) -> usize
-    ensures { result ≤ AT_ONCE }
+fn first_keys<'a>(text: &'a [u8], keys: &mut [&'a [u8]; AHEAD]) -> usize
+    ensures { result ≤ AHEAD }
 {
     let mut count = 0;
     let mut rest = text;
@@ -95,7 +100,7 @@ fn first_keys<'a>(text: &'a [u8], keys: &mut [&'a [u8]; AT_ONCE]) -> usize
         } else if !word.is_empty() {
             keys[count] = word;
             count += 1;
-            if count == AT_ONCE {
+            if count == AHEAD {
                 break;
             }
         }
