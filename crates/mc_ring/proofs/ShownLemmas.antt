@@ -1,6 +1,6 @@
 -- Points in rising order, each once, and the place where a hash is among them.
-use Rattle.std.proofs.Common.{◌≡◌, ◌==◌, ◌&&◌, ℕ, suc, ◌+◌, ◌<◌, ◌≤◌, ◌⊎◌, inl, inr, Less, Bool, true, false, nat_lt, List, [], ◌∷◌, length, get_or, refl, sym, ap, ◌∙◌, subst, arith}
-use Rattle.std.specs.List.{AllByRecursion, AllWithin, dedup}
+use Rattle.std.proofs.Common.{◌≡◌, ◌==◌, ◌&&◌, ℕ, suc, ◌<◌, ◌≤◌, ◌⊎◌, inl, inr, Less, Bool, true, false, nat_lt, List, [], ◌∷◌, length, get_or, refl, sym, ap, ◌∙◌, subst, arith}
+use Rattle.std.specs.List.{AllByRecursion, dedup}
 use Rattle.std.specs.List.Sorted.{IsPermutation, IsSorted, IsStrictlySortedBy, IsPartitionedBy, IsPartitionPoint}
 use Rattle.std.specs.Ordering.{nat_cmp, ordering_then, eq_by_cmp}
 use Rattle.std.specs.declared.cmp.Ordering.{Ordering}
@@ -87,26 +87,6 @@ below points hash k d e = grind (arith, nat_tests)
 
 not_below : (points : List Point) (hash k : ℕ) (d : Point) → nat_lt (get_or points k d).point hash ≡ false → hash ≤ (get_or points k d).point
 not_below points hash k d e = grind (arith, nat_tests)
-
-passes_below : (p : Point) (hash : ℕ) → p.point < hash → nat_lt p.point hash ≡ true
-passes_below p hash lt = grind (arith, nat_tests)
-
-fails_from : (p : Point) (hash : ℕ) → hash ≤ p.point → nat_lt p.point hash ≡ false
-fails_from p hash ge = grind (arith, nat_tests)
-
--- where the point of a place is below the hash, so are all up to it
-pub below_up_to : (points : List Point) (hash at : ℕ) (d : Point) → IsRising points → at < length points → (get_or points at d).point < hash
-    → AllWithin (λ p. nat_lt p.point hash ≡ true) points 0 (at + 1)
-below_up_to points hash at d rising inside less = λ k e from to.
-    partitioned points hash rising k at e (omega arith) inside (passes_below (get_or points at e) hash (rw (get_or_default points at e d inside) less))
-
--- and where it is not, none from there on is
-pub not_below_from : (points : List Point) (hash at : ℕ) (d : Point) → IsRising points → at < length points → hash ≤ (get_or points at d).point
-    → AllWithin (λ p. nat_lt p.point hash ≡ false) points at (length points)
-not_below_from points hash at d rising inside least = λ k e from to.
-    let here : hash ≤ (get_or points at e).point = rw (get_or_default points at e d inside) least in
-    let later : (get_or points at e).point ≤ (get_or points k e).point = point_le (get_or points at e) (get_or points k e) (up_to_at points rising at k e from to) in
-    fails_from (get_or points k e) hash (omega arith)
 
 -- a member by its place
 place_of : (points : List Point) (q d : Point) → Member q points → (k : ℕ) × (k < length points) × (get_or points k d ≡ q)

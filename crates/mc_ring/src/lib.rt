@@ -19,7 +19,6 @@ mod laws;
 mod points;
 mod rings;
 mod rows;
-mod search;
 
 pub use addresses::Address;
 pub use errors::RingError;

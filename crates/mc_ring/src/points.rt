@@ -6,7 +6,6 @@ ghost use Rattle.mc_ring.specs.Owners.{holder_of};
 ghost use Rattle.mc_ring.specs.Rings.{IsRising, Shows};
 
 use crate::addresses::Address;
-use crate::search::first_not_below;
 use itoa::Buffer;
 use md5::{DIGEST_LEN, Digest, Md5};
 use std::alloc::{AllocError, Global};
@@ -146,7 +145,7 @@ pub fn holder_of(points: &[Point], hash: u32) -> Point
     ensures holds { holder_of points.now hash ≡ Some result }
     ensures member { Contains points.now result }
 {
-    let place = first_not_below(points, hash);
+    let place = points.partition_point(|p| p.point < hash);
     if place < points.len() {
         points[place]
     } else {

@@ -16,6 +16,9 @@ const FEW: usize = 3;
 /// A text of fewer bytes has too few keys.
 const SHORT: usize = 64;
 
+/// The most bytes that are looked at: as many as so many gets of the longest keys take.
+const LONG: usize = 8_192;
+
 /// The most words that are looked at, the names of commands and what is empty between two line ends among them.
 const WORDS: usize = 3 * AHEAD;
 
@@ -55,7 +58,7 @@ impl Ahead {
     }
 
     /// Guesses the items of the keys that a text asks for first, if all guesses were used and the cache finds several items sooner
-    /// together. Each byte of a text is looked at once for all its keys.
+    /// together. No more than 8,192 bytes are looked at, and the next look begins after the last key that was found.
     #[inline]
     pub fn look<S: Store + Drop>(&mut self, text: &[u8], cache: &Cache<S>) {
         if self.used >= self.count && text.len() >= SHORT && cache.guesses() {
@@ -86,7 +89,7 @@ fn first_keys<'a>(text: &'a [u8], keys: &mut [&'a [u8]; AHEAD]) -> usize
     ensures { result ≤ AHEAD }
 {
     let mut count = 0;
-    let mut rest = text;
+    let mut rest = text.get(..LONG).unwrap_or(text);
     let mut begins = true;
     for _ in 0..WORDS {
         let Some(end) = rest.iter().position(|byte| *byte <= b' ') else {

@@ -161,8 +161,9 @@ fn room_for_keys<S: Store + Drop>(beside: usize, keys: WordIter<'_>, cache: &Cac
     room
 }
 
-/// Serves what is asked at a moment, where items of the keys to come are guessed. Beside what the cache may take to store an item, memory is taken only for the
-/// block of a value that is stored under a held key, and where there is none nothing has changed.
+/// Serves what is asked at a moment, given guesses of the items of keys to come. Beside what the cache may take to store an
+/// item, memory is taken only for the block of a value that is stored under a held key, and where there is none nothing has
+/// changed.
 pub fn serve<S: Store + Drop>(
     asked: Asked<'_>,
     cache: &mut Cache<S>,

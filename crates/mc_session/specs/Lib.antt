@@ -1,5 +1,4 @@
 pub mod SessionState
-pub mod Holdings
 pub mod Sending
 pub mod Noting
 pub mod Emits

@@ -16,7 +16,6 @@
 
 mod errors;
 mod limits;
-mod outcomes;
 mod sending;
 mod sessions;
 mod turns;

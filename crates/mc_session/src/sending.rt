@@ -1,5 +1,5 @@
 //! The commands of a request, to their links.
-ghost use Rattle.std.specs.Prelude.{◌≡◌, ◌+◌, ◌-◌, ◌<◌, ◌≤◌, ◌^◌, ◌&&◌, ℕ, [], true, length, map, IfOk, IfSome, IsOk, OnOk};
+ghost use Rattle.std.specs.Prelude.{◌≡◌, ◌+◌, ◌-◌, ◌<◌, ◌≤◌, ◌^◌, ◌&&◌, ℕ, [], true, length, map, IfOk, IfSome, OnOk};
 ghost use Rattle.std.specs.List.{list_any};
 ghost use Rattle.std.specs.VecDeque.{deque_len, deque_capacity};
 ghost use Rattle.mc_request.specs.LinesSeen.{asked_of};
@@ -12,7 +12,6 @@ ghost use Rattle.mc_session.specs.Sending.{at_once, handed, handed_to, is_link_m
 
 use crate::errors::SessionError;
 use crate::limits::LINK_MARK;
-use crate::outcomes::Outcomes;
 use crate::unanswered::Unanswered;
 use mc_link::{Link, Tag};
 use mc_request::Asked;
@@ -55,15 +54,15 @@ fn is_marked(links: &[Link], place: usize) -> bool
     }
 }
 
-/// Takes what memory a request needs: for what becomes of its commands at once, which is given, where it has several, for its
-/// place among those that are not answered, and for its commands on their links.
+/// Takes what memory a request needs: for what becomes of its commands at once, which is given, for its place among those that
+/// are not answered, and for its commands on their links.
 pub fn prepare(
     alloc: Global,
     unanswered: &mut VecDeque<Unanswered>,
     links: &mut [Link],
     commands: &[Routed],
-) -> Result<Outcomes, SessionError>
-    ensures outcomes { IfOk result (λ outcomes. outcomes ≡ map (at_once (states links.old)) commands.now) }
+) -> Result<Vec<Outcome>, SessionError>
+    ensures outcomes { IfOk result (λ outcomes. outcomes.items ≡ map (at_once (states links.old)) commands.now) }
     ensures place { OnOk result (deque_len unanswered.new < deque_capacity unanswered.new) }
     ensures roomy { OnOk result (AreRoomy links.new commands.now) }
     ensures unchanged { states links.new ≡ states links.old }
@@ -75,24 +74,8 @@ pub fn prepare(
     Ok(outcomes)
 }
 
-/// What becomes of each command at once. Of one command, and of none, it takes no memory.
-fn at_once(alloc: Global, links: &[Link], commands: &[Routed]) -> Result<Outcomes, SessionError>
-    ensures outcomes { IfOk result (λ outcomes. outcomes ≡ map (at_once (states links.now)) commands.now) }
-    ensures in_place { length commands.now ≤ 1 → IsOk result }
-{
-    match commands {
-        [] => Ok(Outcomes::many(Vec::new(alloc))),
-        [command] => Ok(Outcomes::one(outcome_at_once(links, command.server))),
-        _ => Ok(Outcomes::many(each_at_once(alloc, links, commands)?)),
-    }
-}
-
-/// What becomes of each command at once, in memory for so many.
-fn each_at_once(
-    alloc: Global,
-    links: &[Link],
-    commands: &[Routed],
-) -> Result<Vec<Outcome>, SessionError>
+/// What becomes of each command at once.
+fn at_once(alloc: Global, links: &[Link], commands: &[Routed]) -> Result<Vec<Outcome>, SessionError>
     ensures { IfOk result (λ outcomes. outcomes.items ≡ map (at_once (states links.now)) commands.now) }
 {
     let mut outcomes = Vec::with_capacity(alloc, commands.len())?;

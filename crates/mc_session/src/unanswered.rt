@@ -3,7 +3,6 @@ ghost use Rattle.std.specs.Prelude.{◌≡◌, ◌++◌, OnOk, OnErr};
 ghost use Rattle.mc_session.specs.Emits.{awaited_in, count_awaited};
 
 use crate::errors::SessionError;
-use crate::outcomes::Outcomes;
 use mc_reply::write_fault;
 use mc_request::Taken;
 use mc_route::{Outcome, join};
@@ -13,7 +12,7 @@ use std::marker::Model;
 #[derive(Drop)]
 pub struct Unanswered {
     what: Taken,
-    outcomes: Outcomes,
+    outcomes: Vec<Outcome>,
     /// How many of the replies are awaited.
     awaited: usize,
 }
@@ -25,9 +24,9 @@ impl Model for Unanswered {
 
     ghost Value = { Unanswered };
 
-    ghost view = { λ u. record { what = u.what; outcomes = u.outcomes } };
+    ghost view = { λ u. record { what = u.what; outcomes = u.outcomes.items } };
 
-    ghost invariant = { λ u. u.awaited ≡ awaited_in u.outcomes };
+    ghost invariant = { λ u. u.awaited ≡ awaited_in u.outcomes.items };
 }
 
 impl Unanswered {
@@ -35,8 +34,8 @@ impl Unanswered {
     ghost use Rattle.mc_session.specs.Noting.{with_outcome};
 
     /// A request or fault that was just taken, and what became of its commands at once.
-    pub fn new(what: Taken, outcomes: Outcomes) -> Unanswered
-        ensures { result ≡ record { what = what; outcomes = outcomes } }
+    pub fn new(what: Taken, outcomes: Vec<Outcome>) -> Unanswered
+        ensures { result ≡ record { what = what; outcomes = outcomes.items } }
     {
         let awaited = awaited_in(outcomes.as_slice());
         Unanswered {
@@ -61,9 +60,9 @@ impl Unanswered {
         if at >= self.outcomes.len() {
             return;
         }
-        let before = count_awaited(&self.outcomes.as_slice()[at]);
+        let before = count_awaited(&self.outcomes[at]);
         self.awaited = self.awaited - before + count_awaited(&outcome);
-        self.outcomes.set(at, outcome);
+        self.outcomes[at] = outcome;
     }
 
     /// Appends the answer, or nothing where there is no memory.

@@ -6,34 +6,31 @@ use Rattle.mc_session.proofs.unanswered.Unanswered.note.Goals as goal
 pub returns-then-at-len : goal.returns-then-at-len
 returns-then-at-len c =
     let own = c.self.inside in
-    let same = with_outcome_outside c.args.at c.args.outcome own.outcomes (omega (arith, c.if-at-len.true, c.len.ensures)) in
+    let same = with_outcome_outside c.args.at c.args.outcome own.outcomes.items (omega (arith, c.if-at-len.true, c.len.ensures, own.outcomes.ok)) in
     rw (← c.self.view_is) (rw same refl)
 
 -- what is awaited includes the one that is noted
 pub overflow_sub-self : goal.overflow_sub-self
 overflow_sub-self c =
     let own = c.self.inside in
-    let inside : c.args.at < length own.outcomes = omega (arith, c.if-at-len.false, c.len.ensures) in
-    let is = rw c.as_slice.ensures at c.index-as_slice-at.is in
-    omega (arith, counted_bound c.args.at c.index-as_slice-at.result own.outcomes inside is, c.count_awaited-before.ensures, c.self.invariant)
+    let inside : c.args.at < length own.outcomes.items = omega (arith, c.if-at-len.false, c.len.ensures, own.outcomes.ok) in
+    omega (arith, counted_bound c.args.at c.index.result.now own.outcomes.items inside c.index.ensures, c.count_awaited-before.ensures, c.self.invariant)
 
 -- and is no more than there are commands
 pub overflow_add-self : goal.overflow_add-self
 overflow_add-self c =
     let own = c.self.inside in
-    let fits = rw c.as_slice.ensures at c.as_slice.type_inv in
-    omega (arith, awaited_bound own.outcomes, counts_one c.args.outcome, c.count_awaited.ensures, c.self.invariant, fits.1)
+    omega (arith, awaited_bound own.outcomes.items, counts_one c.args.outcome, c.count_awaited.ensures, c.self.invariant, own.outcomes.ok)
 
 pub invariant_of-self : goal.invariant_of-self
 invariant_of-self c =
     let own = c.self.inside in
-    let inside : c.args.at < length own.outcomes = omega (arith, c.if-at-len.false, c.len.ensures) in
-    let is = rw c.as_slice.ensures at c.index-as_slice-at.is in
-    rw c.set.ensures (omega (
+    let inside : c.args.at < length own.outcomes.items = omega (arith, c.if-at-len.false, c.len.ensures, own.outcomes.ok) in
+    omega (
       arith,
-      awaited_in_set c.args.at c.args.outcome c.index-as_slice-at.result own.outcomes inside is,
-      counted_bound c.args.at c.index-as_slice-at.result own.outcomes inside is,
+      awaited_in_set c.args.at c.args.outcome c.index.result.now own.outcomes.items inside c.index.ensures,
+      counted_bound c.args.at c.index.result.now own.outcomes.items inside c.index.ensures,
       c.count_awaited-before.ensures,
       c.count_awaited.ensures,
       c.self.invariant,
-    ))
+    )
