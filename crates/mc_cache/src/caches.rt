@@ -135,7 +135,7 @@ impl<S: Store + Drop> Cache<S> {
         self.get_by(key, 0, exptime, with_cas, moment)
     }
 
-    /// The same, where it is guessed which item the key has ([`Cache::guess_all`]). A guess changes how long it takes, and nothing else.
+    /// The same, given a guess of the key's item ([`Cache::guess_all`]). A guess changes how long it takes, and nothing else.
     pub fn get_by(
         &mut self,
         key: &[u8],
@@ -171,8 +171,8 @@ impl<S: Store + Drop> Cache<S> {
         self.store.guesses()
     }
 
-    /// Guesses for each key which item it has, for [`Cache::get_by`]. It changes nothing, takes no memory, and gives a number that says
-    /// nothing ([`Store::guess_all`]).
+    /// Guesses for each key which item it has, for the calls that are given a guess. It changes nothing, takes no memory, and gives a number
+    /// that says nothing ([`Store::guess_all`]).
     pub fn guess_all(&self, keys: &[&[u8]], guesses: &mut [u32]) -> u8 {
         self.store.guess_all(keys, guesses)
     }
@@ -201,6 +201,30 @@ impl<S: Store + Drop> Cache<S> {
         ensures err { OnErr result (self.new ≡ self.old) }
         ensures cause { OnErr result (takes_block self.old (update_seen update.now) moment ≡ true) }
     {
+        self.update_by(update, 0, moment)
+    }
+
+    /// The same, given a guess of the key's item ([`Cache::guess_all`]). A guess changes how long it takes, and nothing else.
+    ///
+    /// # Errors
+    ///
+    /// As those of [`Cache::update`].
+    pub fn update_by(
+        &mut self,
+        update: &Update<&[u8], &[u8]>,
+        guess: u32,
+        moment: u64,
+    ) -> Result<Reply<()>, AllocError>
+        requires moment { moment < 2 ^ 63 }
+        requires key { HasKey (update_seen update.now) }
+        ensures step { IfOk result (λ reply. (value : List ℕ)
+            → step_of self.old (AnUpdate (update_seen update.now)) moment (is_refusal reply)
+            ≡ (self.new, filled reply value)) }
+        ensures refusal { IfOk result (λ reply.
+            is_refusal reply ≡ true → may_refuse self.old (AnUpdate (update_seen update.now)) moment ≡ true) }
+        ensures err { OnErr result (self.new ≡ self.old) }
+        ensures cause { OnErr result (takes_block self.old (update_seen update.now) moment ≡ true) }
+    {
         match update {
             Update::Store {
                 mode,
@@ -216,15 +240,15 @@ impl<S: Store + Drop> Cache<S> {
                     won: false,
                     block,
                 };
-                self.store_lent(*mode, *compare, key, lent, moment)
+                self.store_lent(*mode, *compare, key, guess, lent, moment)
             }
-            Update::Touch { key, exptime } => Ok(self.touch(key, *exptime, moment)),
+            Update::Touch { key, exptime } => Ok(self.touch(key, guess, *exptime, moment)),
             Update::Delete {
                 key,
                 compare,
                 invalidate,
-            } => Ok(self.delete(key, *compare, *invalidate, moment)),
-            Update::Count { key, counting } => Ok(self.count(key, counting, moment)),
+            } => Ok(self.delete(key, guess, *compare, *invalidate, moment)),
+            Update::Count { key, counting } => Ok(self.count(key, guess, counting, moment)),
             Update::FlushAll { delay } => Ok(self.flush_all(*delay, moment)),
         }
     }
@@ -246,7 +270,23 @@ impl<S: Store + Drop> Cache<S> {
         ensures shrinks { (other : List ℕ)
             → length (value_at other self.new.items) ≤ length (value_at other self.old.items) }
     {
-        self.show(key, get, moment)
+        self.meta_get_by(key, 0, get, moment)
+    }
+
+    /// The same, given a guess of the key's item ([`Cache::guess_all`]). A guess changes how long it takes, and nothing else.
+    pub fn meta_get_by(&mut self, key: &[u8], guess: u32, get: &MetaGet, moment: u64) -> Reply<()>
+        requires moment { moment < 2 ^ 63 }
+        requires key { is_key key.now ≡ true }
+        ensures step { step_of self.old (AMeta (AMetaGet key.now get.now)) moment (is_refusal result)
+            ≡ (self.new, filled result (value_after (AMeta (AMetaGet key.now get.now)) self.new)) }
+        ensures front { step_of self.old (AMeta (AMetaGet key.now get.now)) moment (is_refusal result)
+            ≡ (self.new, filled result (front_value self.new.items)) }
+        ensures refusal { is_refusal result ≡ true
+            → may_refuse self.old (AMeta (AMetaGet key.now get.now)) moment ≡ true }
+        ensures shrinks { (other : List ℕ)
+            → length (value_at other self.new.items) ≤ length (value_at other self.old.items) }
+    {
+        self.show(key, guess, get, moment)
     }
 
     /// The meta command `Update`, which is `ms`, `md` or `ma`, with the key and the block lent: the same as
@@ -276,7 +316,35 @@ impl<S: Store + Drop> Cache<S> {
         ensures err { OnErr result (self.new ≡ self.old) }
         ensures cause { OnErr result (takes_block self.old (update_seen update.now) moment ≡ true) }
     {
-        let reply = self.update(update, moment)?;
+        self.meta_update_by(update, 0, show, moment)
+    }
+
+    /// The same, given a guess of the key's item ([`Cache::guess_all`]). A guess changes how long it takes, and nothing else.
+    ///
+    /// # Errors
+    ///
+    /// As those of [`Cache::meta_update`].
+    pub fn meta_update_by(
+        &mut self,
+        update: &Update<&[u8], &[u8]>,
+        guess: u32,
+        show: &Show,
+        moment: u64,
+    ) -> Result<Reply<()>, AllocError>
+        requires moment { moment < 2 ^ 63 }
+        requires key { HasKey (update_seen update.now) }
+        ensures step { IfOk result (λ reply.
+            step_of self.old (AMeta (AMetaUpdate (update_seen update.now) show.now)) moment (is_refusal reply)
+            ≡ (self.new, filled reply (value_after (AMeta (AMetaUpdate (update_seen update.now) show.now)) self.new))) }
+        ensures front { IfOk result (λ reply.
+            step_of self.old (AMeta (AMetaUpdate (update_seen update.now) show.now)) moment (is_refusal reply)
+            ≡ (self.new, filled reply (front_value self.new.items))) }
+        ensures refusal { IfOk result (λ reply. is_refusal reply ≡ true
+            → may_refuse self.old (AMeta (AMetaUpdate (update_seen update.now) show.now)) moment ≡ true) }
+        ensures err { OnErr result (self.new ≡ self.old) }
+        ensures cause { OnErr result (takes_block self.old (update_seen update.now) moment ≡ true) }
+    {
+        let reply = self.update_by(update, guess, moment)?;
         Ok(self.tell(reply, show, moment))
     }
 
@@ -320,16 +388,16 @@ impl<S: Store + Drop> Cache<S> {
                     won: false,
                     value: block,
                 };
-                let found = self.settle(key.as_bytes(), moment);
+                let found = self.settle(key.as_bytes(), 0, moment);
                 self.store_own(mode, compare, key, body, found)
             }
-            Update::Touch { key, exptime } => self.touch(key.as_bytes(), exptime, moment),
+            Update::Touch { key, exptime } => self.touch(key.as_bytes(), 0, exptime, moment),
             Update::Delete {
                 key,
                 compare,
                 invalidate,
-            } => self.delete(key.as_bytes(), compare, invalidate, moment),
-            Update::Count { key, counting } => self.count(key.as_bytes(), &counting, moment),
+            } => self.delete(key.as_bytes(), 0, compare, invalidate, moment),
+            Update::Count { key, counting } => self.count(key.as_bytes(), 0, &counting, moment),
             Update::FlushAll { delay } => self.flush_all(delay, moment),
         }
     }

@@ -1,6 +1,6 @@
 //! EpochCache: items by key with a clear that takes the same time for any number of them.
 ghost use Rattle.std.specs.Prelude.{◌≡◌, ◌∷◌, ◌++◌, ◌≤◌, ◌<◌, ◌^◌, [], length, take, is_some, None, Some, OnOk, IfErr, IfOk, OnErr, IfSome, IfNone};
-ghost use Rattle.std.specs.Option.{option_copied};
+ghost use Rattle.std.specs.Option.{option_copied, option_map};
 ghost use Rattle.mc_item.specs.Costs.{cost_of};
 ghost use Rattle.mc_store.specs.Epochs.{IsLetGo, IsGivenBack, HasRoom};
 ghost use Rattle.mc_store.specs.Items.{body_at, front_body, without, brought, expiring, marking};
@@ -67,11 +67,19 @@ impl<M: Recent> EpochCache<M> {
     pub fn peek(&self, key: &[u8]) -> Option<&Body>
         ensures { option_copied result ≡ body_at key.now self.now.items }
     {
-        let held = self.cache.peek(key)?;
+        let (_, body) = self.find(key, 0)?;
+        Some(body)
+    }
+
+    /// The body under the key, and a guess of its entry ([`Recent::find`]). The order stays.
+    pub fn find(&self, key: &[u8], guess: u32) -> Option<(u32, &Body)>
+        ensures { option_map (λ found. found.1.now) result ≡ body_at key.now self.now.items }
+    {
+        let (guess, held) = self.cache.find(key, guess)?;
         if self.epoch != held.epoch {
             return None;
         }
-        Some(&held.body)
+        Some((guess, &held.body))
     }
 
     /// The body of the first item.
@@ -94,7 +102,7 @@ impl<M: Recent> EpochCache<M> {
         self.bring_by(key, 0)
     }
 
-    /// The same, where it is guessed which entry it is.
+    /// The same, given a guess of which entry it is.
     pub fn bring_by(&mut self, key: &[u8], guess: u32) -> bool
         ensures held { result ≡ is_some (body_at key.now self.old.items) }
         ensures items { self.new.items ≡ brought key.now (body_at key.now self.old.items) self.old.items }
@@ -120,13 +128,27 @@ impl<M: Recent> EpochCache<M> {
         self.cache.guess_all(keys, guesses)
     }
 
+    /// The guess that is right for the first item.
+    pub fn first_guess(&self) -> u32 {
+        self.cache.first_guess()
+    }
+
     /// Sets the expiry of the key's item, moves it to the front, and says whether there is one.
     pub fn expire(&mut self, key: &[u8], expiry: Deadline) -> bool
         ensures held { result ≡ is_some (body_at key.now self.old.items) }
         ensures items { self.new.items ≡ brought key.now (expiring expiry (body_at key.now self.old.items)) self.old.items }
         ensures most { self.new.most ≡ self.old.most }
     {
-        let Some(held) = self.cache.get_mut(key) else {
+        self.expire_by(key, 0, expiry)
+    }
+
+    /// The same, given a guess of which entry it is.
+    pub fn expire_by(&mut self, key: &[u8], guess: u32, expiry: Deadline) -> bool
+        ensures held { result ≡ is_some (body_at key.now self.old.items) }
+        ensures items { self.new.items ≡ brought key.now (expiring expiry (body_at key.now self.old.items)) self.old.items }
+        ensures most { self.new.most ≡ self.old.most }
+    {
+        let Some(held) = self.cache.get_mut_by(key, guess) else {
             return false;
         };
         if held.epoch != self.epoch {
@@ -143,7 +165,16 @@ impl<M: Recent> EpochCache<M> {
         ensures items { self.new.items ≡ brought key.now (marking stale won cas (body_at key.now self.old.items)) self.old.items }
         ensures most { self.new.most ≡ self.old.most }
     {
-        let Some(held) = self.cache.get_mut(key) else {
+        self.mark_by(key, 0, stale, won, cas)
+    }
+
+    /// The same, given a guess of which entry it is.
+    pub fn mark_by(&mut self, key: &[u8], guess: u32, stale: bool, won: bool, cas: u64) -> bool
+        ensures held { result ≡ is_some (body_at key.now self.old.items) }
+        ensures items { self.new.items ≡ brought key.now (marking stale won cas (body_at key.now self.old.items)) self.old.items }
+        ensures most { self.new.most ≡ self.old.most }
+    {
+        let Some(held) = self.cache.get_mut_by(key, guess) else {
             return false;
         };
         if held.epoch != self.epoch {
@@ -163,7 +194,17 @@ impl<M: Recent> EpochCache<M> {
         ensures items { self.new.items ≡ without key.now self.old.items }
         ensures most { self.new.most ≡ self.old.most }
     {
-        match self.cache.pop_entry(key) {
+        self.take_by(key, 0)
+    }
+
+    /// The same, given a guess of which entry it is.
+    pub fn take_by(&mut self, key: &[u8], guess: u32) -> Option<(Key, Body)>
+        ensures item { IfSome result (λ item. (item.0 ≡ key.now) × (body_at key.now self.old.items ≡ Some item.1)) }
+        ensures none { IfNone result (body_at key.now self.old.items ≡ None) }
+        ensures items { self.new.items ≡ without key.now self.old.items }
+        ensures most { self.new.most ≡ self.old.most }
+    {
+        match self.cache.pop_entry_by(key, guess) {
             Some((own, held)) => {
                 if held.epoch != self.epoch {
                     return None;
@@ -188,7 +229,20 @@ impl<M: Recent> EpochCache<M> {
         ensures dead { OnOk result (IsLetGo (length body.value) 0 self.old.dead self.new.dead) }
         ensures most { self.new.most ≡ self.old.most }
     {
-        let Some(held) = self.cache.get_mut(key) else {
+        self.replace_by(key, 0, body)
+    }
+
+    /// The same, given a guess of which entry it is.
+    pub fn replace_by(&mut self, key: &[u8], guess: u32, body: Body) -> Result<Body, Body>
+        ensures before { IfOk result (λ before. body_at key.now self.old.items ≡ Some before) }
+        ensures ok { OnOk result (self.new.items ≡ (key.now, body) ∷ without key.now self.old.items) }
+        ensures absent { OnErr result (body_at key.now self.old.items ≡ None) }
+        ensures back { IfErr result (λ back. back ≡ body) }
+        ensures err { OnErr result (self.new.items ≡ self.old.items) }
+        ensures dead { OnOk result (IsLetGo (length body.value) 0 self.old.dead self.new.dead) }
+        ensures most { self.new.most ≡ self.old.most }
+    {
+        let Some(held) = self.cache.get_mut_by(key, guess) else {
             return Err(body);
         };
         if held.epoch != self.epoch {

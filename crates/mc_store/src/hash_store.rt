@@ -55,13 +55,14 @@ pub type TableStore<H> = HashStore<Table<Key, Held, H>>;
 ///
 /// # Work
 ///
-/// A call with a key hashes it once and searches once, but `put_front`, which does both twice. `len`, `used`, `longest`,
-/// `front`, `drop_last` and `clear` do neither. So none of these takes longer where more items are held, as long as the hash
+/// A call with a key hashes it once and searches once, but `put_front`, which does both twice, and a call with a guess that is right, which
+/// does neither. `len`, `used`, `longest`, `front`,
+/// `drop_last` and `clear` do neither. So none of these takes longer where more items are held, as long as the hash
 /// spreads the keys, but for what is said of `put_front` below.
 ///
 /// `clear` begins a new epoch, which makes all entries dead. They are not counted and not found, and they are let go later: by
 /// each `put_front` two of them or more, until they cost as much as the item or none is left; by each `replace` that finds its key as
-/// many for the new value; and one by each call but `peek` that asks for its key. Each that is let go costs what a `drop_last` does. `drop_last` lets all
+/// many for the new value; and one by each call but `peek` and `find` that asks for its key. Each that is let go costs what a `drop_last` does. `drop_last` lets all
 /// of them go first. While dead entries are left no store makes the entries cost more, or be more, live and dead together. So a store
 /// that is kept within a budget and a limit has no dead ones left when it drops an item. The end of the store takes
 /// out one entry after the other.
@@ -181,6 +182,10 @@ impl<M: Recent> Store for HashStore<M> {
         self.cache.peek(key)
     }
 
+    fn find(&self, key: &[u8], guess: u32) -> Option<(u32, &Body)> {
+        self.cache.find(key, guess)
+    }
+
     fn front(&self) -> Option<&Body> {
         self.cache.front()
     }
@@ -205,20 +210,40 @@ impl<M: Recent> Store for HashStore<M> {
         self.cache.expire(key, expiry)
     }
 
+    fn expire_by(&mut self, key: &[u8], guess: u32, expiry: Deadline) -> bool {
+        self.cache.expire_by(key, guess, expiry)
+    }
+
     fn mark(&mut self, key: &[u8], stale: bool, won: bool, cas: u64) -> bool {
         self.cache.mark(key, stale, won, cas)
     }
 
+    fn mark_by(&mut self, key: &[u8], guess: u32, stale: bool, won: bool, cas: u64) -> bool {
+        self.cache.mark_by(key, guess, stale, won, cas)
+    }
+
+    fn first_guess(&self) -> u32 {
+        self.cache.first_guess()
+    }
+
     fn take(&mut self, key: &[u8]) -> Option<Body> {
-        let item = self.cache.take(key)?;
+        self.take_by(key, 0)
+    }
+
+    fn take_by(&mut self, key: &[u8], guess: u32) -> Option<Body> {
+        let item = self.cache.take_by(key, guess)?;
         self.sums
             .take_away(cost(&item.0, &item.1), item.1.value.len());
         Some(body_of(item))
     }
 
     fn replace(&mut self, key: &[u8], body: Body) -> Result<Body, Body> {
+        self.replace_by(key, 0, body)
+    }
+
+    fn replace_by(&mut self, key: &[u8], guess: u32, body: Body) -> Result<Body, Body> {
         let length = body.value.len();
-        match self.cache.replace(key, body) {
+        match self.cache.replace_by(key, guess, body) {
             Ok(before) => {
                 let shorter = before.value.len();
                 self.sums.take_away(shorter as u64, shorter);

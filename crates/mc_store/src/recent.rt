@@ -36,6 +36,14 @@ pub trait Recent {
     fn peek(&self, key: &[u8]) -> Option<&Held>
         ensures { option_copied result ≡ lookup (bytes_eq key.now) (entries self.now) };
 
+    /// The value of the key, and a guess of which entry it is, for the other calls that are given one. The order stays, and a guess given
+    /// here is looked at first.
+    fn find(&self, key: &[u8], _guess: u32) -> Option<(u32, &Held)>
+        ensures { option_map (λ found. found.1.now) result ≡ lookup (bytes_eq key.now) (entries self.now) }
+    {
+        Some((0, self.peek(key)?))
+    }
+
     /// The value of the first entry.
     fn front(&self) -> Option<&Held>
         ensures { option_copied result ≡ option_map (λ entry. entry.1) (slice_get (entries self.now) 0) };
@@ -45,7 +53,7 @@ pub trait Recent {
         ensures* writes_back { sem 𝓛 (lends_held Self.row self.entry result (λ held. lent self.old key.now held)) }
         ensures value { option_copied_mut result ≡ lookup (bytes_eq key.now) (entries self.old) };
 
-    /// The same, where it is guessed which entry it is ([`Recent::guess_all`]). A guess changes how long it takes, and nothing else.
+    /// The same, given a guess of which entry it is ([`Recent::guess_all`], [`Recent::find`]). A guess changes how long it takes, and nothing else.
     fn get_mut_by(&mut self, key: &[u8], _guess: u32) -> Option<&mut Held>
         ensures* writes_back { sem 𝓛 (lends_held Self.row self.entry result (λ held. lent self.old key.now held)) }
         ensures value { option_copied_mut result ≡ lookup (bytes_eq key.now) (entries self.old) }
@@ -69,6 +77,20 @@ pub trait Recent {
         ensures value { result ≡ lookup_entry (bytes_eq key.now) (entries self.old) }
         ensures entries { entries self.new ≡ remove_entry (bytes_eq key.now) (entries self.old) }
         ensures room { room self.new ≡ room self.old };
+
+    /// The same, given a guess of which entry it is.
+    fn pop_entry_by(&mut self, key: &[u8], _guess: u32) -> Option<(Key, Held)>
+        ensures value { result ≡ lookup_entry (bytes_eq key.now) (entries self.old) }
+        ensures entries { entries self.new ≡ remove_entry (bytes_eq key.now) (entries self.old) }
+        ensures room { room self.new ≡ room self.old }
+    {
+        self.pop_entry(key)
+    }
+
+    /// The guess that is right for the first entry; 0 if none is known.
+    fn first_guess(&self) -> u32 {
+        0
+    }
 
     /// Takes out the first entry.
     fn pop_mru(&mut self) -> Option<(Key, Held)>

@@ -1,6 +1,6 @@
 //! What a cache is built over.
 ghost use Rattle.std.specs.Prelude.{ℕ, Option, ◌≡◌, ◌∷◌, ◌++◌, ◌+◌, ◌<◌, ◌≤◌, ◌^◌, [], length, is_some, None, Some, IfOk, OnOk, IfErr, OnErr, IfSome, IfNone};
-ghost use Rattle.std.specs.Option.{option_copied};
+ghost use Rattle.std.specs.Option.{option_copied, option_map};
 ghost use Rattle.mc_item.specs.Costs.{cost_of};
 ghost use Rattle.mc_store.specs.Items.{Items, body_at, front_body, without, brought, expiring, marking, cost_sum, longest_of};
 
@@ -33,6 +33,14 @@ pub trait Store {
     fn peek(&self, key: &[u8]) -> Option<&Body>
         ensures { option_copied result ≡ body_at key.now (items self.now) };
 
+    /// The body under the key, and a guess of which item it is, which is right until an item is taken out or put. The order stays, and a
+    /// guess given here is looked at first.
+    fn find(&self, key: &[u8], _guess: u32) -> Option<(u32, &Body)>
+        ensures { option_map (λ found. found.1.now) result ≡ body_at key.now (items self.now) }
+    {
+        Some((0, self.peek(key)?))
+    }
+
     /// The body of the first item.
     fn front(&self) -> Option<&Body>
         ensures { option_copied result ≡ front_body (items self.now) };
@@ -43,7 +51,7 @@ pub trait Store {
         ensures items { items self.new ≡ brought key.now (body_at key.now (items self.old)) (items self.old) }
         ensures most { most self.new ≡ most self.old };
 
-    /// The same, where it is guessed which item it is ([`Store::guess_all`]). A guess changes how long it takes, and nothing else.
+    /// The same, given a guess of which item it is ([`Store::guess_all`], [`Store::find`]). A guess changes how long it takes, and nothing else.
     fn bring_by(&mut self, key: &[u8], _guess: u32) -> bool
         ensures held { result ≡ is_some (body_at key.now (items self.old)) }
         ensures items { items self.new ≡ brought key.now (body_at key.now (items self.old)) (items self.old) }
@@ -70,6 +78,16 @@ pub trait Store {
             ≡ brought key.now (expiring expiry (body_at key.now (items self.old))) (items self.old) }
         ensures most { most self.new ≡ most self.old };
 
+    /// The same, given a guess of which item it is.
+    fn expire_by(&mut self, key: &[u8], _guess: u32, expiry: Deadline) -> bool
+        ensures held { result ≡ is_some (body_at key.now (items self.old)) }
+        ensures items { items self.new
+            ≡ brought key.now (expiring expiry (body_at key.now (items self.old))) (items self.old) }
+        ensures most { most self.new ≡ most self.old }
+    {
+        self.expire(key, expiry)
+    }
+
     /// Sets the two marks and the number of the key's item, moves it to the front, and says whether there is one.
     fn mark(&mut self, key: &[u8], stale: bool, won: bool, cas: u64) -> bool
         ensures held { result ≡ is_some (body_at key.now (items self.old)) }
@@ -77,11 +95,35 @@ pub trait Store {
             ≡ brought key.now (marking stale won cas (body_at key.now (items self.old))) (items self.old) }
         ensures most { most self.new ≡ most self.old };
 
+    /// The same, given a guess of which item it is.
+    fn mark_by(&mut self, key: &[u8], _guess: u32, stale: bool, won: bool, cas: u64) -> bool
+        ensures held { result ≡ is_some (body_at key.now (items self.old)) }
+        ensures items { items self.new
+            ≡ brought key.now (marking stale won cas (body_at key.now (items self.old))) (items self.old) }
+        ensures most { most self.new ≡ most self.old }
+    {
+        self.mark(key, stale, won, cas)
+    }
+
+    /// The guess that is right for the first item; 0 if none is known.
+    fn first_guess(&self) -> u32 {
+        0
+    }
+
     /// Takes the key's item out, and gives its body.
     fn take(&mut self, key: &[u8]) -> Option<Body>
         ensures body { result ≡ body_at key.now (items self.old) }
         ensures items { items self.new ≡ without key.now (items self.old) }
         ensures most { most self.new ≡ most self.old };
+
+    /// The same, given a guess of which item it is.
+    fn take_by(&mut self, key: &[u8], _guess: u32) -> Option<Body>
+        ensures body { result ≡ body_at key.now (items self.old) }
+        ensures items { items self.new ≡ without key.now (items self.old) }
+        ensures most { most self.new ≡ most self.old }
+    {
+        self.take(key)
+    }
 
     /// Puts a body under a key that is held, moves its item to the front, and gives the old body.
     ///
@@ -94,6 +136,19 @@ pub trait Store {
         ensures back { IfErr result (λ back. back ≡ body) }
         ensures err { OnErr result (items self.new ≡ items self.old) }
         ensures most { most self.new ≡ most self.old };
+
+    /// The same, given a guess of which item it is.
+    fn replace_by(&mut self, key: &[u8], _guess: u32, body: Body) -> Result<Body, Body>
+        requires { cost_sum (items self.old) + cost_of key.now body.value < 2 ^ 63 }
+        ensures before { IfOk result (λ before. body_at key.now (items self.old) ≡ Some before) }
+        ensures ok { OnOk result (items self.new ≡ (key.now, body) ∷ without key.now (items self.old)) }
+        ensures absent { OnErr result (body_at key.now (items self.old) ≡ None) }
+        ensures back { IfErr result (λ back. back ≡ body) }
+        ensures err { OnErr result (items self.new ≡ items self.old) }
+        ensures most { most self.new ≡ most self.old }
+    {
+        self.replace(key, body)
+    }
 
     /// Puts an item in front, under a key that is not held.
     ///

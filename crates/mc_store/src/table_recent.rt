@@ -9,20 +9,27 @@ use mc_text::{Key, KeyBytes};
 use std::hash::BuildHasher;
 
 /// With fewer entries none is guessed: their memory is near the processor.
-const MANY: usize = 16_384;
+const MANY: usize = 32_768;
+
+/// Where the first lines of a value begin that are asked for: a line of memory has 64 bytes.
+const LINES: [usize; 4] = [0, 64, 128, 192];
 
 /// The most keys whose entries are guessed at once.
-const AT_ONCE: usize = 16;
+const AT_ONCE: usize = 32;
 
-/// The first bytes of an entry's key and of its value, joined by exclusive or: 0 if there is none. Where they lie in memory of their own,
-/// that is asked for.
+/// Some bytes of an entry's key and of its value, joined by exclusive or: 0 if there is none. They are the first of each line of memory that
+/// these begin with, and the last of the value. Where key and value lie in memory of their own, that is asked for.
 #[inline]
-fn first_bytes(entry: Option<(&Key, &Held)>) -> u8 {
+fn bytes_of(entry: Option<(&Key, &Held)>) -> u8 {
     let Some((key, held)) = entry else {
         return 0;
     };
-    let of_value = held.body.value.as_slice().first().copied().unwrap_or(0);
-    of_value ^ key.as_bytes().first().copied().unwrap_or(0)
+    let value = held.body.value.as_slice();
+    let mut joined = key.as_bytes().first().copied().unwrap_or(0);
+    for begin in LINES {
+        joined ^= value.get(begin).copied().unwrap_or(0);
+    }
+    joined ^ value.last().copied().unwrap_or(0)
 }
 
 impl<H: BuildHasher> Recent for Table<Key, Held, H> {
@@ -47,6 +54,11 @@ impl<H: BuildHasher> Recent for Table<Key, Held, H> {
     }
 
     #[inline]
+    fn find(&self, key: &[u8], guess: u32) -> Option<(u32, &Held)> {
+        Table::find(self, KeyBytes { bytes: key }, guess)
+    }
+
+    #[inline]
     fn front(&self) -> Option<&Held> {
         let (_, held) = self.peek_mru()?;
         Some(held)
@@ -68,14 +80,16 @@ impl<H: BuildHasher> Recent for Table<Key, Held, H> {
     }
 
     fn guess_all(&self, keys: &[&[u8]], guesses: &mut [u32]) -> u8 {
-        let mut tags = [0; AT_ONCE];
-        for (tag, key) in tags.iter_mut().zip(keys) {
-            *tag = self.tag(KeyBytes { bytes: key });
-        }
-        Table::guess_all(self, &tags, guesses);
         let mut read = 0;
-        for guess in guesses {
-            read ^= first_bytes(self.guessed(*guess));
+        for (keys, guesses) in keys.chunks(AT_ONCE).zip(guesses.chunks_mut(AT_ONCE)) {
+            let mut tags = [0; AT_ONCE];
+            for (tag, key) in tags.iter_mut().zip(keys) {
+                *tag = self.tag(KeyBytes { bytes: key });
+            }
+            Table::guess_all(self, &tags, guesses);
+            for guess in guesses {
+                read ^= bytes_of(self.guessed(*guess)) ^ self.around(*guess);
+            }
         }
         read
     }
@@ -83,6 +97,16 @@ impl<H: BuildHasher> Recent for Table<Key, Held, H> {
     #[inline]
     fn pop_entry(&mut self, key: &[u8]) -> Option<(Key, Held)> {
         Table::pop_entry(self, KeyBytes { bytes: key })
+    }
+
+    #[inline]
+    fn pop_entry_by(&mut self, key: &[u8], guess: u32) -> Option<(Key, Held)> {
+        Table::pop_entry_by(self, KeyBytes { bytes: key }, guess)
+    }
+
+    #[inline]
+    fn first_guess(&self) -> u32 {
+        Table::first_guess(self)
     }
 
     #[inline]

@@ -62,6 +62,24 @@ impl Order {
         self.links[0].before
     }
 
+    /// A number made of the links before a place and after it, which says nothing: who asks for it has them read.
+    #[inline]
+    pub fn around(&self, place: u32) -> u8 {
+        let Some(link) = self.links.get(place as usize) else {
+            return 0;
+        };
+        let [before, after] = [link.before, link.after].map(|place| self.place_after(place));
+        ((before ^ after) & 0xFF) as u8
+    }
+
+    /// The place after another one, or 0 where there is no such place.
+    fn place_after(&self, place: u32) -> u32 {
+        match self.links.get(place as usize) {
+            Some(link) => link.after,
+            None => 0,
+        }
+    }
+
     /// Puts one more place in front: the least number that is none.
     ///
     /// `Err` says that there is no memory, or that no number of 32 bits is left. Then nothing has changed.

@@ -1,6 +1,7 @@
 //! Slots: entries with their links in the chains of a search table.
 
-/// An entry, and its link in the chain of its bucket. What a search looks at comes first, so that it lies in one line of memory.
+/// An entry, and its link in the chain of its bucket. What a search looks at comes first, so that most often it
+/// lies in one line of memory.
 #[derive(Drop)]
 pub struct Slot<K, V> {
     /// The lower 32 bits of the key's hash. The lowest of them say which bucket the slot falls to.

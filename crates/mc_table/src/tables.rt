@@ -21,8 +21,8 @@ use std::mem;
 ///
 /// # Work
 ///
-/// A call with a key hashes it once and searches once, but `put`, which hashes it again if the key is not there. The others hash
-/// nothing. A search passes the entries of one bucket. The constructor settles how many buckets there are: at least one for each
+/// A call with a key hashes it once and searches once, but `put`, which hashes it again if the key is not there, and a call with a guess
+/// that is right, which does neither. The others hash nothing. A search passes the entries of one bucket. The constructor settles how many buckets there are: at least one for each
 /// entry that it takes room for (up to 2^31). So no call but `clear` does work that grows with the entries, as long as no more are in the
 /// table than it was made for and hashes spread. Nothing is ever laid out anew.
 ///
@@ -82,12 +82,29 @@ impl<K: Eq + Hash, V, S: BuildHasher> Table<K, V, S> {
         Some(self.entries.at(index).1)
     }
 
+    /// The value of the key, and a guess of which entry it is, which is right until an entry is taken out. The entry that is guessed so far is
+    /// looked at first, and the order stays as it is.
+    pub fn find<Q: Equivalent<K>>(&self, k: Q, guess: u32) -> Option<(u32, &V)>
+        ensures { option_map (λ found. found.1.now) result ≡ lookup (Q.equivalent k) self.now }
+    {
+        let index = self.entries.get_index_by(k, guess)?;
+        Some((index as u32 + 1, self.entries.at(index).1))
+    }
+
     /// Takes out the key and its value.
     pub fn pop_entry<Q: Equivalent<K>>(&mut self, k: Q) -> Option<(K, V)>
         ensures value { result ≡ lookup_entry (Q.equivalent k) self.old }
         ensures entries { self.new ≡ remove_entry (Q.equivalent k) self.old }
     {
-        let Some(index) = self.entries.get_index_of(k) else {
+        self.pop_entry_by(k, 0)
+    }
+
+    /// The same, given a guess of which entry it is.
+    pub fn pop_entry_by<Q: Equivalent<K>>(&mut self, k: Q, guess: u32) -> Option<(K, V)>
+        ensures value { result ≡ lookup_entry (Q.equivalent k) self.old }
+        ensures entries { self.new ≡ remove_entry (Q.equivalent k) self.old }
+    {
+        let Some(index) = self.entries.get_index_by(k, guess) else {
             return None;
         };
         Some(remove_at(&mut self.entries, &mut self.order, index))
@@ -136,7 +153,7 @@ impl<K: Eq + Hash, V, S: BuildHasher> Table<K, V, S> {
         self.get_mut_by(k, 0)
     }
 
-    /// The same, where it is guessed which entry it is ([`Table::guess_all`]): that one is looked at first. A guess changes how long the
+    /// The same, given a guess of which entry it is ([`Table::guess_all`]): that one is looked at first. A guess changes how long the
     /// search takes, and nothing else.
     pub fn get_mut_by<Q: Equivalent<K>>(&mut self, k: Q, guess: u32) -> Option<&mut V>
         ensures* writes_back { sem 𝓛 (lends_value K.row V.row S.row S.Hasher.row K.Hash S.BuildHasher S.Hasher.Hasher self.entry (Q.equivalent k) (promoted (Q.equivalent k) self.old) result) }
@@ -154,17 +171,30 @@ impl<K: Eq + Hash, V, S: BuildHasher> Table<K, V, S> {
     }
 
     /// Guesses for each tag which entry has a key of that tag, and makes no change. A guess may be wrong, and holds until an entry is taken
-    /// out. The heads and the entries of all tags are looked at side by side, so the processor waits for their memory at once (group
-    /// prefetching, as Chen, Ailamaki, Gibbons and Mowry have it for joins by hashes).
+    /// out. The heads and the entries of all tags are looked at side by side, so the processor waits for their memory at once: group
+    /// prefetching, known from joins by hashes.
     #[inline]
     pub fn guess_all(&self, tags: &[u32], guesses: &mut [u32]) {
         self.entries.guess_all(tags, guesses);
+    }
+
+    /// The guess that is right for the entry that was used most recently; 0 if there is none.
+    #[inline]
+    pub fn first_guess(&self) -> u32 {
+        self.order.first()
     }
 
     /// The entry that a guess says, if there is one.
     #[inline]
     pub fn guessed(&self, guess: u32) -> Option<(&K, &V)> {
         self.entries.entry(guess)
+    }
+
+    /// What the order has beside the entry that a guess says, which says nothing: so the processor asks for that memory before the entry is
+    /// brought to the front.
+    #[inline]
+    pub fn around(&self, guess: u32) -> u8 {
+        self.order.around(guess)
     }
 
     /// Puts a value under a key, in front, and gives the old value where the key is there: then the old key stays.

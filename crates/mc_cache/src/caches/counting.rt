@@ -26,7 +26,13 @@ use mc_text::{Block, read_u64};
 
 impl<S: Store + Drop> Cache<S> {
     /// The commands `incr`, `decr` and `ma`.
-    pub(super) fn count(&mut self, key: &[u8], counting: &Counting, moment: u64) -> Reply<()>
+    pub(super) fn count(
+        &mut self,
+        key: &[u8],
+        guess: u32,
+        counting: &Counting,
+        moment: u64,
+    ) -> Reply<()>
         requires moment { moment < 2 ^ 63 }
         requires key { is_key key.now ≡ true }
         ensures step { (value : List ℕ)
@@ -35,7 +41,7 @@ impl<S: Store + Drop> Cache<S> {
         ensures refusal { is_refusal result ≡ true
             → may_refuse self.old (AnUpdate (Count key.now counting.now)) moment ≡ true }
     {
-        match self.settle(key, moment) {
+        match self.settle(key, guess, moment) {
             Some(found) => self.count_held(key, counting, found, moment),
             None => self.count_none(key, counting, moment),
         }
@@ -58,10 +64,10 @@ impl<S: Store + Drop> Cache<S> {
             → count_may_refuse counting.now (body_at key.now self.old.items) ≡ true }
     {
         if let Some(reply) = compared(counting.compare, Some(found)) {
-            let _ = self.bring(key);
+            let _ = self.bring_by(key, found.guess);
             return reply;
         }
-        let before = self.held(key);
+        let before = self.held(key, found.guess);
         let room = before.len();
         let Some(number) = read_u64(before) else {
             return Reply::Fault(Fault::NonNumeric);
@@ -121,7 +127,7 @@ impl<S: Store + Drop> Cache<S> {
         }
         match Block::from_slice(self.alloc, text) {
             Ok(value) => {
-                self.put_held(key, found.with(value, cas));
+                self.put_held(key, found.guess, found.with(value, cas));
                 Ok(())
             }
             Err(_) => Err(Fault::OutOfMemory),

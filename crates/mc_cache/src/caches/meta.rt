@@ -22,8 +22,8 @@ use mc_request::{MetaGet, Show};
 use mc_store::Store;
 
 impl<S: Store + Drop> Cache<S> {
-    /// The command `mg`. The key is looked up once, and once more for each change of its item.
-    pub(super) fn show(&mut self, key: &[u8], get: &MetaGet, moment: u64) -> Reply<()>
+    /// The command `mg`, given a guess of the key's item. The key is looked up once.
+    pub(super) fn show(&mut self, key: &[u8], guess: u32, get: &MetaGet, moment: u64) -> Reply<()>
         requires moment { moment < 2 ^ 63 }
         requires key { is_key key.now ≡ true }
         ensures step { step_of self.old (AMeta (AGet key.now get.now)) moment (is_refusal result)
@@ -33,7 +33,7 @@ impl<S: Store + Drop> Cache<S> {
             → may_refuse self.old (AMeta (AGet key.now get.now)) moment ≡ true }
         ensures distinct { (key : List ℕ) → body_at key (without key self.old.items) ≡ None }
     {
-        match self.settle_in_front(key, 0, moment) {
+        match self.settle_in_front(key, guess, moment) {
             Some(found) => {
                 self.store.retrieved(true);
                 self.show_found(key, get, found, moment)
@@ -71,7 +71,7 @@ impl<S: Store + Drop> Cache<S> {
               (Some (record (body_of found (front_value self.old.items)) { won = true })) self.old.items;
         } }
     {
-        let _ = self.mark(key, found.stale, true, found.cas);
+        let _ = self.mark(key, found.guess, found.stale, true, found.cas);
     }
 
     /// The same on a settled cache where nothing is held under the key: an item is made, or not.

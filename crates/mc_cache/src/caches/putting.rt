@@ -23,8 +23,14 @@ use mc_text::{Block, Key, VALUE_LIMIT};
 use std::alloc::AllocError;
 
 impl<S: Store + Drop> Cache<S> {
-    /// Stores a body of its own, with a number of its own. Where the key is held it takes no memory.
-    pub(super) fn put_own(&mut self, key: Key, mut body: Body, is_held: bool) -> Result<(), Fault>
+    /// Stores a body of its own, with a number of its own, given a guess of the key's item. Where the key is held it takes no memory.
+    pub(super) fn put_own(
+        &mut self,
+        key: Key,
+        guess: u32,
+        mut body: Body,
+        is_held: bool,
+    ) -> Result<(), Fault>
         requires held { is_some (body_at key self.old.items) ≡ is_held }
         ensures step { (reply : AReply (List ℕ)) → stored self.old key (content_of body) (is_refused result) reply
             ≡ (self.new, reply_or_fault result reply) }
@@ -33,18 +39,19 @@ impl<S: Store + Drop> Cache<S> {
         let cas = self.admit(key.as_bytes(), body.value.len())?;
         number_anew(&mut body, cas);
         if is_held {
-            self.put_held(key.as_bytes(), body);
+            self.put_held(key.as_bytes(), guess, body);
             return Ok(());
         }
         self.put_new(key, body)
     }
 
-    /// Stores what is lent, with a number of its own.
+    /// Stores what is lent, with a number of its own, given a guess of the key's item.
     ///
     /// `Err` where the key is held and there is no memory for the block: nothing has changed.
     pub(super) fn put_lent(
         &mut self,
         key: &[u8],
+        guess: u32,
         lent: Lent<'_>,
         is_held: bool,
     ) -> Result<Reply<()>, AllocError>
@@ -63,7 +70,7 @@ impl<S: Store + Drop> Cache<S> {
         match self.admit(key, lent.block.len()) {
             Ok(cas) => {
                 let value = Block::from_slice(self.alloc, lent.block)?;
-                self.put_held(key, lent.with(value, cas));
+                self.put_held(key, guess, lent.with(value, cas));
                 Ok(Reply::Stored)
             }
             Err(fault) => Ok(Reply::Fault(fault)),
@@ -85,12 +92,13 @@ impl<S: Store + Drop> Cache<S> {
         }
     }
 
-    /// Stores what is lent whatever is held under its key, and looks its key up only once.
+    /// Stores what is lent whatever is held under its key, given a guess of its item, and looks its key up only once.
     ///
     /// `None` where it is not admitted, or where there is no memory for its block: nothing has changed.
     pub(super) fn set_at_once(
         &mut self,
         key: &[u8],
+        guess: u32,
         lent: Lent<'_>,
         moment: u64,
     ) -> Option<Reply<()>>
@@ -109,7 +117,7 @@ impl<S: Store + Drop> Cache<S> {
             return None;
         };
         self.flush_due(moment);
-        match self.put_if_held(key, lent.with(value, cas)) {
+        match self.put_if_held(key, guess, lent.with(value, cas)) {
             None => Some(Reply::Stored),
             Some(body) => Some(stored_or_fault(self.put_copied(key, body))),
         }
@@ -148,17 +156,17 @@ impl<S: Store + Drop> Cache<S> {
         Ok(())
     }
 
-    /// Stores a body that is admitted under a held key. It takes no memory.
-    pub(super) fn put_held(&mut self, key: &[u8], body: Body)
+    /// Stores a body that is admitted under a held key, given a guess of its item. It takes no memory.
+    pub(super) fn put_held(&mut self, key: &[u8], guess: u32, body: Body)
         requires held { is_some (body_at key.now self.old.items) ≡ true }
         requires admitted { admission self.old key.now (length body.value) ≡ Ok body.cas }
         ensures { self.new ≡ with_item self.old key.now body }
     {
-        let _ = self.put_if_held(key, body);
+        let _ = self.put_if_held(key, guess, body);
     }
 
-    /// Stores a body that is admitted, if its key is held, and hands it back if not. It takes no memory.
-    fn put_if_held(&mut self, key: &[u8], body: Body) -> Option<Body>
+    /// Stores a body that is admitted, if its key is held, given a guess of its item, and hands it back if not. It takes no memory.
+    fn put_if_held(&mut self, key: &[u8], guess: u32, body: Body) -> Option<Body>
         requires { admission self.old key.now (length body.value) ≡ Ok body.cas }
         ensures held { IfNone result (self.new ≡ with_item self.old key.now body) }
         ensures absent { OnSome result (body_at key.now self.old.items ≡ None) }
@@ -166,7 +174,7 @@ impl<S: Store + Drop> Cache<S> {
         ensures unchanged { OnSome result (self.new ≡ self.old) }
     {
         let cas = body.cas;
-        match self.store.replace(key, body) {
+        match self.store.replace_by(key, guess, body) {
             Ok(_) => {
                 self.counter = CasCounter::starting_at(cas);
                 keep(&mut self.store, self.budget, self.limit);
@@ -183,9 +191,9 @@ impl<S: Store + Drop> Cache<S> {
         ensures { self.new
             ≡ with_item self.old key.now (numbered (renewed found (value_at key.now self.old.items)) cas) }
     {
-        let mut body = self.lift(key);
+        let mut body = self.lift(key, found.guess);
         number_anew(&mut body, cas);
-        self.put_held(key, body);
+        self.put_held(key, found.guess, body);
     }
 
     /// Stores a text that is no longer than the held value, in its bytes, with the flags and the expiry of what is told as
@@ -196,21 +204,21 @@ impl<S: Store + Drop> Cache<S> {
         requires admitted { admission self.old key.now (length text.now) ≡ Ok cas }
         ensures { self.new ≡ with_item self.old key.now (numbered (renewed found text.now) cas) }
     {
-        let mut value = self.lift(key).value;
+        let mut value = self.lift(key, found.guess).value;
         value.overwrite(text);
-        self.put_held(key, found.with(value, cas));
+        self.put_held(key, found.guess, found.with(value, cas));
     }
 
-    /// The value under a held key.
-    pub(super) fn held(&self, key: &[u8]) -> &[u8]
+    /// The value under a held key, given a guess of its item.
+    pub(super) fn held(&self, key: &[u8], guess: u32) -> &[u8]
         requires { is_some (body_at key.now self.now.items) ≡ true }
         ensures { result.now ≡ value_at key.now self.now.items }
     {
-        self.store.peek(key).unwrap().value.as_slice()
+        self.store.find(key, guess).unwrap().1.value.as_slice()
     }
 
-    /// Takes the body from under a held key, which stays held with no bytes.
-    fn lift(&mut self, key: &[u8]) -> Body
+    /// Takes the body from under a held key, given a guess of its item. The key stays held with no bytes.
+    fn lift(&mut self, key: &[u8], guess: u32) -> Body
         requires { is_some (body_at key.now self.old.items) ≡ true }
         ensures body { body_at key.now self.old.items ≡ Some result }
         ensures lifted { self.new ≡ lifted self.old key.now }
@@ -223,7 +231,7 @@ impl<S: Store + Drop> Cache<S> {
             won: false,
             value: Block::new(self.alloc),
         };
-        self.store.replace(key, bare).unwrap()
+        self.store.replace_by(key, guess, bare).unwrap()
     }
 
     /// The number of an item whose value has so many bytes, or why it is not stored under a key.

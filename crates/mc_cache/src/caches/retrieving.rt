@@ -12,7 +12,7 @@ ghost use Rattle.mc_cache.specs.Admissions.{found_body, body_of};
 
 use super::Cache;
 use super::settling::Found;
-use super::storing::compared;
+use super::storing::{compared, guess_of};
 use mc_item::Deadline;
 use mc_reply::Reply;
 use mc_request::Fault;
@@ -29,20 +29,21 @@ impl<S: Store + Drop> Cache<S> {
         } }
     {
         if let Some(exptime) = exptime {
-            let _ = self.expire(key, Deadline::of(exptime, moment));
+            let guess = self.store.first_guess();
+            let _ = self.expire(key, guess, Deadline::of(exptime, moment));
         }
     }
 
     /// The command `touch`.
-    pub(super) fn touch(&mut self, key: &[u8], exptime: i64, moment: u64) -> Reply<()>
+    pub(super) fn touch(&mut self, key: &[u8], guess: u32, exptime: i64, moment: u64) -> Reply<()>
         requires { moment < 2 ^ 63 }
         ensures step { (value : List ℕ)
             → step_of self.old (AnUpdate (Touch key.now exptime)) moment (is_refusal result)
             ≡ (self.new, filled result value) }
         ensures refusal { is_refusal result ≡ false }
     {
-        let _ = self.settle(key, moment);
-        if self.expire(key, Deadline::of(exptime, moment)) {
+        let found = self.settle(key, guess, moment);
+        if self.expire(key, guess_of(found), Deadline::of(exptime, moment)) {
             Reply::Touched
         } else {
             Reply::NotFound
@@ -53,6 +54,7 @@ impl<S: Store + Drop> Cache<S> {
     pub(super) fn delete(
         &mut self,
         key: &[u8],
+        guess: u32,
         compare: Option<u64>,
         invalidate: bool,
         moment: u64,
@@ -62,17 +64,17 @@ impl<S: Store + Drop> Cache<S> {
             ≡ (self.new, filled result value) }
         ensures refusal { is_refusal result ≡ false }
     {
-        let Some(found) = self.settle(key, moment) else {
+        let Some(found) = self.settle(key, guess, moment) else {
             return Reply::NotFound;
         };
         if let Some(reply) = compared(compare, Some(found)) {
-            let _ = self.bring(key);
+            let _ = self.bring_by(key, found.guess);
             return reply;
         }
         if invalidate {
             return self.invalidate(key, found);
         }
-        let _ = self.take(key);
+        let _ = self.take(key, found.guess);
         Reply::Deleted
     }
 
@@ -87,29 +89,21 @@ impl<S: Store + Drop> Cache<S> {
         let Some(cas) = counter.next() else {
             return Reply::Fault(Fault::CasUsedUp);
         };
-        let _ = self.mark(key, true, false, cas);
+        let _ = self.mark(key, found.guess, true, false, cas);
         self.counter = counter;
         Reply::Deleted
     }
 
-    /// Takes the key's item out, and says whether there was one.
-    pub(super) fn take(&mut self, key: &[u8]) -> bool
+    /// Takes the key's item out, given a guess of it, and says whether there was one.
+    pub(super) fn take(&mut self, key: &[u8], guess: u32) -> bool
         ensures held { result ≡ is_some (body_at key.now self.old.items) }
         ensures items { self.new ≡ record self.old { items = without key.now self.old.items } }
         ensures absent { body_at key.now self.new.items ≡ None }
     {
-        self.store.take(key).is_some()
+        self.store.take_by(key, guess).is_some()
     }
 
-    /// Moves the key's item to the front.
-    pub(super) fn bring(&mut self, key: &[u8]) -> bool
-        ensures held { result ≡ is_some (body_at key.now self.old.items) }
-        ensures items { self.new ≡ fronted self.old key.now }
-    {
-        self.bring_by(key, 0)
-    }
-
-    /// The same, where it is guessed which item it is.
+    /// Moves the key's item to the front, given a guess of it.
     pub(super) fn bring_by(&mut self, key: &[u8], guess: u32) -> bool
         ensures held { result ≡ is_some (body_at key.now self.old.items) }
         ensures items { self.new ≡ fronted self.old key.now }
@@ -117,21 +111,21 @@ impl<S: Store + Drop> Cache<S> {
         self.store.bring_by(key, guess)
     }
 
-    /// Sets the expiry of the key's item, moves it to the front, and says whether there is one.
-    pub(super) fn expire(&mut self, key: &[u8], expiry: Deadline) -> bool
+    /// Sets the expiry of the key's item, given a guess of it, moves it to the front, and says whether there is one.
+    pub(super) fn expire(&mut self, key: &[u8], guess: u32, expiry: Deadline) -> bool
         ensures held { result ≡ is_some (body_at key.now self.old.items) }
         ensures items { self.new
             ≡ record self.old { items = brought key.now (expiring expiry (body_at key.now self.old.items)) self.old.items } }
     {
-        self.store.expire(key, expiry)
+        self.store.expire_by(key, guess, expiry)
     }
 
-    /// Sets the marks and the number of the key's item, moves it to the front, and says whether there is one.
-    pub(super) fn mark(&mut self, key: &[u8], stale: bool, won: bool, cas: u64) -> bool
+    /// Sets the marks and the number of the key's item, given a guess of it, moves it to the front, and says whether there is one.
+    pub(super) fn mark(&mut self, key: &[u8], guess: u32, stale: bool, won: bool, cas: u64) -> bool
         ensures held { result ≡ is_some (body_at key.now self.old.items) }
         ensures items { self.new
             ≡ record self.old { items = brought key.now (marking stale won cas (body_at key.now self.old.items)) self.old.items } }
     {
-        self.store.mark(key, stale, won, cas)
+        self.store.mark_by(key, guess, stale, won, cas)
     }
 }

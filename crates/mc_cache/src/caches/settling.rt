@@ -29,13 +29,15 @@ pub struct Found {
     pub stale: bool,
     /// Whether a client was told that it is the one to fetch the value anew.
     pub won: bool,
+    /// A guess of which item it is, for the calls of a store that are given one.
+    pub guess: u32,
 }
 
 impl Found {
     ghost use Rattle.mc_cache.specs.Step.{numbered, expiry_by};
 
-    /// What a body tells: all but its value.
-    fn of(body: &Body) -> Found
+    /// What a body tells: all but its value. Its item is guessed.
+    fn of(body: &Body, guess: u32) -> Found
         ensures { found_body (Some result) body.now.value ≡ Some body.now }
     {
         Found {
@@ -44,6 +46,7 @@ impl Found {
             cas: body.cas,
             stale: body.stale,
             won: body.won,
+            guess,
         }
     }
 
@@ -77,17 +80,17 @@ impl Found {
 }
 
 impl<S: Store + Drop> Cache<S> {
-    /// Brings the cache to a moment for a command on a key, and looks at what is then held under it. Where something is,
-    /// that moment has changed nothing.
-    pub(super) fn settle(&mut self, key: &[u8], moment: u64) -> Option<Found>
+    /// Brings the cache to a moment for a command on a key, given a guess of its item, and looks at what is then held under it. Where
+    /// something is, that moment has changed nothing.
+    pub(super) fn settle(&mut self, key: &[u8], guess: u32, moment: u64) -> Option<Found>
         ensures settled { self.new ≡ settled self.old (Some key.now) moment }
         ensures found { body_at key.now self.new.items ≡ found_body result (value_at key.now self.new.items) }
         ensures held { OnSome result (self.new ≡ self.old) }
     {
         self.flush_due(moment);
-        let found = self.look(key)?;
+        let found = self.look(key, guess)?;
         if found.expiry.is_dead(moment) {
-            let _ = self.take(key);
+            let _ = self.take(key, found.guess);
             return None;
         }
         Some(found)
@@ -127,7 +130,7 @@ impl<S: Store + Drop> Cache<S> {
         }
     }
 
-    /// Moves the key's item to the front, where it is guessed which it is, and looks at it.
+    /// Moves the key's item to the front, given a guess of it, and looks at it.
     pub(super) fn find(&mut self, key: &[u8], guess: u32) -> Option<Found>
         ensures found { body_at key.now self.old.items ≡ found_body result (front_value self.new.items) }
         ensures items { self.new ≡ fronted self.old key.now }
@@ -135,12 +138,12 @@ impl<S: Store + Drop> Cache<S> {
         if !self.bring_by(key, guess) {
             return None;
         }
+        let guess = self.store.first_guess();
         let body = self.store.front()?;
-        Some(Found::of(body))
+        Some(Found::of(body, guess))
     }
 
-    /// Brings the cache to a moment for a command on a key, moves the key's item to the front, where it is guessed which it is, and looks
-    /// at it.
+    /// Brings the cache to a moment for a command on a key, moves the key's item to the front, given a guess of it, and looks at it.
     pub(super) fn settle_in_front(&mut self, key: &[u8], guess: u32, moment: u64) -> Option<Found>
         ensures settled { self.new ≡ fronted (settled self.old (Some key.now) moment) key.now }
         ensures found { body_at key.now (settled self.old (Some key.now) moment).items
@@ -150,7 +153,7 @@ impl<S: Store + Drop> Cache<S> {
         self.flush_due(moment);
         let found = self.find(key, guess)?;
         if found.expiry.is_dead(moment) {
-            let _ = self.take(key);
+            let _ = self.take(key, found.guess);
             return None;
         }
         Some(found)
@@ -163,10 +166,10 @@ impl<S: Store + Drop> Cache<S> {
         self.pending = None;
     }
 
-    fn look(&self, key: &[u8]) -> Option<Found>
+    fn look(&self, key: &[u8], guess: u32) -> Option<Found>
         ensures { body_at key.now self.now.items ≡ found_body result (value_at key.now self.now.items) }
     {
-        let body = self.store.peek(key)?;
-        Some(Found::of(body))
+        let (guess, body) = self.store.find(key, guess)?;
+        Some(Found::of(body, guess))
     }
 }

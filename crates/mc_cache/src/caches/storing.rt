@@ -94,7 +94,7 @@ impl<S: Store + Drop> Cache<S> {
         let block = body.value.as_slice();
         match self.store_but_whole(mode, compare, key.as_bytes(), block, found) {
             Some(reply) => reply,
-            None => stored_or_fault(self.put_own(key, body, found.is_some())),
+            None => stored_or_fault(self.put_own(key, guess_of(found), body, found.is_some())),
         }
     }
 
@@ -106,6 +106,7 @@ impl<S: Store + Drop> Cache<S> {
         mode: StoreMode,
         compare: Option<u64>,
         key: &[u8],
+        guess: u32,
         lent: Lent<'_>,
         moment: u64,
     ) -> Result<Reply<()>, AllocError>
@@ -122,14 +123,14 @@ impl<S: Store + Drop> Cache<S> {
             OnErr result (store_takes_block s compare mode key.now (body_at key.now s.items) (lent_content lent.entry).value ≡ true) }
     {
         if let (StoreMode::Set, None) = (mode, compare) {
-            if let Some(reply) = self.set_at_once(key, lent, moment) {
+            if let Some(reply) = self.set_at_once(key, guess, lent, moment) {
                 return Ok(reply);
             }
         }
-        let found = self.settle(key, moment);
+        let found = self.settle(key, guess, moment);
         match self.store_but_whole(mode, compare, key, lent.block, found) {
             Some(reply) => Ok(reply),
-            None => self.put_lent(key, lent, found.is_some()),
+            None => self.put_lent(key, guess_of(found), lent, found.is_some()),
         }
     }
 
@@ -154,7 +155,7 @@ impl<S: Store + Drop> Cache<S> {
         ensures whole { IfNone result (IsWhole compare mode (body_at key.now self.old.items)) }
     {
         if let Some(reply) = unstored(compare, mode, found) {
-            let _ = self.bring(key);
+            let _ = self.bring_by(key, guess_of(found));
             return Some(reply);
         }
         let found = found?;
@@ -174,7 +175,7 @@ impl<S: Store + Drop> Cache<S> {
             ≡ (self.new, reply_or_fault result reply) }
         ensures refusal { is_refused result ≡ true → 0 < length block.now }
     {
-        let before = self.held(key);
+        let before = self.held(key, found.guess);
         let cas = self.admit(key, before.len() + block.len())?;
         if block.is_empty() {
             self.renew(key, found, cas);
@@ -182,11 +183,19 @@ impl<S: Store + Drop> Cache<S> {
         }
         match side.join(self.alloc, before, block) {
             Ok(value) => {
-                self.put_held(key, found.with(value, cas));
+                self.put_held(key, found.guess, found.with(value, cas));
                 Ok(())
             }
             Err(_) => Err(Fault::OutOfMemory),
         }
+    }
+}
+
+/// A guess of the item that was found; 0 if none was.
+pub(super) fn guess_of(found: Option<Found>) -> u32 {
+    match found {
+        Some(found) => found.guess,
+        None => 0,
     }
 }
 

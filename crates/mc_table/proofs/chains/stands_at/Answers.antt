@@ -1,5 +1,4 @@
-use Rattle.std.proofs.Common.{◌≡◌, ◌-◌, ◌<◌, length, sym, ◌∙◌, arith}
-use Rattle.mc_table.specs.Slots.{entries_of}
+use Rattle.std.proofs.Common.{◌-◌, sym, ◌∙◌, arith}
 use Rattle.mc_table.proofs.SlotLemmas.{map_got}
 use Rattle.mc_table.proofs.chains.stands_at.Goals as goal
 

@@ -1,7 +1,7 @@
 use Rattle.std.proofs.Common.{Some, refl}
 use Rattle.mc_cache.specs.Settling.{settled}
 use Rattle.mc_cache.proofs.GetLemmas.{meta_get-shrinks}
-use Rattle.mc_cache.proofs.caches.Cache.meta_get.Goals as goal
+use Rattle.mc_cache.proofs.caches.Cache.meta_get_by.Goals as goal
 
 pub returns-clause-shrinks : goal.returns-clause-shrinks
 returns-clause-shrinks g c =

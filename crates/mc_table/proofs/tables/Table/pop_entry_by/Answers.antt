@@ -1,7 +1,7 @@
 use Rattle.std.proofs.Common.{sym, ◌∙◌}
 use Rattle.mc_table.proofs.EntryLemmas.{entry_none, remove_none}
 use Rattle.mc_table.proofs.TableLemmas.{popped_found, removed_found}
-use Rattle.mc_table.proofs.tables.Table.pop_entry.Goals as goal
+use Rattle.mc_table.proofs.tables.Table.pop_entry_by.Goals as goal
 
 pub returns-in_default-clause-value : goal.returns-in_default-clause-value
 returns-in_default-clause-value g c = rw (← c.self.view_is) (sym (entry_none _ c.self.inside.entries c.self.inside.order c.in_default.ensures.none))

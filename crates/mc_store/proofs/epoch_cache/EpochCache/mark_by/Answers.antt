@@ -1,7 +1,7 @@
 use Rattle.std.proofs.Common.{refl, sym, ◌∙◌}
 use Rattle.mc_store.specs.declared.held.Held.{Held}
 use Rattle.mc_store.proofs.EpochLemmas.{looks_none, lets_go, writes, same_room}
-use Rattle.mc_store.proofs.epoch_cache.EpochCache.mark.Goals as goal
+use Rattle.mc_store.proofs.epoch_cache.EpochCache.mark_by.Goals as goal
 
 pub returns-in_default-clause-held : goal.returns-in_default-clause-held
 returns-in_default-clause-held g c =

@@ -4,7 +4,7 @@ use Rattle.mc_store.specs.declared.held.Held.{Held}
 use Rattle.mc_store.specs.Items.{Items, body_at, without}
 use Rattle.mc_store.specs.Epochs.{IsLetGo, LiveAndDead, Entries, live}
 use Rattle.mc_store.proofs.EpochLemmas.{count-fits, looks_none, lets_go, writes, replaces, same_room}
-use Rattle.mc_store.proofs.epoch_cache.EpochCache.replace.Goals as goal
+use Rattle.mc_store.proofs.epoch_cache.EpochCache.replace_by.Goals as goal
 
 pub returns-in_default-clause-absent : goal.returns-in_default-clause-absent
 returns-in_default-clause-absent g c =
