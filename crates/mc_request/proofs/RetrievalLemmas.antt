@@ -1,12 +1,12 @@
 -- Lines that begin with the name of a retrieval and a space.
-use Rattle.std.proofs.Common.{◌≡◌, ◌∙◌, ℕ, Bool, true, false, List, [], ◌∷◌, ◌++◌, take, drop, None, refl, sym, ap, if◌then◌else◌}
-use Rattle.std.specs.Prelude.{codes, ◌&&◌}
+use Rattle.std.proofs.Common.{◌≡◌, ◌∙◌, ℕ, Bool, true, false, List, ◌∷◌, ◌++◌, take, drop, None, refl, sym, ap, if◌then◌else◌}
+use Rattle.std.specs.Prelude.{codes}
 use Rattle.std.specs.List.{list_all}
 use Rattle.std.proofs.lemmas.List.{take-append-drop}
 use Rattle.mc_text.specs.Words.{words}
 use Rattle.mc_text.specs.Keys.{is_plain_key}
 use Rattle.mc_request.specs.Names.{name_of, at_least}
-use Rattle.mc_request.specs.Meanings.{Alone, meaning, meaning_by, meaning_named}
+use Rattle.mc_request.specs.Meanings.{Alone, meaning, meaning_named}
 use Rattle.mc_request.specs.declared.names.Name.TheVariants.{Get, Gets}
 use Rattle.mc_request.specs.declared.parts.Request.TheVariants as requests
 use Rattle.mc_request.specs.declared.parts.Taken.TheVariants.{Whole}

@@ -1,5 +1,5 @@
 -- What a reader stands for after a step.
-use Rattle.std.proofs.Common.{◌≡◌, ◌∙◌, ℕ, suc, zero, ◌+◌, ◌-◌, ◌*◌, ◌<◌, ◌≤◌, Bool, true, false, List, [], ◌∷◌, ◌++◌, length, drop, Option, Some, None, is_some, IsTrue, nat_lt, min, if◌then◌else◌, refl, sym, ap, arith, append_assoc, length-append, length-drop}
+use Rattle.std.proofs.Common.{◌≡◌, ◌∙◌, ℕ, suc, zero, ◌-◌, ◌*◌, ◌<◌, ◌≤◌, Bool, true, false, List, [], ◌∷◌, ◌++◌, length, drop, Option, Some, None, is_some, IsTrue, nat_lt, min, if◌then◌else◌, refl, sym, ap, arith, append_assoc, length-append, length-drop}
 use Rattle.std.specs.Option.{option_map}
 use Rattle.std.proofs.lemmas.List.{get_or_append_left, drop-drop, drop-append-le, append-nil}
 use Rattle.std.proofs.Math.Seq.{drop-append-add}

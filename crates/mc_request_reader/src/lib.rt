@@ -3,7 +3,8 @@
 //! A [`Reader`] is fed the bytes of a connection in whatever pieces they come ([`Reader::feed`]), and gives the
 //! requests and faults of them in order ([`Reader::next`]). [`Reader::peek`] and [`Reader::consume`] are the two
 //! halves of `next`: the one lends what is first, its keys and its block being bytes of the reader, and the other
-//! takes it. [`Reader::ready`] says whether there is one, and [`Reader::held`] how many bytes are kept.
+//! takes it. [`Reader::ready`] says whether there is one, and [`Reader::held`] how many bytes are kept. What is asked for most, a `get`, is
+//! lent sooner by [`Reader::peek_get`], and [`Reader::is_short`] tells soonest that there is none; [`Reader::unread`] are the bytes.
 //! What one line asks for is the crate `mc_request`'s: what is lent is its `Asked`, what is given its `Request` or `Fault`.
 //!
 //! A reader stands for a function: from the text still to come to the requests and faults that it will give.

@@ -34,6 +34,4 @@ pub struct LentGet<'a> {
     pub with_cas: bool,
     /// Where it ends.
     pub front: Front,
-    /// The bytes that have come, from it on.
-    pub unread: &'a [u8],
 }

@@ -127,6 +127,15 @@ impl Reader {
         self.unread.peek_get()
     }
 
+    /// The bytes that have come and are not taken: what [`Reader::peek`] shows begins with them. None of them is looked at.
+    #[inline(always)]
+    pub fn unread(&self) -> &[u8]
+        ensures unread { result.now ≡ self.now.unread }
+        ensures little { KeepsLittle self.now }
+    {
+        self.unread.unread()
+    }
+
     /// Whether it is known that nothing is whole until more bytes come: then [`Reader::peek`] would show [`Peek::More`]. No byte is
     /// looked at, and nothing is copied. False says nothing.
     #[inline(always)]

@@ -272,8 +272,16 @@ impl Unread {
                 size,
                 closes: false,
             },
-            unread,
         })
+    }
+
+    /// The bytes that have come and are not taken.
+    #[inline(always)]
+    pub fn unread(&self) -> &[u8]
+        ensures { result.now ≡ self.now.unread }
+    {
+        let (_, unread) = self.buffer.split_at(self.start);
+        unread
     }
 
     /// Whether a whole request or fault has come. Where the last call was `advance`, no byte is looked at.

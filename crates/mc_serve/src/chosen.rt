@@ -51,6 +51,13 @@ impl Store for ChosenStore {
         }
     }
 
+    fn find(&self, key: &[u8], guess: u32) -> Option<(u32, &Body)> {
+        match self {
+            ChosenStore::Table(store) => store.find(key, guess),
+            ChosenStore::Lru(store) => store.find(key, guess),
+        }
+    }
+
     fn front(&self) -> Option<&Body> {
         match self {
             ChosenStore::Table(store) => store.front(),
@@ -93,10 +100,31 @@ impl Store for ChosenStore {
         }
     }
 
+    fn expire_by(&mut self, key: &[u8], guess: u32, expiry: Deadline) -> bool {
+        match self {
+            ChosenStore::Table(store) => store.expire_by(key, guess, expiry),
+            ChosenStore::Lru(store) => store.expire_by(key, guess, expiry),
+        }
+    }
+
     fn mark(&mut self, key: &[u8], stale: bool, won: bool, cas: u64) -> bool {
         match self {
             ChosenStore::Table(store) => store.mark(key, stale, won, cas),
             ChosenStore::Lru(store) => store.mark(key, stale, won, cas),
+        }
+    }
+
+    fn mark_by(&mut self, key: &[u8], guess: u32, stale: bool, won: bool, cas: u64) -> bool {
+        match self {
+            ChosenStore::Table(store) => store.mark_by(key, guess, stale, won, cas),
+            ChosenStore::Lru(store) => store.mark_by(key, guess, stale, won, cas),
+        }
+    }
+
+    fn first_guess(&self) -> u32 {
+        match self {
+            ChosenStore::Table(store) => store.first_guess(),
+            ChosenStore::Lru(store) => store.first_guess(),
         }
     }
 
@@ -107,10 +135,24 @@ impl Store for ChosenStore {
         }
     }
 
+    fn take_by(&mut self, key: &[u8], guess: u32) -> Option<Body> {
+        match self {
+            ChosenStore::Table(store) => store.take_by(key, guess),
+            ChosenStore::Lru(store) => store.take_by(key, guess),
+        }
+    }
+
     fn replace(&mut self, key: &[u8], body: Body) -> Result<Body, Body> {
         match self {
             ChosenStore::Table(store) => store.replace(key, body),
             ChosenStore::Lru(store) => store.replace(key, body),
+        }
+    }
+
+    fn replace_by(&mut self, key: &[u8], guess: u32, body: Body) -> Result<Body, Body> {
+        match self {
+            ChosenStore::Table(store) => store.replace_by(key, guess, body),
+            ChosenStore::Lru(store) => store.replace_by(key, guess, body),
         }
     }
 

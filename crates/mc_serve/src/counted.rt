@@ -54,6 +54,10 @@ impl<S: Store + Drop> Store for Counted<S> {
         self.store.peek(key)
     }
 
+    fn find(&self, key: &[u8], guess: u32) -> Option<(u32, &Body)> {
+        self.store.find(key, guess)
+    }
+
     fn front(&self) -> Option<&Body> {
         self.store.front()
     }
@@ -78,12 +82,28 @@ impl<S: Store + Drop> Store for Counted<S> {
         self.store.expire(key, expiry)
     }
 
+    fn expire_by(&mut self, key: &[u8], guess: u32, expiry: Deadline) -> bool {
+        self.store.expire_by(key, guess, expiry)
+    }
+
     fn mark(&mut self, key: &[u8], stale: bool, won: bool, cas: u64) -> bool {
         self.store.mark(key, stale, won, cas)
     }
 
+    fn mark_by(&mut self, key: &[u8], guess: u32, stale: bool, won: bool, cas: u64) -> bool {
+        self.store.mark_by(key, guess, stale, won, cas)
+    }
+
+    fn first_guess(&self) -> u32 {
+        self.store.first_guess()
+    }
+
     fn take(&mut self, key: &[u8]) -> Option<Body> {
-        let taken = self.store.take(key);
+        self.take_by(key, 0)
+    }
+
+    fn take_by(&mut self, key: &[u8], guess: u32) -> Option<Body> {
+        let taken = self.store.take_by(key, guess);
         if let Some(body) = &taken {
             if self.is_dead(body) {
                 self.counts.expire();
@@ -94,9 +114,13 @@ impl<S: Store + Drop> Store for Counted<S> {
     }
 
     fn replace(&mut self, key: &[u8], body: Body) -> Result<Body, Body> {
+        self.replace_by(key, 0, body)
+    }
+
+    fn replace_by(&mut self, key: &[u8], guess: u32, body: Body) -> Result<Body, Body> {
         // A body with the number 0 is lent for a moment, while the held one is written to.
         let is_stored = body.cas > 0;
-        let replaced = self.store.replace(key, body);
+        let replaced = self.store.replace_by(key, guess, body);
         if let Ok(before) = &replaced {
             if self.is_dead(before) {
                 self.counts.expire();

@@ -28,7 +28,7 @@ use Rattle.mc_reply.proofs.SpellingLemmas.{length-number}
 use Rattle.mc_store.specs.Items.{Items, body_at}
 use Rattle.mc_cache.specs.CacheState.{CacheState}
 use Rattle.mc_cache.specs.Showing.{told, item_shown}
-use Rattle.mc_cache.specs.Step.{Outcome, Content, admission, numbered, stored_by, stored, compared, unmet, unstored, content_by, store_by, touch_step, delete_by, delete_step, counted, count_number, count_by, count_none, count_step, update_step, step_of, held_under}
+use Rattle.mc_cache.specs.Step.{Outcome, Content, admission, numbered, stored_by, compared, unmet, unstored, content_by, store_by, touch_step, delete_by, delete_step, counted, count_number, count_by, count_none, count_step, update_step, step_of, held_under}
 use Rattle.mc_cache.specs.Settling.{settled}
 use Rattle.mc_cache.proofs.StoredLemmas.{own_key}
 use Rattle.mc_reply.specs.Replies.{filled}

@@ -165,18 +165,18 @@ fn room_for_keys<S: Store + Drop>(beside: usize, keys: WordIter<'_>, cache: &Cac
 /// item, memory is taken only for the block of a value that is stored under a held key, and where there is none nothing has
 /// changed.
 pub fn serve<S: Store + Drop>(
-    asked: Asked<'_>,
+    asked: &Asked<'_>,
     cache: &mut Cache<S>,
     moment: u64,
     ahead: &mut Ahead,
     output: &mut Vec<u8>,
 ) -> Result<(), AllocError>
     requires moment { moment < 2 ^ 63 }
-    requires well_formed { is_well_formed (asked_of asked) ≡ true }
-    requires room { vec_len output.old + room_of (asked_of asked) cache.old ≤ vec_capacity output.old }
+    requires well_formed { is_well_formed (asked_of asked.now) ≡ true }
+    requires room { vec_len output.old + room_of (asked_of asked.now) cache.old ≤ vec_capacity output.old }
     ensures served { OnOk result ((number : ℕ)
-        → IsServed number cache.old (asked_of asked.entry) moment cache.new output.old.items output.new.items) }
-    ensures len { OnOk result (vec_len output.new ≤ vec_len output.old + room_of (asked_of asked.entry) cache.old) }
+        → IsServed number cache.old (asked_of asked.now) moment cache.new output.old.items output.new.items) }
+    ensures len { OnOk result (vec_len output.new ≤ vec_len output.old + room_of (asked_of asked.now) cache.old) }
     ensures cache_kept { OnErr result (cache.new ≡ cache.old) }
     ensures output_kept { OnErr result (output.new.items ≡ output.old.items) }
 {
@@ -186,24 +186,34 @@ pub fn serve<S: Store + Drop>(
             keys,
             exptime,
             with_cas,
-        } => serve_keys(keys, exptime, with_cas, cache, moment, ahead, output),
-        Asked::Update { update, .. } => serve_update(&update, hides, cache, moment, output)?,
+        } => {
+            let keys = keys.again();
+            serve_keys(keys, *exptime, *with_cas, cache, moment, ahead, output);
+        }
+        Asked::Update { update, .. } => {
+            serve_update(update, hides, cache, ahead.next(), moment, output)?;
+        }
         Asked::Meta { command, form } => {
-            serve_meta(&command, &form, hides, cache, moment, output)?;
+            serve_meta(command, form, hides, cache, ahead.next(), moment, output)?;
         }
         Asked::MetaNoop => write_noop(output).unwrap(),
         Asked::Version => write_version(output).unwrap(),
         Asked::Quit => {}
-        Asked::Faulty(fault) => write_fault(fault, output).unwrap(),
+        Asked::Faulty(fault) => {
+            // The look ahead took most faulty lines for one with a key: that guess is passed over.
+            let _ = ahead.next();
+            write_fault(*fault, output).unwrap();
+        }
     }
     Ok(())
 }
 
-/// Serves a command that may change what is held.
+/// Serves a command that may change what is held, given a guess of its key's item.
 fn serve_update<S: Store + Drop>(
     update: &Update<&[u8], &[u8]>,
     hides: Hides,
     cache: &mut Cache<S>,
+    guess: u32,
     moment: u64,
     output: &mut Vec<u8>,
 ) -> Result<(), AllocError>
@@ -217,19 +227,20 @@ fn serve_update<S: Store + Drop>(
     ensures cache_kept { OnErr result (cache.new ≡ cache.old) }
     ensures output_kept { OnErr result (output.new.items ≡ output.old.items) }
 {
-    let reply = cache.update(update, moment)?;
+    let reply = cache.update_by(update, guess, moment)?;
     if !reply.is_hidden(hides) {
         write_line(&reply.with(b"".as_slice()), output).unwrap();
     }
     Ok(())
 }
 
-/// Serves a meta command by the word of its key. The value that it shows is read from the front of the cache.
+/// Serves a meta command by the word of its key, given a guess of its item. The value that it shows is read from the front of the cache.
 fn serve_meta<S: Store + Drop>(
     command: &MetaCommand<&[u8], &[u8]>,
     form: &MetaForm<WordIter<'_>>,
     hides: Hides,
     cache: &mut Cache<S>,
+    guess: u32,
     moment: u64,
     output: &mut Vec<u8>,
 ) -> Result<(), AllocError>
@@ -244,7 +255,7 @@ fn serve_meta<S: Store + Drop>(
     ensures cache_kept { OnErr result (cache.new ≡ cache.old) }
     ensures output_kept { OnErr result (output.new.items ≡ output.old.items) }
 {
-    let reply = meta_reply(command, form.coded, cache, moment)?;
+    let reply = meta_reply(command, form.coded, cache, guess, moment)?;
     if !reply.is_hidden(hides) {
         write_meta(
             command.word(),
@@ -257,11 +268,12 @@ fn serve_meta<S: Store + Drop>(
     Ok(())
 }
 
-/// What the cache answers to a meta command by the word of its key. The value that it shows is first.
+/// What the cache answers to a meta command by the word of its key, given a guess of its item. The value that it shows is first.
 fn meta_reply<S: Store + Drop>(
     command: &MetaCommand<&[u8], &[u8]>,
     coded: bool,
     cache: &mut Cache<S>,
+    guess: u32,
     moment: u64,
 ) -> Result<Reply<()>, AllocError>
     requires moment { moment < 2 ^ 63 }
@@ -278,10 +290,10 @@ fn meta_reply<S: Store + Drop>(
     let mut room = [0; CODED_ROOM];
     match command {
         MetaCommand::Get { key, get } => {
-            Ok(cache.meta_get(key_bytes(coded, key, &mut room), get, moment))
+            Ok(cache.meta_get_by(key_bytes(coded, key, &mut room), guess, get, moment))
         }
         MetaCommand::Update { update, show } => {
-            cache.meta_update(&update.said(coded, &mut room), show, moment)
+            cache.meta_update_by(&update.said(coded, &mut room), guess, show, moment)
         }
     }
 }
@@ -310,7 +322,7 @@ pub fn serve_keys<S: Store + Drop>(
     write_end(output).unwrap();
 }
 
-/// Serves a key of a retrieval command, where it is guessed which item it has. The value that it shows is read from the front of the cache.
+/// Serves a key of a retrieval command, given a guess of its item. The value that it shows is read from the front of the cache.
 fn serve_key<S: Store + Drop>(
     key: &[u8],
     guess: u32,

@@ -143,9 +143,8 @@ impl Connection {
                 keys,
                 with_cas,
                 front,
-                unread,
             } = get;
-            self.ahead.look(unread, cache);
+            self.ahead.look(self.reader.unread(), cache);
             let room = room_for_get(&keys, cache);
             if limit.is_passed_by_get(room, &keys, cache) {
                 return Ok(Limited::Refused);
@@ -159,20 +158,25 @@ impl Connection {
         if self.reader.is_short() {
             return Ok(Limited::Turned(Turn::Idle));
         }
-        match self.reader.peek() {
-            Peek::Closed => Ok(Limited::Turned(Turn::Closing)),
-            Peek::More => Ok(Limited::Turned(Turn::Idle)),
+        let front = match &self.reader.peek() {
+            Peek::Closed => return Ok(Limited::Turned(Turn::Closing)),
+            Peek::More => return Ok(Limited::Turned(Turn::Idle)),
             Peek::First(asked, front) => {
-                let room = room_for(&asked, cache);
-                if limit.is_passed(room, &asked, cache) {
+                let unread = self.reader.unread();
+                if front.size > 0 && front.size < unread.len() {
+                    self.ahead.look(unread, cache);
+                }
+                let room = room_for(asked, cache);
+                if limit.is_passed(room, asked, cache) {
                     return Ok(Limited::Refused);
                 }
                 self.output.reserve(room)?;
                 serve(asked, cache, moment, &mut self.ahead, &mut self.output)?;
-                self.reader.consume(front);
-                Ok(Limited::Turned(Turn::Took))
+                *front
             }
-        }
+        };
+        self.reader.consume(front);
+        Ok(Limited::Turned(Turn::Took))
     }
 
     /// The answers that were not taken out.

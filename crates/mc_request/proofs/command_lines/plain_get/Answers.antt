@@ -1,5 +1,4 @@
 use Rattle.std.proofs.Common.{◌∙◌, sym}
-use Rattle.mc_request.specs.Names.{at_least}
 use Rattle.mc_request.proofs.PartLemmas.{left, right}
 use Rattle.mc_request.proofs.RetrievalLemmas.{good_keys}
 use Rattle.mc_request.proofs.command_lines.plain_get.Goals as goal

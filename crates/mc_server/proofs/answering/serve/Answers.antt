@@ -2,7 +2,7 @@ use Rattle.std.proofs.Common.{sym}
 use Rattle.mc_server.proofs.answering.serve.Goals as goal
 
 pub returns-in-Get-clause-served : goal.returns-in-Get-clause-served
-returns-in-Get-clause-served g c number = rw c.in-Get.is (c.serve_keys.ensures.served number)
+returns-in-Get-clause-served g c number = rw (c.in-Get.is, ← c.again-keys.ensures) (c.serve_keys.ensures.served number)
 
 pub returns-in_ok-serve_update-in-Update-clause-served : goal.returns-in_ok-serve_update-in-Update-clause-served
 returns-in_ok-serve_update-in-Update-clause-served g c number =

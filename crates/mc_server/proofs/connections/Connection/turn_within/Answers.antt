@@ -10,23 +10,23 @@ use Rattle.mc_server.proofs.RoomLemmas.{room_within}
 use Rattle.mc_server.proofs.connections.Connection.turn_within.Goals as goal
 
 -- the answer goes after what was sent
-pub invariant_of-self-in-First : goal.invariant_of-self-in-First
-invariant_of-self-in-First g c =
+pub invariant_of-self-2 : goal.invariant_of-self-2
+invariant_of-self-2 g c =
     let served = (c.in_ok-serve-in-First.ensures.served 0).1 in
     let longer : length c.reserve-in-First.new.self.items ≤ length c.serve.new.output.items = rw (served.answered, length-append) (omega arith) in
     omega (arith, c.serve.new.output.ok, c.reserve-in-First.new.self.ok, longer)
 
 -- what the look showed is served and taken
-pub returns-in_ok-serve-in-First-clause-turn : goal.returns-in_ok-serve-in-First-clause-turn
-returns-in_ok-serve-in-First-clause-turn g c number =
+pub returns-clause-turn : goal.returns-clause-turn
+returns-clause-turn g c number =
     let seen = rw c.in-First.is at c.peek.ensures.seen in
     let all = c.in_ok-serve-in-First.ensures.served number in
     let served = all.1 in
     let sent : c.self.inside.sent ≤ length c.self.inside.output.items = omega (arith, c.self.inside.output.ok) in (
       asked_of c.in-First.asked,
       record {
-        first = rw (← c.self.view_is) (shown_is_first _ _ _ _ seen c.consume-in-First.ensures.taken);
-        closed = shown_closes _ _ _ _ seen c.consume-in-First.ensures.taken;
+        first = rw (← c.self.view_is) (shown_is_first _ _ _ _ seen c.consume-2.ensures.taken);
+        closed = shown_closes _ _ _ _ seen c.consume-2.ensures.taken;
         served = (
           all.0,
           record {
@@ -39,8 +39,8 @@ returns-in_ok-serve-in-First-clause-turn g c number =
     )
 
 -- no more is written than was told
-pub returns-in_ok-serve-in-First-clause-bounded : goal.returns-in_ok-serve-in-First-clause-bounded
-returns-in_ok-serve-in-First-clause-bounded g c =
+pub returns-clause-bounded : goal.returns-clause-bounded
+returns-clause-bounded g c =
     let seen = rw c.in-First.is at c.peek.ensures.seen in
     let good = rw c.in-First.is at c.peek.ensures.well_formed in
     let within = room_within (asked_of c.in-First.asked) c.args.cache.now good in
