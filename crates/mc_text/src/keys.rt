@@ -11,6 +11,7 @@ ghost use Rattle.mc_text.specs.CodedKeys.{bytes_of_base64, coded_key, is_coded_t
 ghost use Rattle.mc_text.specs.declared.coded_keys.TheConstants.{CODED_LIMIT};
 ghost use Rattle.mc_text.specs.declared.keys.KeyError.TheVariants.{Memory};
 
+use crate::byte_tests::{are_key_bytes, are_line_bytes};
 use crate::coded_keys::{CODED_ROOM, decode_key};
 use crate::word_iter::{WordIter, words};
 use memchr::memrchr;
@@ -197,17 +198,6 @@ pub fn is_plain_key(word: &[u8]) -> bool
     !word.is_empty() && word.len() <= KEY_LIMIT && are_key_bytes(word)
 }
 
-/// Whether each byte may be in a plain key. All of them are looked at, so that the processor tests many at once.
-fn are_key_bytes(word: &[u8]) -> bool
-    ensures { result ≡ list_all is_key_byte word.now }
-{
-    let mut good = true;
-    for byte in word {
-        good &= is_key_byte(*byte);
-    }
-    good
-}
-
 /// Whether each word is a plain key. The bytes of all words are tested together, so that the processor tests many at once.
 pub fn are_plain_keys(words: &WordIter<'_>) -> bool
     ensures { result ≡ list_all is_plain_key words.now }
@@ -243,29 +233,4 @@ fn are_short(words: WordIter<'_>) -> bool
         }
     }
     true
-}
-
-/// Whether each byte may be in a plain key, or is a space.
-fn are_line_bytes(text: &[u8]) -> bool
-    ensures { result ≡ list_all is_line_byte text.now }
-{
-    let mut good = true;
-    for byte in text {
-        good &= is_line_byte(*byte);
-    }
-    good
-}
-
-/// Whether a byte may be in a plain key, or is a space.
-fn is_line_byte(byte: u8) -> bool
-    ensures { result ≡ is_line_byte byte }
-{
-    byte >= b' ' && byte != 127
-}
-
-/// Whether a byte may be in a plain key.
-fn is_key_byte(byte: u8) -> bool
-    ensures { result ≡ is_key_byte byte }
-{
-    byte > b' ' && byte != 127
 }

@@ -17,6 +17,7 @@
 
 mod appends;
 mod blocks;
+mod byte_tests;
 mod coded_keys;
 mod fronts;
 mod key_bytes;
@@ -24,6 +25,7 @@ mod keys;
 mod laws;
 mod lines;
 mod numbers;
+mod places;
 mod rows;
 mod word_iter;
 

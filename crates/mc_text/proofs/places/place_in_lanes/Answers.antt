@@ -1,0 +1,15 @@
+use Rattle.std.proofs.Common.{◌≡◌, ◌<◌, length, take, eqb, ap, ◌∙◌, arith, w8, map}
+use Rattle.std.proofs.lemmas.List.{length-take}
+use Rattle.std.proofs.lemmas.Simd.{bitmask_splat, trailing_mask_l}
+use lib.Count.{count_trailing_zeros}
+use lib.Lanes.{mask_l}
+use Rattle.mc_text.proofs.places.place_in_lanes.Goals as goal
+
+pub returns-else-marks-eq0 : goal.returns-else-marks-eq0
+returns-else-marks-eq0 c =
+    let lanes = take 16 c.args.text.now in
+    let taken = length-take 16 c.args.text.now in
+    let size : length lanes ≡ 16 = omega (arith, taken, c.requires) in
+    let masked = bitmask_splat w8 eqb lanes 16 c.args.byte size (omega arith) in
+    let positive : 0 < mask_l (map (λ x. eqb x c.args.byte) lanes) = omega (arith, masked, c.if-marks-eq0.false) in
+    ap (count_trailing_zeros 64) masked ∙ trailing_mask_l (λ x. eqb x c.args.byte) 64 lanes (omega (arith, size)) positive
