@@ -7,11 +7,14 @@ use Rattle.mc_request.specs.declared.parts.Taken.TheVariants.{Whole, Faulty}
 use Rattle.mc_request.specs.declared.parts.Request.TheVariants.{Get}
 use Rattle.mc_request_reader.specs.declared.peeks.Front.{Front}
 use Rattle.mc_request_reader.specs.declared.peeks.LentGet.{LentGet}
+use Rattle.mc_request_reader.specs.declared.peeks.LentLine.{LentLine}
 use Rattle.mc_request_reader.specs.declared.peeks.Peek.{Peek}
 use Rattle.mc_request_reader.specs.declared.peeks.Peek.TheVariants as peeks
 use Rattle.mc_request_reader.specs.declared.reader.Next.{Next}
 use Rattle.mc_request_reader.specs.declared.reader.Next.TheVariants as nexts
 use Rattle.mc_request.specs.Faults.{closes}
+use Rattle.mc_text.specs.Words.{words}
+use Rattle.mc_request.specs.Meanings.{meaning, Alone}
 use Rattle.mc_request.specs.Requests.{next_request, ends}
 use Rattle.mc_request.specs.WellFormed.{is_well_formed}
 use Rattle.mc_request.specs.LinesSeen.{asked_of}
@@ -70,3 +73,11 @@ Gives old nexts.Closed new = (old.closed ≡ true) × (new ≡ old)
 -- the request that a look at a retrieval shows
 abbrev pub get_of : LentGet → Taken
 get_of get = Whole (Get get.keys None get.with_cas)
+
+-- a line asks for this, and no data block follows it
+abbrev pub IsAlone : LentLine → Taken → Type 0
+IsAlone line what = meaning (words line.content.now) ≡ Alone what
+
+-- where what a line asks for ends
+abbrev pub front_by : LentLine → Taken → Front
+front_by line what = record { size = line.size; closes = ends what }

@@ -4,7 +4,8 @@
 //! requests and faults of them in order ([`Reader::next`]). [`Reader::peek`] and [`Reader::consume`] are the two
 //! halves of `next`: the one lends what is first, its keys and its block being bytes of the reader, and the other
 //! takes it. [`Reader::ready`] says whether there is one, and [`Reader::held`] how many bytes are kept. What is asked for most, a `get`, is
-//! lent sooner by [`Reader::peek_get`], and [`Reader::is_short`] tells soonest that there is none; [`Reader::unread`] are the bytes.
+//! lent sooner by [`Reader::peek_get`], other lines by [`Reader::peek_lone`], and [`Reader::is_short`] tells soonest that there is none;
+//! [`Reader::unread`] are the bytes.
 //! What one line asks for is the crate `mc_request`'s: what is lent is its `Asked`, what is given its `Request` or `Fault`.
 //!
 //! A reader stands for a function: from the text still to come to the requests and faults that it will give.
@@ -26,7 +27,7 @@ mod unread;
 pub use laws::{
     requests_are_no_more_than_bytes, requests_are_well_formed, requests_begin, requests_go_on,
 };
-pub use peeks::{Front, LentGet, Peek, REQUEST_LIMIT};
+pub use peeks::{Front, LentGet, LentLine, Peek, REQUEST_LIMIT};
 pub use reader::{Next, Reader};
 pub use rows::{
     block_takes_too_much, meta_block_is_swallowed, quit_ends_the_text, refused_block_is_swallowed,

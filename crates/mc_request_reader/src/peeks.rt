@@ -25,6 +25,15 @@ pub enum Peek<'a> {
     Closed,
 }
 
+/// The command line that is first in a reader. It is lent, and not taken yet.
+#[derive(Drop)]
+pub struct LentLine<'a> {
+    /// The line without its end.
+    pub content: &'a [u8],
+    /// How many bytes it takes.
+    pub size: usize,
+}
+
 /// A `get` or `gets` that is first in a reader. Its keys are lent, and it is not taken yet.
 #[derive(Drop)]
 pub struct LentGet<'a> {

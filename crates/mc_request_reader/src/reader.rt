@@ -1,7 +1,7 @@
 //! A reader of requests, fed in pieces.
 ghost use Rattle.std.specs.Prelude.{◌≡◌, ◌<◌, ◌≤◌, ◌+◌, ◌↔◌, ℕ, List, [], ◌++◌, length, true, Some, IsTrue, IfOk, IfSome, OnOk, OnErr};
 
-use crate::peeks::{Front, LentGet, Peek};
+use crate::peeks::{Front, LentGet, LentLine, Peek};
 use crate::unread::Unread;
 use mc_request::{Fault, ReadError, Request, Taken};
 use std::alloc::Global;
@@ -48,7 +48,8 @@ impl Model for Reader {
 impl Reader {
     ghost use Rattle.mc_request_reader.specs.Reader.{fresh_reader, rest_of, kept_of, KeepsRest, KeepsLittle};
     ghost use Rattle.mc_request.specs.WellFormed.{is_well_formed};
-    ghost use Rattle.mc_request_reader.specs.Peeks.{Peeks, Shows, Gives, HasNone, IsWellFormedPeek, front_of, get_of, past};
+    ghost use Rattle.mc_request.specs.declared.parts.Taken.{Taken};
+    ghost use Rattle.mc_request_reader.specs.Peeks.{Peeks, Shows, Gives, HasNone, IsAlone, IsWellFormedPeek, front_by, front_of, get_of, past};
 
     /// A reader to which nothing has come. It takes no memory.
     pub fn new(alloc: Global) -> Self
@@ -125,6 +126,20 @@ impl Reader {
         ensures little { KeepsLittle self.now }
     {
         self.unread.peek_get()
+    }
+
+    /// The line of the first request or fault that has come whole, if its end is known and its name is not one of a storage command: so
+    /// who asks [`command_line`](mc_request::command_line) what it says has it where it was written. [`Reader::peek`] hands it on by
+    /// copies. None says nothing of what is first.
+    ///
+    /// No more is read than its first two bytes. It takes no memory, and copies nothing.
+    #[inline(always)]
+    pub fn peek_lone(&self) -> Option<LentLine<'_>>
+        ensures seen { IfSome result (λ line. (what : Taken) → IsAlone line what → Shows self.now what (front_by line what)) }
+        ensures well_formed { IfSome result (λ line. (what : Taken) → IsAlone line what → is_well_formed what ≡ true) }
+        ensures little { KeepsLittle self.now }
+    {
+        self.unread.peek_lone()
     }
 
     /// The bytes that have come and are not taken: what [`Reader::peek`] shows begins with them. None of them is looked at.

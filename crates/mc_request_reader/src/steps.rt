@@ -2,12 +2,13 @@
 ghost use Rattle.std.specs.Prelude.{◌≡◌, ◌≤◌, ◌<◌, ◌+◌, ◌-◌, ◌^◌, true, None, Some, is_some, IfSome};
 ghost use Rattle.mc_text.specs.Lines.{line_end};
 ghost use Rattle.mc_text.specs.Words.{words};
-ghost use Rattle.mc_request.specs.Meanings.{meaning};
+ghost use Rattle.mc_request.specs.Meanings.{meaning, Alone};
 ghost use Rattle.mc_request.specs.Requests.{with_block, next_request};
 ghost use Rattle.mc_request.specs.LinesSeen.{meaning_of, storing_of, asked_of};
 ghost use Rattle.mc_request_reader.specs.Steps.{IsSearched, ArrivalIs, StartsBy, lent_seen};
 ghost use Rattle.mc_request.specs.WellFormed.{is_good_meaning};
 
+use crate::peeks::LentLine;
 use crate::searched::Searched;
 use mc_request::{
     Asked, CommandLine, Fault, Request, Storing, Taken, announced_in, command_line, plain_get,
@@ -145,6 +146,35 @@ pub fn first_get(unread: &[u8], searched: Searched) -> Option<(WordIter<'_>, boo
             Some((keys, with_cas, taken))
         }
         Line::Partial | Line::TooLong => None,
+    }
+}
+
+/// The first line of the bytes, of which so many were searched, where its end is known and its name is not one of a storage command.
+#[inline(always)]
+pub fn first_lone(unread: &[u8], searched: Searched) -> Option<LentLine<'_>>
+    requires { IsSearched searched unread.now }
+    ensures { IfSome result (λ line. (what : Taken) → meaning (words line.content.now) ≡ Alone what
+        → next_request unread.now ≡ Some (what, line.size)) }
+{
+    if !matches!(searched, Searched::Ends(_)) {
+        return None;
+    }
+    match searched.line(unread) {
+        Line::Whole { content, taken } if is_lone(content) => Some(LentLine {
+            content,
+            size: taken,
+        }),
+        Line::Whole { .. } | Line::Partial | Line::TooLong => None,
+    }
+}
+
+/// Whether a line begins as one that no data block follows. A wrong answer costs time, and nothing else.
+#[inline(always)]
+fn is_lone(content: &[u8]) -> bool {
+    match content.split_first() {
+        Some((b'm', rest)) => rest.first() != Some(&b's'),
+        Some((letter, _)) => matches!(letter, b'd' | b'f' | b'g' | b'i' | b'q' | b't' | b'v'),
+        None => false,
     }
 }
 

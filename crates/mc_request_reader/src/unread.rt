@@ -1,9 +1,9 @@
 //! The bytes that have come and are not taken.
 ghost use Rattle.std.specs.Prelude.{◌≡◌, ◌<◌, ◌≤◌, ◌+◌, ◌↔◌, ℕ, List, [], ◌++◌, length, true, false, None, Some, is_some, IsTrue, IfSome, OnOk, OnErr};
 
-use crate::peeks::{Front, LentGet, Peek, REQUEST_LIMIT};
+use crate::peeks::{Front, LentGet, LentLine, Peek, REQUEST_LIMIT};
 use crate::searched::Searched;
-use crate::steps::{Arrival, arrival_of, first_asked, first_get, is_whole};
+use crate::steps::{Arrival, arrival_of, first_asked, first_get, first_lone, is_whole};
 use mc_request::{Asked, Fault, ReadError};
 use mc_text::{Line, drop_front, give_back, let_go};
 use std::alloc::Global;
@@ -45,7 +45,8 @@ impl Unread {
     ghost use Rattle.mc_request.specs.Requests.{next_request};
     ghost use Rattle.mc_request_reader.specs.Reader.{fresh_reader, rest_of, kept_of, KeepsRest, KeepsLittle};
     ghost use Rattle.mc_request.specs.WellFormed.{is_well_formed};
-    ghost use Rattle.mc_request_reader.specs.Peeks.{Peeks, Shows, HasNone, IsWellFormedPeek, front_of, get_of, past};
+    ghost use Rattle.mc_request.specs.declared.parts.Taken.{Taken};
+    ghost use Rattle.mc_request_reader.specs.Peeks.{Peeks, Shows, HasNone, IsAlone, IsWellFormedPeek, front_by, front_of, get_of, past};
 
     /// Nothing has come. It takes no memory.
     pub fn new(alloc: Global) -> Self
@@ -225,6 +226,34 @@ impl Unread {
             None => self.get_unread(),
             Some(_) => None,
         }
+    }
+
+    /// The first line, where its end is known and its name is not one of a storage command.
+    #[inline(always)]
+    pub fn peek_lone(&self) -> Option<LentLine<'_>>
+        ensures seen { IfSome result (λ line. (what : Taken) → IsAlone line what → Shows self.now what (front_by line what)) }
+        ensures well_formed { IfSome result (λ line. (what : Taken) → IsAlone line what → is_well_formed what ≡ true) }
+    {
+        if self.closed {
+            return None;
+        }
+        match self.dropping {
+            None => self.lone_unread(),
+            Some(_) => None,
+        }
+    }
+
+    /// The same where no block is dropped.
+    #[inline(always)]
+    fn lone_unread(&self) -> Option<LentLine<'_>>
+        requires open { self.now.closed ≡ false }
+        requires whole { self.now.dropping ≡ None }
+        ensures seen { IfSome result (λ line. (what : Taken) → IsAlone line what → Shows self.now what (front_by line what)) }
+        ensures well_formed { IfSome result (λ line. (what : Taken) → IsAlone line what → is_well_formed what ≡ true) }
+    {
+        let (_, unread) = self.buffer.split_at(self.start);
+        let line = first_lone(unread, self.searched)?;
+        Some(line)
     }
 
     /// Whether it is known that nothing is whole until more bytes come. No byte is looked at.

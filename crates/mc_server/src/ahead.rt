@@ -2,6 +2,7 @@
 
 use crate::first_keys::{AHEAD, FirstKeys};
 use mc_cache::Cache;
+use mc_request_reader::Front;
 use mc_store::Store;
 
 /// Of fewer keys none is guessed.
@@ -51,6 +52,14 @@ impl Ahead {
     pub fn look<S: Store + Drop>(&mut self, text: &[u8], cache: &Cache<S>) {
         if self.used >= self.count && text.len() >= SHORT && cache.guesses() {
             self.guess(text, cache);
+        }
+    }
+
+    /// The same, where something comes after the first request or fault of the text, which ends there.
+    #[inline]
+    pub fn look_past<S: Store + Drop>(&mut self, front: Front, text: &[u8], cache: &Cache<S>) {
+        if front.size > 0 && front.size < text.len() {
+            self.look(text, cache);
         }
     }
 

@@ -1,5 +1,5 @@
 //! Serving what is first in a reader: the cache makes its commands, and the answer goes after the output.
-ghost use Rattle.std.specs.Prelude.{◌≡◌, ◌+◌, ◌≤◌, ◌<◌, ◌^◌, ◌-◌, ◌++◌, min, Bool, true, false, ℕ, List, length, vec_len, vec_capacity, IfOk, OnOk, OnErr};
+ghost use Rattle.std.specs.Prelude.{◌≡◌, ◌+◌, ◌≤◌, ◌<◌, ◌^◌, ◌-◌, ◌++◌, min, Bool, true, false, ℕ, List, length, vec_len, vec_capacity, ◌↔◌, Ok, IfOk, IsOkUnless, OnOk, OnErr};
 ghost use Rattle.std.specs.List.{list_all};
 ghost use Rattle.mc_text.specs.Keys.{is_key, is_plain_key};
 ghost use Rattle.mc_request.specs.Hides.{hides_of};
@@ -20,6 +20,8 @@ ghost use Rattle.mc_server.specs.Served.{IsServed};
 ghost use Rattle.mc_server.specs.Rooms.{keys_room, room_of, taken_bound, meta_value_room};
 
 use crate::ahead::Ahead;
+use crate::limits::AnswerLimit;
+use crate::turns::ServerError;
 use mc_cache::Cache;
 use mc_reply::{
     KEY_ROOM, LINE_ROOM, META_ROOM, Reply, write_end, write_fault, write_key, write_line,
@@ -159,6 +161,40 @@ fn room_for_keys<S: Store + Drop>(beside: usize, keys: WordIter<'_>, cache: &Cac
         room = room.saturating_add(cache.room(key) + beside);
     }
     room
+}
+
+/// Serves what is asked at a moment, where its answer is within a limit, and says whether it is.
+///
+/// What it may need of memory is taken before anything is: room for the answer, and the block of a value that is stored under a held key.
+/// Where the answer is not within the limit, or at an error, nothing has changed.
+#[inline]
+pub fn serve_within<S: Store + Drop>(
+    asked: &Asked<'_>,
+    cache: &mut Cache<S>,
+    moment: u64,
+    limit: AnswerLimit,
+    ahead: &mut Ahead,
+    output: &mut Vec<u8>,
+) -> Result<bool, ServerError>
+    requires moment { moment < 2 ^ 63 }
+    requires well_formed { is_well_formed (asked_of asked.now) ≡ true }
+    ensures served { result ≡ Ok true → (number : ℕ)
+        → IsServed number cache.old (asked_of asked.now) moment cache.new output.old.items output.new.items }
+    ensures len { OnOk result (vec_len output.new ≤ vec_len output.old + room_of (asked_of asked.now) cache.old) }
+    ensures refused { (result ≡ Ok false) ↔ (limit.bytes < min (taken_bound (asked_of asked.now) cache.old) (2 ^ 64 - 1)) }
+    ensures cache_unchanged { result ≡ Ok false → cache.new ≡ cache.old }
+    ensures output_unchanged { result ≡ Ok false → output.new.items ≡ output.old.items }
+    ensures only_memory { IsOkUnless result ServerError.Memory }
+    ensures cache_kept { OnErr result (cache.new ≡ cache.old) }
+    ensures output_kept { OnErr result (output.new.items ≡ output.old.items) }
+{
+    let room = room_for(asked, cache);
+    if limit.is_passed(room, asked, cache) {
+        return Ok(false);
+    }
+    output.reserve(room)?;
+    serve(asked, cache, moment, ahead, output)?;
+    Ok(true)
 }
 
 /// Serves what is asked at a moment, given guesses of the items of keys to come. Beside what the cache may take to store an

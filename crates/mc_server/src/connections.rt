@@ -2,11 +2,12 @@
 ghost use Rattle.std.specs.Prelude.{◌≡◌, ◌+◌, ◌-◌, ◌≤◌, ◌<◌, ◌^◌, ◌↔◌, ℕ, [], drop, length, min, Ok, IsTrue, IfOk, IsOkUnless, OnOk, OnErr};
 
 use crate::ahead::Ahead;
-use crate::answering::{bound_for, room_for, room_for_get, serve, serve_keys};
+use crate::answering::{bound_for, room_for_get, serve_keys, serve_within};
 use crate::limits::AnswerLimit;
 use crate::turns::{Limited, ServerError, Turn};
 use mc_cache::Cache;
-use mc_request_reader::{LentGet, Peek, Reader};
+use mc_request::{CommandLine, command_line};
+use mc_request_reader::{Front, LentGet, Peek, Reader};
 use mc_store::Store;
 use mc_text::{give_back, let_go};
 use std::alloc::Global;
@@ -158,20 +159,85 @@ impl Connection {
         if self.reader.is_short() {
             return Ok(Limited::Turned(Turn::Idle));
         }
+        self.turn_other(cache, moment, limit)
+    }
+
+    /// The same where what is first is not a good `get` or `gets`.
+    fn turn_other<S: Store + Drop>(
+        &mut self,
+        cache: &mut Cache<S>,
+        moment: u64,
+        limit: AnswerLimit,
+    ) -> Result<Limited, ServerError>
+        requires { moment < 2 ^ 63 }
+        ensures turn { (number : ℕ)
+            → IfOk result (λ limited. IsLimitedTurn number moment limited cache.old cache.new self.old self.new) }
+        ensures bounded { OnOk result (length self.new.output
+            ≤ length self.old.output + bound_of (rest_of self.old.reader []) cache.old) }
+        ensures little { OnOk result (KeepsLittle self.new.reader) }
+        ensures refused { (result ≡ Ok Refused)
+            ↔ (limit.bytes < min (bound_of (rest_of self.old.reader []) cache.old) (2 ^ 64 - 1)) }
+        ensures unchanged { result ≡ Ok Refused → self.new ≡ self.old }
+        ensures cache_unchanged { result ≡ Ok Refused → cache.new ≡ cache.old }
+        ensures only_memory { IsOkUnless result ServerError.Memory }
+        ensures cause { OnErr result (0 < length (rest_of self.old.reader [])) }
+        ensures err { OnErr result (self.new ≡ self.old) }
+        ensures cache_kept { OnErr result (cache.new ≡ cache.old) }
+    {
+        match self.reader.peek_lone() {
+            None => self.turn_peeked(cache, moment, limit),
+            Some(line) => match &command_line(line.content) {
+                CommandLine::Stores(_, _) | CommandLine::Refuses(_, _) => {
+                    self.turn_peeked(cache, moment, limit)
+                }
+                CommandLine::Alone(asked) => {
+                    let front = Front {
+                        size: line.size,
+                        closes: asked.ends(),
+                    };
+                    self.ahead.look_past(front, self.reader.unread(), cache);
+                    let ahead = &mut self.ahead;
+                    if !serve_within(asked, cache, moment, limit, ahead, &mut self.output)? {
+                        return Ok(Limited::Refused);
+                    }
+                    self.reader.consume(front);
+                    Ok(Limited::Turned(Turn::Took))
+                }
+            },
+        }
+    }
+
+    /// The same, by a look at what is first.
+    fn turn_peeked<S: Store + Drop>(
+        &mut self,
+        cache: &mut Cache<S>,
+        moment: u64,
+        limit: AnswerLimit,
+    ) -> Result<Limited, ServerError>
+        requires { moment < 2 ^ 63 }
+        ensures turn { (number : ℕ)
+            → IfOk result (λ limited. IsLimitedTurn number moment limited cache.old cache.new self.old self.new) }
+        ensures bounded { OnOk result (length self.new.output
+            ≤ length self.old.output + bound_of (rest_of self.old.reader []) cache.old) }
+        ensures little { OnOk result (KeepsLittle self.new.reader) }
+        ensures refused { (result ≡ Ok Refused)
+            ↔ (limit.bytes < min (bound_of (rest_of self.old.reader []) cache.old) (2 ^ 64 - 1)) }
+        ensures unchanged { result ≡ Ok Refused → self.new ≡ self.old }
+        ensures cache_unchanged { result ≡ Ok Refused → cache.new ≡ cache.old }
+        ensures only_memory { IsOkUnless result ServerError.Memory }
+        ensures cause { OnErr result (0 < length (rest_of self.old.reader [])) }
+        ensures err { OnErr result (self.new ≡ self.old) }
+        ensures cache_kept { OnErr result (cache.new ≡ cache.old) }
+    {
         let front = match &self.reader.peek() {
             Peek::Closed => return Ok(Limited::Turned(Turn::Closing)),
             Peek::More => return Ok(Limited::Turned(Turn::Idle)),
             Peek::First(asked, front) => {
-                let unread = self.reader.unread();
-                if front.size > 0 && front.size < unread.len() {
-                    self.ahead.look(unread, cache);
-                }
-                let room = room_for(asked, cache);
-                if limit.is_passed(room, asked, cache) {
+                self.ahead.look_past(*front, self.reader.unread(), cache);
+                let ahead = &mut self.ahead;
+                if !serve_within(asked, cache, moment, limit, ahead, &mut self.output)? {
                     return Ok(Limited::Refused);
                 }
-                self.output.reserve(room)?;
-                serve(asked, cache, moment, &mut self.ahead, &mut self.output)?;
                 *front
             }
         };

@@ -1,6 +1,5 @@
 use Rattle.std.proofs.Common.{◌≡◌, ◌≤◌, ℕ, List, length, drop, length-append, length-drop, ap, arith}
 use Rattle.std.proofs.lemmas.List.{drop-append-le}
-use Rattle.mc_request.specs.LinesSeen.{asked_of}
 use Rattle.mc_request_reader.specs.Peeks.{get_of}
 use Rattle.mc_request_reader.proofs.ReaderLemmas.{shown_is_first, shown_closes, shown_waits}
 use Rattle.mc_request.specs.declared.parts.Taken.{Taken}
@@ -10,48 +9,6 @@ use Rattle.mc_server.proofs.RoomLemmas.{room_within}
 use Rattle.mc_server.proofs.connections.Connection.turn_within.Goals as goal
 
 -- the answer goes after what was sent
-pub invariant_of-self-2 : goal.invariant_of-self-2
-invariant_of-self-2 g c =
-    let served = (c.in_ok-serve-in-First.ensures.served 0).1 in
-    let longer : length c.reserve-in-First.new.self.items ≤ length c.serve.new.output.items = rw (served.answered, length-append) (omega arith) in
-    omega (arith, c.serve.new.output.ok, c.reserve-in-First.new.self.ok, longer)
-
--- what the look showed is served and taken
-pub returns-clause-turn : goal.returns-clause-turn
-returns-clause-turn g c number =
-    let seen = rw c.in-First.is at c.peek.ensures.seen in
-    let all = c.in_ok-serve-in-First.ensures.served number in
-    let served = all.1 in
-    let sent : c.self.inside.sent ≤ length c.self.inside.output.items = omega (arith, c.self.inside.output.ok) in (
-      asked_of c.in-First.asked,
-      record {
-        first = rw (← c.self.view_is) (shown_is_first _ _ _ _ seen c.consume-2.ensures.taken);
-        closed = shown_closes _ _ _ _ seen c.consume-2.ensures.taken;
-        served = (
-          all.0,
-          record {
-            legal = served.legal;
-            cache = served.cache;
-            answered = rw (← c.self.view_is, served.answered, c.reserve-in-First.ensures.items) (drop-append-le _ _ _ sent);
-          },
-        );
-      },
-    )
-
--- no more is written than was told
-pub returns-clause-bounded : goal.returns-clause-bounded
-returns-clause-bounded g c =
-    let seen = rw c.in-First.is at c.peek.ensures.seen in
-    let good = rw c.in-First.is at c.peek.ensures.well_formed in
-    let within = room_within (asked_of c.in-First.asked) c.args.cache.now good in
-    let len = c.in_ok-serve-in-First.ensures.len in
-    let output : drop c.self.inside.sent c.self.inside.output.items ≡ c.args.self.now.output = ap (λ (s : ConnectionState). s.output) c.self.view_is in
-    let size = ap (λ (bytes : List ℕ). length bytes) output in
-    let waits = shown_waits _ _ _ seen in
-    let bound : bound_of _ c.args.cache.now ≡ taken_bound (asked_of c.in-First.asked) c.args.cache.now = ap (λ (ts : List Taken). bound_of ts c.args.cache.now) waits in
-    rw (← c.self.view_is) (omega (arith, within, len, bound, c.reserve-in-First.ensures.items, length-drop c.self.inside.sent c.serve.new.output.items, length-drop c.self.inside.sent c.self.inside.output.items, c.serve.new.output.ok, c.self.inside.output.ok, c.reserve-in-First.new.self.ok))
-
--- the same of a retrieval that was shown by itself
 pub invariant_of-self-in-Some : goal.invariant_of-self-in-Some
 invariant_of-self-in-Some g c =
     let served = (c.serve_keys.ensures.served 0).1 in

@@ -1,0 +1,48 @@
+use Rattle.std.proofs.Common.{◌≡◌, ◌≤◌, Bool, List, Ok, length, length-append, length-drop, ap, arith}
+use Rattle.std.proofs.lemmas.List.{drop-append-le}
+use Rattle.mc_request.specs.LinesSeen.{asked_of}
+use Rattle.mc_request_reader.proofs.ReaderLemmas.{shown_is_first, shown_closes, shown_waits}
+use Rattle.mc_request.specs.declared.parts.Taken.{Taken}
+use Rattle.mc_server.specs.Rooms.{bound_of, taken_bound}
+use Rattle.mc_server.proofs.RoomLemmas.{room_within}
+use Rattle.mc_server.proofs.connections.Connection.turn_peeked.Goals as goal
+
+-- the answer goes after what was sent
+pub invariant_of-self-2 : goal.invariant_of-self-2
+invariant_of-self-2 g c =
+    let served = (c.in_ok-serve_within-in-First.ensures.served (ap (λ (b : Bool). Ok b) c.if-not-branch.false) 0).1 in
+    let longer : length c.self.inside.output.items ≤ length c.serve_within.new.output.items = rw (served.answered, length-append) (omega arith) in
+    omega (arith, c.serve_within.new.output.ok, c.self.inside.output.ok, longer)
+
+-- what the look showed is served and taken
+pub returns-clause-turn : goal.returns-clause-turn
+returns-clause-turn g c number =
+    let seen = rw c.in-First.is at c.peek.ensures.seen in
+    let all = c.in_ok-serve_within-in-First.ensures.served (ap (λ (b : Bool). Ok b) c.if-not-branch.false) number in
+    let served = all.1 in
+    let sent : c.self.inside.sent ≤ length c.self.inside.output.items = omega (arith, c.self.inside.output.ok) in (
+      asked_of c.in-First.asked,
+      record {
+        first = rw (← c.self.view_is) (shown_is_first _ _ _ _ seen c.consume.ensures.taken);
+        closed = shown_closes _ _ _ _ seen c.consume.ensures.taken;
+        served = (
+          all.0,
+          record {
+            legal = served.legal;
+            cache = served.cache;
+            answered = rw (← c.self.view_is, served.answered) (drop-append-le _ _ _ sent);
+          },
+        );
+      },
+    )
+
+-- no more is written than was told
+pub returns-clause-bounded : goal.returns-clause-bounded
+returns-clause-bounded g c =
+    let seen = rw c.in-First.is at c.peek.ensures.seen in
+    let good = rw c.in-First.is at c.peek.ensures.well_formed in
+    let within = room_within (asked_of c.in-First.asked) c.args.cache.now good in
+    let len = c.in_ok-serve_within-in-First.ensures.len in
+    let waits = shown_waits _ _ _ seen in
+    let bound : bound_of _ c.args.cache.now ≡ taken_bound (asked_of c.in-First.asked) c.args.cache.now = ap (λ (ts : List Taken). bound_of ts c.args.cache.now) waits in
+    rw (← c.self.view_is) (omega (arith, within, len, bound, length-drop c.self.inside.sent c.serve_within.new.output.items, length-drop c.self.inside.sent c.self.inside.output.items, c.serve_within.new.output.ok, c.self.inside.output.ok))
