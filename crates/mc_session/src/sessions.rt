@@ -103,15 +103,17 @@ impl Session {
         ensures links_kept { OnErr result (states links.new ≡ states links.old) }
         ensures emptied { queue.new.items ≡ [] }
     {
-        let (kept, front) = match self.reader.peek() {
+        if self.reader.is_short() {
+            return Ok(Turn::Idle);
+        }
+        let (kept, front) = match &self.reader.peek() {
             Peek::Closed => return Ok(Turn::Closing),
             Peek::More => return Ok(Turn::Idle),
-            Peek::First(_, _) if self.is_marked() => return Ok(Turn::Waiting),
             Peek::First(asked, front) => {
-                if is_any_marked(links, &asked, ring) {
+                if self.is_marked() || is_any_marked(links, asked, ring) {
                     return Ok(Turn::Waiting);
                 }
-                (route(alloc, &asked, ring, queue)?, front)
+                (route(alloc, asked, ring, queue)?, *front)
             }
         };
         let commands = queue.make_contiguous();
@@ -138,8 +140,8 @@ impl Session {
     pub fn can_turn(&self, ring: &Ring, links: &[Link]) -> bool
         ensures { IsTrue result ↔ IsReady ring.now (states links.now) self.now }
     {
-        match self.reader.peek() {
-            Peek::First(asked, _) => !self.is_marked() && !is_any_marked(links, &asked, ring),
+        match &self.reader.peek() {
+            Peek::First(asked, _) => !self.is_marked() && !is_any_marked(links, asked, ring),
             Peek::More | Peek::Closed => false,
         }
     }
@@ -149,8 +151,8 @@ impl Session {
     pub fn waits_for(&self, ring: &Ring, place: usize) -> bool
         ensures { result ≡ waits_for ring.now place (rest_of self.now.reader []) }
     {
-        match self.reader.peek() {
-            Peek::First(asked, _) => goes_to(&asked, ring, place),
+        match &self.reader.peek() {
+            Peek::First(asked, _) => goes_to(asked, ring, place),
             Peek::More => false,
             Peek::Closed => false,
         }
