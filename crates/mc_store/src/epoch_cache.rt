@@ -16,7 +16,7 @@ use std::mem;
 ///
 /// The entries of the cache's own epoch are live, and come before all others. [`EpochCache::clear`] begins the next epoch, in which
 /// all entries are dead. What is dead is not counted and not found. Dead entries go from the back with later puts, or where a call
-/// other than [`EpochCache::peek`] asks for their key.
+/// other than [`EpochCache::peek`] and [`EpochCache::find`] asks for their key.
 ///
 /// Contracts see the live items, the dead entries, and the most items that there may be.
 #[derive(Drop)]

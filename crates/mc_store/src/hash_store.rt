@@ -55,9 +55,8 @@ pub type TableStore<H> = HashStore<Table<Key, Held, H>>;
 ///
 /// # Work
 ///
-/// A call with a key hashes it once and searches once, but `put_front`, which does both twice, and a call with a guess that is right, which
-/// does neither. `len`, `used`, `longest`, `front`,
-/// `drop_last` and `clear` do neither. So none of these takes longer where more items are held, as long as the hash
+/// A call with a key hashes it once and searches once. `put_front` does both twice, and a call with a guess that is right does neither.
+/// `len`, `used`, `longest`, `front`, `drop_last` and `clear` do neither. So none of these takes longer where more items are held, as long as the hash
 /// spreads the keys, but for what is said of `put_front` below.
 ///
 /// `clear` begins a new epoch, which makes all entries dead. They are not counted and not found, and they are let go later: by

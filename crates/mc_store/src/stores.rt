@@ -65,8 +65,8 @@ pub trait Store {
         false
     }
 
-    /// Guesses for each key which item it has, for [`Store::bring_by`], if [`Store::guesses`]; else no guess changes. 0 is no guess. It gives
-    /// a number made of what was read, which says nothing: so no compiler leaves the reading out.
+    /// Guesses which item each key has, if [`Store::guesses`]; else no guess changes. 0 is no guess. [`Store::bring_by`] and the other calls
+    /// that are given a guess use it. The result is made of what was read, so that no compiler leaves the reading out. It says nothing else.
     fn guess_all(&self, _keys: &[&[u8]], _guesses: &mut [u32]) -> u8 {
         0
     }

@@ -17,8 +17,8 @@ const LINES: [usize; 4] = [0, 64, 128, 192];
 /// The most keys whose entries are guessed at once.
 const AT_ONCE: usize = 32;
 
-/// Some bytes of an entry's key and of its value, joined by exclusive or: 0 if there is none. They are the first of each line of memory that
-/// these begin with, and the last of the value. Where key and value lie in memory of their own, that is asked for.
+/// The first byte of an entry's key, those at `LINES` of its value and the value's last, joined by exclusive or; 0 if there is no entry. So
+/// the processor asks for the memory that key and value have of their own.
 #[inline]
 fn bytes_of(entry: Option<(&Key, &Held)>) -> u8 {
     let Some((key, held)) = entry else {

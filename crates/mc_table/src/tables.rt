@@ -21,9 +21,9 @@ use std::mem;
 ///
 /// # Work
 ///
-/// A call with a key hashes it once and searches once, but `put`, which hashes it again if the key is not there, and a call with a guess
-/// that is right, which does neither. The others hash nothing. A search passes the entries of one bucket. The constructor settles how many buckets there are: at least one for each
-/// entry that it takes room for (up to 2^31). So no call but `clear` does work that grows with the entries, as long as no more are in the
+/// A call with a key hashes it once and searches once. `put` hashes it again if the key is not there, and a call with a guess that is
+/// right does neither. The others hash nothing. A search passes the entries of one bucket. The constructor settles how many buckets there
+/// are: at least one for each entry that it takes room for (up to 2^31). So no call but `clear` does work that grows with the entries, as long as no more are in the
 /// table than it was made for and hashes spread. Nothing is ever laid out anew.
 ///
 /// # Memory

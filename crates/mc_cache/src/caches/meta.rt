@@ -22,7 +22,7 @@ use mc_request::{MetaGet, Show};
 use mc_store::Store;
 
 impl<S: Store + Drop> Cache<S> {
-    /// The command `mg`, given a guess of the key's item. The key is looked up once.
+    /// The command `mg`, given a guess of the key's item.
     pub(super) fn show(&mut self, key: &[u8], guess: u32, get: &MetaGet, moment: u64) -> Reply<()>
         requires moment { moment < 2 ^ 63 }
         requires key { is_key key.now ≡ true }
