@@ -128,11 +128,11 @@ impl Reader {
         self.unread.peek_get()
     }
 
-    /// The line of the first request or fault that has come whole, if its end is known and its name is not one of a storage command: so
-    /// who asks [`command_line`](mc_request::command_line) what it says has it where it was written. [`Reader::peek`] hands it on by
-    /// copies. None says nothing of what is first.
+    /// The first line, if its end is known and it begins like one that no data block follows. What it asks for, by
+    /// [`command_line`](mc_request::command_line), is then served where that wrote it: [`Reader::peek`] moves it. None says nothing of
+    /// what is first.
     ///
-    /// No more is read than its first two bytes. It takes no memory, and copies nothing.
+    /// Its first two bytes and its last are read. It takes no memory, and copies nothing.
     #[inline(always)]
     pub fn peek_lone(&self) -> Option<LentLine<'_>>
         ensures seen { IfSome result (λ line. (what : Taken) → IsAlone line what → Shows self.now what (front_by line what)) }

@@ -149,7 +149,7 @@ pub fn first_get(unread: &[u8], searched: Searched) -> Option<(WordIter<'_>, boo
     }
 }
 
-/// The first line of the bytes, of which so many were searched, where its end is known and its name is not one of a storage command.
+/// The first line of the bytes, of which so many were searched, if its end is known and it begins like one that no data block follows.
 #[inline(always)]
 pub fn first_lone(unread: &[u8], searched: Searched) -> Option<LentLine<'_>>
     requires { IsSearched searched unread.now }

@@ -228,7 +228,7 @@ impl Unread {
         }
     }
 
-    /// The first line, where its end is known and its name is not one of a storage command.
+    /// The first line, if its end is known and it begins like one that no data block follows.
     #[inline(always)]
     pub fn peek_lone(&self) -> Option<LentLine<'_>>
         ensures seen { IfSome result (λ line. (what : Taken) → IsAlone line what → Shows self.now what (front_by line what)) }

@@ -55,15 +55,7 @@ impl Ahead {
         }
     }
 
-    /// The same, where something comes after the first request or fault of the text, which ends there.
-    #[inline]
-    pub fn look_past<S: Store + Drop>(&mut self, front: Front, text: &[u8], cache: &Cache<S>) {
-        if front.size > 0 && front.size < text.len() {
-            self.look(text, cache);
-        }
-    }
-
-    /// The same, where it is known that it is to be done.
+    /// The look, where it is known that it is to be done.
     #[inline(never)]
     fn guess<S: Store + Drop>(&mut self, text: &[u8], cache: &Cache<S>) {
         let first = FirstKeys::of(text);
@@ -76,6 +68,14 @@ impl Ahead {
         }
         if let Some(guesses) = self.guesses.get_mut(..keys.len()) {
             self.read ^= cache.guess_all(keys, guesses);
+        }
+    }
+
+    /// A look, if something comes after the first request or fault of the text, which ends there.
+    #[inline]
+    pub fn look_past<S: Store + Drop>(&mut self, front: Front, text: &[u8], cache: &Cache<S>) {
+        if front.size > 0 && front.size < text.len() {
+            self.look(text, cache);
         }
     }
 }

@@ -242,7 +242,8 @@ impl Connection {
             }
         };
         self.reader.consume(front);
-        Ok(Limited::Turned(Turn::Took))
+        let turn = Turn::Took;
+        Ok(Limited::Turned(turn))
     }
 
     /// The answers that were not taken out.

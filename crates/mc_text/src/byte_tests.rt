@@ -10,7 +10,7 @@ use std::simd::prelude::*;
 /// How many bytes of a short text are looked at together.
 const HALF: usize = 8;
 
-/// The one byte above those of control that is one of them.
+/// The control byte above the others.
 const DELETE: u8 = 127;
 
 /// Whether each byte may be in a plain key.
@@ -28,7 +28,8 @@ pub(crate) fn are_line_bytes(text: &[u8]) -> bool
     are_from(b' ', text)
 }
 
-/// Whether no byte is below the least, or 127. They are looked at in steps of 16, and the last 16 together, so that some may be twice.
+/// Whether each byte is at least this one, and not 127. They are looked at in steps of 16, and the last 16 together, so that some may
+/// be looked at twice.
 fn are_from(least: u8, text: &[u8]) -> bool
     ensures { result ≡ list_all (is_from least) text.now }
 {

@@ -1,7 +1,7 @@
 //! Where a byte is first.
-ghost use Rattle.std.specs.Prelude.{◌≡◌, ◌≤◌, ◌==◌, not, length, take};
+ghost use Rattle.std.specs.Prelude.{◌≡◌, ◌≤◌, ◌-◌, ◌==◌, not, length, take};
 ghost use Rattle.std.specs.List.{prefix_len};
-ghost use Rattle.memchr.specs.Find.{IsFirstByte, is_byte};
+ghost use Rattle.memchr.specs.Find.{IsFirstByte, Nowhere, Passes, is_byte};
 
 use memchr::memchr;
 use std::simd::prelude::*;
@@ -9,17 +9,18 @@ use std::simd::prelude::*;
 /// How many bytes are looked at together. In fewer a byte is found sooner one by one.
 pub(crate) const LANES: usize = 16;
 
-/// After so many bytes the search is one that takes longer to begin with, and is faster then.
+/// After so many bytes a search that takes longer to begin with is faster.
 const FAR: usize = 64;
 
-/// Where a byte is first. Words and lines are short, so the first bytes are looked at in steps of 16.
+/// Where a byte is first. Words and lines are short, so the first bytes are looked at in steps of 16, and the last 16 together, so that
+/// some may be twice.
 #[inline]
 pub(crate) fn first_place(byte: u8, text: &[u8]) -> Option<usize>
     ensures { IsFirstByte (is_byte byte) text.now result }
 {
     let mut passed = 0;
     let mut rest = text;
-    while rest.len() >= LANES && passed < FAR {
+    while rest.len() > LANES && is_near(passed, rest.len()) {
         let place = place_in_lanes(byte, rest);
         if place < LANES {
             return Some(passed + place);
@@ -28,9 +29,35 @@ pub(crate) fn first_place(byte: u8, text: &[u8]) -> Option<usize>
         rest = more;
         passed += LANES;
     }
+    if rest.len() <= LANES && text.len() >= LANES {
+        return place_in_last(byte, text);
+    }
     match memchr(byte, rest) {
         Some(place) => Some(passed + place),
         None => None,
+    }
+}
+
+/// Whether the search goes on in steps, after so many bytes, where so many are left. Whichever it says costs time, and nothing else.
+#[inline(always)]
+fn is_near(passed: usize, left: usize) -> bool {
+    passed < FAR || left / 2 < LANES
+}
+
+/// Where a byte is first, if it is among the last 16.
+#[inline(always)]
+fn place_in_last(byte: u8, text: &[u8]) -> Option<usize>
+    requires long { LANES ≤ length text.now }
+    requires before { Nowhere (Passes (is_byte byte) text.now) 0 (length text.now - LANES) }
+    ensures { IsFirstByte (is_byte byte) text.now result }
+{
+    let from = text.len() - LANES;
+    let (_, last) = text.split_at(from);
+    let place = place_in_lanes(byte, last);
+    if place < LANES {
+        Some(from + place)
+    } else {
+        None
     }
 }
 
