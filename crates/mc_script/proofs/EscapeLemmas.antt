@@ -1,5 +1,5 @@
 -- Escapes, and what they stand for.
-use Rattle.std.proofs.Common.{◌≡◌, ℕ, suc, ◌+◌, ◌-◌, ◌*◌, ◌/◌, ◌%◌, ◌<◌, ◌≤◌, ◌&&◌, not, Bool, true, false, cond, List, [], ◌∷◌, ◌++◌, length, take, drop, get_or, Option, Some, None, refl, sym, ap, ◌∙◌, arith, eqb, nat_le, append-nil, append_assoc}
+use Rattle.std.proofs.Common.{◌≡◌, ℕ, zero, suc, ◌+◌, ◌-◌, ◌*◌, ◌/◌, ◌%◌, ◌<◌, ◌≤◌, ◌&&◌, not, Bool, true, false, cond, List, [], ◌∷◌, ◌++◌, length, take, drop, get_or, Option, Some, None, refl, sym, ap, ◌∙◌, arith, eqb, nat_le, append-nil, append_assoc}
 use Rattle.std.proofs.Math.Seq.{take-add}
 use Rattle.std.proofs.lemmas.List.{length-take-le, take-append-drop, take_rest}
 use Rattle.std.proofs.lemmas.List.Sums.{AllPass-from_list_all, position_or_len_is, prefix_len-le-length, prefix_len_is}
@@ -107,24 +107,15 @@ escape_of-plain : (b : ℕ) → is_plain b ≡ true → escape_of b ≡ b ∷ []
 unfolding escape_of
 escape_of-plain b plain = grind (arith, plain)
 
--- one such byte in front of others
-pub escaped_one : (bytes : List ℕ) → 0 < length bytes → is_plain (get_or bytes 0 0) ≡ true → escaped (take 1 bytes) ≡ get_or bytes 0 0 ∷ []
-escaped_one [] some plain = absurd (omega arith)
-escaped_one (b ∷ bs) some plain = ap (λ (xs : List ℕ). xs ++ []) (escape_of-plain b plain)
-
--- one byte more of a run
-next_in : (n : ℕ) → 1 + n ≡ suc n
-next_in n = omega arith
-
--- a run of bytes that stand for themselves
-pub escaped_run : (bytes : List ℕ) → escaped (take (prefix_len is_plain bytes) bytes) ≡ take (prefix_len is_plain bytes) bytes
-escaped_run [] = refl
-escaped_run (b ∷ bs) =
-    let n = prefix_len is_plain bs in
-    (elim (is_plain b) as (λ v. is_plain b ≡ v → escaped (take (cond v (1 + n) 0) (b ∷ bs)) ≡ take (cond v (1 + n) 0) (b ∷ bs)) [
-      | true ↦ λ e. rw (next_in n) (ap (λ (xs : List ℕ). xs ++ escaped (take n bs)) (escape_of-plain b e) ∙ ap (λ (xs : List ℕ). b ∷ xs) (escaped_run bs))
-      | false ↦ λ _. refl
-    ]) refl
+-- of a run of bytes that stand for themselves, so many
+pub escaped_run : (n : ℕ) (bytes : List ℕ) → n ≤ prefix_len is_plain bytes → escaped (take n bytes) ≡ take n bytes
+escaped_run zero bytes le = refl
+escaped_run (suc n) [] le = absurd (omega arith)
+escaped_run (suc n) (b ∷ bs) le =
+    (elim (is_plain b) as (λ v. is_plain b ≡ v → suc n ≤ cond v (1 + prefix_len is_plain bs) 0 → escape_of b ++ escaped (take n bs) ≡ b ∷ take n bs) [
+      | true ↦ λ e some. ap (λ (xs : List ℕ). xs ++ escaped (take n bs)) (escape_of-plain b e) ∙ ap (λ (xs : List ℕ). b ∷ xs) (escaped_run n bs (omega arith))
+      | false ↦ λ _ none. absurd (omega arith)
+    ]) refl le
 
 -- a run that goes on from the first of two texts to the second
 pub run_goes_on : (xs ys : List ℕ) → prefix_len is_plain xs ≡ length xs → prefix_len is_plain (xs ++ ys) ≡ length xs + prefix_len is_plain ys
@@ -154,6 +145,10 @@ run_past n xs tested =
 joined : (xs ys : List ℕ) (o : Option (List ℕ)) → option_map (λ more. xs ++ more) (option_map (λ more. ys ++ more) o) ≡ option_map (λ more. (xs ++ ys) ++ more) o
 joined xs ys None = refl
 joined xs ys (Some zs) = ap (λ (bs : List ℕ). Some bs) (sym (append_assoc xs ys zs))
+
+-- one byte more of a run
+next_in : (n : ℕ) → 1 + n ≡ suc n
+next_in n = omega arith
 
 -- a run of bytes before a backslash stands for itself
 run_is : (text : List ℕ) → text_of text ≡ option_map (λ more. take (position_or_len (λ b. eqb b 92) text) text ++ more) (text_of (drop (position_or_len (λ b. eqb b 92) text) text))

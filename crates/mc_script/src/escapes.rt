@@ -1,18 +1,19 @@
 //! Escapes: how any bytes are in a line of printable ones.
-ghost use Rattle.std.specs.Prelude.{◌≡◌, ◌<◌, ◌≤◌, ◌==◌, ◌&&◌, ◌++◌, ◌∷◌, ℕ, nat_le, nat_lt, List, Some, length, IfOk, IfSome, OnOk, OnErr, MatchOption, All, [], false, take, vec_len};
+ghost use Rattle.std.specs.Prelude.{◌≡◌, ◌<◌, ◌≤◌, ◌+◌, ◌==◌, ◌&&◌, ◌++◌, ◌∷◌, ℕ, nat_le, List, Some, length, IfOk, IfSome, OnOk, OnErr, MatchOption, All, [], false, take, vec_len};
 ghost use Rattle.std.specs.List.{list_all, position_or_len, prefix_len};
 ghost use Rattle.std.specs.Option.{option_map};
-ghost use Rattle.mc_script.specs.Escapes.{client_line, escape_of, escaped, is_plain, named_line, hex_digit, hex_value, letter_value, text_of, GivesByte, GivesNoByte, ReadsFront, Between, Backslash, NoDigit};
+ghost use Rattle.mc_script.specs.Escapes.{client_line, escape_of, escaped, is_plain, named_line, hex_value, letter_value, text_of, GivesByte, GivesNoByte, ReadsFront, Between, Backslash, NoDigit};
 
+use crate::escape_tables::{DIGITS, NO_DIGIT, WIDEST, escape_of};
 use itoa::Buffer;
 use memchr::memchr;
 use std::alloc::{AllocError, Global};
 
-/// How many bytes of a run are tested one by one before blocks are, since most runs are short.
-const FEW: usize = 8;
-
-/// How many bytes are tested together.
+/// How many bytes are tested together, or escaped.
 const BLOCK: usize = 16;
+
+/// The most bytes that their escapes have.
+const ROOM: usize = WIDEST * BLOCK;
 
 /// Puts bytes at the end of a text, each escaped: 32 to 126 as they are but for the backslash, which is doubled, 13
 /// and 10 as `\r` and `\n`, and any other as `\x` and two small hexadecimal digits. An error leaves the text as it
@@ -89,8 +90,8 @@ fn push_each_escaped(bytes: &[u8], out: &mut Vec<u8>) -> Result<(), AllocError>
     Ok(())
 }
 
-/// Puts what a text begins with at the end of another, escaped: a run of bytes that stand for themselves, or else one
-/// byte. The answer is how many bytes these are. An error leaves the other text as it was.
+/// Puts what a text begins with at the end of another, escaped: the blocks in front whose bytes stand for themselves, or else the first
+/// bytes, as many as a block has. The answer is how many bytes these are. An error leaves the other text as it was.
 fn push_front(bytes: &[u8], out: &mut Vec<u8>) -> Result<usize, AllocError>
     requires { 0 < length bytes.now }
     ensures escaped { IfOk result (λ count. out.new.items ≡ out.old.items ++ escaped (take count bytes.now)) }
@@ -98,67 +99,57 @@ fn push_front(bytes: &[u8], out: &mut Vec<u8>) -> Result<usize, AllocError>
     ensures inside { IfOk result (λ count. count ≤ length bytes.now) }
     ensures unchanged { OnErr result (out.new.items ≡ out.old.items) }
 {
-    if !is_plain(bytes[0]) {
-        push_escape(bytes[0], out)?;
-        return Ok(1);
+    let count = plain_blocks(bytes);
+    if count == 0 {
+        return push_block(bytes, out);
     }
-    if !begins_plain(&bytes[1..]) {
-        out.push(bytes[0])?;
-        return Ok(1);
-    }
-    let count = plain_length(bytes);
     let (run, _) = bytes.split_at(count);
     out.extend_from_slice(run)?;
     Ok(count)
 }
 
-/// Whether a text begins with a byte that stands for itself.
-fn begins_plain(bytes: &[u8]) -> bool
-    ensures { result ≡ nat_lt 0 (prefix_len is_plain bytes.now) }
+/// Puts the first bytes of a text, as many as a block has or all of them, at the end of another, escaped one by one. The answer is how many
+/// they are. An error leaves the other text as it was.
+fn push_block(bytes: &[u8], out: &mut Vec<u8>) -> Result<usize, AllocError>
+    requires { 0 < length bytes.now }
+    ensures escaped { IfOk result (λ count. out.new.items ≡ out.old.items ++ escaped (take count bytes.now)) }
+    ensures some { IfOk result (λ count. 0 < count) }
+    ensures inside { IfOk result (λ count. count ≤ length bytes.now) }
+    ensures unchanged { OnErr result (out.new.items ≡ out.old.items) }
 {
-    match bytes {
-        [byte, ..] => is_plain(*byte),
-        [] => false,
+    let (block, _) = bytes.split_at(bytes.len().min(BLOCK));
+    let mut room = [0; ROOM];
+    let mut used = 0;
+    for byte in block {
+        used = put_escape(*byte, &mut room, used);
     }
+    let (escapes, _) = room.split_at(used);
+    out.extend_from_slice(escapes)?;
+    Ok(block.len())
 }
 
-/// How many bytes at the beginning of a text stand for themselves. The first few are tested one by one, those after them
-/// by blocks.
-fn plain_length(bytes: &[u8]) -> usize
-    ensures { result ≡ prefix_len is_plain bytes.now }
+/// Writes the escape of a byte at a place, and says where it ends.
+#[inline(always)]
+fn put_escape(byte: u8, room: &mut [u8; ROOM], at: usize) -> usize
+    requires { at + WIDEST ≤ ROOM }
+    ensures escape { take result room.new ≡ take at room.old ++ escape_of byte }
+    ensures size { result ≤ at + WIDEST }
 {
-    let (front, rest) = bytes.split_at(bytes.len().min(FEW));
-    let count = count_plain(front);
-    if count < front.len() {
-        return count;
-    }
-    count + count_plain_by_blocks(rest)
+    let (escape, size) = escape_of(byte);
+    room[at..at + WIDEST].copy_from_slice(escape);
+    at + size
 }
 
-/// How many bytes at the beginning of a text stand for themselves, tested by blocks.
-fn count_plain_by_blocks(bytes: &[u8]) -> usize
-    ensures { result ≡ prefix_len is_plain bytes.now }
+/// How many bytes are in the blocks in front whose bytes all stand for themselves.
+fn plain_blocks(bytes: &[u8]) -> usize
+    ensures { result ≤ prefix_len is_plain bytes.now }
 {
     let mut rest = bytes;
     while begins_with_plain_block(rest) {
         let (_, more) = rest.split_at(BLOCK);
         rest = more;
     }
-    bytes.len() - rest.len() + count_plain(rest)
-}
-
-/// How many bytes at the beginning of a text stand for themselves, tested one by one.
-fn count_plain(bytes: &[u8]) -> usize
-    ensures { result ≡ prefix_len is_plain bytes.now }
-{
-    let mut count = 0;
-    for byte in bytes {
-        if !is_plain(*byte) {
-            return count;
-        }
-        count += 1;
-    }
-    count
+    bytes.len() - rest.len()
 }
 
 /// Whether a text begins with a block of bytes that stand for themselves.
@@ -201,33 +192,6 @@ fn push_parts(name: &[u8], number: u64, bytes: &[u8], out: &mut Vec<u8>) -> Resu
     out.extend_from_slice(b": ")?;
     push_escaped(bytes, out)?;
     out.extend_from_slice(b"\n")
-}
-
-/// Puts the escape of a byte that does not stand for itself at the end of a text. An error leaves the text as it was.
-#[tactic(auto, unfolding(crate::specs::Escapes::escape_of))]
-fn push_escape(byte: u8, out: &mut Vec<u8>) -> Result<(), AllocError>
-    requires { is_plain byte ≡ false }
-    ensures escape { OnOk result (out.new.items ≡ out.old.items ++ escape_of byte) }
-    ensures unchanged { OnErr result (out.new.items ≡ out.old.items) }
-{
-    match byte {
-        b'\\' => out.extend_from_slice(b"\\\\"),
-        b'\r' => out.extend_from_slice(b"\\r"),
-        b'\n' => out.extend_from_slice(b"\\n"),
-        _ => out.extend_from_slice(&[b'\\', b'x', hex_digit(byte / 16), hex_digit(byte % 16)]),
-    }
-}
-
-/// The small hexadecimal digit of a number.
-fn hex_digit(number: u8) -> u8
-    requires { number < 16 }
-    ensures { result ≡ hex_digit number }
-{
-    if number < 10 {
-        b'0' + number
-    } else {
-        b'a' - 10 + number
-    }
 }
 
 /// Puts what a text begins with at the end of some bytes: its bytes up to the first backslash, or what one escape stands
@@ -319,17 +283,12 @@ fn cut_byte(text: &[u8]) -> Option<(u8, &[u8])>
 }
 
 /// The value of a hexadecimal digit.
-#[tactic(auto, unfolding(crate::specs::Escapes::hex_value))]
 pub fn hex_value(digit: u8) -> Option<u8>
     ensures value { result ≡ hex_value digit }
     ensures small { IfSome result (λ value. value < 16) }
 {
-    match digit {
-        b'0'..=b'9' => Some(digit - b'0'),
-        b'a'..=b'f' => Some(digit - b'a' + 10),
-        b'A'..=b'F' => Some(digit - b'A' + 10),
-        _ => None,
-    }
+    let value = DIGITS[digit as usize];
+    if value < NO_DIGIT { Some(value) } else { None }
 }
 
 /// The byte that a letter after a backslash stands for.

@@ -13,6 +13,7 @@
 #![tactic(auto)]
 
 mod errors;
+mod escape_tables;
 mod escapes;
 mod events;
 mod input;

@@ -1,10 +1,9 @@
 use Rattle.std.proofs.Common.{◌∙◌, length, ap, sym, arith}
 use Rattle.std.proofs.lemmas.List.{length-drop}
-use Rattle.std.proofs.lemmas.List.Sums.{prefix_len-le-length}
 use Rattle.std.specs.List.{prefix_len}
 use Rattle.mc_script.specs.Escapes.{is_plain}
 use Rattle.mc_script.proofs.EscapeLemmas.{run_past}
-use Rattle.mc_script.proofs.escapes.count_plain_by_blocks.Goals as goal
+use Rattle.mc_script.proofs.escapes.plain_blocks.Goals as goal
 
 pub loop-rest-smaller : goal.loop-rest-smaller
 loop-rest-smaller c =
@@ -23,9 +22,6 @@ loop-rest-preserved c =
 
 pub overflow_sub-result : goal.overflow_sub-result
 overflow_sub-result c = c.loop-rest.invariant.0
-
-pub overflow_add-result : goal.overflow_add-result
-overflow_add-result c = omega (arith, c.loop-rest.invariant.0, c.loop-rest.invariant.1, prefix_len-le-length is_plain c.loop-rest.rest.now)
 
 pub returns : goal.returns
 returns c = omega (arith, c.loop-rest.invariant.0, c.loop-rest.invariant.1)

@@ -1,7 +1,7 @@
 use Rattle.std.proofs.Common.{◌≡◌, ◌+◌, ◌≤◌, length}
 use Rattle.std.specs.List.{prefix_len}
 use Rattle.mc_script.specs.Escapes.{is_plain}
-use Rattle.mc_script.proofs.escapes.count_plain_by_blocks.Given as goal
+use Rattle.mc_script.proofs.escapes.plain_blocks.Given as goal
 
 -- the run goes on to what is left
 abbrev pub invariant-loop-rest : goal.invariant-loop-rest
