@@ -14,7 +14,7 @@ const FAR: usize = 64;
 
 /// Where a byte is first. Words and lines are short, so the first bytes are looked at in steps of 16, and the last 16 together, so that
 /// some may be twice.
-#[inline]
+#[inline(never)]
 pub(crate) fn first_place(byte: u8, text: &[u8]) -> Option<usize>
     ensures { IsFirstByte (is_byte byte) text.now result }
 {
@@ -63,7 +63,7 @@ fn place_in_last(byte: u8, text: &[u8]) -> Option<usize>
 
 /// How many of the first bytes come before a byte: all if it is not among them.
 #[inline(always)]
-fn place_in_lanes(byte: u8, text: &[u8]) -> usize
+pub(crate) fn place_in_lanes(byte: u8, text: &[u8]) -> usize
     requires { LANES ≤ length text.now }
     ensures { result ≡ prefix_len (λ b. not (b == byte)) (take LANES text.now) }
 {
