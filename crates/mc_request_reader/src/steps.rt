@@ -130,8 +130,51 @@ pub fn first_asked(unread: &[u8], searched: Searched) -> Option<(Asked<'_>, usiz
     }
 }
 
-/// The keys of the first request of the bytes, of which so many were searched, whether it asks for numbers, and how many bytes it takes, where
-/// it is a good `get` or `gets`. Nothing else of it is read.
+/// The same where the first line is whole, and takes so many bytes.
+fn asked_after<'a>(
+    unread: &'a [u8],
+    line: CommandLine<'a>,
+    taken: usize,
+) -> Option<(Asked<'a>, usize)>
+    requires { StartsBy unread.now (meaning_of line) taken }
+    ensures { lent_seen result ≡ next_request unread.now }
+{
+    match line {
+        CommandLine::Alone(asked) => Some((asked, taken)),
+        CommandLine::Refuses(fault, len) => {
+            let size = size_with_block(taken, len);
+            if unread.len() < size {
+                None
+            } else {
+                Some((Asked::Faulty(fault), size))
+            }
+        }
+        CommandLine::Stores(storing, len) => {
+            let size = size_with_block(taken, len);
+            if unread.len() < size {
+                return None;
+            }
+            let (_, rest) = unread.split_at(taken);
+            let (block, after) = rest.split_at(len as usize);
+            let (end, _) = after.split_at(LINE_END.len());
+            Some((with_block(storing, block, end), size))
+        }
+    }
+}
+
+/// A storage command and its data block that has come, by the two bytes after it.
+fn with_block<'a>(storing: Storing<'a>, block: &'a [u8], end: &[u8]) -> Asked<'a>
+    ensures { asked_of result ≡ with_block (storing_of storing.entry) block.now end.now }
+{
+    if end == LINE_END {
+        storing.with_block(block)
+    } else {
+        Asked::Faulty(Fault::BadDataChunk)
+    }
+}
+
+/// The keys of the first request of the bytes, of which so many were searched, whether it asks for numbers, and how many bytes it takes,
+/// where it is a good `get` or `gets`. Nothing else of it is read.
 #[inline(always)]
 pub fn first_get(unread: &[u8], searched: Searched) -> Option<(WordIter<'_>, bool, usize)>
     requires { IsSearched searched unread.now }
@@ -175,48 +218,5 @@ fn is_lone(content: &[u8]) -> bool {
         Some((b'm', rest)) => rest.first() != Some(&b's'),
         Some((letter, _)) => matches!(letter, b'd' | b'f' | b'g' | b'i' | b'q' | b't' | b'v'),
         None => false,
-    }
-}
-
-/// The same where the first line is whole, and takes so many bytes.
-fn asked_after<'a>(
-    unread: &'a [u8],
-    line: CommandLine<'a>,
-    taken: usize,
-) -> Option<(Asked<'a>, usize)>
-    requires { StartsBy unread.now (meaning_of line) taken }
-    ensures { lent_seen result ≡ next_request unread.now }
-{
-    match line {
-        CommandLine::Alone(asked) => Some((asked, taken)),
-        CommandLine::Refuses(fault, len) => {
-            let size = size_with_block(taken, len);
-            if unread.len() < size {
-                None
-            } else {
-                Some((Asked::Faulty(fault), size))
-            }
-        }
-        CommandLine::Stores(storing, len) => {
-            let size = size_with_block(taken, len);
-            if unread.len() < size {
-                return None;
-            }
-            let (_, rest) = unread.split_at(taken);
-            let (block, after) = rest.split_at(len as usize);
-            let (end, _) = after.split_at(LINE_END.len());
-            Some((with_block(storing, block, end), size))
-        }
-    }
-}
-
-/// A storage command and its data block that has come, by the two bytes after it.
-fn with_block<'a>(storing: Storing<'a>, block: &'a [u8], end: &[u8]) -> Asked<'a>
-    ensures { asked_of result ≡ with_block (storing_of storing.entry) block.now end.now }
-{
-    if end == LINE_END {
-        storing.with_block(block)
-    } else {
-        Asked::Faulty(Fault::BadDataChunk)
     }
 }

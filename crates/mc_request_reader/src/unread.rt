@@ -228,6 +228,26 @@ impl Unread {
         }
     }
 
+    /// The same where no block is dropped.
+    #[inline(always)]
+    fn get_unread(&self) -> Option<LentGet<'_>>
+        requires open { self.now.closed ≡ false }
+        requires whole { self.now.dropping ≡ None }
+        ensures seen { IfSome result (λ get. Shows self.now (get_of get) get.front) }
+        ensures well_formed { IfSome result (λ get. is_well_formed (get_of get) ≡ true) }
+    {
+        let (_, unread) = self.buffer.split_at(self.start);
+        let (keys, with_cas, size) = first_get(unread, self.searched)?;
+        Some(LentGet {
+            keys,
+            with_cas,
+            front: Front {
+                size,
+                closes: false,
+            },
+        })
+    }
+
     /// The first line, if its end is known and it begins like one that no data block follows.
     #[inline(always)]
     pub fn peek_lone(&self) -> Option<LentLine<'_>>
@@ -282,26 +302,6 @@ impl Unread {
             return true;
         }
         false
-    }
-
-    /// The same where no block is dropped.
-    #[inline(always)]
-    fn get_unread(&self) -> Option<LentGet<'_>>
-        requires open { self.now.closed ≡ false }
-        requires whole { self.now.dropping ≡ None }
-        ensures seen { IfSome result (λ get. Shows self.now (get_of get) get.front) }
-        ensures well_formed { IfSome result (λ get. is_well_formed (get_of get) ≡ true) }
-    {
-        let (_, unread) = self.buffer.split_at(self.start);
-        let (keys, with_cas, size) = first_get(unread, self.searched)?;
-        Some(LentGet {
-            keys,
-            with_cas,
-            front: Front {
-                size,
-                closes: false,
-            },
-        })
     }
 
     /// The bytes that have come and are not taken.

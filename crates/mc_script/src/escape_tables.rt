@@ -8,7 +8,7 @@ pub(crate) const WIDEST: usize = 4;
 /// What stands for the value of a byte that is no hexadecimal digit.
 pub(crate) const NO_DIGIT: u8 = 16;
 
-/// The escape of a byte, in front of as many bytes as the longest has, and how many of them are its own.
+/// The four bytes of the table that begin with a byte's escape, and how many the escape has.
 #[inline(always)]
 pub(crate) fn escape_of(byte: u8) -> (&'static [u8], usize)
     ensures escape { take result.1 result.0.now ≡ escape_of byte }
@@ -21,7 +21,7 @@ pub(crate) fn escape_of(byte: u8) -> (&'static [u8], usize)
     (&escapes[from..from + WIDEST], SIZES[place] as usize)
 }
 
-/// The escape of each byte. Spaces fill those that are shorter than four bytes.
+/// The escape of each byte, from the byte 0 on. Spaces fill those that are shorter than four bytes.
 const ESCAPES: &[u8; 1024] = b"\
 \\x00\\x01\\x02\\x03\\x04\\x05\\x06\\x07\\x08\\x09\\n  \\x0b\\x0c\\r  \\x0e\\x0f\
 \\x10\\x11\\x12\\x13\\x14\\x15\\x16\\x17\\x18\\x19\\x1a\\x1b\\x1c\\x1d\\x1e\\x1f\

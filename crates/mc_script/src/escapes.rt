@@ -128,7 +128,8 @@ fn push_block(bytes: &[u8], out: &mut Vec<u8>) -> Result<usize, AllocError>
     Ok(block.len())
 }
 
-/// Writes the escape of a byte at a place, and says where it ends.
+/// Writes the escape of a byte at a place, and says where it ends. What it writes after that, up to four bytes from the place, is of no
+/// meaning.
 #[inline(always)]
 fn put_escape(byte: u8, room: &mut [u8; ROOM], at: usize) -> usize
     requires { at + WIDEST ≤ ROOM }

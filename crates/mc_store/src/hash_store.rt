@@ -56,14 +56,14 @@ pub type TableStore<H> = HashStore<Table<Key, Held, H>>;
 /// # Work
 ///
 /// A call with a key hashes it once and searches once. `put_front` does both twice, and a call with a guess that is right does neither.
-/// `len`, `used`, `longest`, `front`, `drop_last` and `clear` do neither. So none of these takes longer where more items are held, as long as the hash
-/// spreads the keys, but for what is said of `put_front` below.
+/// `len`, `used`, `longest`, `front`, `drop_last` and `clear` do neither. So none of these takes longer where more items are held, as long
+/// as the hash spreads the keys, but for what is said of `put_front` below.
 ///
 /// `clear` begins a new epoch, which makes all entries dead. They are not counted and not found, and they are let go later: by
 /// each `put_front` two of them or more, until they cost as much as the item or none is left; by each `replace` that finds its key as
-/// many for the new value; and one by each call but `peek` and `find` that asks for its key. Each that is let go costs what a `drop_last` does. `drop_last` lets all
-/// of them go first. While dead entries are left no store makes the entries cost more, or be more, live and dead together. So a store
-/// that is kept within a budget and a limit has no dead ones left when it drops an item. The end of the store takes
+/// many for the new value; and one by each call but `peek` and `find` that asks for its key. Each that is let go costs what a `drop_last`
+/// does. `drop_last` lets all of them go first. While dead entries are left no store makes the entries cost more, or be more, live and dead
+/// together. So a store that is kept within a budget and a limit has no dead ones left when it drops an item. The end of the store takes
 /// out one entry after the other.
 ///
 /// # Memory

@@ -53,7 +53,8 @@ pub trait Recent {
         ensures* writes_back { sem 𝓛 (lends_held Self.row self.entry result (λ held. lent self.old key.now held)) }
         ensures value { option_copied_mut result ≡ lookup (bytes_eq key.now) (entries self.old) };
 
-    /// The same, given a guess of which entry it is ([`Recent::guess_all`], [`Recent::find`]). A guess changes how long it takes, and nothing else.
+    /// The same, given a guess of which entry it is ([`Recent::guess_all`], [`Recent::find`]). A guess changes how long it takes, and nothing
+    /// else.
     fn get_mut_by(&mut self, key: &[u8], _guess: u32) -> Option<&mut Held>
         ensures* writes_back { sem 𝓛 (lends_held Self.row self.entry result (λ held. lent self.old key.now held)) }
         ensures value { option_copied_mut result ≡ lookup (bytes_eq key.now) (entries self.old) }
@@ -66,8 +67,8 @@ pub trait Recent {
         false
     }
 
-    /// Guesses for each key which entry it has, if [`Recent::guesses`]; else no guess changes. 0 is no guess.
-    /// It gives a number made of what was read, which says nothing: so no compiler leaves the reading out.
+    /// Guesses for each key which entry it has, and is worth its time if [`Recent::guesses`]. What never does leaves the guesses as they
+    /// are. 0 is no guess. It gives a number made of what was read, which says nothing: so no compiler leaves the reading out.
     fn guess_all(&self, _keys: &[&[u8]], _guesses: &mut [u32]) -> u8 {
         0
     }

@@ -51,7 +51,8 @@ pub trait Store {
         ensures items { items self.new ≡ brought key.now (body_at key.now (items self.old)) (items self.old) }
         ensures most { most self.new ≡ most self.old };
 
-    /// The same, given a guess of which item it is ([`Store::guess_all`], [`Store::find`]). A guess changes how long it takes, and nothing else.
+    /// The same, given a guess of which item it is ([`Store::guess_all`], [`Store::find`]). A guess changes how long it takes, and nothing
+    /// else.
     fn bring_by(&mut self, key: &[u8], _guess: u32) -> bool
         ensures held { result ≡ is_some (body_at key.now (items self.old)) }
         ensures items { items self.new ≡ brought key.now (body_at key.now (items self.old)) (items self.old) }
@@ -65,8 +66,9 @@ pub trait Store {
         false
     }
 
-    /// Guesses which item each key has, if [`Store::guesses`]; else no guess changes. 0 is no guess. [`Store::bring_by`] and the other calls
-    /// that are given a guess use it. The result is made of what was read, so that no compiler leaves the reading out. It says nothing else.
+    /// Guesses which item each key has, and is worth its time if [`Store::guesses`]. A store that never does leaves the guesses as they are.
+    /// 0 is no guess. [`Store::bring_by`] and the other calls that are given a guess use it. The result is made of what was read, so that no
+    /// compiler leaves the reading out. It says nothing else.
     fn guess_all(&self, _keys: &[&[u8]], _guesses: &mut [u32]) -> u8 {
         0
     }

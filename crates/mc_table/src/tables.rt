@@ -23,8 +23,8 @@ use std::mem;
 ///
 /// A call with a key hashes it once and searches once. `put` hashes it again if the key is not there, and a call with a guess that is
 /// right does neither. The others hash nothing. A search passes the entries of one bucket. The constructor settles how many buckets there
-/// are: at least one for each entry that it takes room for (up to 2^31). So no call but `clear` does work that grows with the entries, as long as no more are in the
-/// table than it was made for and hashes spread. Nothing is ever laid out anew.
+/// are: at least one for each entry that it takes room for (up to 2^31). So no call but `clear` does work that grows with the entries, as
+/// long as no more are in the table than it was made for and hashes spread. Nothing is ever laid out anew.
 ///
 /// # Memory
 ///
@@ -82,8 +82,8 @@ impl<K: Eq + Hash, V, S: BuildHasher> Table<K, V, S> {
         Some(self.entries.at(index).1)
     }
 
-    /// The value of the key, and a guess of which entry it is, which is right until an entry is taken out. The entry that is guessed so far is
-    /// looked at first, and the order stays as it is.
+    /// The value of the key, and a guess of which entry it is, which is right until an entry is taken out. The entry that is guessed so far
+    /// is looked at first, and the order stays as it is.
     pub fn find<Q: Equivalent<K>>(&self, k: Q, guess: u32) -> Option<(u32, &V)>
         ensures { option_map (λ found. found.1.now) result ≡ lookup (Q.equivalent k) self.now }
     {

@@ -13,7 +13,7 @@ pub(crate) const LANES: usize = 16;
 const FAR: usize = 64;
 
 /// Where a byte is first. Words and lines are short, so the first bytes are looked at in steps of 16, and the last 16 together, so that
-/// some may be twice.
+/// some may be looked at twice.
 #[inline(never)]
 pub(crate) fn first_place(byte: u8, text: &[u8]) -> Option<usize>
     ensures { IsFirstByte (is_byte byte) text.now result }
