@@ -103,7 +103,7 @@ pub escaped_more : (done count : ℕ) (bytes : List ℕ) → escaped (take (done
 escaped_more done count bytes = ap escaped (take-add done count bytes) ∙ escaped-append (take done bytes) (take count (drop done bytes))
 
 -- a byte that stands for itself
-escape_of-plain : (b : ℕ) → is_plain b ≡ true → escape_of b ≡ b ∷ []
+pub escape_of-plain : (b : ℕ) → is_plain b ≡ true → escape_of b ≡ b ∷ []
 unfolding escape_of
 escape_of-plain b plain = grind (arith, plain)
 

@@ -15,6 +15,9 @@ const BLOCK: usize = 16;
 /// The most bytes that their escapes have.
 const ROOM: usize = WIDEST * BLOCK;
 
+/// Fewer bytes than this are escaped one by one, which begins sooner.
+const FEW: usize = 4;
+
 /// Puts bytes at the end of a text, each escaped: 32 to 126 as they are but for the backslash, which is doubled, 13
 /// and 10 as `\r` and `\n`, and any other as `\x` and two small hexadecimal digits. An error leaves the text as it
 /// was.
@@ -91,7 +94,8 @@ fn push_each_escaped(bytes: &[u8], out: &mut Vec<u8>) -> Result<(), AllocError>
 }
 
 /// Puts what a text begins with at the end of another, escaped: the blocks in front whose bytes stand for themselves, or else the first
-/// bytes, as many as a block has. The answer is how many bytes these are. An error leaves the other text as it was.
+/// bytes, as many as a block has, but one where few are left. The answer is how many bytes these are. An error leaves the other text as it
+/// was.
 fn push_front(bytes: &[u8], out: &mut Vec<u8>) -> Result<usize, AllocError>
     requires { 0 < length bytes.now }
     ensures escaped { IfOk result (λ count. out.new.items ≡ out.old.items ++ escaped (take count bytes.now)) }
@@ -99,6 +103,10 @@ fn push_front(bytes: &[u8], out: &mut Vec<u8>) -> Result<usize, AllocError>
     ensures inside { IfOk result (λ count. count ≤ length bytes.now) }
     ensures unchanged { OnErr result (out.new.items ≡ out.old.items) }
 {
+    if bytes.len() < FEW {
+        push_escape(bytes[0], out)?;
+        return Ok(1);
+    }
     let count = plain_blocks(bytes);
     if count == 0 {
         return push_block(bytes, out);
@@ -139,6 +147,23 @@ fn put_escape(byte: u8, room: &mut [u8; ROOM], at: usize) -> usize
     let (escape, size) = escape_of(byte);
     room[at..at + WIDEST].copy_from_slice(escape);
     at + size
+}
+
+/// Puts the escape of a byte at the end of a text. An error leaves the text as it was.
+fn push_escape(byte: u8, out: &mut Vec<u8>) -> Result<(), AllocError>
+    ensures escape { OnOk result (out.new.items ≡ out.old.items ++ escape_of byte) }
+    ensures unchanged { OnErr result (out.new.items ≡ out.old.items) }
+{
+    if is_plain(byte) {
+        out.push(byte)?;
+        return Ok(());
+    }
+    let (escape, size) = escape_of(byte);
+    if size == WIDEST {
+        return out.extend_from_slice(escape);
+    }
+    let (escape, _) = escape.split_at(size);
+    out.extend_from_slice(escape)
 }
 
 /// How many bytes are in the blocks in front whose bytes all stand for themselves.
