@@ -20,6 +20,19 @@ use mc_route::{Outcome, Routed, goes_to};
 use mc_spelling::spelled_len as spelled_len_of;
 use std::alloc::Global;
 use std::collections::VecDeque;
+use std::mem;
+
+/// Sets the start of an empty queue to the front of its memory. It takes no memory, and gives none back.
+///
+/// A queue that is filled at its end and emptied from its start moves on through its memory. Commands that pass the memory's
+/// end are in two parts then, and to lend them as one slice each of them would be moved.
+pub fn start_at_front(alloc: Global, queue: &mut VecDeque<Routed>)
+    requires { queue.old.items ≡ [] }
+    ensures { queue.new.items ≡ [] }
+{
+    let moved_on = mem::replace(queue, VecDeque::new(alloc));
+    *queue = VecDeque::from_vec(moved_on.into_vec());
+}
 
 /// Whether a link that what is asked needs has as much unsent as its mark. It takes no memory, and looks at no key where no
 /// link has.

@@ -4,7 +4,7 @@ ghost use Rattle.mc_session.specs.SessionState.{states};
 
 use crate::errors::SessionError;
 use crate::limits::{MAX_UNANSWERED, UNSENT_MARK};
-use crate::sending::{is_any_marked, prepare, send_all};
+use crate::sending::{is_any_marked, prepare, send_all, start_at_front};
 use crate::turns::{Emit, Turn};
 use crate::unanswered::Unanswered;
 use mc_link::{Link, Tag};
@@ -113,6 +113,7 @@ impl Session {
                 if self.is_marked() || is_any_marked(links, asked, ring) {
                     return Ok(Turn::Waiting);
                 }
+                start_at_front(alloc, queue);
                 (route(alloc, asked, ring, queue)?, *front)
             }
         };

@@ -64,7 +64,7 @@ returns-clause-turn c =
     let after : SessionState = record { reader = c.consume.new.self; output = own.output; taken = own.taken + 1; unanswered = all } in
     let marked : is_session_marked own ≡ false = rw (← c.self.view_is) at (sym c.is_marked.ensures ∙ c.if-is_marked.false) in
     let others : any_marked links (route_of_taken ring what) ≡ false = sym c.is_any_marked.ensures ∙ c.if-is_any_marked.false in
-    let routed : commands ≡ route_of_taken ring what = c.make_contiguous-commands.ensures.value ∙ rw c.requires at c.in_ok-route-in-First.ensures.routed in
+    let routed : commands ≡ route_of_taken ring what = c.make_contiguous-commands.ensures.value ∙ rw c.start_at_front.ensures at c.in_ok-route-in-First.ensures.routed in
     let last = rw (c.prepare.ensures.unanswered_kept, c.new.ensures) at c.push_back_reserved.ensures.items in
     let queued = c.make_contiguous-commands.ensures.writes_back commands c.make_contiguous-commands.ensures.len in
     let sent : now ≡ handed c.args.number own.taken 0 commands links =
