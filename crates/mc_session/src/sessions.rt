@@ -1,5 +1,6 @@
 //! A session: what a client sends, and what it is answered.
-ghost use Rattle.std.specs.Prelude.{◌≡◌, ◌≢◌, ◌≤◌, ◌<◌, ◌&&◌, ◌==◌, ◌↔◌, [], None, drop, length, IsTrue, IfOk, IsOkUnless, OnOk, OnErr};
+ghost use Rattle.std.specs.Prelude.{◌≡◌, ◌≢◌, ◌≤◌, ◌<◌, ◌+◌, ◌&&◌, ◌==◌, ◌↔◌, ◌∷◌, ◌++◌, [], None, Some, true, false, drop, length, map};
+ghost use Rattle.std.specs.Prelude.{IsTrue, IfOk, IsOkUnless, OnOk, OnErr};
 ghost use Rattle.mc_session.specs.SessionState.{states};
 
 use crate::errors::SessionError;
@@ -8,7 +9,8 @@ use crate::sending::{is_any_marked, prepare, send_all, start_at_front};
 use crate::turns::{Emit, Turn};
 use crate::unanswered::Unanswered;
 use mc_link::{Link, Tag};
-use mc_request_reader::{Peek, Reader};
+use mc_request::{Asked, Taken};
+use mc_request_reader::{Front, LentGet, Peek, Reader};
 use mc_ring::Ring;
 use mc_route::{Outcome, Routed, goes_to, route};
 use mc_text::{give_back, let_go};
@@ -41,11 +43,15 @@ impl Model for Session {
 }
 
 impl Session {
-    ghost use Rattle.mc_request_reader.specs.Reader.{rest_of};
+    ghost use Rattle.mc_request.specs.LinesSeen.{asked_of};
+    ghost use Rattle.mc_request.specs.WellFormed.{is_well_formed};
+    ghost use Rattle.mc_request_reader.specs.Peeks.{front_of, past};
+    ghost use Rattle.mc_request_reader.specs.Reader.{KeepsRest, rest_of};
+    ghost use Rattle.mc_route.specs.Routes.{route_of_taken};
     ghost use Rattle.mc_session.specs.SessionState.{fresh_session};
     ghost use Rattle.mc_session.specs.Emits.{IsEmit, emitted};
     ghost use Rattle.mc_session.specs.Noting.{noted_in};
-    ghost use Rattle.mc_session.specs.Sending.{is_session_marked};
+    ghost use Rattle.mc_session.specs.Sending.{at_once, handed, is_marked, is_session_marked};
     ghost use Rattle.mc_session.specs.Looks.{IsReady, waits_for};
     ghost use Rattle.mc_session.specs.Turns.{IsFed, IsTurn};
 
@@ -106,17 +112,94 @@ impl Session {
         if self.reader.is_short() {
             return Ok(Turn::Idle);
         }
+        let Some(get) = self.reader.peek_get() else {
+            return self.turn_other(alloc, number, ring, links, queue);
+        };
+        let (kept, front) = {
+            let LentGet {
+                keys,
+                with_cas,
+                front,
+            } = get;
+            let asked = Asked::Get {
+                keys,
+                exptime: None,
+                with_cas,
+            };
+            if self.must_wait(links, &asked, ring) {
+                return Ok(Turn::Waiting);
+            }
+            start_at_front(alloc, queue);
+            (route(alloc, &asked, ring, queue)?, front)
+        };
+        self.take(alloc, number, links, queue, kept, front)?;
+        Ok(Turn::Took)
+    }
+
+    /// The same where it is not known that nothing has come whole, and what is first is not a good `get` or `gets`.
+    #[inline(never)]
+    fn turn_other(
+        &mut self,
+        alloc: Global,
+        number: u64,
+        ring: &Ring,
+        links: &mut [Link],
+        queue: &mut VecDeque<Routed>,
+    ) -> Result<Turn, SessionError>
+        requires { queue.old.items ≡ [] }
+        ensures turn { IfOk result (λ turn. IsTurn number turn ring.now (states links.old) (states links.new) self.old self.new) }
+        ensures cause { OnErr result (IsReady ring.now (states links.old) self.old) }
+        ensures only_memory { IsOkUnless result SessionError.Memory }
+        ensures err { OnErr result (self.new ≡ self.old) }
+        ensures links_kept { OnErr result (states links.new ≡ states links.old) }
+        ensures emptied { queue.new.items ≡ [] }
+    {
         let (kept, front) = match &self.reader.peek() {
             Peek::Closed => return Ok(Turn::Closing),
             Peek::More => return Ok(Turn::Idle),
+            Peek::First(asked, _) if self.must_wait(links, asked, ring) => return Ok(Turn::Waiting),
             Peek::First(asked, front) => {
-                if self.is_marked() || is_any_marked(links, asked, ring) {
-                    return Ok(Turn::Waiting);
-                }
                 start_at_front(alloc, queue);
                 (route(alloc, asked, ring, queue)?, *front)
             }
         };
+        self.take(alloc, number, links, queue, kept, front)?;
+        Ok(Turn::Took)
+    }
+
+    /// Whether the session has reached a mark of its own, or a link that what is asked needs has.
+    fn must_wait(&self, links: &[Link], asked: &Asked<'_>, ring: &Ring) -> bool
+        requires { is_well_formed (asked_of asked.now) ≡ true }
+        ensures { result ≡ is_marked self.now (states links.now) (route_of_taken ring.now (asked_of asked.now)) }
+    {
+        self.is_marked() || is_any_marked(links, asked, ring)
+    }
+
+    /// Takes the request or fault that is first: its commands, which are in the queue, go each to its link, and what stays of it
+    /// waits for its answer.
+    #[inline(always)]
+    fn take(
+        &mut self,
+        alloc: Global,
+        number: u64,
+        links: &mut [Link],
+        queue: &mut VecDeque<Routed>,
+        kept: Taken,
+        front: Front,
+    ) -> Result<(), SessionError>
+        requires first { front_of self.old.reader ≡ Some front }
+        requires unmarked { is_session_marked self.old ≡ false }
+        ensures reader { OnOk result (KeepsRest (past front self.old.reader) self.new.reader) }
+        ensures output { OnOk result (self.new.output ≡ self.old.output) }
+        ensures taken { OnOk result (self.new.taken ≡ self.old.taken + 1) }
+        ensures unanswered { OnOk result (self.new.unanswered ≡ self.old.unanswered
+            ++ record { what = kept; outcomes = map (at_once (states links.old)) queue.old.items } ∷ []) }
+        ensures sent { OnOk result (states links.new ≡ handed number self.old.taken 0 queue.old.items (states links.old)) }
+        ensures only_memory { IsOkUnless result SessionError.Memory }
+        ensures err { OnErr result (self.new ≡ self.old) }
+        ensures links_kept { OnErr result (states links.new ≡ states links.old) }
+        ensures emptied { queue.new.items ≡ [] }
+    {
         let commands = queue.make_contiguous();
         let Ok(outcomes) = prepare(alloc, &mut self.unanswered, links, commands) else {
             queue.clear();
@@ -127,7 +210,7 @@ impl Session {
         self.unanswered
             .push_back_reserved(Unanswered::new(kept, outcomes));
         self.taken += 1;
-        Ok(Turn::Took)
+        Ok(())
     }
 
     /// Whether a whole request or fault has come that was not taken. It takes no memory.
