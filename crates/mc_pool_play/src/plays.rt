@@ -34,7 +34,7 @@ pub fn played_script<S: ScriptStore>(
     ensures only_memory { IsOkUnless result SimError.Memory }
 {
     let mut world = opened_world(alloc, script)?;
-    let mut steps = Vec::new(alloc);
+    let mut steps = Vec::with_capacity(alloc, script.lines().len())?;
     for line in script.lines() {
         steps.push(play(alloc, &mut world, script.items(), line)?)?;
     }

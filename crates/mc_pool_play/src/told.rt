@@ -1,5 +1,5 @@
 //! What is told of a world that has played a script.
-ghost use Rattle.std.specs.Prelude.{◌≡◌, ◌++◌, codes, decimal, IfOk, OnOk};
+ghost use Rattle.std.specs.Prelude.{◌≡◌, ◌++◌, codes, decimal, OnOk};
 ghost use Rattle.mc_script.specs.Escapes.{named_line};
 ghost use Rattle.mc_pool_play.specs.Told.{account_lines, entry_line, entry_name, event_lines, histories_lines, history_lines, numbered, refusal_words, text_lines, word_of};
 
@@ -61,7 +61,7 @@ fn push_text_lines<S: ScriptStore>(
     Ok(())
 }
 
-/// The histories of the first servers.
+/// The histories of the first servers. One buffer holds the name of each entry in turn.
 fn push_histories<S: ScriptStore>(
     alloc: Global,
     world: &World<S>,
@@ -70,24 +70,25 @@ fn push_histories<S: ScriptStore>(
 ) -> Result<(), AllocError>
     ensures { OnOk result (out.new.items ≡ out.old.items ++ histories_lines servers world.now.course) }
 {
+    let mut name = Vec::new(alloc);
     for place in 0..servers {
-        push_history(alloc, place, world.history(place), out)?;
+        push_history(place, world.history(place), &mut name, out)?;
     }
     Ok(())
 }
 
-/// The lines of a server's history.
+/// The lines of a server's history. The buffer is for the name of an entry: what it holds before is of no meaning.
 fn push_history(
-    alloc: Global,
     place: usize,
     entries: &[Entry],
+    name: &mut Vec<u8>,
     out: &mut Vec<u8>,
 ) -> Result<(), AllocError>
     ensures { OnOk result (out.new.items ≡ out.old.items ++ history_lines place entries.now) }
 {
     push_count(place, entries.len(), out)?;
     for entry in entries {
-        push_entry(alloc, place, entry, out)?;
+        push_entry(place, entry, name, out)?;
     }
     Ok(())
 }
@@ -105,31 +106,31 @@ fn push_count(place: usize, count: usize, out: &mut Vec<u8>) -> Result<(), Alloc
     )
 }
 
-/// The line of an entry.
+/// The line of an entry. The buffer is for its name.
 fn push_entry(
-    alloc: Global,
     place: usize,
     entry: &Entry,
+    name: &mut Vec<u8>,
     out: &mut Vec<u8>,
 ) -> Result<(), AllocError>
     ensures { OnOk result (out.new.items ≡ out.old.items ++ entry_line place entry.now) }
 {
-    let name = entry_name(alloc, place, entry)?;
+    write_entry_name(place, entry, name)?;
     push_named_line(name.as_slice(), entry.moment, entry.reply.as_slice(), out)
 }
 
-/// Whose an entry is, and whether its store was refused memory.
-fn entry_name(alloc: Global, place: usize, entry: &Entry) -> Result<Vec<u8>, AllocError>
-    ensures { IfOk result (λ name. name.items ≡ entry_name place entry.now) }
+/// Writes to a buffer, in the place of what it held, whose an entry is and whether its store was refused memory. The buffer keeps its
+/// room, so it asks for memory for the first names alone.
+fn write_entry_name(place: usize, entry: &Entry, name: &mut Vec<u8>) -> Result<(), AllocError>
+    ensures { OnOk result (name.new.items ≡ entry_name place entry.now) }
 {
-    let mut name = Vec::new(alloc);
-    push_numbered(b"server ", place as u64, &mut name)?;
-    push_numbered(b", client ", entry.client, &mut name)?;
-    push_numbered(b", request ", entry.request, &mut name)?;
-    push_numbered(b", command ", entry.atom as u64, &mut name)?;
+    name.clear();
+    push_numbered(b"server ", place as u64, name)?;
+    push_numbered(b", client ", entry.client, name)?;
+    push_numbered(b", request ", entry.request, name)?;
+    push_numbered(b", command ", entry.atom as u64, name)?;
     name.extend_from_slice(refusal_words(entry.refused))?;
-    name.extend_from_slice(b", moment")?;
-    Ok(name)
+    name.extend_from_slice(b", moment")
 }
 
 /// The words for a store that was refused memory.
