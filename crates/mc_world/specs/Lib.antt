@@ -9,6 +9,7 @@ pub mod Applies
 pub mod LogHolds
 pub mod Worlds
 pub mod Courses
+pub mod LateMemory
 pub mod CourseHolds
 pub mod Joins
 pub mod Runs
