@@ -120,7 +120,7 @@ fn push_entry(
 }
 
 /// Writes to a buffer, in the place of what it held, whose an entry is and whether its store was refused memory. The buffer keeps its
-/// room, so it asks for memory for the first names alone.
+/// room, so it asks for memory only where a name is longer than those before.
 fn write_entry_name(place: usize, entry: &Entry, name: &mut Vec<u8>) -> Result<(), AllocError>
     ensures { OnOk result (name.new.items ≡ entry_name place entry.now) }
 {

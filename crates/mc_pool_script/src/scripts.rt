@@ -24,7 +24,7 @@ const MAX_CLIENTS: u64 = 1024;
 const SEEN_LINES: usize = 1024;
 
 /// Room is made for at most so many lines to come for each that was read.
-const FORESIGHT: usize = 64;
+const FORESIGHT: usize = 8;
 
 /// A pool script. Contracts see what it says.
 #[derive(Drop)]
@@ -152,8 +152,8 @@ impl PoolScript {
         Ok(true)
     }
 
-    /// Makes room at once for the lines that are still to come, once the list is full and many were read: so many bytes, of a text of
-    /// such a size. Where memory is refused, the list grows as it does without.
+    /// Once many lines were read and the list is full, makes room at once for those to come, of a text of `size` bytes of which `passed` are
+    /// read. Where memory is refused, the list grows as it does without.
     fn foresee(&mut self, passed: usize, size: usize)
         ensures { self.new ≡ self.old }
     {
@@ -161,6 +161,15 @@ impl PoolScript {
         if held >= SEEN_LINES && held == self.lines.capacity() {
             let left = size.saturating_sub(passed);
             let _ = self.lines.reserve(lines_to_come(held, passed, left));
+        }
+    }
+
+    /// Gives back the room of lines that did not come, where that is more than half.
+    fn give_back(&mut self)
+        ensures { self.new ≡ self.old }
+    {
+        if self.lines.capacity() / 2 > self.lines.len() {
+            self.lines.shrink_to_fit();
         }
     }
 
@@ -178,7 +187,8 @@ impl PoolScript {
     }
 }
 
-/// How many lines are to come in the bytes that are left, if these are as the bytes passed, which have so many, and a few more.
+/// How many lines are to come in the bytes that are left, if they are as long as those that were read, and a sixteenth more; at most
+/// `FORESIGHT` for each that was read.
 fn lines_to_come(lines: usize, passed: usize, left: usize) -> usize {
     let alike = left.saturating_mul(lines) / passed.max(1);
     let most = lines.saturating_mul(FORESIGHT);
@@ -250,6 +260,7 @@ fn read_rest(
         }
         passed = passed.saturating_add(line.len()).saturating_add(1);
     }
+    script.give_back();
     Ok(script)
 }
 

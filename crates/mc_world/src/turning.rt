@@ -15,12 +15,35 @@ use mc_text::{Block, give_back};
 use std::alloc::Global;
 use std::mem;
 
-/// Spare memory of more bytes is given back after a turn.
+/// Spare memory of more bytes is given back after a turn, also where the turn failed.
 const SPARE: usize = 65_536;
 
 /// The server takes a request of a connection, if one is whole: the command of this tag. The history has it with the bytes that the server
 /// appended, which tell whether memory was refused. Its place, and room for the bytes in the spare memory, are reserved before the turn.
 pub(crate) fn serve<S: Store + Drop>(
+    alloc: Global,
+    server: &mut Server<S>,
+    history: &mut Vec<Entry>,
+    spare: &mut Vec<u8>,
+    connection: u64,
+    tag: Tag,
+    moment: u64,
+) -> Result<Step, WorldError>
+    requires moment { moment < 2 ^ 63 }
+    requires serves { ServesProxy connection server.old }
+    ensures enters { IfOk result (λ step. Does step (EntersOn connection moment tag server.old server.new history.old.items history.new.items)
+        ((server.new ≡ server.old) × (history.new.items ≡ history.old.items))) }
+    ensures applies { IfOk result (λ step. (step ≡ Step.Done) ↔ (0 < length (waiting_of (connection_at server.old connection)))) }
+    ensures err_applies { OnErr result (0 < length (waiting_of (connection_at server.old connection))) }
+    ensures err { OnErr result ((server.new ≡ server.old) × (history.new.items ≡ history.old.items)) }
+{
+    let step = enter(alloc, server, history, spare, connection, tag, moment);
+    give_back(spare, SPARE);
+    step
+}
+
+/// The same, with the spare memory kept, however much it is.
+fn enter<S: Store + Drop>(
     alloc: Global,
     server: &mut Server<S>,
     history: &mut Vec<Entry>,
@@ -50,7 +73,6 @@ pub(crate) fn serve<S: Store + Drop>(
     let (_, appended) = server.output(connection).split_at(before);
     let refused = appended == Fault::OutOfMemory.line();
     let reply = own_copy(alloc, appended, spare);
-    give_back(spare, SPARE);
     history.push_reserved(Entry {
         client: tag.session,
         request: tag.request,

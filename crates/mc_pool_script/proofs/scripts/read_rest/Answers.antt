@@ -1,4 +1,5 @@
 use Rattle.std.proofs.Common.{◌∙◌, sym, ap}
+use Rattle.std.specs.Prelude.{Ok}
 use Rattle.mc_pool_script.specs.PoolScripts.{PoolSeen, read_all, read_more}
 use Rattle.mc_pool_script.proofs.PoolLemmas.{gives_none, gives_some, read_all-bad, read_all-more, read_all-nil}
 use Rattle.mc_pool_script.proofs.scripts.read_rest.Goals as goal
@@ -19,4 +20,6 @@ loop-number-preserved c =
     ∙ c.loop-number.invariant
 
 pub returns-clause-script : goal.returns-clause-script
-returns-clause-script c = sym c.loop-number.invariant ∙ read_all-nil c.loop-number.script c.loop-number.number-iterator c.in-None.ensures.steps.0
+returns-clause-script c =
+    sym c.loop-number.invariant ∙ read_all-nil c.loop-number.script c.loop-number.number-iterator c.in-None.ensures.steps.0
+    ∙ ap (λ (s : PoolSeen). Ok s) (sym c.give_back.ensures)
