@@ -105,7 +105,7 @@ held ring links session what front shows marked = record {
   marked = marked;
 }
 
--- none is
+-- no mark is reached, neither of the session nor of a link that the request needs
 pub unheld : (ring : RingState) (links : List LinkState) (session : SessionState) (what : Taken) (front : Front) → Shows session.reader what front
     → is_marked session links (route_of_taken ring what) ≡ false → IsReady ring links session
 unheld ring links session what front shows unmarked = record {
