@@ -136,8 +136,8 @@ impl Session {
         Ok(Turn::Took)
     }
 
-    /// The same by [`Reader::peek`], whatever is first. A turn comes here where it did not see at once that nothing is whole, or a good `get`
-    /// or `gets`.
+    /// The same by [`Reader::peek`], whatever is first. A turn comes here where it did not see at once that nothing is whole, or a good
+    /// `get` or `gets`.
     #[inline(never)]
     fn turn_other(
         &mut self,
