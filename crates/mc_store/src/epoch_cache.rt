@@ -15,8 +15,9 @@ use std::mem;
 /// Items by key, each with the epoch in which it was put.
 ///
 /// The entries of the cache's own epoch are live, and come before all others. [`EpochCache::clear`] begins the next epoch, in which
-/// all entries are dead. What is dead is not counted and not found. Dead entries go from the back with later puts, or where a call
-/// other than [`EpochCache::peek`] and [`EpochCache::find`] asks for their key.
+/// all entries are dead. What is dead is not counted and not found. A call with a key frees the dead entry of that key, but
+/// [`EpochCache::peek`], [`EpochCache::find`] and [`EpochCache::guess_all`] free none. [`EpochCache::put_front`], and a
+/// [`EpochCache::replace`] that finds its key, free more of them from the back, and [`EpochCache::drop_last`] all.
 ///
 /// Contracts see the live items, the dead entries, and the most items that there may be.
 #[derive(Drop)]
@@ -71,7 +72,8 @@ impl<M: Recent> EpochCache<M> {
         Some(body)
     }
 
-    /// The body under the key, and a guess of its entry ([`Recent::find`]). The order stays.
+    /// The body under the key, and a guess of its entry ([`Recent::find`]): it is right until an entry goes, a dead one too. The order
+    /// stays.
     pub fn find(&self, key: &[u8], guess: u32) -> Option<(u32, &Body)>
         ensures { option_map (λ found. found.1.now) result ≡ body_at key.now self.now.items }
     {

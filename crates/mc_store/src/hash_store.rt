@@ -55,25 +55,26 @@ pub type TableStore<H> = HashStore<Table<Key, Held, H>>;
 ///
 /// # Work
 ///
-/// A call with a key hashes it once and searches once. `put_front` does both twice, and a call with a guess that is right does neither.
-/// `len`, `used`, `longest`, `front`, `drop_last` and `clear` do neither. So none of these takes longer where more items are held, as long
-/// as the hash spreads the keys, but for what is said of `put_front` below.
+/// A call with a key hashes it once and searches once. Given a guess that is right, it does neither. `put_front` hashes its key twice, and
+/// `guess_all` each key once. `len`, `used`, `longest`, `front` and `clear` hash nothing. To take out the last entry, or a dead one, hashes
+/// nothing in a [`TableStore`], and that entry's key in a [`LruStore`]. So none of these takes longer where more items are held, as long as
+/// the hash spreads the keys, but for what is said of `put_front` below.
 ///
-/// `clear` begins a new epoch, which makes all entries dead. They are not counted and not found, and they are let go later: by
-/// each `put_front` two of them or more, until they cost as much as the item or none is left; by each `replace` that finds its key as
-/// many for the new value; and one by each call but `peek` and `find` that asks for its key. Each that is let go costs what a `drop_last`
-/// does. `drop_last` lets all of them go first. While dead entries are left no store makes the entries cost more, or be more, live and dead
-/// together. So a store that is kept within a budget and a limit has no dead ones left when it drops an item. The end of the store takes
-/// out one entry after the other.
+/// `clear` begins a new epoch, which makes all entries dead. They are not counted and not found, and they are freed later. A call with a
+/// key frees the dead entry of that key, but `peek`, `find` and `guess_all` free none. Each `put_front` frees two more at least, until
+/// they cost as much as the item or none is left, and each `replace` that finds its key as many for the new value. `drop_last` frees all
+/// of them first. Each that is freed costs what it costs to take out the last entry. While dead entries are left no store makes the
+/// entries cost more, or be more, live and dead together. So a store that is kept within a budget and a limit has no dead ones left when
+/// it drops an item. The end of the store takes out one entry after the other.
 ///
 /// # Memory
 ///
-/// The constructor of a [`TableStore`] takes room for all entries and its search table, which is never laid out anew: no call takes time for
-/// each entry, but the end of the store. That of a [`LruStore`] takes its search table alone, for 9 * 2^k items, the least such number that
-/// is enough; each new item then takes a node. The blocks of dead entries stay taken until they are let go.
+/// The constructor of a [`TableStore`] takes room for all entries and its search table, which is never laid out anew: no call takes time
+/// for each entry, but the end of the store. That of a [`LruStore`] takes its search table alone, for 9 * 2^k items, the least such number
+/// that is enough; each new item then takes a node. The blocks of dead entries stay taken until they are freed.
 ///
-/// In the search table of a [`LruStore`] a key that is taken out of a crowded part leaves its place counted as taken. If no place is left by
-/// that count, as may be after long eviction or a clear, `put_front` first lays that table out anew, which takes time for each entry
+/// In the search table of a [`LruStore`] a key that is taken out of a crowded part leaves its place counted as taken. If no place is left
+/// by that count, as may be after long eviction or a clear, `put_front` first lays that table out anew, which takes time for each entry
 /// but hashes none. That is done in place if the entries, the new one with them, are at most half of what it is for. Else it is
 /// doubled, and only that takes memory; then they are at most half of it, so this comes once in a store's life. If memory is
 /// refused, so is the item, and the items are as they were.

@@ -36,8 +36,8 @@ pub trait Recent {
     fn peek(&self, key: &[u8]) -> Option<&Held>
         ensures { option_copied result ≡ lookup (bytes_eq key.now) (entries self.now) };
 
-    /// The value of the key, and a guess of which entry it is, for the other calls that are given one. The order stays, and a guess given
-    /// here is looked at first.
+    /// The value of the key, and a guess of which entry it is, for the other calls that are given one: it is right until an entry is taken
+    /// out. The order stays, and a guess given here is looked at first.
     fn find(&self, key: &[u8], _guess: u32) -> Option<(u32, &Held)>
         ensures { option_map (λ found. found.1.now) result ≡ lookup (bytes_eq key.now) (entries self.now) }
     {
@@ -53,8 +53,8 @@ pub trait Recent {
         ensures* writes_back { sem 𝓛 (lends_held Self.row self.entry result (λ held. lent self.old key.now held)) }
         ensures value { option_copied_mut result ≡ lookup (bytes_eq key.now) (entries self.old) };
 
-    /// The same, given a guess of which entry it is ([`Recent::guess_all`], [`Recent::find`]). A guess changes how long it takes, and nothing
-    /// else.
+    /// The same, given a guess of which entry it is ([`Recent::guess_all`], [`Recent::find`]). A guess changes how long it takes, and
+    /// nothing else.
     fn get_mut_by(&mut self, key: &[u8], _guess: u32) -> Option<&mut Held>
         ensures* writes_back { sem 𝓛 (lends_held Self.row self.entry result (λ held. lent self.old key.now held)) }
         ensures value { option_copied_mut result ≡ lookup (bytes_eq key.now) (entries self.old) }

@@ -33,8 +33,10 @@ pub trait Store {
     fn peek(&self, key: &[u8]) -> Option<&Body>
         ensures { option_copied result ≡ body_at key.now (items self.now) };
 
-    /// The body under the key, and a guess of which item it is, which is right until an item is taken out or put. The order stays, and a
-    /// guess given here is looked at first.
+    /// The body under the key, and a guess of which item it is. The order stays, and a guess given here is looked at first.
+    ///
+    /// The guess is right until an item is put, replaced or taken out, or a call other than [`Store::peek`], [`Store::find`] and
+    /// [`Store::guess_all`] asks for a key that is not held: each of these may move items.
     fn find(&self, key: &[u8], _guess: u32) -> Option<(u32, &Body)>
         ensures { option_map (λ found. found.1.now) result ≡ body_at key.now (items self.now) }
     {
@@ -66,9 +68,9 @@ pub trait Store {
         false
     }
 
-    /// Guesses which item each key has, and is worth its time if [`Store::guesses`]. A store that never does leaves the guesses as they are.
-    /// 0 is no guess. [`Store::bring_by`] and the other calls that are given a guess use it. The result is made of what was read, so that no
-    /// compiler leaves the reading out. It says nothing else.
+    /// Guesses which item each key has, and is worth its time if [`Store::guesses`]. A store that never does leaves the guesses as they
+    /// are. 0 is no guess. [`Store::bring_by`] and the other calls that are given a guess use it. The result is made of what was read, so
+    /// that no compiler leaves the reading out. It says nothing else.
     fn guess_all(&self, _keys: &[&[u8]], _guesses: &mut [u32]) -> u8 {
         0
     }

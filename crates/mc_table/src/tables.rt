@@ -21,10 +21,11 @@ use std::mem;
 ///
 /// # Work
 ///
-/// A call with a key hashes it once and searches once. `put` hashes it again if the key is not there, and a call with a guess that is
-/// right does neither. The others hash nothing. A search passes the entries of one bucket. The constructor settles how many buckets there
-/// are: at least one for each entry that it takes room for (up to 2^31). So no call but `clear` does work that grows with the entries, as
-/// long as no more are in the table than it was made for and hashes spread. Nothing is ever laid out anew.
+/// A call with a key hashes it once and searches once. Given a guess that is right, it does neither. `put` hashes a key that is not there
+/// twice. `put_front` and `tag` hash once and search nothing, and the other calls hash nothing. A search passes the entries of one bucket.
+/// To take an entry out passes those of two: its own, and that of the last entry, which takes its place. The constructor settles how many
+/// buckets there are: at least one for each entry that it takes room for (up to 2^31). So no call but `clear` does work that grows with
+/// the entries, as long as no more are in the table than it was made for and hashes spread. Nothing is ever laid out anew.
 ///
 /// # Memory
 ///
@@ -170,9 +171,9 @@ impl<K: Eq + Hash, V, S: BuildHasher> Table<K, V, S> {
         self.entries.tag(k)
     }
 
-    /// Guesses for each tag which entry has a key of that tag, and makes no change. A guess may be wrong, and holds until an entry is taken
-    /// out. The heads and the entries of all tags are looked at side by side, so the processor waits for their memory at once: group
-    /// prefetching, known from joins by hashes.
+    /// Guesses for each tag which entry has a key of that tag, and makes no change. A guess may be wrong. One that is right stays right
+    /// until an entry is taken out. The heads and the entries of all tags are looked at side by side, so the processor waits for their
+    /// memory at once: group prefetching, known from joins by hashes.
     #[inline]
     pub fn guess_all(&self, tags: &[u32], guesses: &mut [u32]) {
         self.entries.guess_all(tags, guesses);
