@@ -25,10 +25,11 @@ pub enum Next {
 ///
 /// Each byte is looked at a constant number of times, however the text is cut: the end of a line is searched for once, a
 /// line whose block has not come whole is read once more when it has, and a block that is refused is dropped while it comes.
-/// No order of calls changes that. After a `feed` or a `consume` it is known whether something is whole, and
-/// [`Reader::ready`] looks at no byte; only where a `consume` brought a short line to the front, of at most 512 bytes, each
-/// `ready` until the next feed reads the words of it that may announce a block. [`Reader::peek`] reads the line that it
-/// lends. Where nothing is whole, a reader keeps fewer than [`REQUEST_LIMIT`](crate::REQUEST_LIMIT) bytes.
+/// After a `feed` or a `consume` it is known whether something is whole. If nothing is, no call reads a byte until more come; only
+/// if a `consume` brought a short line to the front, of at most 512 bytes, each look and each [`Reader::ready`] until the next feed
+/// reads the words of it that may announce a block. If something is whole, `ready` reads no byte, and [`Reader::peek`],
+/// [`Reader::peek_get`] and [`Reader::peek_lone`] each read what is first, at each call: no more than its line. Where nothing is
+/// whole, a reader keeps fewer than [`REQUEST_LIMIT`](crate::REQUEST_LIMIT) bytes.
 #[derive(Drop)]
 pub struct Reader {
     alloc: Global,

@@ -237,6 +237,9 @@ impl Unread {
         ensures well_formed { IfSome result (λ get. is_well_formed (get_of get) ≡ true) }
     {
         let (_, unread) = self.buffer.split_at(self.start);
+        if unread.len() < self.wanted {
+            return None;
+        }
         let (keys, with_cas, size) = first_get(unread, self.searched)?;
         Some(LentGet {
             keys,
@@ -272,6 +275,9 @@ impl Unread {
         ensures well_formed { IfSome result (λ line. (what : Taken) → IsAlone line what → is_well_formed what ≡ true) }
     {
         let (_, unread) = self.buffer.split_at(self.start);
+        if unread.len() < self.wanted {
+            return None;
+        }
         let line = first_lone(unread, self.searched)?;
         Some(line)
     }
