@@ -2,8 +2,10 @@
 
 use crate::first_keys::{AHEAD, FirstKeys};
 use mc_cache::Cache;
+use mc_request::{Asked, MetaCommand, Update};
 use mc_request_reader::Front;
 use mc_store::Store;
+use mc_text::{WordIter, words};
 
 /// Of fewer keys none is guessed.
 const FEW: usize = 3;
@@ -11,8 +13,8 @@ const FEW: usize = 3;
 /// A text of fewer bytes is not worth a look.
 const SHORT: usize = 64;
 
-/// Guesses of the items of the keys that come next, in the order of the keys. Who uses a guess looks whether it is right: so it changes how
-/// long that takes, and nothing else.
+/// Guesses of the items of the keys that come next on one connection, in the order of the keys. Who uses a guess looks whether it is
+/// right: so it changes how long that takes, and nothing else.
 #[derive(Clone, Copy)]
 pub struct Ahead {
     guesses: [u32; AHEAD],
@@ -20,8 +22,10 @@ pub struct Ahead {
     count: u8,
     /// How many of them were used.
     used: u8,
-    /// What the look read, which says nothing ([`Store::guess_all`]).
+    /// What the looks read, which says nothing ([`Store::guess_all`]).
     read: u8,
+    /// The number of the connection.
+    connection: u64,
 }
 
 impl Ahead {
@@ -32,6 +36,17 @@ impl Ahead {
             count: 0,
             used: 0,
             read: 0,
+            connection: 0,
+        }
+    }
+
+    /// Turns to a connection, by its number. Guesses for another one are let go.
+    #[inline]
+    pub fn turn_to(&mut self, connection: u64) {
+        if self.connection != connection {
+            self.connection = connection;
+            self.count = 0;
+            self.used = 0;
         }
     }
 
@@ -46,36 +61,88 @@ impl Ahead {
         guess.unwrap_or(0)
     }
 
-    /// Guesses the items of the keys that a text asks for first, if all guesses were used and the cache finds several items sooner
-    /// together. No more than 8,192 bytes are looked at, and the next look begins at a request whose first key has no guess.
+    /// A look, which guesses the items of the keys of a retrieval that is first in a text, and of the requests that come after it. It is
+    /// made if no byte is left of what the last look read, and if the cache finds several items sooner together.
+    ///
+    /// `looked` is how many bytes in front the last look has read, and what is given is how many are read now: so each byte is read by one
+    /// look, however the text is cut.
     #[inline]
-    pub fn look<S: Store + Drop>(&mut self, text: &[u8], cache: &Cache<S>) {
-        if self.used >= self.count && text.len() >= SHORT && cache.guesses() {
-            self.guess(text, cache);
+    pub fn look<S: Store + Drop>(
+        &mut self,
+        looked: usize,
+        keys: &WordIter<'_>,
+        front: Front,
+        text: &[u8],
+        cache: &Cache<S>,
+    ) -> usize {
+        if looked > 0 || text.len() < SHORT || !cache.guesses() {
+            return looked;
+        }
+        self.guess(keys.again(), front, text, cache)
+    }
+
+    /// The same of any request or fault, if something comes after it and it has a key.
+    #[inline]
+    pub fn look_past<S: Store + Drop>(
+        &mut self,
+        looked: usize,
+        asked: &Asked<'_>,
+        front: Front,
+        text: &[u8],
+        cache: &Cache<S>,
+    ) -> usize {
+        if looked > 0 || text.len() < SHORT || text.len() <= front.size || !cache.guesses() {
+            return looked;
+        }
+        match keys_of(asked) {
+            Some(keys) => self.guess(keys, front, text, cache),
+            None => 0,
         }
     }
 
     /// The look, where it is known that it is to be done.
     #[inline(never)]
-    fn guess<S: Store + Drop>(&mut self, text: &[u8], cache: &Cache<S>) {
-        let first = FirstKeys::of(text);
+    fn guess<S: Store + Drop>(
+        &mut self,
+        keys: WordIter<'_>,
+        front: Front,
+        text: &[u8],
+        cache: &Cache<S>,
+    ) -> usize {
+        let first = FirstKeys::of(keys, text.get(front.size..).unwrap_or_default());
         let keys = first.keys();
-        self.guesses = [0; AHEAD];
         self.used = 0;
-        self.count = keys.len() as u8;
-        if keys.len() < FEW {
-            return;
-        }
-        if let Some(guesses) = self.guesses.get_mut(..keys.len()) {
+        self.count = 0;
+        if keys.len() >= FEW
+            && let Some(guesses) = self.guesses.get_mut(..keys.len())
+        {
+            self.count = keys.len() as u8;
             self.read ^= cache.guess_all(keys, guesses);
         }
+        first.taken().saturating_add(front.size)
     }
+}
 
-    /// A look, if something comes after the first request or fault of the text, which ends there.
-    #[inline]
-    pub fn look_past<S: Store + Drop>(&mut self, front: Front, text: &[u8], cache: &Cache<S>) {
-        if front.size > 0 && front.size < text.len() {
-            self.look(text, cache);
-        }
+/// The keys of a request that has one.
+fn keys_of<'a>(asked: &Asked<'a>) -> Option<WordIter<'a>> {
+    match asked {
+        Asked::Get { keys, .. } => Some(keys.again()),
+        Asked::Update { update, .. } => key_of(update),
+        Asked::Meta { command, .. } => match command {
+            MetaCommand::Get { key, .. } => Some(words(key)),
+            MetaCommand::Update { update, .. } => key_of(update),
+        },
+        Asked::MetaNoop | Asked::Version | Asked::Quit | Asked::Faulty(_) => None,
+    }
+}
+
+/// The key of a command that has one.
+fn key_of<'a>(update: &Update<&'a [u8], &'a [u8]>) -> Option<WordIter<'a>> {
+    match update {
+        Update::Store { key, .. }
+        | Update::Touch { key, .. }
+        | Update::Delete { key, .. }
+        | Update::Count { key, .. } => Some(words(key)),
+        Update::FlushAll { .. } => None,
     }
 }

@@ -20,8 +20,8 @@ pub struct Connection {
     output: Vec<u8>,
     /// How many bytes of the output were taken out.
     sent: usize,
-    /// Guesses of the items that are asked for next.
-    ahead: Ahead,
+    /// How many of the bytes that are not taken the last look ahead has read: in these no other begins.
+    looked: usize,
 }
 
 impl Model for Connection {
@@ -50,7 +50,7 @@ impl Connection {
             reader: Reader::new(alloc),
             output: Vec::new(alloc),
             sent: 0,
-            ahead: Ahead::none(),
+            looked: 0,
         }
     }
 
@@ -96,6 +96,7 @@ impl Connection {
         &mut self,
         cache: &mut Cache<S>,
         moment: u64,
+        ahead: &mut Ahead,
     ) -> Result<Turn, ServerError>
         requires { moment < 2 ^ 63 }
         ensures turn { (number : ℕ)
@@ -108,7 +109,7 @@ impl Connection {
         ensures err { OnErr result (self.new ≡ self.old) }
         ensures cache_kept { OnErr result (cache.new ≡ cache.old) }
     {
-        match self.turn_within(cache, moment, AnswerLimit::none())? {
+        match self.turn_within(cache, moment, AnswerLimit::none(), ahead)? {
             Limited::Turned(turn) => Ok(turn),
             Limited::Refused => unreachable!(),
         }
@@ -123,6 +124,7 @@ impl Connection {
         cache: &mut Cache<S>,
         moment: u64,
         limit: AnswerLimit,
+        ahead: &mut Ahead,
     ) -> Result<Limited, ServerError>
         requires { moment < 2 ^ 63 }
         ensures turn { (number : ℕ)
@@ -139,27 +141,27 @@ impl Connection {
         ensures err { OnErr result (self.new ≡ self.old) }
         ensures cache_kept { OnErr result (cache.new ≡ cache.old) }
     {
+        if self.reader.is_short() {
+            return Ok(Limited::Turned(Turn::Idle));
+        }
         if let Some(get) = self.reader.peek_get() {
             let LentGet {
                 keys,
                 with_cas,
                 front,
             } = get;
-            self.ahead.look(self.reader.unread(), cache);
+            self.looked = ahead.look(self.looked, &keys, front, self.reader.unread(), cache);
             let room = room_for_get(&keys, cache);
             if limit.is_passed_by_get(room, &keys, cache) {
                 return Ok(Limited::Refused);
             }
             self.output.reserve(room)?;
-            let ahead = &mut self.ahead;
             serve_keys(keys, None, with_cas, cache, moment, ahead, &mut self.output);
+            self.looked = self.looked.saturating_sub(front.size);
             self.reader.consume(front);
             return Ok(Limited::Turned(Turn::Took));
         }
-        if self.reader.is_short() {
-            return Ok(Limited::Turned(Turn::Idle));
-        }
-        self.turn_other(cache, moment, limit)
+        self.turn_other(cache, moment, limit, ahead)
     }
 
     /// The same where what is first is not a good `get` or `gets`.
@@ -168,6 +170,7 @@ impl Connection {
         cache: &mut Cache<S>,
         moment: u64,
         limit: AnswerLimit,
+        ahead: &mut Ahead,
     ) -> Result<Limited, ServerError>
         requires { moment < 2 ^ 63 }
         ensures turn { (number : ℕ)
@@ -185,21 +188,22 @@ impl Connection {
         ensures cache_kept { OnErr result (cache.new ≡ cache.old) }
     {
         match self.reader.peek_lone() {
-            None => self.turn_peeked(cache, moment, limit),
+            None => self.turn_peeked(cache, moment, limit, ahead),
             Some(line) => match &command_line(line.content) {
                 CommandLine::Stores(_, _) | CommandLine::Refuses(_, _) => {
-                    self.turn_peeked(cache, moment, limit)
+                    self.turn_peeked(cache, moment, limit, ahead)
                 }
                 CommandLine::Alone(asked) => {
                     let front = Front {
                         size: line.size,
                         closes: asked.ends(),
                     };
-                    self.ahead.look_past(front, self.reader.unread(), cache);
-                    let ahead = &mut self.ahead;
+                    let text = self.reader.unread();
+                    self.looked = ahead.look_past(self.looked, asked, front, text, cache);
                     if !serve_within(asked, cache, moment, limit, ahead, &mut self.output)? {
                         return Ok(Limited::Refused);
                     }
+                    self.looked = self.looked.saturating_sub(front.size);
                     self.reader.consume(front);
                     Ok(Limited::Turned(Turn::Took))
                 }
@@ -213,6 +217,7 @@ impl Connection {
         cache: &mut Cache<S>,
         moment: u64,
         limit: AnswerLimit,
+        ahead: &mut Ahead,
     ) -> Result<Limited, ServerError>
         requires { moment < 2 ^ 63 }
         ensures turn { (number : ℕ)
@@ -233,17 +238,17 @@ impl Connection {
             Peek::Closed => return Ok(Limited::Turned(Turn::Closing)),
             Peek::More => return Ok(Limited::Turned(Turn::Idle)),
             Peek::First(asked, front) => {
-                self.ahead.look_past(*front, self.reader.unread(), cache);
-                let ahead = &mut self.ahead;
+                let text = self.reader.unread();
+                self.looked = ahead.look_past(self.looked, asked, *front, text, cache);
                 if !serve_within(asked, cache, moment, limit, ahead, &mut self.output)? {
                     return Ok(Limited::Refused);
                 }
                 *front
             }
         };
+        self.looked = self.looked.saturating_sub(front.size);
         self.reader.consume(front);
-        let turn = Turn::Took;
-        Ok(Limited::Turned(turn))
+        Ok(Limited::Turned(Turn::Took))
     }
 
     /// The answers that were not taken out.

@@ -1,49 +1,55 @@
-//! The keys that a text asks for first.
+//! The keys that the first requests of a text ask for.
 ghost use Rattle.std.specs.Prelude.{◌≤◌, length};
 
-use mc_text::{CODED_LIMIT, read_len};
+use mc_text::{CODED_LIMIT, KEY_LIMIT, WordIter, read_i64, read_len};
 use std::simd::prelude::*;
 
-/// The most keys that are looked for.
+/// The most keys that are found.
 pub const AHEAD: usize = 32;
 
-/// The most bytes that are looked at: as many as so many gets of the longest keys take.
+/// The most bytes after the first request that are read: as many as that many gets of the longest keys take.
 const LONG: usize = 8_192;
 
-/// The most words of a line that are looked at. What is empty between two spaces counts as one.
-const WORDS: usize = 2 * AHEAD;
+/// The most bytes of a command's name.
+const NAME: usize = 7;
+
+/// The most bytes of an exptime or a length.
+const NUMBER: usize = 20;
 
 /// How many bytes are looked at together.
 const LANES: usize = 16;
 
-/// The keys that the first lines of a text ask for, in their order, as many as there is room for.
+/// The control byte above the others, which is in no key.
+const DELETE: u8 = 127;
+
+/// The keys that the first requests of a text ask for, in their order.
 ///
-/// They end where a line has not come whole, or its command has no key or is none that is known here (`mn` is passed over after a key).
-/// What is no key may be among them: whoever takes them for keys has to look.
+/// A line is taken only if the reader of requests would take it so: else it and all after it are left out, and so is a line whose keys
+/// are more than there is room for. So each line that is taken is served, and its keys are looked up.
 #[derive(Drop)]
 pub struct FirstKeys<'a> {
     keys: [&'a [u8]; AHEAD],
     count: usize,
+    /// How many bytes the lines that were taken have with their data blocks.
+    taken: usize,
 }
 
 impl<'a> FirstKeys<'a> {
-    /// Those of a text.
-    pub fn of(text: &'a [u8]) -> FirstKeys<'a> {
-        let mut first = FirstKeys {
+    /// The keys of the first request, and those of the requests that the text after it begins with. No more than 8,192 bytes of that text
+    /// are read, and each of them a constant number of times.
+    pub fn of(first: WordIter<'a>, after: &'a [u8]) -> FirstKeys<'a> {
+        let mut found = FirstKeys {
             keys: [&[]; AHEAD],
             count: 0,
+            taken: 0,
         };
-        let mut rest = text.get(..LONG).unwrap_or(text);
-        for _ in 0..AHEAD {
-            let Some(more) = first.take_line(rest) else {
-                break;
-            };
-            if first.count == 0 || first.count == AHEAD {
-                break;
+        for key in first {
+            if found.push(key).is_none() {
+                return found;
             }
-            rest = more;
         }
-        first
+        found.take_lines(after.get(..LONG).unwrap_or(after));
+        found
     }
 
     /// The keys.
@@ -53,23 +59,50 @@ impl<'a> FirstKeys<'a> {
         self.keys.as_slice().get(..self.count).unwrap_or_default()
     }
 
-    /// Takes the keys of the first line, and gives what comes after it and its data block.
-    fn take_line(&mut self, text: &'a [u8]) -> Option<&'a [u8]> {
-        let (name, words) = split_word(text, LANES)?;
-        match name {
-            b"get" | b"gets" => self.take_words(words),
-            b"mg" | b"incr" | b"decr" | b"ma" | b"md" | b"touch" | b"delete" => {
-                after_line(self.take_word(words)?)
-            }
-            b"ms" => after_block(self.take_word(words)?),
-            b"set" | b"add" | b"replace" | b"append" | b"prepend" | b"cas" => {
-                let words = self.take_word(words)?;
-                after_block(after_word(after_word(words)?)?)
-            }
-            b"gat" | b"gats" => self.take_words(after_word(words)?),
-            b"mn" => after_line(words),
-            _ => None,
+    /// How many bytes of the text after the first request the requests take whose keys these are.
+    pub fn taken(&self) -> usize {
+        self.taken
+    }
+
+    /// Takes the lines that the text begins with.
+    fn take_lines(&mut self, text: &'a [u8]) {
+        let mut rest = text;
+        for _ in 0..AHEAD {
+            let count = self.count;
+            let Some(more) = self.take_line(rest) else {
+                self.count = count;
+                break;
+            };
+            rest = more;
         }
+        self.taken = text.len().saturating_sub(rest.len());
+    }
+
+    /// Takes the keys of the first line, and gives what is after it and its data block.
+    fn take_line(&mut self, text: &'a [u8]) -> Option<&'a [u8]> {
+        let (line, after) = split_line(text)?;
+        let (name, words) = split_word(line, NAME)?;
+        match name {
+            b"get" | b"gets" => self.take_keys(words)?,
+            b"mg" | b"incr" | b"decr" | b"ma" | b"md" | b"touch" | b"delete" => {
+                self.take_key(words, CODED_LIMIT)?;
+            }
+            b"ms" => return after_block(self.take_key(words, CODED_LIMIT)?, after),
+            b"set" | b"add" | b"replace" | b"append" | b"prepend" | b"cas" => {
+                let words = self.take_key(words, KEY_LIMIT)?;
+                let (_, words) = next_word(words, NUMBER)?;
+                let (_, words) = next_word(words, NUMBER)?;
+                return after_block(words, after);
+            }
+            b"gat" | b"gats" => {
+                let (exptime, words) = next_word(words, NUMBER)?;
+                read_i64(exptime)?;
+                self.take_keys(words)?;
+            }
+            b"mn" if words.is_empty() => {}
+            _ => return None,
+        }
+        Some(after)
     }
 
     /// Takes a key, if there is room.
@@ -80,84 +113,84 @@ impl<'a> FirstKeys<'a> {
         Some(())
     }
 
-    /// Takes the first word, and gives what is after it.
-    fn take_word(&mut self, text: &'a [u8]) -> Option<&'a [u8]> {
-        let (word, rest) = next_word(text)?;
+    /// Takes the next word, and gives what is after it.
+    fn take_key(&mut self, text: &'a [u8], most: usize) -> Option<&'a [u8]> {
+        let (word, rest) = next_word(text, most)?;
         self.push(word)?;
         Some(rest)
     }
 
-    /// Takes all words of the line, and gives what comes after it.
-    fn take_words(&mut self, text: &'a [u8]) -> Option<&'a [u8]> {
-        let mut rest = text;
-        for _ in 0..WORDS {
-            let (first, more) = rest.split_first()?;
-            if *first == b'\n' {
-                return Some(more);
+    /// Takes all words of a line, of which there is one at least.
+    fn take_keys(&mut self, words: &'a [u8]) -> Option<()> {
+        let mut rest = self.take_key(words, KEY_LIMIT)?;
+        for _ in 0..AHEAD {
+            if rest.is_empty() {
+                return Some(());
             }
-            let (word, more) = split_word(more, CODED_LIMIT)?;
-            if !word.is_empty() {
-                self.push(word)?;
-            }
-            rest = more;
+            rest = self.take_key(rest, KEY_LIMIT)?;
         }
         None
     }
 }
 
-/// The word in front, if it ends within so many bytes, and what comes after it, from the space or line end on.
+/// The first line, if it is whole and no control byte is in it, and what is after its end.
 #[inline]
-fn split_word(text: &[u8], most: usize) -> Option<(&[u8], &[u8])> {
-    let end = first_up_to(b' ', text.get(..most).unwrap_or(text))?;
-    Some((text.get(..end)?, text.get(end..)?))
+fn split_line(text: &[u8]) -> Option<(&[u8], &[u8])> {
+    let end = first_up_to(b' ' - 1, text)?;
+    let after = match text.get(end..)? {
+        [b'\n', after @ ..] | [b'\r', b'\n', after @ ..] => after,
+        _ => return None,
+    };
+    Some((text.get(..end)?, after))
 }
 
-/// The word after a space, and what comes after that.
+/// The word in front of a line, if it has at most this many bytes, and what is after it, from the space on.
 #[inline]
-fn next_word(text: &[u8]) -> Option<(&[u8], &[u8])> {
-    let [b' ', rest @ ..] = text else {
+fn split_word(line: &[u8], most: usize) -> Option<(&[u8], &[u8])> {
+    let end = match first_up_to(b' ', line.get(..=most).unwrap_or(line)) {
+        Some(end) => end,
+        None if line.len() <= most => line.len(),
+        None => return None,
+    };
+    Some((line.get(..end)?, line.get(end..)?))
+}
+
+/// The word after one space, and what is after that. Between two spaces there is none.
+#[inline]
+fn next_word(line: &[u8], most: usize) -> Option<(&[u8], &[u8])> {
+    let [b' ', words @ ..] = line else {
         return None;
     };
-    split_word(rest, CODED_LIMIT)
-}
-
-/// What comes after the next word.
-fn after_word(text: &[u8]) -> Option<&[u8]> {
-    let (_, rest) = next_word(text)?;
-    Some(rest)
-}
-
-/// What comes after the line.
-#[inline]
-fn after_line(text: &[u8]) -> Option<&[u8]> {
-    let end = first_up_to(b'\r', text)?;
-    match text.get(end..)? {
-        [b'\n', rest @ ..] | [b'\r', b'\n', rest @ ..] => Some(rest),
-        _ => None,
+    let (word, rest) = split_word(words, most)?;
+    if word.is_empty() {
+        return None;
     }
+    Some((word, rest))
 }
 
-/// What comes after the line and the data block whose length is its next word.
-fn after_block(text: &[u8]) -> Option<&[u8]> {
-    let (word, rest) = next_word(text)?;
-    let rest = after_line(rest)?;
+/// What is after the data block whose length is the next word of its line.
+fn after_block<'a>(words: &[u8], after: &'a [u8]) -> Option<&'a [u8]> {
+    let (word, _) = next_word(words, NUMBER)?;
     let block = (read_len(word)? as usize).checked_add(2)?;
-    rest.get(block..)
+    after.get(block..)
 }
 
-/// Where the first byte is that is no more than another. The processor looks at many at once.
+/// Where the first byte is that is no more than another, or is 127. The processor looks at many at once.
 #[inline]
 fn first_up_to(most: u8, text: &[u8]) -> Option<usize> {
     let (chunks, rest) = text.as_chunks::<LANES>();
     let mut passed: usize = 0;
     for chunk in chunks {
-        let found = u8x16::from_array(*chunk).simd_le(u8x16::splat(most));
-        let marks = found.to_bitmask();
+        let bytes = u8x16::from_array(*chunk);
+        let marks = bytes.simd_le(u8x16::splat(most)).to_bitmask()
+            | bytes.simd_eq(u8x16::splat(DELETE)).to_bitmask();
         if marks != 0 {
             return Some(passed.wrapping_add(marks.trailing_zeros() as usize));
         }
         passed = passed.wrapping_add(LANES);
     }
-    let place = rest.iter().position(|byte| *byte <= most)?;
+    let place = rest
+        .iter()
+        .position(|byte| *byte <= most || *byte == DELETE)?;
     Some(passed.wrapping_add(place))
 }
