@@ -1,7 +1,7 @@
-"""Refuses allocations of a program, by a library in front of the C library. The toolchain's own clang builds it."""
+"""Refuses allocations of a program, by a library in front of the C library. The machine's C compiler builds it: `$CC`, or else `cc`."""
 
 import os
-import shutil
+import shlex
 import subprocess
 
 SECONDS = 60  # until a run is given up
@@ -33,14 +33,11 @@ void *realloc(void *block, size_t size) { return is_refused() ? 0 : __libc_reall
 
 def build(folder):
     """Builds the library, and gives its path."""
-    kit = os.path.dirname(os.path.dirname(os.path.realpath(shutil.which("rt"))))
     source, library = f"{folder}/refuses.c", f"{folder}/refuses.so"
     with open(source, "w", encoding="ascii") as file:
         file.write(SOURCE)
-    words = [f"{kit}/toolchain/bin/clang", "-O1", "-fPIC", "-ffreestanding", "-c", source, "-o", f"{folder}/refuses.o"]
-    subprocess.run(words, check=True)
-    words = [f"{kit}/toolchain/bin/ld.lld", "-shared", f"{folder}/refuses.o", "-o", library]
-    subprocess.run(words, check=True)
+    compiler = shlex.split(os.environ.get("CC") or "cc")
+    subprocess.run([*compiler, "-shared", "-fPIC", "-O1", "-ffreestanding", source, "-o", library], check=True)
     return library
 
 
