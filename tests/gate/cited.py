@@ -9,10 +9,11 @@ A word in backquotes is a path where it has a slash, or ends as a source, a scri
 one that was named last. A folder of all crates (`specs/`) and a file without a folder may be anywhere. The words NAME and
 CRATE are any name (`tests/must-fail/CRATE/NAME.edit`). The targets of a document's links are looked for from its folder.
 
-The documents name the toolchain once, as `rt version` prints it.
+One line of README.md names the kits with which the gate passed, and the logic that they share; no other line of a document names either.
+`rt version` prints both. The logic on this machine must be the one that README.md names; its kit may be another.
 
-It prints a line for each path that is not there, and for each line that names another toolchain; the last line is 'N passed, M failed', one
-for each document and crate, and one for the toolchain.
+It prints a line for each path that is not there, and for each line that has to change for the toolchain; the last line is
+'N passed, M failed', one for each document and crate, and one for the toolchain.
 """
 import pathlib
 import re
@@ -23,12 +24,14 @@ sys.path.insert(0, str(pathlib.Path(__file__).resolve().parents[1] / "lib"))
 
 from suite import CRATES, TOP, counted
 
+README = TOP / "README.md"
 ENDINGS = (".rt", ".antt", ".edit", ".py", ".sh", ".md")
 QUOTED = re.compile(r"`([^`\s]+)`")
 LINK = re.compile(r"\]\(([^()\s]+)\)")
 CRATE = re.compile(r"\bmc_[a-z_]+\b")
 ANY_NAME = re.compile(r"\b(?:NAME|CRATE)\b")
-TOOLCHAIN = re.compile(r"\brattle-kit-\w+(?: logic \w+)?")
+LOGIC = re.compile(r"\blogic [0-9a-f]{16}\b")
+TOOLCHAIN = re.compile(rf"\brattle-kit-\w+|{LOGIC.pattern}")
 
 # What is no file of this repository: memcached's own document, what a build leaves in the folders out/, and what the system has.
 ELSEWHERE = re.compile(r"doc/protocol\.txt$|(.*/)?out(/|$)|/")
@@ -100,24 +103,28 @@ def is_right(file, lines, own=None):
 
 
 def names_the_toolchain(documents):
-    """Prints each line of the documents that names another toolchain than this one, and says whether there is none, and one line that names it."""
-    own = subprocess.run(["rt", "version"], stdout=subprocess.PIPE, text=True, check=True).stdout.strip()
+    """Prints which line has to change for this machine's toolchain, if any has, and says whether none has."""
+    version = subprocess.run(["rt", "version"], stdout=subprocess.PIPE, text=True, check=True).stdout.strip()
+    own = LOGIC.findall(version)
     named = [
-        (f"{document.relative_to(TOP)}:{number}", name)
+        (document, f"{document.relative_to(TOP)}:{number}", LOGIC.findall(line))
         for document in documents
         for number, line in enumerate(document.read_text().splitlines(), 1)
-        for name in TOOLCHAIN.findall(line)
+        if TOOLCHAIN.search(line)
     ]
-    for line, name in named:
-        if name != own:
-            print(f"{line}: change {name} to {own}, once the gate has passed with it")
-    if len(named) != 1:
-        print(f"the documents name the toolchain {len(named)} times: {', '.join(line for line, _ in named)}")
-    return [name for _, name in named] == [own]
+    if [document for document, _, _ in named] != [README]:
+        places = ", ".join(place for _, place, _ in named)
+        print(f"kits and a logic are to be named in one line, of README.md; they are in these: {places or 'none'}")
+        return False
+    _, place, logic = named[0]
+    if logic != own:
+        said = " and ".join(logic) or "no logic"
+        print(f"{place}: it names {said}, and `rt version` prints {version}: change it, once the gate has passed with that kit")
+    return logic == own
 
 
 def main():
-    documents = [TOP / "README.md", TOP / "CONTRIBUTING.md", *sorted(TOP.glob("docs/*.md")), TOP / "bench" / "RESULTS.md"]
+    documents = [README, TOP / "CONTRIBUTING.md", *sorted(TOP.glob("docs/*.md")), TOP / "bench" / "RESULTS.md"]
     told = [is_right(document, document.read_text().splitlines()) for document in documents]
     for crate in sorted(path for path in CRATES.iterdir() if (path / "src").is_dir()):
         sources = sorted(crate.glob("src/**/*.rt"))
