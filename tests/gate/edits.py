@@ -1,7 +1,7 @@
 #!/usr/bin/env python3
 """Tries the must-fail edits that the gate does not: wrong bodies that the prover must refuse, below tests/must-fail.
 
-Usage: edits.py [--read] [CRATE ...]       (all crates that have such edits, where none is named)
+Usage: edits.py [--read] [CRATE | CRATE/NAME ...]       (a crate's edits, or one of them; all that there are, where none is named)
 
 The crates are copied to a temporary folder, what is built of them too, and have these edits there in the place of the gate's;
 `rt must-fail` tries them, crate by crate. That takes a crate's proof and some 20 seconds an edit, and first the proof of each library below
@@ -89,9 +89,11 @@ def refused_of(crate, edits, copy):
 def main():
     words = argparse.ArgumentParser(description=__doc__, formatter_class=argparse.RawDescriptionHelpFormatter)
     words.add_argument("--read", action="store_true")
-    words.add_argument("crates", metavar="CRATE", nargs="*")
+    words.add_argument("named", metavar="CRATE | CRATE/NAME", nargs="*")
     asked = words.parse_args()
-    edits = [it for it in sorted(EDITS.glob("*/*.edit")) if not asked.crates or it.parent.name in asked.crates]
+    edits = sorted(EDITS.glob("*/*.edit"))
+    if asked.named:
+        edits = [it for it in edits if {it.parent.name, f"{it.parent.name}/{it.stem}"} & set(asked.named)]
     passed = read(edits) if asked.read else refused(edits)
     print(f"{passed} passed, {len(edits) - passed} failed")
     return passed != len(edits) or not edits
