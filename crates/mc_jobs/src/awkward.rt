@@ -18,7 +18,7 @@ const KEY_BITS: u32 = 14;
 /// How many small requests come in pieces of 1 and of 7 bytes.
 const IN_PIECES: u64 = 100_000;
 
-/// How many gets of 2,000 keys there are.
+/// How many gets of 1,300 keys there are.
 const LONG_GETS: u64 = 240;
 
 /// How many requests name a key of 250 bytes in base64.
@@ -122,7 +122,7 @@ fn in_pieces(
     Ok(served.digest)
 }
 
-/// Gets of 2,000 keys, after as many sets as there are keys.
+/// Gets of 1,300 keys, after as many sets as there are keys.
 fn long_gets(
     alloc: Global,
     random: &mut Random,
