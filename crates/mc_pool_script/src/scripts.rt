@@ -20,12 +20,6 @@ use std::marker::Model;
 /// The most clients.
 const MAX_CLIENTS: u64 = 1024;
 
-/// So many lines are read before room is made for those to come.
-const SEEN_LINES: usize = 1024;
-
-/// Room is made for at most so many lines to come for each that was read.
-const FORESIGHT: usize = 8;
-
 /// A pool script. Contracts see what it says.
 #[derive(Drop)]
 pub struct PoolScript {
@@ -152,27 +146,6 @@ impl PoolScript {
         Ok(true)
     }
 
-    /// Once many lines were read and the list is full, makes room at once for those to come, of a text of `size` bytes of which `passed` are
-    /// read. Where memory is refused, the list grows as it does without.
-    fn foresee(&mut self, passed: usize, size: usize)
-        ensures { self.new ≡ self.old }
-    {
-        let held = self.lines.len();
-        if held >= SEEN_LINES && held == self.lines.capacity() {
-            let left = size.saturating_sub(passed);
-            let _ = self.lines.reserve(lines_to_come(held, passed, left));
-        }
-    }
-
-    /// Gives back the room of lines that did not come, where that is more than half.
-    fn give_back(&mut self)
-        ensures { self.new ≡ self.old }
-    {
-        if self.lines.capacity() / 2 > self.lines.len() {
-            self.lines.shrink_to_fit();
-        }
-    }
-
     /// Goes on by what a line says. A server that joins has an address more.
     fn follow(&mut self, line: PoolLine) -> Result<(), AllocError>
         requires moment { HasMoment line (2 ^ 63) }
@@ -185,14 +158,6 @@ impl PoolScript {
         self.lines.push(line).unwrap();
         Ok(())
     }
-}
-
-/// How many lines are to come in the bytes that are left, if they are as long as those that were read, and a sixteenth more; at most
-/// `FORESIGHT` for each that was read.
-fn lines_to_come(lines: usize, passed: usize, left: usize) -> usize {
-    let alike = left.saturating_mul(lines) / passed.max(1);
-    let most = lines.saturating_mul(FORESIGHT);
-    alike.saturating_add(alike / 16).min(most)
 }
 
 /// A ring of these servers, with these points, or with the servers' own where there are none.
@@ -238,29 +203,24 @@ pub fn read_pool_script(alloc: Global, input: &[u8]) -> Result<PoolScript, SimEr
     let Some(script) = read_head(alloc, line)? else {
         return Err(SimError::BadLine(number));
     };
-    read_rest(alloc, script, lines, input.len())
+    read_rest(alloc, script, lines)
 }
 
-/// A script that goes on by all lines of a text of such a size, in bytes. The size is for room alone.
+/// A script that goes on by all lines.
 fn read_rest(
     alloc: Global,
     mut script: PoolScript,
     lines: LineIter<'_>,
-    size: usize,
 ) -> Result<PoolScript, SimError>
     ensures script { IfOk result (λ all. read_all script lines.entry ≡ Ok all) }
     ensures error { IfErr result (λ error. Explains error (read_all script lines.entry)) }
 {
-    let mut passed = 0usize;
     for (number, line) in lines {
-        script.foresee(passed, size);
         let more = script.read(alloc, line)?;
         if !more {
             return Err(SimError::BadLine(number));
         }
-        passed = passed.saturating_add(line.len()).saturating_add(1);
     }
-    script.give_back();
     Ok(script)
 }
 
