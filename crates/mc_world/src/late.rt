@@ -71,7 +71,6 @@ impl<S: Store + Drop> Site<S> {
             self.alloc,
             &mut self.server,
             &mut self.history,
-            &mut self.spare,
             connection,
             tag,
             moment,

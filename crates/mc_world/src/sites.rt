@@ -17,9 +17,6 @@ pub struct Site<S: Store + Drop> {
     pub(crate) alloc: Global,
     pub(crate) server: Server<S>,
     pub(crate) history: Vec<Entry>,
-    /// Memory that is lent to each turn. It has room for all that the server may append, so a turn cannot fail once it is done. It is kept
-    /// for the next one, if it is small.
-    pub(crate) spare: Vec<u8>,
     /// The living generation, or the last that lived.
     pub(crate) generation: u64,
     /// The number of its connection.
@@ -60,7 +57,6 @@ impl<S: Store + Drop> Site<S> {
             alloc,
             server,
             history: Vec::new(alloc),
-            spare: Vec::new(alloc),
             generation: 1,
             connection: 0,
             ahead: 0,
@@ -145,7 +141,6 @@ impl<S: Store + Drop> Site<S> {
             self.alloc,
             &mut self.server,
             &mut self.history,
-            &mut self.spare,
             self.connection,
             tag,
             moment,

@@ -4,7 +4,7 @@ use Rattle.mc_server.specs.declared.turns.Turn.{Turn}
 use Rattle.mc_server.specs.declared.turns.Turn.TheVariants.{Took}
 use Rattle.mc_server.specs.Turns.{IsTurn, Steps}
 use Rattle.mc_world.proofs.TurnLemmas.{entered, output_grows}
-use Rattle.mc_world.proofs.turning.enter.Goals as goal
+use Rattle.mc_world.proofs.turning.serve.Goals as goal
 
 pub split_at-requires : goal.split_at-requires
 split_at-requires g c =
