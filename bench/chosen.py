@@ -1,0 +1,346 @@
+#!/usr/bin/env python3
+"""Plays streams that a stranger may choose to the server and the proxy of two built checkouts, by turns.
+
+Usage: chosen.py OLD NEW [--seconds S] [STREAM ..]
+
+OLD and NEW are checkouts whose crates/mc_serverd/out/mc_serverd and crates/mc_proxyd/out/mc_proxyd are built. The streams are
+those of chosen_streams.py, all or the named ones; with `proxy/` in front of its name a stream is played to a proxy over two servers of
+the same checkout, and a name may be a pattern (`proxy/*`, `front-*`). A server holds 100,000 items of 100 bytes.
+
+A line tells of each stream the nanoseconds of processor time, the program's own and the kernel's for it, for each byte and for each
+request, in OLD and in NEW; their ratio, and between what the middle half of the rounds lies; what it takes of NEW beside the plain stream
+that it is compared with, by bytes and by requests (dear is what is above 1 in both); and how many times as long NEW takes with 100,000
+items as with 1,000, where it makes no look ahead. Figures are medians of rounds. A stream is played until OLD has taken S seconds (0.3).
+
+The same bytes are to be answered by both: where they are not, that is said, and the exit status is 1.
+"""
+
+import argparse
+import contextlib
+import datetime
+import fnmatch
+import hashlib
+import math
+import os
+import pathlib
+import select
+import signal
+import socket
+import statistics
+import struct
+import sys
+import time
+
+HERE = pathlib.Path(__file__).resolve().parent
+sys.path.insert(0, str(HERE.parent / "tests" / "lib"))
+sys.path.insert(0, str(HERE))
+
+from chosen_streams import FILLED, STREAMS, VALUE
+from serve import SERVERS_OF_A_PROXY, pin, processors
+from servers import Proxy, Server, connected
+
+ITEMS, FEW_ITEMS = 100_000, 1_000
+BUDGET, MOST_ITEMS = 200_000_000, 200_000
+ROUNDS, LEAST_ROUNDS = 15, 5  # of a stream; fewer where a single play takes long
+PATIENCE = 30  # seconds that a program may take for anything
+MOST_TIME = 10  # seconds after which no more rounds of a stream begin
+SENT_AT_ONCE = 65_536
+READ_AT_ONCE = 1 << 20
+WANTED_BESIDE_OLD, WANTED_BESIDE_FEW = 1.5, 1.6
+OF_A_PROXY = "proxy/"
+
+# The kernel's list of sockets, asked for one of them (linux/inet_diag.h, linux/sock_diag.h).
+SOCK_DIAG, SOCK_DIAG_BY_FAMILY, REQUEST = 4, 20, 1
+HEADER, ASKED, ADDRESS, COOKIE = "=IHHII", "=BBBBI", ">HH4s12x4s12x", "=III"
+QUEUE_AT = struct.calcsize(HEADER) + 4 + struct.calcsize(ADDRESS) + struct.calcsize(COOKIE) + 4
+ANY = 0xFFFFFFFF
+
+
+class Reading:
+    """Asks the kernel whether a program has read all that was sent to it on a connection."""
+
+    def __init__(self):
+        self.kernel = socket.socket(socket.AF_NETLINK, socket.SOCK_RAW, SOCK_DIAG)
+
+    def question(self, connection):
+        """What is asked of the other side of a connection."""
+        ours, theirs = connection.getsockname(), connection.getpeername()
+        body = struct.pack(ASKED, socket.AF_INET, socket.IPPROTO_TCP, 0, 0, ANY)
+        body += struct.pack(ADDRESS, theirs[1], ours[1], socket.inet_aton(theirs[0]), socket.inet_aton(ours[0]))
+        body += struct.pack(COOKIE, 0, ANY, ANY)
+        return struct.pack(HEADER, struct.calcsize(HEADER) + len(body), SOCK_DIAG_BY_FAMILY, REQUEST, 0, 0) + body
+
+    def waiting(self, question):
+        """How many bytes were sent and are not read."""
+        self.kernel.send(question)
+        answer = self.kernel.recv(4096)
+        if struct.unpack_from(HEADER, answer)[1] != SOCK_DIAG_BY_FAMILY:
+            raise SystemExit("bench/chosen.py: a program closed a connection, or the kernel does not say what it has read")
+        return struct.unpack_from("=I", answer, QUEUE_AT)[0]
+
+
+class Client:
+    """A connection to a program, and what it was answered."""
+
+    def __init__(self, program, reading):
+        self.connection, self.reading, self.answers = connected(program.port, PATIENCE), reading, []
+        self.connection.sendall(b"version\r\n")
+        self.connection.recv(100)
+        self.connection.setblocking(False)
+        self.question = reading.question(self.connection)
+
+    def take(self):
+        """Takes what is there of the answers, and says whether there may be more."""
+        try:
+            answer = self.connection.recv(READ_AT_ONCE)
+        except BlockingIOError:
+            return True
+        self.answers.append(answer)
+        return answer != b""
+
+    def send(self, text):
+        """Sends a text, and takes answers meanwhile, so that neither side waits for the other."""
+        left = memoryview(text)
+        while True:
+            with contextlib.suppress(BlockingIOError):
+                left = left[self.connection.send(left[:SENT_AT_ONCE]) :]
+            if not left:
+                return
+            ready, _, _ = select.select([self.connection], [self.connection], [], PATIENCE)
+            if ready and not self.take():
+                raise SystemExit("bench/chosen.py: a program closed a connection")
+
+    def await_reading(self):
+        """Waits until the program has read what was sent."""
+        deadline = time.monotonic() + PATIENCE
+        while self.reading.waiting(self.question):
+            self.take()
+            if time.monotonic() > deadline:
+                raise SystemExit("bench/chosen.py: a program reads no more")
+
+    def await_end(self):
+        """Says that no more is sent, and takes all answers."""
+        self.connection.shutdown(socket.SHUT_WR)
+        while True:
+            if not select.select([self.connection], [], [], PATIENCE)[0]:
+                raise SystemExit("bench/chosen.py: a program does not end a connection")
+            if not self.take():
+                return
+
+
+def played(program, play, reading):
+    """Plays it to a program: what that answered, and the seconds of processor time that it took."""
+    with contextlib.ExitStack() as stack:
+        clients = [Client(program, reading) for _ in range(play.connections)]
+        for client in clients:
+            stack.enter_context(client.connection)
+        start = program.processor_time()
+        for number, piece in play.pieces:
+            client = clients[number]
+            if play.apart:
+                client.await_reading()
+                client.take()
+            client.send(piece)
+        for client in clients:
+            client.await_end()
+        seconds = program.processor_time() - start
+    return b"".join(answer for client in clients for answer in client.answers), seconds
+
+
+class Program:
+    """A program that is measured, and what it has answered to a stream."""
+
+    def __init__(self, listener, reading, items):
+        self.listener, self.reading, self.answers, self.last = listener, reading, None, b""
+        self.fill(items)
+
+    def fill(self, items):
+        keys = [(b"k%d" % number, VALUE) for number in range(items)]
+        text = b"".join(b"set %s 0 0 %d\r\n%s\r\n" % (key, len(value), value) for key, value in [*keys, *FILLED.items()])
+        client = Client(self.listener, self.reading)
+        with client.connection:
+            client.send(text)
+            client.await_end()
+        if b"".join(client.answers) != b"STORED\r\n" * (items + len(FILLED)):
+            raise SystemExit(f"bench/chosen.py: {self.listener.program} could not be filled")
+
+    def begin(self):
+        """A stream begins."""
+        self.answers = hashlib.blake2b()
+
+    def play(self, play, times):
+        """Plays it some times, and gives the seconds of one."""
+        total = 0
+        for _ in range(times):
+            self.last, seconds = played(self.listener, play, self.reading)
+            self.answers.update(self.last)
+            total += seconds
+        return total / times
+
+
+def differing(old, new):
+    """How the answers of two programs differ, if they do: by those to the last play."""
+    if old.answers.digest() == new.answers.digest():
+        return ""
+    place = len(os.path.commonprefix([old.last, new.last]))
+    before, now = (program.last[max(0, place - 40) : place + 40] for program in (old, new))
+    return f"at byte {place:,} of the last play OLD answers {before!r}, NEW {now!r}"
+
+
+class Took:
+    """What a stream took of each program: seconds of a play, in each round and their median."""
+
+    def __init__(self, stream, play, rounds, differing):
+        self.stream, self.play, self.rounds, self.differing = stream, play, rounds, differing
+        self.bytes = sum(len(piece) for _, piece in play.pieces)
+        self.seconds = [statistics.median(column) for column in zip(*rounds)]
+
+    def each(self, at):
+        """Nanoseconds of a byte and of a request."""
+        return self.seconds[at] / self.bytes * 1e9, self.seconds[at] / self.play.requests * 1e9
+
+    def ratio(self, one, other):
+        """Between what the middle half of the rounds lies, and in the middle their median."""
+        ratios = [each[one] / each[other] for each in self.rounds]
+        return statistics.quantiles(ratios, n=4) if len(ratios) > 1 else ratios * 3
+
+
+def measured(stream, programs, seconds):
+    """Plays a stream to the programs in rounds, which begin with each in turn. All are played to equally often."""
+    play = stream.make()
+    for program in programs:
+        program.begin()
+    times = max(1, round(seconds / ROUNDS / programs[0].play(play, 1)))
+    for program in programs[1:]:
+        program.play(play, 1)
+    rounds, begun = [], time.monotonic()
+    while len(rounds) < LEAST_ROUNDS or sum(each[0] for each in rounds) * times < seconds:
+        took = [0.0] * len(programs)
+        for step in range(len(programs)):
+            at = (len(rounds) + step) % len(programs)
+            took[at] = programs[at].play(play, times)
+        rounds.append(took)
+        if time.monotonic() > begun + MOST_TIME:
+            break
+    return Took(stream, play, rounds, differing(*programs[:2]))
+
+
+def program_of(top, crate):
+    program = top / "crates" / crate / "out" / crate
+    if not program.is_file():
+        raise SystemExit(f"bench/chosen.py: {program} is not built")
+    return program
+
+
+class Bench:
+    """Where programs are started, and by which processors they are kept."""
+
+    def __init__(self, stack, asked):
+        self.stack, self.tops, self.seconds, self.reading = stack, (asked.old, asked.new), asked.seconds, Reading()
+        self.cores = processors()
+        pin(os.getpid(), self.core(1))
+
+    def core(self, number):
+        return self.cores[number % len(self.cores)] if self.cores else None
+
+    def server(self, top, core):
+        server = self.stack.enter_context(Server(program_of(top, "mc_serverd"), BUDGET, MOST_ITEMS))
+        pin(server.process.pid, self.core(core))
+        return server
+
+    def proxy(self, top):
+        servers = [self.server(top, 2 + number) for number in range(SERVERS_OF_A_PROXY)]
+        proxy = self.stack.enter_context(Proxy(program_of(top, "mc_proxyd"), [server.address for server in servers]))
+        pin(proxy.process.pid, self.core(0))
+        return proxy
+
+    def servers(self):
+        """OLD's and NEW's, full, and NEW's with few items."""
+        filled = [(self.tops[0], ITEMS), (self.tops[1], ITEMS), (self.tops[1], FEW_ITEMS)]
+        return [Program(self.server(top, 0), self.reading, items) for top, items in filled]
+
+    def proxies(self):
+        return [Program(self.proxy(top), self.reading, ITEMS) for top in self.tops]
+
+
+def row(prefix, took, plain):
+    """A line of the table."""
+    costs = [f"{cost:,.2f} | {request:,.0f}" for cost, request in (took.each(0), took.each(1))]
+    low, ratio, high = took.ratio(1, 0)
+    beside = "– | – | –"
+    if plain is not took:
+        beside = " | ".join([plain.stream.name, *(f"{mine / its:,.2f}" for mine, its in zip(took.each(1), plain.each(1)))])
+    many = f"{took.ratio(1, 2)[1]:.2f}" if len(took.seconds) > 2 else "–"
+    return f"| {prefix}{took.stream.name} | {' | '.join(costs)} | {ratio:.2f} ({low:.2f} to {high:.2f}) | {beside} | {many} |"
+
+
+def run(prefix, streams, bench, programs):
+    """Measures the streams, and gives what each took."""
+    of_all = {}
+    for stream in streams:
+        took = of_all[stream.name] = measured(stream, programs, bench.seconds)
+        print(row(prefix, took, of_all[stream.plain]), flush=True)
+        if took.differing:
+            print(f"{prefix}{stream.name}: the answers differ: {took.differing}", flush=True)
+    return list(of_all.values())
+
+
+def are_wanted(took):
+    """Whether a stream is within what is wanted."""
+    beside_few = took.ratio(1, 2)[1] if len(took.seconds) > 2 else 0
+    return took.ratio(1, 0)[1] <= WANTED_BESIDE_OLD and beside_few <= WANTED_BESIDE_FEW
+
+
+def chosen(patterns, prefix, streams):
+    """The streams that are asked for, with the plain ones beside which they stand."""
+    named = [each for each in streams if any(fnmatch.fnmatchcase(prefix + each.name, pattern) for pattern in patterns or ["*"])]
+    wanted = {each.name for each in named} | {each.plain for each in named}
+    return [each for each in streams if each.name in wanted]
+
+
+def told_start(asked):
+    print(f"{datetime.datetime.now():%Y-%m-%d %H:%M}, {os.cpu_count()} processors, load {os.getloadavg()[0]:.2f};", end=" ")
+    print(f"OLD is {asked.old}, NEW is {asked.new}; {asked.seconds} seconds of a stream.\n")
+    heads = ["Stream", "OLD, ns a byte", "a request", "NEW, ns a byte", "a request", "NEW over OLD", "NEW beside", "by bytes", "by requests"]
+    heads.append(f"{ITEMS:,} over {FEW_ITEMS:,} items")
+    print(f"| {' | '.join(heads)} |\n" + "|---" * len(heads) + "|", flush=True)
+
+
+def told_end(all_took):
+    """What is not as it is wanted, and the exit status."""
+    above = [took.stream.name for took in all_took if not are_wanted(took)]
+    wrong = [took.stream.name for took in all_took if took.differing]
+    print(f"\n{len(all_took)} streams. Above {WANTED_BESIDE_OLD} times OLD, or {WANTED_BESIDE_FEW} times {FEW_ITEMS:,} items:", end=" ")
+    print(f"{', '.join(above) or 'none'}. Answered otherwise by NEW: {', '.join(wrong) or 'none'}.")
+    return 1 if wrong else 0
+
+
+def asked_for():
+    words = argparse.ArgumentParser(description=__doc__, formatter_class=argparse.RawDescriptionHelpFormatter)
+    words.add_argument("old", metavar="OLD", type=lambda word: pathlib.Path(word).resolve())
+    words.add_argument("new", metavar="NEW", type=lambda word: pathlib.Path(word).resolve())
+    words.add_argument("streams", metavar="STREAM", nargs="*", help="names or patterns; all, where none are given")
+    words.add_argument("--seconds", type=float, default=0.3, help="of processor time that OLD takes for a stream (0.3)")
+    asked = words.parse_args()
+    asked.by_servers = chosen(asked.streams, "", STREAMS)
+    asked.by_proxies = chosen(asked.streams, OF_A_PROXY, [each for each in STREAMS if each.is_for_proxies])
+    if not asked.by_servers + asked.by_proxies:
+        words.error(f"the streams are {', '.join(each.name for each in STREAMS)}")
+    return asked
+
+
+def main():
+    asked = asked_for()
+    signal.signal(signal.SIGTERM, lambda *_: sys.exit(1))
+    told_start(asked)
+    took = []
+    for prefix, streams, start in (("", asked.by_servers, Bench.servers), (OF_A_PROXY, asked.by_proxies, Bench.proxies)):
+        if streams:
+            with contextlib.ExitStack() as stack:
+                bench = Bench(stack, asked)
+                took += run(prefix, streams, bench, start(bench))
+    return told_end(took)
+
+
+if __name__ == "__main__":
+    sys.exit(main())

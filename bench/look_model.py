@@ -1,0 +1,519 @@
+#!/usr/bin/env python3
+"""Searches for the stream on which a server's looks ahead cost the most beside the serving of its requests.
+
+Usage: look_model.py [--seconds S] [--seed N] [--shown N] [--before]
+
+It is a model of the look, byte by byte (`Look`), and of what the reader takes (tests/lib/model.py). What both cost, in instructions,
+stands in `Costs`. A stream is some lines again and again, all there at once, or up to the end of a line. The search changes lines, their
+words and their order by the dice, keeps what is no cheaper, and begins anew where nothing was gained for long; it ends after S seconds
+(20). Shown are the dearest streams of N beginnings (5): what their looks cost beside their serving, and one round of their lines.
+
+On every stream that is tried the looks are to cost no more than `bound` says, by the bytes that came and the requests that were served.
+Where they cost more, the stream is shown, and the exit status is 1.
+
+With --before the look is that of commit 68ef589, which has no such bound: the search has to find streams like those that stopped it.
+"""
+
+import argparse
+import math
+import pathlib
+import random
+import sys
+import time
+from typing import NamedTuple
+
+HERE = pathlib.Path(__file__).resolve().parent
+sys.path.insert(0, str(HERE.parent / "tests" / "lib"))
+
+import model
+
+WINDOW = 8_192  # bytes after the request at which a look begins that it may read
+MOST_KEYS = MOST_LINES = 32
+MOST_EMPTY_WORDS = 64
+FEW_KEYS = 3  # fewer are not hashed
+SHORT_TEXT = 64  # with fewer bytes there is no look
+LONGEST_KEY, LONGEST_NAME, CODED_LIMIT = 250, 16, 336
+RETRIEVALS, DATED = (b"get", b"gets"), (b"gat", b"gats")
+STORAGE = tuple(name.encode() for name in model.STORAGE)
+KEYED = (b"incr", b"decr", b"touch", b"delete", b"mg", b"md", b"ma")
+
+MOST_LENGTH = 30_000  # bytes of a stream's round with its longest block
+MOST_LINES_OF_A_ROUND = 8
+FAR, FAR_SIZE = b"@", b"0000"
+LONGEST_TRY = 400  # changes without a gain
+
+
+class Costs(NamedTuple):
+    """Instructions. Of a look: itself, a byte and a line and a word that it reads, a key that is hashed and fetched. Of serving: a
+    request, a byte of it, a key."""
+
+    look: int = 150
+    byte: int = 3
+    line: int = 60
+    word: int = 25
+    key: int = 240
+    request: int = 400
+    request_byte: int = 3
+    request_key: int = 200
+
+
+COSTS = Costs()
+
+
+# What the reader takes.
+
+
+class Front(NamedTuple):
+    """The first request or fault of a text: where it ends, its keys, and whether it is a fault."""
+
+    end: int
+    keys: tuple
+    is_faulty: bool
+
+
+class Reader(model.Server):
+    """A server that holds nothing, and notes the keys of commands."""
+
+    def __init__(self):
+        super().__init__(1, 1 << 30, 1 << 20)
+        self.keys = []
+
+    def settle(self, key, moment):
+        if key is not None:
+            self.keys.append(key)
+
+    def put(self, key, flags, deadline, value):
+        self.items = [model.Item(key, flags, deadline, 1, value)]
+        return self.items[0]
+
+    def front(self, text, at):
+        """What is first from there on; none, if it is not whole."""
+        connection = self.connections[0]
+        connection.unread, connection.output, connection.closed, self.keys = text[at:], b"", False, []
+        self.turn(connection, 0)
+        end = len(text) - len(connection.unread)
+        is_faulty = connection.output.startswith((b"ERROR", b"CLIENT_ERROR", b"SERVER_ERROR"))
+        return Front(end, tuple(self.keys), is_faulty) if end > at and not connection.closed else None
+
+
+# What a look reads.
+
+
+class Seen(NamedTuple):
+    """What a look found: how far it read, how many lines and words it read, and how many keys there are guesses for."""
+
+    end: int
+    lines: int
+    words: int
+    bytes: int
+    keys: int
+
+    def cost(self):
+        hashed = self.keys if self.keys >= FEW_KEYS else 0
+        return COSTS.look + COSTS.byte * self.bytes + COSTS.line * self.lines + COSTS.word * self.words + COSTS.key * hashed
+
+
+class Ended(Exception):
+    """The look ends in this line, which is not taken."""
+
+
+class Look:
+    """A look at the text after a request: as many whole lines as it takes, each only as the reader takes it."""
+
+    begins_at_faults = False
+    ends_with_what_was_read = True  # The next look begins behind what this one read.
+
+    def __init__(self, text, front, limit):
+        self.text, self.place, self.limit = text, front.end, min(limit, front.end + WINDOW)
+        self.words, self.keys = min(len(front.keys), MOST_KEYS), min(len(front.keys), MOST_KEYS)
+
+    @classmethod
+    def seen(cls, text, front, at, limit):
+        look, lines, first = cls(text, front, limit), 0, front.end
+        read = sum(len(key) + 1 for key in front.keys[:MOST_KEYS])
+        try:
+            while lines < MOST_LINES and look.keys < MOST_KEYS:
+                lines += 1
+                look.take_line()
+                if look.keys == 0:
+                    break
+        except Ended:
+            pass
+        return Seen(look.place, lines, look.words, read + look.place - first - look.passed, look.keys)
+
+    passed = 0  # bytes of data blocks, which are not read
+
+    def byte(self):
+        return self.text[self.place] if self.place < self.limit else -1
+
+    def word(self):
+        """The word after one space, up to a byte that is no more than a space."""
+        if self.byte() != 32:
+            raise Ended
+        self.place += 1
+        start = self.place
+        while self.place < self.limit and self.text[self.place] > 32 and self.place - start <= CODED_LIMIT:
+            self.place += 1
+        self.words += 1
+        if self.place in (start, self.limit) or self.place - start > CODED_LIMIT:
+            raise Ended
+        return self.text[start : self.place]
+
+    def key(self):
+        word = self.word()
+        if len(word) > LONGEST_KEY or 127 in word:
+            raise Ended
+        return word
+
+    def end_line(self):
+        if self.byte() == 13:
+            self.place += 1
+        if self.byte() != 10:
+            raise Ended
+        self.place += 1
+
+    def end_words(self):
+        """The other words, whatever they are: up to the line's end, before which is no space."""
+        while self.byte() > 13:
+            self.place += 1
+        if self.text[self.place - 1] == 32:
+            raise Ended
+        self.end_line()
+
+    def take_line(self):
+        start = self.place
+        while self.place < self.limit and self.place - start < LONGEST_NAME and self.text[self.place] > 32:
+            self.place += 1
+        name, found = self.text[start : self.place], 1
+        if name == b"mn":
+            self.end_line()
+            return
+        if name in RETRIEVALS or name in DATED:
+            if name in DATED and model.i64(self.word()) is None:
+                raise Ended
+            found = self.keys_of_line()
+        elif name in KEYED:
+            self.key()
+            self.end_words()
+        elif name in STORAGE or name == b"ms":
+            self.key()
+            before = [self.word() for _ in range(1 if name == b"ms" else 3)]
+            self.end_words()
+            self.pass_block(before[-1])
+        else:
+            raise Ended
+        self.keys += found
+
+    def keys_of_line(self):
+        found = 0
+        while self.byte() == 32:
+            if found == MOST_KEYS - self.keys:
+                raise Ended
+            self.key()
+            found += 1
+        self.end_line()
+        if found == 0:
+            raise Ended
+        return found
+
+    def pass_block(self, word):
+        length = model.digits(word, 10, 2**31)
+        if length is None or self.place + length + 2 > self.limit:
+            raise Ended
+        self.place += length + 2
+        self.passed += length + 2
+
+
+class LookBefore(Look):
+    """The look of commit 68ef589: from any request or fault on, at words between single bytes, which may be empty."""
+
+    begins_at_faults = True
+    ends_with_what_was_read = False
+
+    @classmethod
+    def seen(cls, text, front, at, limit):
+        return super().seen(text, Front(at, (), False), at, limit)
+
+    def word(self):
+        if self.byte() != 32:
+            raise Ended
+        return self.word_after_a_byte()
+
+    key = word
+
+    def word_after_a_byte(self):
+        self.place += 1
+        start = self.place
+        while self.place < self.limit and self.text[self.place] > 32 and self.place - start < CODED_LIMIT:
+            self.place += 1
+        self.words += 1
+        return self.text[start : self.place]
+
+    def end_words(self):
+        while self.byte() > 13:
+            self.place += 1
+        self.end_line()
+
+    def keys_of_line(self):
+        found = 0
+        for _ in range(MOST_EMPTY_WORDS):
+            if self.byte() == 10:
+                self.place += 1
+                return found
+            if self.byte() < 0 or self.keys + found == MOST_KEYS:
+                break
+            found += bool(self.word_after_a_byte())
+        raise Ended
+
+
+# What a stream costs.
+
+
+class Line(NamedTuple):
+    """A line of a stream, so many times. If the reader finds a length in it, a block of that size follows it. The word FAR is as many
+    bytes as there are up to the round's last line, if two are passed over behind them."""
+
+    words: tuple
+    times: int = 1
+    filling: bytes = b"x"
+    end: bytes = b"\n"
+    is_cut: bool = False  # The text up to here comes before the rest.
+
+    def texts(self, after):
+        """All copies, where so many bytes are between them and the last line."""
+        texts = []
+        for _ in range(self.times):
+            size = len(self.block([FAR_SIZE if word == FAR else word for word in self.words]))
+            far = b"%04d" % min(9_999, max(0, after + size - 2))
+            words = [far if word == FAR else word for word in self.words]
+            block = b"" if FAR in self.words and self.length(words) == int(far) else self.block(words)
+            texts.append(b" ".join(words) + self.end + block)
+            after += len(texts[-1])
+        return b"".join(reversed(texts))
+
+    @staticmethod
+    def length(words):
+        read = [word for word in words if word]
+        place = 4 if read[:1] and read[0] in STORAGE else 2 if read[:1] == [b"ms"] else len(read)
+        return model.digits(read[place], 10, 2**20) if place < len(read) else None
+
+    def block(self, words):
+        length = self.length(words)
+        return b"" if length is None else (self.filling * (length // len(self.filling) + 1))[:length] + b"\r\n"
+
+
+class Sum(NamedTuple):
+    """Instructions of looks and of serving in a stretch of a stream, the bytes and the requests and faults of it."""
+
+    looks: int = 0
+    serving: int = 0
+    bytes: int = 0
+    requests: int = 0
+
+    def plus(self, looks, serving, size):
+        return Sum(self.looks + looks, self.serving + serving, self.bytes + size, self.requests + 1)
+
+    def since(self, before):
+        return Sum(*(now - then for now, then in zip(self, before)))
+
+    def ratio(self):
+        return self.looks / self.serving if self.serving else 0
+
+    def bound(self):
+        """What looks cost at most. No byte is read by two of them: each begins behind what the one before has read, at a request that is
+        served. A line has three bytes at least, and a word two with the space before it."""
+        return self.requests * COSTS.look + math.ceil(self.bytes * (COSTS.byte + COSTS.line / 3 + (COSTS.word + COSTS.key) / 2))
+
+
+class Stream:
+    """Lines again and again: the text from a place on is that from the same place of the first round on."""
+
+    def __init__(self, lines, kind):
+        texts, after = [lines[-1].texts(0)], 0
+        for line in lines[-2::-1]:
+            texts.insert(0, line.texts(after))
+            after += len(texts[0])
+        self.round, self.kind, self.fronts, self.looks = b"".join(texts), kind, {}, {}
+        self.size = len(self.round)
+        self.text = self.round * (MOST_LENGTH // self.size + 2)
+        ends = [sum(map(len, texts[: number + 1])) for number in range(len(texts))]
+        self.cuts = [end for end, line in zip(ends, lines) if line.is_cut]
+
+    def front(self, reader, at):
+        if at not in self.fronts:
+            self.fronts[at] = reader.front(self.text[: at + MOST_LENGTH], at)
+        return self.fronts[at]
+
+    def there(self, end):
+        """Up to where the text is there, once it is so far."""
+        if not self.cuts:
+            return len(self.text)
+        rounds, at = divmod(end - 1, self.size)
+        after = [cut for cut in self.cuts if cut > at]
+        return rounds * self.size + (after[0] if after else self.size + self.cuts[0])
+
+    def look(self, front, at):
+        if at not in self.looks:
+            self.looks[at] = self.kind.seen(self.text, front, at, self.there(front.end))
+        return self.looks[at]
+
+    def sum(self, reader):
+        """The sum of a stretch that comes again and again. It is empty if a request is never whole."""
+        at, guesses, covered, sum, seen = 0, 0, 0, Sum(), {}
+        while (at, guesses, covered) not in seen:
+            seen[at, guesses, covered] = sum
+            front = self.front(reader, at)
+            if front is None:
+                return Sum()
+            looks, begins = 0, self.kind.begins_at_faults or (front.keys and not front.is_faulty)
+            if begins and guesses == 0 and covered == 0 and self.there(front.end) - at >= SHORT_TEXT:
+                look = self.look(front, at)
+                looks, guesses = look.cost(), look.keys
+                covered = look.end - at if self.kind.ends_with_what_was_read else 0
+            size = front.end - at
+            serving = COSTS.request + COSTS.request_byte * size + COSTS.request_key * len(front.keys)
+            sum = sum.plus(looks, serving, size)
+            guesses = max(0, guesses - (1 if front.is_faulty else len(front.keys)))
+            at, covered = front.end % self.size, max(0, covered - size)
+        return sum.since(seen[at, guesses, covered])
+
+
+# The search.
+
+NUMBERS = [b"0", b"1", b"5", b"9", b"30", b"60", b"100", b"500", b"1000", b"2000", b"4000", b"6000", b"8000", b"x", b"-1", FAR, FAR]
+KEYS = [b"a", b"b", b"a" * 4, b"a" * 16, b"a" * 100, b"a" * 250, b"a" * 251, b"a\x7f", b"\x01", b""]
+EXTRAS = [b"", b"", FAR, b"noreply", b"q", b"v", b"b", b"z", b"v" * 300]
+NAMES = [*RETRIEVALS, *DATED, b"set", b"cas", b"ms", *KEYED, b"mn", b"version", b"flush_all", b"xx", b""]
+FILLINGS = [b"x", b" ", b"\n", b"get a b c d\n", b"get" + b" " * 61 + b"\n", b"incr a 1\n"]
+TIMES = [1, 1, 1, 2, 3, 8, 31, 60]
+
+
+class Search:
+    def __init__(self, dice, kind):
+        self.dice, self.kind, self.reader, self.tried = dice, kind, Reader(), 0
+
+    def line(self):
+        """A line as a client would send it, or nearly so."""
+        name = self.dice.choice(NAMES)
+        key, times = self.dice.choice(KEYS), self.dice.choice(TIMES)
+        if name in RETRIEVALS or name in DATED:
+            keys = [self.dice.choice(KEYS[:3])] * self.dice.choice([1, 2, 3, 8, 24, 31, 32, 33, 64])
+            return Line((name, *([b"0"] if name in DATED else []), *keys), times)
+        if name in STORAGE or name == b"ms":
+            numbers = [] if name == b"ms" else [b"0", b"0"]
+            more = [b"1"] if name == b"cas" else []
+            length = FAR if self.dice.random() < 0.3 else self.dice.choice(NUMBERS)
+            return Line((name, key, *numbers, length, *more), times, self.dice.choice(FILLINGS))
+        more = {b"incr": [b"1"], b"decr": [b"1"], b"touch": [b"0"]}.get(name, [])
+        return Line((name, *([key] if name in KEYED else []), *more), times)
+
+    def other_words(self, words):
+        words, at = list(words), self.dice.randrange(len(words))
+        word = self.dice.choice(self.dice.choice([NUMBERS, KEYS, EXTRAS]))
+        match self.dice.randrange(6):
+            case 0:
+                words[at] = word
+            case 1:
+                words.insert(at + 1, word)
+            case 2:
+                words[at + 1 : at + 1] = [word] * self.dice.choice([2, 8, 31, 60])
+            case 3 if len(words) > 1:
+                del words[at]
+            case 4 if len(words) > 2:
+                del words[at + 1 :]
+            case _ if words[at].isdigit():
+                words[at] = b"%d" % max(0, int(words[at]) + self.dice.choice([-1, 1]) * self.dice.choice([1, 2, 9, 30, 300]))
+        return tuple(words)
+
+    def other_line(self, line):
+        match self.dice.randrange(8):
+            case 0:
+                return line._replace(filling=self.dice.choice(FILLINGS))
+            case 1:
+                return line._replace(end=self.dice.choice([b"\n", b"\r\n", b" \n"]))
+            case 2:
+                return line._replace(is_cut=not line.is_cut)
+            case 3 | 4:
+                return line._replace(times=self.dice.choice([*TIMES, line.times + 1, line.times + 1, max(1, line.times - 1)]))
+            case _:
+                return line._replace(words=self.other_words(line.words))
+
+    def changed(self, lines):
+        lines, at = list(lines), self.dice.randrange(len(lines))
+        match self.dice.randrange(7):
+            case 0:
+                lines.insert(at, self.line())
+            case 1:
+                lines.insert(at, self.other_line(lines[at]))
+            case 2 if len(lines) > 1:
+                del lines[at]
+            case 3:
+                lines.insert(self.dice.randrange(len(lines)), lines.pop(at))
+            case _:
+                lines[at] = self.other_line(lines[at])
+        return lines[:MOST_LINES_OF_A_ROUND]
+
+    def sum_of(self, lines):
+        self.tried += 1
+        stream = Stream(lines, self.kind)
+        sum = stream.sum(self.reader) if stream.size < MOST_LENGTH // 2 else Sum()
+        if self.kind is Look and sum.looks > sum.bound():
+            raise Above(sum, lines)
+        return sum
+
+    def climb(self, deadline):
+        """From a beginning to a stream that no change makes dearer for long. A change that costs a little is kept now and then."""
+        lines = [self.line() for _ in range(self.dice.randrange(1, 4))]
+        here = self.sum_of(lines)
+        best, tries = (here, lines), 0
+        while tries < LONGEST_TRY and time.monotonic() < deadline:
+            changed = lines
+            for _ in range(self.dice.choice([1, 1, 2, 3])):
+                changed = self.changed(changed)
+            there = self.sum_of(changed)
+            tries += 1
+            if there.ratio() >= here.ratio() * (1 - 0.02 * (self.dice.random() < 0.1)):
+                lines, here = changed, there
+            if here.ratio() > best[0].ratio():
+                best, tries = (here, lines), 0
+        return best
+
+
+class Above(Exception):
+    """A stream whose looks cost more than the bound."""
+
+
+def shown(sum, lines):
+    """A stream in two lines or more: what it costs, and the lines of a round."""
+    told = [f"{sum.ratio():.2f}  looks {sum.looks:,}, serving {sum.serving:,}, bytes {sum.bytes:,}, requests and faults {sum.requests:,}"]
+    for line in lines:
+        text = line._replace(times=1).texts(0)
+        more = f" .. of {len(text):,} bytes" if len(text) > 90 else ""
+        far = ", its number so far that the last line follows" if FAR in line.words else ""
+        told.append(f"      {line.times} x {text[:90]!r}{more}{far}{', and a pause' if line.is_cut else ''}")
+    return "\n".join(told)
+
+
+def main():
+    words = argparse.ArgumentParser(description=__doc__, formatter_class=argparse.RawDescriptionHelpFormatter)
+    words.add_argument("--seconds", type=float, default=20)
+    words.add_argument("--seed", type=int, default=1)
+    words.add_argument("--shown", type=int, default=5)
+    words.add_argument("--before", action="store_true", help="the look of commit 68ef589")
+    asked = words.parse_args()
+    search = Search(random.Random(asked.seed), LookBefore if asked.before else Look)
+    deadline, found = time.monotonic() + asked.seconds, []
+    try:
+        while time.monotonic() < deadline:
+            found.append(search.climb(deadline))
+    except Above as above:
+        print(f"above its bound of {above.args[0].bound():,}: {shown(*above.args)}")
+        return 1
+    found.sort(key=lambda each: -each[0].ratio())
+    print(f"{search.tried:,} streams from {len(found)} beginnings; instructions of looks over those of serving:")
+    print(*(shown(*each) for each in found[: asked.shown]), sep="\n")
+    return 0
+
+
+if __name__ == "__main__":
+    sys.exit(main())
