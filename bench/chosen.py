@@ -56,6 +56,10 @@ QUEUE_AT = struct.calcsize(HEADER) + 4 + struct.calcsize(ADDRESS) + struct.calcs
 ANY = 0xFFFFFFFF
 
 
+class Stopped(Exception):
+    """A program does not go on."""
+
+
 class Reading:
     """Asks the kernel whether a program has read all that was sent to it on a connection."""
 
@@ -75,7 +79,7 @@ class Reading:
         self.kernel.send(question)
         answer = self.kernel.recv(4096)
         if struct.unpack_from(HEADER, answer)[1] != SOCK_DIAG_BY_FAMILY:
-            raise SystemExit("bench/chosen.py: a program closed a connection, or the kernel does not say what it has read")
+            raise Stopped("a program closed a connection, or the kernel does not say what it has read")
         return struct.unpack_from("=I", answer, QUEUE_AT)[0]
 
 
@@ -108,7 +112,7 @@ class Client:
                 return
             ready, _, _ = select.select([self.connection], [self.connection], [], PATIENCE)
             if ready and not self.take():
-                raise SystemExit("bench/chosen.py: a program closed a connection")
+                raise Stopped("a program closed a connection")
 
     def await_reading(self):
         """Waits until the program has read what was sent."""
@@ -116,14 +120,14 @@ class Client:
         while self.reading.waiting(self.question):
             self.take()
             if time.monotonic() > deadline:
-                raise SystemExit("bench/chosen.py: a program reads no more")
+                raise Stopped("a program reads no more")
 
     def await_end(self):
         """Says that no more is sent, and takes all answers."""
         self.connection.shutdown(socket.SHUT_WR)
         while True:
             if not select.select([self.connection], [], [], PATIENCE)[0]:
-                raise SystemExit("bench/chosen.py: a program does not end a connection")
+                raise Stopped("a program does not end a connection")
             if not self.take():
                 return
 
@@ -162,7 +166,7 @@ class Program:
             client.send(text)
             client.await_end()
         if b"".join(client.answers) != b"STORED\r\n" * (items + len(FILLED)):
-            raise SystemExit(f"bench/chosen.py: {self.listener.program} could not be filled")
+            raise SystemExit(f"bench/chosen.py: {self.listener.program} cannot be filled")
 
     def begin(self):
         """A stream begins."""
@@ -237,8 +241,7 @@ class Bench:
 
     def __init__(self, stack, asked):
         self.stack, self.tops, self.seconds, self.reading = stack, (asked.old, asked.new), asked.seconds, Reading()
-        self.cores = processors()
-        pin(os.getpid(), self.core(1))
+        self.cores = asked.cores
 
     def core(self, number):
         return self.cores[number % len(self.cores)] if self.cores else None
@@ -278,7 +281,10 @@ def run(prefix, streams, bench, programs):
     """Measures the streams, and gives what each took."""
     of_all = {}
     for stream in streams:
-        took = of_all[stream.name] = measured(stream, programs, bench.seconds)
+        try:
+            took = of_all[stream.name] = measured(stream, programs, bench.seconds)
+        except (ConnectionError, TimeoutError, Stopped) as fault:
+            raise SystemExit(f"bench/chosen.py: {prefix}{stream.name}: {fault}")
         print(row(prefix, took, of_all[stream.plain]), flush=True)
         if took.differing:
             print(f"{prefix}{stream.name}: the answers differ: {took.differing}", flush=True)
@@ -332,6 +338,8 @@ def asked_for():
 def main():
     asked = asked_for()
     signal.signal(signal.SIGTERM, lambda *_: sys.exit(1))
+    asked.cores = processors()
+    pin(os.getpid(), asked.cores[1] if asked.cores else None)
     told_start(asked)
     took = []
     for prefix, streams, start in (("", asked.by_servers, Bench.servers), (OF_A_PROXY, asked.by_proxies, Bench.proxies)):

@@ -1,12 +1,13 @@
 #!/usr/bin/env python3
 """Searches for the stream on which a server's looks ahead cost the most beside the serving of its requests.
 
-Usage: look_model.py [--seconds S] [--seed N] [--shown N] [--before]
+Usage: look_model.py [--seconds S] [--seed N] [--shown N] [--without NAME,NAME ..] [--before]
 
 It is a model of the look, byte by byte (`Look`), and of what the reader takes (tests/lib/model.py). What both cost, in instructions,
 stands in `Costs`. A stream is some lines again and again, all there at once, or up to the end of a line. The search changes lines, their
 words and their order by the dice, keeps what is no cheaper, and begins anew where nothing was gained for long; it ends after S seconds
-(20). Shown are the dearest streams of N beginnings (5): what their looks cost beside their serving, and one round of their lines.
+(20). Shown are the dearest streams of N beginnings (5): what their looks cost beside their serving, and one round of their lines. No
+line has a command of --without.
 
 On every stream that is tried the looks are to cost no more than `bound` says, by the bytes that came and the requests that were served.
 Where they cost more, the stream is shown, and the exit status is 1.
@@ -389,12 +390,13 @@ TIMES = [1, 1, 1, 2, 3, 8, 31, 60]
 
 
 class Search:
-    def __init__(self, dice, kind):
+    def __init__(self, dice, kind, without):
         self.dice, self.kind, self.reader, self.tried = dice, kind, Reader(), 0
+        self.names = [name for name in NAMES if name not in without]
 
     def line(self):
         """A line as a client would send it, or nearly so."""
-        name = self.dice.choice(NAMES)
+        name = self.dice.choice(self.names)
         key, times = self.dice.choice(KEYS), self.dice.choice(TIMES)
         if name in RETRIEVALS or name in DATED:
             keys = [self.dice.choice(KEYS[:3])] * self.dice.choice([1, 2, 3, 8, 24, 31, 32, 33, 64])
@@ -409,6 +411,8 @@ class Search:
 
     def other_words(self, words):
         words, at = list(words), self.dice.randrange(len(words))
+        if at == 0:
+            return (self.dice.choice(self.names), *words[1:])
         word = self.dice.choice(self.dice.choice([NUMBERS, KEYS, EXTRAS]))
         match self.dice.randrange(6):
             case 0:
@@ -417,7 +421,7 @@ class Search:
                 words.insert(at + 1, word)
             case 2:
                 words[at + 1 : at + 1] = [word] * self.dice.choice([2, 8, 31, 60])
-            case 3 if len(words) > 1:
+            case 3:
                 del words[at]
             case 4 if len(words) > 2:
                 del words[at + 1 :]
@@ -499,9 +503,10 @@ def main():
     words.add_argument("--seconds", type=float, default=20)
     words.add_argument("--seed", type=int, default=1)
     words.add_argument("--shown", type=int, default=5)
+    words.add_argument("--without", default="", help="names of commands, with commas")
     words.add_argument("--before", action="store_true", help="the look of commit 68ef589")
     asked = words.parse_args()
-    search = Search(random.Random(asked.seed), LookBefore if asked.before else Look)
+    search = Search(random.Random(asked.seed), LookBefore if asked.before else Look, asked.without.encode().split(b","))
     deadline, found = time.monotonic() + asked.seconds, []
     try:
         while time.monotonic() < deadline:
