@@ -57,6 +57,7 @@ add tests/gate/refused.py crates/mc_pool_rows/out/mc_pool_rows_tests pools::dial
 add tests/gate/refused.py crates/mc_pool_rows/out/mc_pool_rows_tests worlds::links_are_lost_and_back
 add tests/gate/refused_scripts.py
 add tests/gate/serverd.py crates/mc_serverd/out/mc_serverd
+add tests/gate/looks.py crates/mc_serverd/out/mc_serverd
 add tests/gate/proxyd.py crates/mc_proxyd/out/mc_proxyd crates/mc_serverd/out/mc_serverd
 add tests/gate/keys_at_owners.py crates/mc_proxyd/out/mc_proxyd crates/mc_serverd/out/mc_serverd
 echo "$passed passed, $failed failed"

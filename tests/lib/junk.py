@@ -1,4 +1,5 @@
-"""Batches of mutated requests, for fuzz.py: each is told by a seed, a connection and a number, and is the same every time.
+"""Batches of mutated requests, for fuzz.py: each is told by a seed, a connection and a number, and is the same every time. looks.py makes
+others, with keys, exptimes and flags of its own.
 
 A request is one of a command of the protocol, as a client would send it, and then, more often than not, changed: bits are
 flipped, bytes cut out, put in or doubled, lengths made wrong or huge, lines made longer than the server reads.
@@ -34,6 +35,9 @@ def tag_of(number):
 
 class Maker:
     """Makes requests of a connection by the dice."""
+
+    exptimes, letters = EXPTIMES, LETTERS
+    sizes = [1, 1, 1, 2, 24]  # how many keys a retrieval has
 
     def __init__(self, dice, tag):
         self.dice, self.tag = dice, tag.decode()
@@ -72,20 +76,20 @@ class Maker:
         name = self.one_of(["set", "set", "set", "add", "replace", "append", "prepend", "cas"])
         value = self.value()
         number = f" {self.one_of(NUMBERS)}" if name == "cas" else ""
-        flags, exptime = self.one_of(FLAGS), self.one_of(EXPTIMES)
+        flags, exptime = self.one_of(FLAGS), self.one_of(self.exptimes)
         return f"{name} {self.key()} {flags} {exptime} {len(value)}{number}{self.noreply()}\r\n{value}\r\n"
 
     def retrieval(self):
         name = self.one_of(["get", "get", "get", "gets", "gat", "gats"])
-        exptime = f" {self.one_of(EXPTIMES)}" if name in ("gat", "gats") else ""
-        keys = " ".join(self.key() for _ in range(self.one_of([1, 1, 1, 2, 24])))
+        exptime = f" {self.one_of(self.exptimes)}" if name in ("gat", "gats") else ""
+        keys = " ".join(self.key() for _ in range(self.one_of(self.sizes)))
         return f"{name}{exptime} {keys}\r\n"
 
     def short(self):
         """A command of one line that shows no value."""
         name = self.one_of(["touch", "delete", "incr", "decr", "version", "mn", "odd"])
         if name == "touch":
-            return f"touch {self.key()} {self.one_of(EXPTIMES)}{self.noreply()}\r\n"
+            return f"touch {self.key()} {self.one_of(self.exptimes)}{self.noreply()}\r\n"
         if name == "delete":
             return f"delete {self.key()}{self.one_of(['', '', ' 0', ' 1'])}{self.noreply()}\r\n"
         if name in ("incr", "decr"):
@@ -99,11 +103,11 @@ class Maker:
             return self.tag + "o" * self.below(30)
         if flag == "M":
             return self.one_of(MODES[name])
-        return self.one_of(EXPTIMES) if flag in "TN" else self.one_of(FLAGS) if flag == "F" else self.one_of(NUMBERS)
+        return self.one_of(self.exptimes) if flag in "TN" else self.one_of(FLAGS) if flag == "F" else self.one_of(NUMBERS)
 
     def meta(self):
         name = self.one_of(["mg", "mg", "ms", "ms", "md", "ma"])
-        chosen = self.dice.sample(LETTERS[name] + TOKENS[name], self.below(6))
+        chosen = self.dice.sample(self.letters[name] + TOKENS[name], self.below(6))
         coded = "b" in chosen
         flags = "".join(f" {flag}{self.token(name, flag) if flag in TOKENS[name] else ''}" for flag in chosen)
         key = self.coded_key() if coded else self.key()
