@@ -6,7 +6,7 @@ Usage: prove.py [--processors N] [--plan] CRATE ..
 A crate is proved by `rt lib`, a program by `rt run`, in a copy of its own: a crates.txt cut to what it needs, links to the libraries
 that it uses, and its own files. Once it is proved, the copy's out/ takes the place of the crate's, so there is never half of one.
 A crate is skipped where neither its text, nor that of a crate that it uses, nor the toolchain has changed since, and what rt built
-is still there.
+then is still there, by its time.
 
 Of the crates that are ready, the one with the longest way up to a crate that was asked for comes first. Each has one job or more: as
 many as let all end soonest, by the seconds below. On a terminal the last line says what is being proved, and how long it may yet
@@ -128,6 +128,11 @@ def is_program(name):
     return (folder_of(name) / "src" / "main.rt").is_file()
 
 
+def built(name, top=TOP):
+    """What rt builds of a crate: a program, or the folder of a library."""
+    return folder_of(name, top) / "out" / (name if is_program(name) else "rlib")
+
+
 def text_of(path):
     """The text of a file, or None where there is none."""
     return path.read_text() if path.is_file() else None
@@ -152,10 +157,9 @@ class Texts:
         return self.sums[name]
 
     def stamp(self, name, top=TOP):
-        """What is written beside a proved crate: the sum of its text, and what rt itself noted of it. None where rt built nothing."""
-        out = folder_of(name, top) / "out"
-        noted = text_of(out / f"{name}.stamp" if is_program(name) else out / "rlib" / "stamp")
-        return None if noted is None else f"{self.of(name)}\n{noted}\n"
+        """What is written beside a proved crate: the sum of its text, and when rt built it. None where rt built nothing."""
+        made = built(name, top)
+        return f"{self.of(name)}\n{made.stat().st_mtime_ns}\n" if made.exists() else None
 
     def is_proved(self, name):
         stamp = self.stamp(name)
@@ -249,10 +253,12 @@ def link_or_copy(one, other):
 
 
 def copied(crates, name, room):
-    """Makes the copy in which a crate is proved, and gives its top."""
+    """Makes the copy in which a crate is proved, and gives its top. A program is not in it: it is there once it is proved."""
     top = room / name
     folder = folder_of(name, top)
     shutil.copytree(folder_of(name), folder, copy_function=link_or_copy, ignore=shutil.ignore_patterns("must-fail", STAMP))
+    if is_program(name):
+        built(name, top).unlink(missing_ok=True)
     (top / "crates.txt").write_text(crates.cut(name))
     if (TOP / "HANDLES").is_file():
         shutil.copy(TOP / "HANDLES", top)
@@ -306,8 +312,8 @@ def alone_in(folder, why):
 
 
 def take(run, texts):
-    """Has what a run built take the place of the crate's out/. Whether the run proved the crate is seen by what rt noted: the status of
-    `rt run` is that of the program."""
+    """Has what a run built take the place of the crate's out/. Whether the run proved a program is seen by whether it is there: the status
+    of `rt run` is that of the program."""
     folder, made = folder_of(run.name), folder_of(run.name, run.top) / "out"
     stamp = texts.stamp(run.name, run.top)
     if stamp is None or not is_program(run.name) and run.process.returncode:

@@ -47,7 +47,7 @@ def tell(**more):
         log.write(json.dumps({**note, **more}) + "\\n")
 
 for below in uses[crate.name]:
-    if not (top / "crates" / below / "out/rlib/stamp").is_file():
+    if not (top / "crates" / below / "out/rlib/library").is_file():
         sys.exit(f"{below} is not built")
 out = crate / "out"
 (out / "rlib").mkdir(parents=True, exist_ok=True)
@@ -62,10 +62,9 @@ if "wrong" in text:
     sys.exit(f"a goal of {crate.name} is left")
 if is_program:
     (out / crate.name).write_text(text)
-    (out / f"{crate.name}.stamp").write_text(text)
     sys.exit(3)
-(out / "rlib/stamp").unlink(missing_ok=True)
-(out / "rlib/stamp").write_text(text)
+(out / "rlib/library").unlink(missing_ok=True)
+(out / "rlib/library").write_text(text)
 '''
 
 CRATES = """# crate: the libraries that it uses
@@ -137,7 +136,7 @@ class Repository:
         want(sorted(found), sorted(names))
         for name, out in found.items():
             text = (self.top / "crates" / name / "src" / ("main.rt" if name == "program" else "lib.rt")).read_text()
-            want((out / ("program.stamp" if name == "program" else "rlib/stamp")).read_text(), text)
+            want((out / ("program" if name == "program" else "rlib/library")).read_text(), text)
 
 
 def overlap(one, other):
@@ -227,11 +226,14 @@ def another_line_of_crates_proves_anew(repository):
 
 
 def what_was_built_since_is_not_trusted(repository):
-    repository.prove("left")
-    (repository.out("low") / "rlib" / "stamp").write_text("of another text")
+    repository.prove("program")
+    library = repository.out("low") / "rlib" / "library"
+    library.unlink()
+    library.write_text("of another text")
     shutil.rmtree(repository.out("left") / "rlib")
-    want(sorted(repository.prove("left")[0]), ["left", "low"])
-    repository.want_whole("low", "left")
+    (repository.out("program") / "program").write_text("of another text")
+    want(sorted(repository.prove("program")[0]), ["left", "low", "program"])
+    repository.want_whole(*BELOW, "high", "program")
 
 
 def a_failure_is_printed_and_ends_all(repository):
@@ -246,10 +248,10 @@ def a_failure_is_printed_and_ends_all(repository):
 
 def a_failure_leaves_what_was_built(repository):
     repository.prove("high")
-    kept = (repository.out("left") / "rlib" / "stamp").read_text()
+    kept = (repository.out("left") / "rlib" / "library").read_text()
     repository.write("left", "wrong")
     repository.prove("high", status=1)
-    want((repository.out("left") / "rlib" / "stamp").read_text(), kept)
+    want((repository.out("left") / "rlib" / "library").read_text(), kept)
     want((repository.out("left") / "kept.oantt").read_text(), kept)
     repository.write("left", "mended")
     want(sorted(repository.prove("high")[0]), ["high", "left"])
@@ -257,10 +259,17 @@ def a_failure_leaves_what_was_built(repository):
 
 
 def a_program_that_is_not_built_fails(repository):
+    """Whether there was one before or not: that one stays."""
     repository.write("program", "wrong", "src/main.rt")
     _, said = repository.prove("program", status=1)
     want("a goal of program is left" in said, True)
     repository.want_whole(*BELOW, "high")
+    repository.write("program", "right", "src/main.rt")
+    repository.prove("program")
+    repository.write("program", "wrong", "src/main.rt")
+    _, said = repository.prove("program", status=1)
+    want("program is not proved" in said, True)
+    want((repository.out("program") / "program").read_text(), "right")
 
 
 def a_library_that_is_used_stays_as_it_was(repository):
