@@ -87,7 +87,7 @@ impl<H: BuildHasher> Recent for Table<Key, Held, H> {
                 *tag = self.tag(KeyBytes { bytes: key });
             }
             Table::guess_all(self, &tags, guesses);
-            for guess in guesses {
+            for guess in guesses.iter().filter(|guess| **guess != 0) {
                 read ^= bytes_of(self.guessed(*guess)) ^ self.around(*guess);
             }
         }
