@@ -13,6 +13,37 @@ const FEW: usize = 3;
 /// A text of fewer bytes is not worth a look.
 const SHORT: usize = 64;
 
+/// After a look that found fewer than half of its keys none begins at this many requests.
+const PASSES: u8 = 64;
+
+/// What a connection keeps of its last look.
+#[derive(Clone, Copy)]
+pub struct Looked {
+    /// How many of the bytes that are not taken it has read: in these no other begins.
+    bytes: usize,
+    /// At how many requests after these none begins, since it found little.
+    passes: u8,
+}
+
+impl Looked {
+    /// There was no look.
+    pub fn never() -> Looked {
+        Looked {
+            bytes: 0,
+            passes: 0,
+        }
+    }
+
+    /// The same once a request is taken that has this many bytes.
+    #[inline]
+    pub fn past(self, front: Front) -> Looked {
+        Looked {
+            bytes: self.bytes.saturating_sub(front.size),
+            passes: self.passes,
+        }
+    }
+}
+
 /// Guesses of the items of the keys that come next on one connection, in the order of the keys. Who uses a guess looks whether it is
 /// right: so it changes how long that takes, and nothing else.
 #[derive(Clone, Copy)]
@@ -61,22 +92,25 @@ impl Ahead {
         guess.unwrap_or(0)
     }
 
-    /// A look, which guesses the items of the keys of a retrieval that is first in a text, and of the requests that come after it. It is
-    /// made if no byte is left of what the last look read, and if the cache finds several items sooner together.
+    /// A look, which guesses the items of the keys of a retrieval that is first in a text, and of the requests that come after it, if the
+    /// cache finds several items sooner together. Given what the connection keeps of the last look, it gives what it keeps of this one.
     ///
-    /// `looked` is how many bytes in front the last look has read, and what is given is how many are read now: so each byte is read by one
-    /// look, however the text is cut.
+    /// A look begins behind all that the last one read, so each byte is read by one look, however the text is cut. If fewer than half of
+    /// the keys of a look have an item, the next begins 64 requests later.
     #[inline]
     pub fn look<S: Store + Drop>(
         &mut self,
-        looked: usize,
+        looked: Looked,
         keys: &WordIter<'_>,
         front: Front,
         text: &[u8],
         cache: &Cache<S>,
-    ) -> usize {
-        if looked > 0 || text.len() < SHORT || !cache.guesses() {
+    ) -> Looked {
+        if looked.bytes > 0 || text.len() < SHORT || !cache.guesses() {
             return looked;
+        }
+        if looked.passes > 0 {
+            return one_passed(looked);
         }
         self.guess(keys.again(), front, text, cache)
     }
@@ -85,18 +119,21 @@ impl Ahead {
     #[inline]
     pub fn look_past<S: Store + Drop>(
         &mut self,
-        looked: usize,
+        looked: Looked,
         asked: &Asked<'_>,
         front: Front,
         text: &[u8],
         cache: &Cache<S>,
-    ) -> usize {
-        if looked > 0 || text.len() < SHORT || text.len() <= front.size || !cache.guesses() {
+    ) -> Looked {
+        if looked.bytes > 0 || text.len() < SHORT || text.len() <= front.size || !cache.guesses() {
             return looked;
+        }
+        if looked.passes > 0 {
+            return one_passed(looked);
         }
         match keys_of(asked) {
             Some(keys) => self.guess(keys, front, text, cache),
-            None => 0,
+            None => looked,
         }
     }
 
@@ -108,18 +145,38 @@ impl Ahead {
         front: Front,
         text: &[u8],
         cache: &Cache<S>,
-    ) -> usize {
+    ) -> Looked {
         let first = FirstKeys::of(keys, text.get(front.size..).unwrap_or_default());
         let keys = first.keys();
         self.used = 0;
         self.count = 0;
+        let mut passes = 0;
         if keys.len() >= FEW
             && let Some(guesses) = self.guesses.get_mut(..keys.len())
         {
             self.count = keys.len() as u8;
             self.read ^= cache.guess_all(keys, guesses);
+            if finds_little(guesses) {
+                passes = PASSES;
+            }
         }
-        first.taken().saturating_add(front.size)
+        Looked {
+            bytes: first.taken().saturating_add(front.size),
+            passes,
+        }
+    }
+}
+
+/// Whether fewer than half of the guesses say an item.
+fn finds_little(guesses: &[u32]) -> bool {
+    guesses.iter().filter(|guess| **guess != 0).count() < guesses.len() / 2
+}
+
+/// What is kept of a look once a request was passed over for it.
+fn one_passed(looked: Looked) -> Looked {
+    Looked {
+        passes: looked.passes.saturating_sub(1),
+        ..looked
     }
 }
 

@@ -1,7 +1,7 @@
 //! A connection: its reader, and its answers.
 ghost use Rattle.std.specs.Prelude.{◌≡◌, ◌+◌, ◌-◌, ◌≤◌, ◌<◌, ◌^◌, ◌↔◌, ℕ, [], drop, length, min, Ok, IsTrue, IfOk, IsOkUnless, OnOk, OnErr};
 
-use crate::ahead::Ahead;
+use crate::ahead::{Ahead, Looked};
 use crate::answering::{bound_for, room_for_get, serve_keys, serve_within};
 use crate::limits::AnswerLimit;
 use crate::turns::{Limited, ServerError, Turn};
@@ -20,8 +20,8 @@ pub struct Connection {
     output: Vec<u8>,
     /// How many bytes of the output were taken out.
     sent: usize,
-    /// How many of the bytes that are not taken the last look ahead has read: in these no other begins.
-    looked: usize,
+    /// What is kept of the last look ahead.
+    looked: Looked,
 }
 
 impl Model for Connection {
@@ -50,7 +50,7 @@ impl Connection {
             reader: Reader::new(alloc),
             output: Vec::new(alloc),
             sent: 0,
-            looked: 0,
+            looked: Looked::never(),
         }
     }
 
@@ -157,7 +157,7 @@ impl Connection {
             }
             self.output.reserve(room)?;
             serve_keys(keys, None, with_cas, cache, moment, ahead, &mut self.output);
-            self.looked = self.looked.saturating_sub(front.size);
+            self.looked = self.looked.past(front);
             self.reader.consume(front);
             return Ok(Limited::Turned(Turn::Took));
         }
@@ -203,7 +203,7 @@ impl Connection {
                     if !serve_within(asked, cache, moment, limit, ahead, &mut self.output)? {
                         return Ok(Limited::Refused);
                     }
-                    self.looked = self.looked.saturating_sub(front.size);
+                    self.looked = self.looked.past(front);
                     self.reader.consume(front);
                     Ok(Limited::Turned(Turn::Took))
                 }
@@ -246,7 +246,7 @@ impl Connection {
                 *front
             }
         };
-        self.looked = self.looked.saturating_sub(front.size);
+        self.looked = self.looked.past(front);
         self.reader.consume(front);
         Ok(Limited::Turned(Turn::Took))
     }

@@ -1,7 +1,7 @@
 //! The keys that the first requests of a text ask for.
 ghost use Rattle.std.specs.Prelude.{◌≤◌, length};
 
-use mc_text::{CODED_LIMIT, KEY_LIMIT, WordIter, read_i64, read_len};
+use mc_text::{CODED_LIMIT, KEY_LIMIT, WordIter, are_plain_keys, read_i64, read_len, words};
 use std::simd::prelude::*;
 
 /// The most keys that are found.
@@ -10,8 +10,8 @@ pub const AHEAD: usize = 32;
 /// The most bytes after the first request that are read: as many as that many gets of the longest keys take.
 const LONG: usize = 8_192;
 
-/// The most bytes of a command's name.
-const NAME: usize = 7;
+/// The most bytes of a command's name that are looked at.
+const NAME: usize = LANES - 1;
 
 /// The most bytes of an exptime or a length.
 const NUMBER: usize = 20;
@@ -22,10 +22,10 @@ const LANES: usize = 16;
 /// The control byte above the others, which is in no key.
 const DELETE: u8 = 127;
 
-/// The keys that the first requests of a text ask for, in their order.
+/// The keys that the first requests of a text ask for, in their order, as many as there is room for.
 ///
-/// A line is taken only if the reader of requests would take it so: else it and all after it are left out, and so is a line whose keys
-/// are more than there is room for. So each line that is taken is served, and its keys are looked up.
+/// A line is taken only if the reader of requests would take it so: else it and all after it are left out. So each line that is taken is
+/// served, and its keys are looked up.
 #[derive(Drop)]
 pub struct FirstKeys<'a> {
     keys: [&'a [u8]; AHEAD],
@@ -81,9 +81,9 @@ impl<'a> FirstKeys<'a> {
     /// Takes the keys of the first line, and gives what is after it and its data block.
     fn take_line(&mut self, text: &'a [u8]) -> Option<&'a [u8]> {
         let (line, after) = split_line(text)?;
-        let (name, words) = split_word(line, NAME)?;
+        let (name, words) = split_word(text, NAME)?;
         match name {
-            b"get" | b"gets" => self.take_keys(words)?,
+            b"get" | b"gets" => self.take_keys(words, line)?,
             b"mg" | b"incr" | b"decr" | b"ma" | b"md" | b"touch" | b"delete" => {
                 self.take_key(words, CODED_LIMIT)?;
             }
@@ -97,9 +97,9 @@ impl<'a> FirstKeys<'a> {
             b"gat" | b"gats" => {
                 let (exptime, words) = next_word(words, NUMBER)?;
                 read_i64(exptime)?;
-                self.take_keys(words)?;
+                self.take_keys(words, line)?;
             }
-            b"mn" if words.is_empty() => {}
+            b"mn" if is_over(words) => {}
             _ => return None,
         }
         Some(after)
@@ -120,45 +120,58 @@ impl<'a> FirstKeys<'a> {
         Some(rest)
     }
 
-    /// Takes all words of a line, of which there is one at least.
-    fn take_keys(&mut self, words: &'a [u8]) -> Option<()> {
+    /// Takes the keys of a retrieval, of which there is one at least, as many as there is room for.
+    fn take_keys(&mut self, words: &'a [u8], line: &[u8]) -> Option<()> {
+        if line.len() > KEY_LIMIT && has_long_word(line) {
+            return None;
+        }
         let mut rest = self.take_key(words, KEY_LIMIT)?;
         for _ in 0..AHEAD {
-            if rest.is_empty() {
+            if is_over(rest) {
                 return Some(());
             }
-            rest = self.take_key(rest, KEY_LIMIT)?;
+            let (word, more) = next_word(rest, KEY_LIMIT)?;
+            if self.push(word).is_none() {
+                return Some(());
+            }
+            rest = more;
         }
-        None
+        Some(())
     }
 }
 
-/// The first line, if it is whole and no control byte is in it, and what is after its end.
+/// Whether a word of a line in which no control byte is has more bytes than a key.
+fn has_long_word(line: &[u8]) -> bool {
+    !are_plain_keys(&words(line))
+}
+
+/// The first line without its end, if it is whole and no control byte is in it, and what is after it.
 #[inline]
 fn split_line(text: &[u8]) -> Option<(&[u8], &[u8])> {
     let end = first_up_to(b' ' - 1, text)?;
-    let after = match text.get(end..)? {
-        [b'\n', after @ ..] | [b'\r', b'\n', after @ ..] => after,
-        _ => return None,
-    };
-    Some((text.get(..end)?, after))
+    match text.get(end..)? {
+        [b'\n', after @ ..] | [b'\r', b'\n', after @ ..] => Some((text.get(..end)?, after)),
+        _ => None,
+    }
 }
 
-/// The word in front of a line, if it has at most this many bytes, and what is after it, from the space on.
+/// Whether nothing is left of a line in which no control byte is.
 #[inline]
-fn split_word(line: &[u8], most: usize) -> Option<(&[u8], &[u8])> {
-    let end = match first_up_to(b' ', line.get(..=most).unwrap_or(line)) {
-        Some(end) => end,
-        None if line.len() <= most => line.len(),
-        None => return None,
-    };
-    Some((line.get(..end)?, line.get(end..)?))
+fn is_over(rest: &[u8]) -> bool {
+    matches!(rest.first(), Some(b'\r' | b'\n'))
+}
+
+/// The word in front, if it has at most this many bytes, and what is after it, from the byte on that ends it.
+#[inline]
+fn split_word(text: &[u8], most: usize) -> Option<(&[u8], &[u8])> {
+    let end = first_up_to(b' ', text.get(..=most).unwrap_or(text))?;
+    Some((text.get(..end)?, text.get(end..)?))
 }
 
 /// The word after one space, and what is after that. Between two spaces there is none.
 #[inline]
-fn next_word(line: &[u8], most: usize) -> Option<(&[u8], &[u8])> {
-    let [b' ', words @ ..] = line else {
+fn next_word(text: &[u8], most: usize) -> Option<(&[u8], &[u8])> {
+    let [b' ', words @ ..] = text else {
         return None;
     };
     let (word, rest) = split_word(words, most)?;
