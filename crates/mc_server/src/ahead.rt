@@ -13,8 +13,11 @@ const FEW: usize = 3;
 /// A text of fewer bytes is not worth a look.
 const SHORT: usize = 64;
 
-/// After a look that found fewer than half of its keys none begins at this many requests.
+/// After a look of which fewer than half of the keys have an item none begins at this many requests.
 const PASSES: u8 = 64;
+
+/// The same after a look that found few keys.
+const PASSES_AFTER_FEW: u8 = 4;
 
 /// What a connection keeps of its last look.
 #[derive(Clone, Copy)]
@@ -95,8 +98,8 @@ impl Ahead {
     /// A look, which guesses the items of the keys of a retrieval that is first in a text, and of the requests that come after it, if the
     /// cache finds several items sooner together. Given what the connection keeps of the last look, it gives what it keeps of this one.
     ///
-    /// A look begins behind all that the last one read, so each byte is read by one look, however the text is cut. If fewer than half of
-    /// the keys of a look have an item, the next begins 64 requests later.
+    /// A look begins behind all that the last one took, so each byte is read by one look, however the text is cut. If a look finds fewer
+    /// than three keys, the next begins 4 requests later, and if fewer than half of its keys have an item, 64 requests later.
     #[inline]
     pub fn look<S: Store + Drop>(
         &mut self,
@@ -146,19 +149,18 @@ impl Ahead {
         text: &[u8],
         cache: &Cache<S>,
     ) -> Looked {
-        let first = FirstKeys::of(keys, text.get(front.size..).unwrap_or_default());
+        let mut first = FirstKeys::none();
+        first.take(keys, text.get(front.size..).unwrap_or_default());
         let keys = first.keys();
         self.used = 0;
         self.count = 0;
-        let mut passes = 0;
+        let mut passes = PASSES_AFTER_FEW;
         if keys.len() >= FEW
             && let Some(guesses) = self.guesses.get_mut(..keys.len())
         {
             self.count = keys.len() as u8;
             self.read ^= cache.guess_all(keys, guesses);
-            if finds_little(guesses) {
-                passes = PASSES;
-            }
+            passes = if finds_little(guesses) { PASSES } else { 0 };
         }
         Looked {
             bytes: first.taken().saturating_add(front.size),

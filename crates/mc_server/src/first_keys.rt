@@ -35,21 +35,24 @@ pub struct FirstKeys<'a> {
 }
 
 impl<'a> FirstKeys<'a> {
-    /// The keys of the first request, and those of the requests that the text after it begins with. No more than 8,192 bytes of that text
-    /// are read, and each of them a constant number of times.
-    pub fn of(first: WordIter<'a>, after: &'a [u8]) -> FirstKeys<'a> {
-        let mut found = FirstKeys {
+    /// There is none yet.
+    pub fn none() -> FirstKeys<'a> {
+        FirstKeys {
             keys: [&[]; AHEAD],
             count: 0,
             taken: 0,
-        };
+        }
+    }
+
+    /// Takes the keys of the first request, and those of the requests that the text after it begins with. No more than 8,192 bytes of that
+    /// text are read, and each of them a constant number of times.
+    pub fn take(&mut self, first: WordIter<'a>, after: &'a [u8]) {
         for key in first {
-            if found.push(key).is_none() {
-                return found;
+            if self.push(key).is_none() {
+                return;
             }
         }
-        found.take_lines(after.get(..LONG).unwrap_or(after));
-        found
+        self.take_lines(after.get(..LONG).unwrap_or(after));
     }
 
     /// The keys.
