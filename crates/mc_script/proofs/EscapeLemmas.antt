@@ -1,9 +1,10 @@
 -- Escapes, and what they stand for.
 use Rattle.std.proofs.Common.{◌≡◌, ℕ, zero, suc, ◌+◌, ◌-◌, ◌*◌, ◌/◌, ◌%◌, ◌<◌, ◌≤◌, ◌&&◌, not, Bool, true, false, cond, List, [], ◌∷◌, ◌++◌, length, take, drop, get_or, Option, Some, None, refl, sym, ap, ◌∙◌, arith, eqb, nat_le, append-nil, append_assoc}
-use Rattle.std.proofs.Math.Seq.{take-add}
-use Rattle.std.proofs.lemmas.List.{length-take-le, take-append-drop, take_rest}
+use Rattle.std.proofs.Math.Seq.{take-add, take-append-add}
+use Rattle.std.proofs.lemmas.List.{length-take, length-take-le, take-append-drop, take-take, take_rest}
 use Rattle.std.proofs.lemmas.List.Sums.{AllPass-from_list_all, position_or_len_is, prefix_len-le-length, prefix_len_is}
 use Rattle.std.proofs.lemmas.List.Folds.{prefix_len-append}
+use Rattle.std.proofs.lemmas.Simd.{run_in_chunk_fails, run_in_chunk_stops}
 use Rattle.std.specs.Option.{option_map, unwrap_or}
 use Rattle.std.specs.List.{All, list_all, prefix_len, position_or_len}
 use Rattle.memchr.specs.Find.{IsFirstByte, is_byte}
@@ -167,13 +168,59 @@ reads_run before text n is =
     let run : text_of text ≡ option_map (λ more. take n text ++ more) (text_of (drop n text)) = rw is (run_is text) in
     ap (λ (o : Option (List ℕ)). option_map (λ more. before ++ more) o) run ∙ joined before (take n text) (text_of (drop n text))
 
--- a byte that is no backslash is put after other bytes
-pub reads_one : (before text : List ℕ) → 0 < length text → (get_or text 0 0 ≡ 92 → ⊥)
+-- after a run no other begins
+run_ends_at : (text : List ℕ) → position_or_len (λ b. eqb b 92) (drop (position_or_len (λ b. eqb b 92) text) text) ≡ 0
+run_ends_at [] = refl
+run_ends_at (b ∷ bs) =
+    let n = position_or_len (λ b. eqb b 92) bs in
+    (elim (eqb b 92) as (λ v. eqb b 92 ≡ v → position_or_len (λ b. eqb b 92) (drop (cond (not v) (1 + n) 0) (b ∷ bs)) ≡ 0) [
+      | true ↦ λ e. rw e refl
+      | false ↦ λ _. rw (next_in n) (run_ends_at bs)
+    ]) refl
+
+pub run_ends : (text : List ℕ) (n : ℕ) → n ≡ position_or_len (λ b. eqb b 92) text → position_or_len (λ b. eqb b 92) (drop n text) ≡ 0
+run_ends text n is = rw is (run_ends_at text)
+
+-- the first byte of a run is put after other bytes
+pub reads_one : (before text : List ℕ) → 0 < position_or_len (λ b. eqb b 92) text
     → ReadsFront before Between text (before ++ get_or text 0 0 ∷ []) (take (length text - 1) (drop 1 text))
-reads_one before [] some other = absurd (omega arith)
-reads_one before (b ∷ bs) some other =
+reads_one before [] some = absurd (omega arith)
+reads_one before (b ∷ bs) some =
     rw (take_rest (b ∷ bs) 1)
-    (ap (λ (o : Option (List ℕ)). option_map (λ more. before ++ more) o) (read_plain b bs (grind (arith, other))) ∙ joined before (b ∷ []) (text_of bs))
+    (ap (λ (o : Option (List ℕ)). option_map (λ more. before ++ more) o) (read_plain b bs (grind (arith, some))) ∙ joined before (b ∷ []) (text_of bs))
+
+-- two bytes that are no backslash are put after other bytes
+pub reads_two : (before text : List ℕ) → 1 < length text → 0 < position_or_len (λ b. eqb b 92) text → (get_or text 1 0 ≡ 92 → ⊥)
+    → ReadsFront before Between text ((before ++ get_or text 0 0 ∷ []) ++ get_or text 1 0 ∷ []) (take (length text - 2) (drop 2 text))
+reads_two before [] long some other = absurd (omega arith)
+reads_two before (b ∷ []) long some other = absurd (omega arith)
+reads_two before (b ∷ c ∷ bs) long some other =
+    let add : List ℕ → Option (List ℕ) → Option (List ℕ) = λ xs o. option_map (λ more. xs ++ more) o in
+    rw (take_rest (b ∷ c ∷ bs) 2)
+    (ap (add before) (read_plain b (c ∷ bs) (grind (arith, some))) ∙ joined before (b ∷ []) (text_of (c ∷ bs))
+    ∙ ap (add (before ++ b ∷ [])) (read_plain c bs (grind (arith, other))) ∙ joined (before ++ b ∷ []) (c ∷ []) (text_of bs))
+
+-- a run that ends within the first bytes of a text
+pub block_end : (n : ℕ) (text : List ℕ) (count : ℕ) → n ≤ length text → count ≡ position_or_len (λ b. eqb b 92) (take n text) → count < n
+    → count ≡ position_or_len (λ b. eqb b 92) text
+block_end n text count le is lt =
+    sym (position_or_len_is (λ b. eqb b 92) text count 0 (omega arith)
+    (λ k low. run_in_chunk_fails (λ b. eqb b 92) text 0 n count 0 (omega arith) is k (omega arith) (omega arith))
+    (λ _. ap (λ (k : ℕ). eqb (get_or text k 0) 92) (omega arith) ∙ run_in_chunk_stops (λ b. eqb b 92) text 0 n count 0 (omega arith) is lt))
+
+-- a run in the first bytes has no more than these
+pub run_in_block_le : (text : List ℕ) → position_or_len (λ b. eqb b 92) (take 16 text) ≤ 16
+run_in_block_le text = omega (arith, prefix_len-le-length (λ b. not (eqb b 92)) (take 16 text), length-take 16 text)
+
+-- such a run is put after other bytes with what follows it there, and that is taken away again
+pub reads_in_block : (before text : List ℕ) (count held : ℕ) → length before ≡ held → 16 ≤ length text
+    → count ≡ position_or_len (λ b. eqb b 92) (take 16 text) → count < 16
+    → ReadsFront before Between text (take (held + count) (before ++ take 16 text)) (drop count text)
+reads_in_block before text count held size long is lt =
+    let kept : take (held + count) (before ++ take 16 text) ≡ before ++ take count text =
+    ap (λ (n : ℕ). take (n + count) (before ++ take 16 text)) (sym size) ∙ take-append-add before (take 16 text) count
+    ∙ ap (λ (xs : List ℕ). before ++ xs) (take-take count 16 text (omega arith)) in
+    rw kept (reads_run before text count (block_end 16 text count long is lt))
 
 -- what a run ends at is within the text
 pub run_within : (text : List ℕ) → position_or_len (λ b. eqb b 92) text ≤ length text
@@ -186,8 +233,26 @@ run_end text (Some end) first =
 run_end text None nowhere =
     sym (position_or_len_is (λ b. eqb b 92) text (length text) 0 (omega arith) (λ k lt. not_true (eqb (get_or text k 0) 92) (nowhere k (omega arith) lt)) (λ lt. absurd (omega arith)))
 
--- a backslash, and what follows it
-pub at_backslash : (text : List ℕ) → 0 < length text → get_or text 0 0 ≡ 92 → text_from Between text ≡ text_from Backslash (take (length text - 1) (drop 1 text))
+-- what is after a run and is no end of the text is a backslash, and what follows it
+pub at_backslash : (text : List ℕ) → 1 ≤ length text → position_or_len (λ b. eqb b 92) text ≡ 0
+    → text_from Between text ≡ text_from Backslash (take (length text - 1) (drop 1 text))
 unfolding text_from
-at_backslash [] some is = absurd (omega arith)
-at_backslash (b ∷ bs) some is = rw (is, take_rest (b ∷ bs) 1) (same_option (text_from Backslash bs))
+at_backslash [] some over = absurd (omega arith)
+at_backslash (b ∷ bs) some over =
+    let is : b ≡ 92 = grind (arith, over) in
+    rw (is, take_rest (b ∷ bs) 1) (same_option (text_from Backslash bs))
+
+none_before : (xs : List ℕ) (o : Option (List ℕ)) → option_map (λ more. xs ++ more) o ≡ None → o ≡ None
+none_before xs None e = refl
+none_before xs (Some ys) e = absurd cc
+
+-- a run before a backslash that begins no escape
+pub no_escape : (before text mid rest : List ℕ) → ReadsFront before Between text mid rest → text_from Between rest ≡ None → text_from Between text ≡ None
+no_escape before text mid rest read none =
+    none_before before (text_from Between text) (read ∙ ap (λ (o : Option (List ℕ)). option_map (λ more. mid ++ more) o) none)
+
+-- a run before an escape
+pub reads_escape : (before text mid rest : List ℕ) (byte : ℕ) (after : List ℕ) → ReadsFront before Between text mid rest
+    → text_from Between rest ≡ option_map (λ bytes. byte ∷ bytes) (text_of after) → ReadsFront before Between text (mid ++ byte ∷ []) after
+reads_escape before text mid rest byte after read gives =
+    read ∙ ap (λ (o : Option (List ℕ)). option_map (λ more. mid ++ more) o) gives ∙ joined mid (byte ∷ []) (text_of after)

@@ -5,8 +5,8 @@ use Rattle.std.proofs.lemmas.List.{length-append, length-take-le, take_all, take
 use Rattle.std.proofs.lemmas.List.FromFn.{get_or-map-range_with_len}
 use Rattle.std.specs.List.{range_with_len}
 use Rattle.std.specs.Option.{option_map_or}
-use Rattle.mc_script.specs.Escapes.{escape_of, hex_value}
-use Rattle.mc_script.specs.declared.escape_tables.TheConstants.{DIGITS, ESCAPES, SIZES}
+use Rattle.mc_script.specs.Escapes.{escape_of, hex_value, letter_value}
+use Rattle.mc_script.specs.declared.escape_tables.TheConstants.{DIGITS, ESCAPES, LETTERS, SIZES}
 
 -- how many bytes the escape of a byte has
 abbrev size_of : ℕ → ℕ
@@ -100,3 +100,33 @@ value_is c h lt = some_value (hex_value c) (get_or DIGITS c 0) (value_at c h) lt
 
 pub value_none : (c : ℕ) → c < 256 → 16 ≤ get_or DIGITS c 0 → None ≡ hex_value c
 value_none c h ge = no_value (hex_value c) (get_or DIGITS c 0) (value_small c) (value_at c h) ge
+
+-- the byte of a letter as the table has it
+abbrev letter_or : ℕ → ℕ
+letter_or c = option_map_or (λ v. v) (letter_value c) 0
+
+letters_are : LETTERS ≡ map letter_or (range_with_len 0 256)
+unfolding letter_value
+letters_are = refl
+
+letter_at : (c : ℕ) → c < 256 → get_or LETTERS c 0 ≡ option_map_or (λ v. v) (letter_value c) 0
+letter_at c h = ap (λ t. get_or t c 0) letters_are ∙ get_or-map-range_with_len letter_or 0 256 c c 0 h (omega arith)
+
+letter_large : (c : ℕ) → IfSome (letter_value c) (λ v. 0 < v)
+unfolding letter_value
+letter_large c = grind (arith)
+
+some_letter : (o : Option ℕ) (v : ℕ) → v ≡ option_map_or (λ w. w) o 0 → (v ≡ 0 → ⊥) → Some v ≡ o
+some_letter None v is other = absurd (other is)
+some_letter (Some w) v is other = ap (λ (k : ℕ). Some k) is
+
+no_letter : (o : Option ℕ) (v : ℕ) → IfSome o (λ w. 0 < w) → v ≡ option_map_or (λ w. w) o 0 → v ≡ 0 → None ≡ o
+no_letter None v large is none = refl
+no_letter (Some w) v large is none = absurd (omega arith)
+
+-- what is not 0 in the table of letters is the byte that the letter stands for, and another letter stands for none
+pub letter_is : (c : ℕ) → c < 256 → (get_or LETTERS c 0 ≡ 0 → ⊥) → Some (get_or LETTERS c 0) ≡ letter_value c
+letter_is c h other = some_letter (letter_value c) (get_or LETTERS c 0) (letter_at c h) other
+
+pub letter_none : (c : ℕ) → c < 256 → get_or LETTERS c 0 ≡ 0 → None ≡ letter_value c
+letter_none c h is = no_letter (letter_value c) (get_or LETTERS c 0) (letter_large c) (letter_at c h) is

@@ -4,10 +4,11 @@ ghost use Rattle.std.specs.List.{list_all, position_or_len, prefix_len};
 ghost use Rattle.std.specs.Option.{option_map};
 ghost use Rattle.mc_script.specs.Escapes.{client_line, escape_of, escaped, is_plain, named_line, hex_value, letter_value, text_of, GivesByte, GivesNoByte, ReadsFront, Between, Backslash, NoDigit};
 
-use crate::escape_tables::{DIGITS, NO_DIGIT, WIDEST, escape_of};
+use crate::escape_tables::{DIGITS, LETTERS, NO_DIGIT, NO_LETTER, WIDEST, escape_of};
 use itoa::Buffer;
 use memchr::memchr;
 use std::alloc::{AllocError, Global};
+use std::simd::prelude::*;
 
 /// How many bytes are tested together, or escaped.
 const BLOCK: usize = 16;
@@ -220,38 +221,85 @@ fn push_parts(name: &[u8], number: u64, bytes: &[u8], out: &mut Vec<u8>) -> Resu
     out.extend_from_slice(b"\n")
 }
 
-/// Puts what a text begins with at the end of some bytes: its bytes up to the first backslash, or what one escape stands
-/// for where it begins with a backslash. The answer is the text after that, or nothing where there is no such escape.
+/// Puts what a text begins with at the end of some bytes: its bytes up to the first backslash, and what the escape there
+/// stands for. The answer is the text after that, or nothing where the backslash begins no escape.
 fn read_front<'a>(text: &'a [u8], bytes: &mut Vec<u8>) -> Result<Option<&'a [u8]>, AllocError>
     requires { 0 < length text.now }
     ensures read { IfOk result (λ found. MatchOption found (GivesNoByte Between text.now)
         (λ rest. ReadsFront bytes.old.items Between text.now bytes.new.items rest.now)) }
     ensures shorter { IfOk result (λ found. IfSome found (λ rest. length rest.now < length text.now)) }
 {
-    if text[0] == b'\\' {
-        return read_escape(&text[1..], bytes);
-    }
-    if is_run_over(&text[1..]) {
-        bytes.push(text[0])?;
-        return Ok(Some(&text[1..]));
-    }
-    let (run, rest) = text.split_at(run_length(text));
-    bytes.extend_from_slice(run)?;
-    Ok(Some(rest))
-}
-
-/// Puts the byte of what follows a backslash at the end of some bytes. The answer is the text after it, or nothing where
-/// the backslash begins no escape.
-fn read_escape<'a>(text: &'a [u8], bytes: &mut Vec<u8>) -> Result<Option<&'a [u8]>, AllocError>
-    ensures read { IfOk result (λ found. MatchOption found (GivesNoByte Backslash text.now)
-        (λ rest. ReadsFront bytes.old.items Backslash text.now bytes.new.items rest.now)) }
-    ensures shorter { IfOk result (λ found. IfSome found (λ rest. length rest.now < length text.now)) }
-{
-    let Some((byte, rest)) = byte_of_escape(text) else {
+    let rest = read_run(text, bytes)?;
+    let [_, escape @ ..] = rest else {
+        return Ok(Some(rest));
+    };
+    let Some((byte, after)) = byte_of_escape(escape) else {
         return Ok(None);
     };
     bytes.push(byte)?;
-    Ok(Some(rest))
+    Ok(Some(after))
+}
+
+/// Puts the bytes of a text up to its first backslash at the end of some bytes. The answer is the text from there on. A run that ends in
+/// the first block is put together with what follows it there, which is then cut off: a copy of as many bytes as a block has is one move.
+/// So it asks for room for at most 15 bytes more than the run has, and never for more than the text has, which `read_escaped` asks for at
+/// its beginning. One byte and two are put sooner by themselves.
+fn read_run<'a>(text: &'a [u8], bytes: &mut Vec<u8>) -> Result<&'a [u8], AllocError>
+    ensures read { IfOk result (λ rest. ReadsFront bytes.old.items Between text.now bytes.new.items rest.now) }
+    ensures over { IfOk result (λ rest. position_or_len (λ b. b == 92) rest.now ≡ 0) }
+    ensures within { IfOk result (λ rest. length rest.now ≤ length text.now) }
+{
+    if is_run_over(text) {
+        return Ok(text);
+    }
+    if text.len() < BLOCK {
+        return read_short_run(text, bytes);
+    }
+    if text[1] == b'\\' {
+        let lone = text[0];
+        bytes.push(lone)?;
+        return Ok(&text[1..]);
+    }
+    if text[2] == b'\\' {
+        bytes.push(text[0])?;
+        bytes.push(text[1])?;
+        return Ok(&text[2..]);
+    }
+    let count = run_in_block(text);
+    if count == BLOCK {
+        return read_long_run(text, bytes);
+    }
+    let held = bytes.len();
+    let (block, _) = text.split_at(BLOCK);
+    bytes.extend_from_slice(block)?;
+    bytes.truncate(held + count);
+    let (_, rest) = text.split_at(count);
+    Ok(rest)
+}
+
+/// The same of a short text, byte by byte.
+fn read_short_run<'a>(text: &'a [u8], bytes: &mut Vec<u8>) -> Result<&'a [u8], AllocError>
+    ensures read { IfOk result (λ rest. ReadsFront bytes.old.items Between text.now bytes.new.items rest.now) }
+    ensures over { IfOk result (λ rest. position_or_len (λ b. b == 92) rest.now ≡ 0) }
+    ensures within { IfOk result (λ rest. length rest.now ≤ length text.now) }
+{
+    let mut rest = text;
+    while !is_run_over(rest) {
+        bytes.push(rest[0])?;
+        rest = &rest[1..];
+    }
+    Ok(rest)
+}
+
+/// The same of a run of any length.
+fn read_long_run<'a>(text: &'a [u8], bytes: &mut Vec<u8>) -> Result<&'a [u8], AllocError>
+    ensures read { IfOk result (λ rest. ReadsFront bytes.old.items Between text.now bytes.new.items rest.now) }
+    ensures over { IfOk result (λ rest. position_or_len (λ b. b == 92) rest.now ≡ 0) }
+    ensures within { IfOk result (λ rest. length rest.now ≤ length text.now) }
+{
+    let (run, rest) = text.split_at(run_length(text));
+    bytes.extend_from_slice(run)?;
+    Ok(rest)
 }
 
 /// Whether a run has no more bytes: the text is empty, or begins with a backslash.
@@ -264,7 +312,24 @@ fn is_run_over(text: &[u8]) -> bool
     }
 }
 
+/// How many bytes of the first block are before its first backslash: all if it has none.
+#[inline(always)]
+fn run_in_block(text: &[u8]) -> usize
+    requires { BLOCK ≤ length text.now }
+    ensures { result ≡ position_or_len (λ b. b == 92) (take BLOCK text.now) }
+{
+    let marks = u8x16::from_slice(text)
+        .simd_eq(u8x16::splat(b'\\'))
+        .to_bitmask();
+    if marks == 0 {
+        BLOCK
+    } else {
+        marks.trailing_zeros() as usize
+    }
+}
+
 /// How many bytes of a text are before its first backslash.
+#[inline(never)]
 fn run_length(text: &[u8]) -> usize
     ensures { result ≡ position_or_len (λ b. b == 92) text.now }
 {
@@ -279,10 +344,9 @@ fn byte_of_escape(text: &[u8]) -> Option<(u8, &[u8])>
 {
     let (letter, rest) = cut_byte(text)?;
     if letter == b'x' {
-        byte_of_digits(rest)
-    } else {
-        Some((letter_value(letter)?, rest))
+        return byte_of_digits(rest);
     }
+    Some((letter_value(letter)?, rest))
 }
 
 /// The byte of two hexadecimal digits, and the text after them.
@@ -318,14 +382,9 @@ pub fn hex_value(digit: u8) -> Option<u8>
 }
 
 /// The byte that a letter after a backslash stands for.
-#[tactic(auto, unfolding(crate::specs::Escapes::letter_value))]
 fn letter_value(letter: u8) -> Option<u8>
     ensures { result ≡ letter_value letter }
 {
-    match letter {
-        b'\\' => Some(b'\\'),
-        b'r' => Some(b'\r'),
-        b'n' => Some(b'\n'),
-        _ => None,
-    }
+    let byte = LETTERS[letter as usize];
+    if byte == NO_LETTER { None } else { Some(byte) }
 }
