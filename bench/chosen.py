@@ -132,13 +132,22 @@ class Client:
                 return
 
 
+def clock(program):
+    """Seconds of a program's processor time, once it waits: the kernel adds what runs when it stops running."""
+    deadline, state = time.monotonic() + PATIENCE, pathlib.Path(f"/proc/{program.process.pid}/stat")
+    while state.read_text().rpartition(") ")[2][0] != "S":
+        if time.monotonic() > deadline:
+            raise Stopped("a program does not come to rest")
+    return program.processor_time()
+
+
 def played(program, play, reading):
     """Plays it to a program: what that answered, and the seconds of processor time that it took."""
     with contextlib.ExitStack() as stack:
         clients = [Client(program, reading) for _ in range(play.connections)]
         for client in clients:
             stack.enter_context(client.connection)
-        start = program.processor_time()
+        start = clock(program)
         for number, piece in play.pieces:
             client = clients[number]
             if play.apart:
@@ -147,7 +156,7 @@ def played(program, play, reading):
             client.send(piece)
         for client in clients:
             client.await_end()
-        seconds = program.processor_time() - start
+        seconds = clock(program) - start
     return b"".join(answer for client in clients for answer in client.answers), seconds
 
 
