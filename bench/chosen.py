@@ -110,8 +110,7 @@ class Client:
                 left = left[self.connection.send(left[:SENT_AT_ONCE]) :]
             if not left:
                 return
-            ready, _, _ = select.select([self.connection], [self.connection], [], PATIENCE)
-            if ready and not self.take():
+            if self.poll(select.POLLIN | select.POLLOUT) & select.POLLIN and not self.take():
                 raise Stopped("a program closed a connection")
 
     def await_reading(self):
@@ -125,11 +124,17 @@ class Client:
     def await_end(self):
         """Says that no more is sent, and takes all answers."""
         self.connection.shutdown(socket.SHUT_WR)
-        while True:
-            if not select.select([self.connection], [], [], PATIENCE)[0]:
-                raise Stopped("a program does not end a connection")
-            if not self.take():
-                return
+        while self.poll(select.POLLIN) and self.take():
+            pass
+
+    def poll(self, events):
+        """Waits until the connection can be read or written, and says which."""
+        poll = select.poll()
+        poll.register(self.connection, events)
+        ready = poll.poll(PATIENCE * 1_000)
+        if not ready:
+            raise Stopped("a program neither reads nor answers")
+        return ready[0][1]
 
 
 def clock(program):
@@ -142,7 +147,7 @@ def clock(program):
 
 
 def played(program, play, reading):
-    """Plays it to a program: what that answered, and the seconds of processor time that it took."""
+    """Plays it to a program: what that answered, in pieces, and the seconds of processor time that it took."""
     with contextlib.ExitStack() as stack:
         clients = [Client(program, reading) for _ in range(play.connections)]
         for client in clients:
@@ -157,14 +162,14 @@ def played(program, play, reading):
         for client in clients:
             client.await_end()
         seconds = clock(program) - start
-    return b"".join(answer for client in clients for answer in client.answers), seconds
+    return [answer for client in clients for answer in client.answers], seconds
 
 
 class Program:
     """A program that is measured, and what it has answered to a stream."""
 
     def __init__(self, listener, reading, items):
-        self.listener, self.reading, self.answers, self.last = listener, reading, None, b""
+        self.listener, self.reading, self.answers, self.last = listener, reading, None, []
         self.fill(items)
 
     def fill(self, items):
@@ -179,14 +184,15 @@ class Program:
 
     def begin(self):
         """A stream begins."""
-        self.answers = hashlib.blake2b()
+        self.answers = hashlib.sha1()
 
     def play(self, play, times):
         """Plays it some times, and gives the seconds of one."""
         total = 0
         for _ in range(times):
             self.last, seconds = played(self.listener, play, self.reading)
-            self.answers.update(self.last)
+            for piece in self.last:
+                self.answers.update(piece)
             total += seconds
         return total / times
 
@@ -195,8 +201,9 @@ def differing(old, new):
     """How the answers of two programs differ, if they do: by those to the last play."""
     if old.answers.digest() == new.answers.digest():
         return ""
-    place = len(os.path.commonprefix([old.last, new.last]))
-    before, now = (program.last[max(0, place - 40) : place + 40] for program in (old, new))
+    last = [b"".join(program.last) for program in (old, new)]
+    place = len(os.path.commonprefix(last))
+    before, now = (answer[max(0, place - 40) : place + 40] for answer in last)
     return f"at byte {place:,} of the last play OLD answers {before!r}, NEW {now!r}"
 
 
@@ -275,13 +282,17 @@ class Bench:
         return [Program(self.proxy(top), self.reading, ITEMS) for top in self.tops]
 
 
+def told(number):
+    return f"{number:,.2f}" if number < 100 else f"{number:,.0f}"
+
+
 def row(prefix, took, plain):
     """A line of the table."""
-    costs = [f"{cost:,.2f} | {request:,.0f}" for cost, request in (took.each(0), took.each(1))]
+    costs = [" | ".join(map(told, took.each(at))) for at in (0, 1)]
     low, ratio, high = took.ratio(1, 0)
     beside = "– | – | –"
     if plain is not took:
-        beside = " | ".join([plain.stream.name, *(f"{mine / its:,.2f}" for mine, its in zip(took.each(1), plain.each(1)))])
+        beside = " | ".join([plain.stream.name, *(told(mine / its) for mine, its in zip(took.each(1), plain.each(1)))])
     many = f"{took.ratio(1, 2)[1]:.2f}" if len(took.seconds) > 2 else "–"
     return f"| {prefix}{took.stream.name} | {' | '.join(costs)} | {ratio:.2f} ({low:.2f} to {high:.2f}) | {beside} | {many} |"
 
@@ -316,8 +327,8 @@ def chosen(patterns, prefix, streams):
 def told_start(asked):
     print(f"{datetime.datetime.now():%Y-%m-%d %H:%M}, {os.cpu_count()} processors, load {os.getloadavg()[0]:.2f};", end=" ")
     print(f"OLD is {asked.old}, NEW is {asked.new}; {asked.seconds} seconds of a stream.\n")
-    heads = ["Stream", "OLD, ns a byte", "a request", "NEW, ns a byte", "a request", "NEW over OLD", "NEW beside", "by bytes", "by requests"]
-    heads.append(f"{ITEMS:,} over {FEW_ITEMS:,} items")
+    heads = ["Stream", "OLD, ns a byte", "a request", "NEW, ns a byte", "a request", "NEW over OLD"]
+    heads += ["NEW beside", "by bytes", "by requests", f"{ITEMS:,} over {FEW_ITEMS:,} items"]
     print(f"| {' | '.join(heads)} |\n" + "|---" * len(heads) + "|", flush=True)
 
 
