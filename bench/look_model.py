@@ -16,7 +16,6 @@ With --before the look is that of commit 68ef589, which has no such bound: the s
 """
 
 import argparse
-import math
 import pathlib
 import random
 import sys
@@ -33,7 +32,7 @@ MOST_KEYS = MOST_LINES = 32
 MOST_EMPTY_WORDS = 64
 FEW_KEYS = 3  # fewer are not hashed
 SHORT_TEXT = 64  # with fewer bytes there is no look
-LONGEST_KEY, LONGEST_NAME, CODED_LIMIT = 250, 16, 336
+LONGEST_KEY, LONGEST_NAME, CODED_LIMIT, NUMBER = 250, 15, 336, 20
 RETRIEVALS, DATED = (b"get", b"gets"), (b"gat", b"gats")
 STORAGE = tuple(name.encode() for name in model.STORAGE)
 KEYED = (b"incr", b"decr", b"touch", b"delete", b"mg", b"md", b"ma")
@@ -45,17 +44,21 @@ LONGEST_TRY = 400  # changes without a gain
 
 
 class Costs(NamedTuple):
-    """Instructions. Of a look: itself, a byte and a line and a word that it reads, a key that is hashed and fetched. Of serving: a
-    request, a byte of it, a key."""
+    """Instructions, as bench/look_costs.py counts them on a proved build. Of a look: itself, and once more if keys are hashed; a byte and
+    a line that it reads, a word that it splits, a key that it hashes and fetches, a byte of that. Of serving: a request or fault, a byte
+    of it, a key, a byte of that."""
 
-    look: int = 150
-    byte: int = 3
-    line: int = 60
-    word: int = 25
-    key: int = 240
-    request: int = 400
-    request_byte: int = 3
-    request_key: int = 200
+    look: float = 450
+    hashing: float = 65
+    byte: float = 0.75
+    line: float = 75
+    word: float = 50
+    key: float = 100
+    key_byte: float = 1.6
+    request: float = 600
+    request_byte: float = 2.1
+    request_key: float = 205
+    request_key_byte: float = 2.2
 
 
 COSTS = Costs()
@@ -70,6 +73,9 @@ class Front(NamedTuple):
     end: int
     keys: tuple
     is_faulty: bool
+
+    def key_bytes(self):
+        return sum(map(len, self.keys))
 
 
 class Reader(model.Server):
@@ -101,17 +107,20 @@ class Reader(model.Server):
 
 
 class Seen(NamedTuple):
-    """What a look found: how far it read, how many lines and words it read, and how many keys there are guesses for."""
+    """What a look found: up to where it took lines, what it read and split, and the keys that it hashes."""
 
     end: int
+    bytes: int
     lines: int
     words: int
-    bytes: int
     keys: int
+    key_bytes: int
 
     def cost(self):
-        hashed = self.keys if self.keys >= FEW_KEYS else 0
-        return COSTS.look + COSTS.byte * self.bytes + COSTS.line * self.lines + COSTS.word * self.words + COSTS.key * hashed
+        cost = COSTS.look + COSTS.byte * self.bytes + COSTS.line * self.lines + COSTS.word * self.words
+        if self.keys < FEW_KEYS:
+            return cost
+        return cost + COSTS.hashing + COSTS.key * self.keys + COSTS.key_byte * self.key_bytes
 
 
 class Ended(Exception):
@@ -119,151 +128,164 @@ class Ended(Exception):
 
 
 class Look:
-    """A look at the text after a request: as many whole lines as it takes, each only as the reader takes it."""
+    """A look at the keys of a request and at the text after it: as many whole lines as it takes, each only as the reader takes it."""
 
-    begins_at_faults = False
-    ends_with_what_was_read = True  # The next look begins behind what this one read.
-
-    def __init__(self, text, front, limit):
+    def __init__(self, text, front, at, limit):
         self.text, self.place, self.limit = text, front.end, min(limit, front.end + WINDOW)
-        self.words, self.keys = min(len(front.keys), MOST_KEYS), min(len(front.keys), MOST_KEYS)
+        self.keys = list(front.keys[:MOST_KEYS])
+        self.words, self.bytes, self.lines = len(self.keys), 0, 0
+
+    @staticmethod
+    def begins(front, looked):
+        """Whether a look begins at a request, if so many bytes in front were read by the last one."""
+        return looked == 0 and front.keys and not front.is_faulty
+
+    @staticmethod
+    def looked(seen, at):
+        return seen.end - at
 
     @classmethod
     def seen(cls, text, front, at, limit):
-        look, lines, first = cls(text, front, limit), 0, front.end
-        read = sum(len(key) + 1 for key in front.keys[:MOST_KEYS])
+        look = cls(text, front, at, limit)
+        taken, keys = look.place, list(look.keys)
         try:
-            while lines < MOST_LINES and look.keys < MOST_KEYS:
-                lines += 1
+            while look.lines < MOST_LINES and len(look.keys) < MOST_KEYS:
+                look.lines += 1
                 look.take_line()
-                if look.keys == 0:
+                taken, keys = look.place, list(look.keys)
+                if not keys:
                     break
         except Ended:
             pass
-        return Seen(look.place, lines, look.words, read + look.place - first - look.passed, look.keys)
-
-    passed = 0  # bytes of data blocks, which are not read
+        return Seen(taken, look.bytes, look.lines, look.words, len(keys), sum(map(len, keys)))
 
     def byte(self):
         return self.text[self.place] if self.place < self.limit else -1
 
-    def word(self):
+    def word(self, most):
         """The word after one space, up to a byte that is no more than a space."""
         if self.byte() != 32:
             raise Ended
         self.place += 1
-        start = self.place
-        while self.place < self.limit and self.text[self.place] > 32 and self.place - start <= CODED_LIMIT:
-            self.place += 1
         self.words += 1
-        if self.place in (start, self.limit) or self.place - start > CODED_LIMIT:
+        start = self.place
+        while self.byte() > 32 and self.byte() != 127 and self.place - start <= most:
+            self.place += 1
+        if self.place == start or self.place - start > most or self.byte() < 0:
             raise Ended
         return self.text[start : self.place]
 
-    def key(self):
-        word = self.word()
-        if len(word) > LONGEST_KEY or 127 in word:
+    def take_key(self, most):
+        word = self.word(most)
+        if len(self.keys) == MOST_KEYS:
             raise Ended
-        return word
+        self.keys.append(word)
 
-    def end_line(self):
-        if self.byte() == 13:
-            self.place += 1
-        if self.byte() != 10:
+    def end_of_line(self):
+        """What is after the line, in which no control byte is."""
+        end = self.place
+        while end < self.limit and self.text[end] > 31 and self.text[end] != 127:
+            end += 1
+        self.bytes += end - self.place
+        if self.text[end : min(end + 2, self.limit)] == b"\r\n":
+            return end + 2
+        if self.text[end : min(end + 1, self.limit)] != b"\n":
             raise Ended
-        self.place += 1
+        return end + 1
 
-    def end_words(self):
-        """The other words, whatever they are: up to the line's end, before which is no space."""
-        while self.byte() > 13:
+    def name(self):
+        start = self.place
+        while self.byte() > 32 and self.place - start < LONGEST_NAME:
             self.place += 1
-        if self.text[self.place - 1] == 32:
-            raise Ended
-        self.end_line()
+        return self.text[start : self.place]
 
     def take_line(self):
-        start = self.place
-        while self.place < self.limit and self.place - start < LONGEST_NAME and self.text[self.place] > 32:
-            self.place += 1
-        name, found = self.text[start : self.place], 1
-        if name == b"mn":
-            self.end_line()
-            return
+        after, name = self.end_of_line(), self.name()
         if name in RETRIEVALS or name in DATED:
-            if name in DATED and model.i64(self.word()) is None:
+            if name in DATED and model.i64(self.word(NUMBER)) is None:
                 raise Ended
-            found = self.keys_of_line()
+            self.take_key(LONGEST_KEY)
+            while self.byte() == 32:
+                self.take_key(LONGEST_KEY)
         elif name in KEYED:
-            self.key()
-            self.end_words()
+            self.take_key(CODED_LIMIT)
         elif name in STORAGE or name == b"ms":
-            self.key()
-            before = [self.word() for _ in range(1 if name == b"ms" else 3)]
-            self.end_words()
-            self.pass_block(before[-1])
-        else:
+            self.take_key(CODED_LIMIT if name == b"ms" else LONGEST_KEY)
+            words = [self.word(NUMBER) for _ in range(1 if name == b"ms" else 3)]
+            length = model.digits(words[-1], 10, 2**31)
+            after += self.limit if length is None else length + 2
+        elif name != b"mn" or self.byte() == 32:
             raise Ended
-        self.keys += found
-
-    def keys_of_line(self):
-        found = 0
-        while self.byte() == 32:
-            if found == MOST_KEYS - self.keys:
-                raise Ended
-            self.key()
-            found += 1
-        self.end_line()
-        if found == 0:
+        if after > self.limit:
             raise Ended
-        return found
-
-    def pass_block(self, word):
-        length = model.digits(word, 10, 2**31)
-        if length is None or self.place + length + 2 > self.limit:
-            raise Ended
-        self.place += length + 2
-        self.passed += length + 2
+        self.place = after
 
 
 class LookBefore(Look):
-    """The look of commit 68ef589: from any request or fault on, at words between single bytes, which may be empty."""
+    """The look of commit 68ef589: from any request or fault on, if no guess is left, at words between single bytes, which may be empty."""
 
-    begins_at_faults = True
-    ends_with_what_was_read = False
+    def __init__(self, text, front, at, limit):
+        super().__init__(text, Front(at, (), False), at, limit)
 
-    @classmethod
-    def seen(cls, text, front, at, limit):
-        return super().seen(text, Front(at, (), False), at, limit)
+    @staticmethod
+    def begins(_, looked):
+        return looked == 0
 
-    def word(self):
+    @staticmethod
+    def looked(seen, at):
+        return 0
+
+    def word(self, most=CODED_LIMIT):
         if self.byte() != 32:
             raise Ended
         return self.word_after_a_byte()
 
-    key = word
-
     def word_after_a_byte(self):
         self.place += 1
-        start = self.place
-        while self.place < self.limit and self.text[self.place] > 32 and self.place - start < CODED_LIMIT:
-            self.place += 1
         self.words += 1
+        start = self.place
+        while self.byte() > 32 and self.place - start < CODED_LIMIT:
+            self.place += 1
         return self.text[start : self.place]
 
     def end_words(self):
+        start = self.place
         while self.byte() > 13:
             self.place += 1
-        self.end_line()
+        self.bytes += self.place - start
+        self.place += 1 + (self.byte() == 13)
 
-    def keys_of_line(self):
-        found = 0
+    def take_line(self):
+        name = self.name()
+        if name in RETRIEVALS or name in DATED:
+            if name in DATED:
+                self.word()
+            self.take_words()
+        elif name in KEYED:
+            self.take_key(CODED_LIMIT)
+            self.end_words()
+        elif name in STORAGE or name == b"ms":
+            self.take_key(CODED_LIMIT)
+            words = [self.word() for _ in range(1 if name == b"ms" else 3)]
+            self.end_words()
+            length = model.digits(words[-1], 10, 2**31)
+            self.place += self.limit if length is None else length + 2
+        elif name == b"mn":
+            self.end_words()
+        else:
+            raise Ended
+        if self.place > self.limit:
+            raise Ended
+
+    def take_words(self):
         for _ in range(MOST_EMPTY_WORDS):
             if self.byte() == 10:
                 self.place += 1
-                return found
-            if self.byte() < 0 or self.keys + found == MOST_KEYS:
+                return
+            word = self.word_after_a_byte()
+            if word and len(self.keys) == MOST_KEYS:
                 break
-            found += bool(self.word_after_a_byte())
+            self.keys += [word] if word else []
         raise Ended
 
 
@@ -306,8 +328,8 @@ class Line(NamedTuple):
 class Sum(NamedTuple):
     """Instructions of looks and of serving in a stretch of a stream, the bytes and the requests and faults of it."""
 
-    looks: int = 0
-    serving: int = 0
+    looks: float = 0
+    serving: float = 0
     bytes: int = 0
     requests: int = 0
 
@@ -321,24 +343,29 @@ class Sum(NamedTuple):
         return self.looks / self.serving if self.serving else 0
 
     def bound(self):
-        """What looks cost at most. No byte is read by two of them: each begins behind what the one before has read, at a request that is
-        served. A line has three bytes at least, and a word two with the space before it."""
-        return self.requests * COSTS.look + math.ceil(self.bytes * (COSTS.byte + COSTS.line / 3 + (COSTS.word + COSTS.key) / 2))
+        """What looks cost at most. Each begins at a request that is served, and ends in a line that it does not take. No byte is in the
+        lines of two looks, and none is hashed twice; one may be split twice, as a line that is not taken and as the next look's request.
+        A line that is taken has three bytes at least, and a word two with the space before it."""
+        by_request = COSTS.look + COSTS.hashing + COSTS.line
+        return self.requests * by_request + self.bytes * (COSTS.byte + COSTS.line / 3 + COSTS.word + COSTS.key / 2 + COSTS.key_byte)
 
 
 class Stream:
     """Lines again and again: the text from a place on is that from the same place of the first round on."""
 
-    def __init__(self, lines, kind):
+    def __init__(self, round, kind, cuts=()):
+        self.round, self.kind, self.cuts, self.fronts, self.looks = round, kind, cuts, {}, {}
+        self.size = len(round)
+        self.text = round * (MOST_LENGTH // self.size + 2)
+
+    @staticmethod
+    def of_lines(lines, kind):
         texts, after = [lines[-1].texts(0)], 0
         for line in lines[-2::-1]:
             texts.insert(0, line.texts(after))
             after += len(texts[0])
-        self.round, self.kind, self.fronts, self.looks = b"".join(texts), kind, {}, {}
-        self.size = len(self.round)
-        self.text = self.round * (MOST_LENGTH // self.size + 2)
         ends = [sum(map(len, texts[: number + 1])) for number in range(len(texts))]
-        self.cuts = [end for end, line in zip(ends, lines) if line.is_cut]
+        return Stream(b"".join(texts), kind, [end for end, line in zip(ends, lines) if line.is_cut])
 
     def front(self, reader, at):
         if at not in self.fronts:
@@ -360,23 +387,22 @@ class Stream:
 
     def sum(self, reader):
         """The sum of a stretch that comes again and again. It is empty if a request is never whole."""
-        at, guesses, covered, sum, seen = 0, 0, 0, Sum(), {}
-        while (at, guesses, covered) not in seen:
-            seen[at, guesses, covered] = sum
-            front = self.front(reader, at)
+        at, guesses, looked, sum, seen = 0, 0, 0, Sum(), {}
+        while (at, guesses, looked) not in seen:
+            seen[at, guesses, looked] = sum
+            front, cost = self.front(reader, at), 0
             if front is None:
                 return Sum()
-            looks, begins = 0, self.kind.begins_at_faults or (front.keys and not front.is_faulty)
-            if begins and guesses == 0 and covered == 0 and self.there(front.end) - at >= SHORT_TEXT:
+            keys, size = len(front.keys), front.end - at
+            if self.kind.begins(front, looked or guesses) and self.there(front.end) - at >= SHORT_TEXT:
                 look = self.look(front, at)
-                looks, guesses = look.cost(), look.keys
-                covered = look.end - at if self.kind.ends_with_what_was_read else 0
-            size = front.end - at
-            serving = COSTS.request + COSTS.request_byte * size + COSTS.request_key * len(front.keys)
-            sum = sum.plus(looks, serving, size)
-            guesses = max(0, guesses - (1 if front.is_faulty else len(front.keys)))
-            at, covered = front.end % self.size, max(0, covered - size)
-        return sum.since(seen[at, guesses, covered])
+                cost, guesses, looked = look.cost(), look.keys, self.kind.looked(look, at)
+            serving = COSTS.request + COSTS.request_byte * size + COSTS.request_key * keys + COSTS.request_key_byte * front.key_bytes()
+            sum = sum.plus(cost, serving, size)
+            looked = max(0, looked - size)
+            guesses = max(0, guesses - (keys or front.is_faulty)) if self.kind is LookBefore else 0
+            at = front.end % self.size
+        return sum.since(seen[at, guesses, looked])
 
 
 # The search.
@@ -459,7 +485,7 @@ class Search:
 
     def sum_of(self, lines):
         self.tried += 1
-        stream = Stream(lines, self.kind)
+        stream = Stream.of_lines(lines, self.kind)
         sum = stream.sum(self.reader) if stream.size < MOST_LENGTH // 2 else Sum()
         if self.kind is Look and sum.looks > sum.bound():
             raise Above(sum, lines)
@@ -489,7 +515,7 @@ class Above(Exception):
 
 def shown(sum, lines):
     """A stream in two lines or more: what it costs, and the lines of a round."""
-    told = [f"{sum.ratio():.2f}  looks {sum.looks:,}, serving {sum.serving:,}, bytes {sum.bytes:,}, requests and faults {sum.requests:,}"]
+    told = [f"{sum.ratio():.2f}  looks {sum.looks:,.0f}, serving {sum.serving:,.0f}, bytes {sum.bytes:,}, requests and faults {sum.requests:,}"]
     for line in lines:
         text = line._replace(times=1).texts(0)
         more = f" .. of {len(text):,} bytes" if len(text) > 90 else ""
@@ -512,7 +538,7 @@ def main():
         while time.monotonic() < deadline:
             found.append(search.climb(deadline))
     except Above as above:
-        print(f"above its bound of {above.args[0].bound():,}: {shown(*above.args)}")
+        print(f"above its bound of {above.args[0].bound():,.0f}: {shown(*above.args)}")
         return 1
     found.sort(key=lambda each: -each[0].ratio())
     print(f"{search.tried:,} streams from {len(found)} beginnings; instructions of looks over those of serving:")
