@@ -10,7 +10,7 @@ the same checkout, and a name may be a pattern (`proxy/*`, `front-*`). A server 
 A line tells of each stream the nanoseconds of processor time, the program's own and the kernel's for it, for each byte and for each
 request, in OLD and in NEW; their ratio, and between what the middle half of the rounds lies; what it takes of NEW beside the plain stream
 that it is compared with, by bytes and by requests (dear is what is above 1 in both); and how many times as long NEW takes with 100,000
-items as with 1,000, where it makes no look ahead. Figures are medians of rounds. A stream is played until OLD has taken S seconds (0.3).
+items as with 1,000, where it makes no look ahead. Figures are medians of rounds. A stream is played until OLD has taken S seconds (0.2).
 
 The same bytes are to be answered by both: where they are not, that is said, and the exit status is 1.
 """
@@ -317,10 +317,12 @@ def are_wanted(took):
     return took.ratio(1, 0)[1] <= WANTED_BESIDE_OLD and beside_few <= WANTED_BESIDE_FEW
 
 
-def chosen(patterns, prefix, streams):
+def chosen(patterns, streams):
     """The streams that are asked for, with the plain ones beside which they stand."""
-    named = [each for each in streams if any(fnmatch.fnmatchcase(prefix + each.name, pattern) for pattern in patterns or ["*"])]
-    wanted = {each.name for each in named} | {each.plain for each in named}
+    wanted = {each.name for each in streams if any(fnmatch.fnmatchcase(each.name, pattern) for pattern in patterns)}
+    for each in reversed(streams):  # A plain one comes before those that stand beside it.
+        if each.name in wanted:
+            wanted.add(each.plain)
     return [each for each in streams if each.name in wanted]
 
 
@@ -346,10 +348,12 @@ def asked_for():
     words.add_argument("old", metavar="OLD", type=lambda word: pathlib.Path(word).resolve())
     words.add_argument("new", metavar="NEW", type=lambda word: pathlib.Path(word).resolve())
     words.add_argument("streams", metavar="STREAM", nargs="*", help="names or patterns; all, where none are given")
-    words.add_argument("--seconds", type=float, default=0.3, help="of processor time that OLD takes for a stream (0.3)")
+    words.add_argument("--seconds", type=float, default=0.2, help="of processor time that OLD takes for a stream (0.2)")
     asked = words.parse_args()
-    asked.by_servers = chosen(asked.streams, "", STREAMS)
-    asked.by_proxies = chosen(asked.streams, OF_A_PROXY, [each for each in STREAMS if each.is_for_proxies])
+    patterns = asked.streams or ["*", OF_A_PROXY + "*"]
+    asked.by_servers = chosen([each for each in patterns if not each.startswith(OF_A_PROXY)], STREAMS)
+    of_proxies = [each.removeprefix(OF_A_PROXY) for each in patterns if each.startswith(OF_A_PROXY)]
+    asked.by_proxies = chosen(of_proxies, [each for each in STREAMS if each.is_for_proxies])
     if not asked.by_servers + asked.by_proxies:
         words.error(f"the streams are {', '.join(each.name for each in STREAMS)}")
     return asked

@@ -515,7 +515,7 @@ class Above(Exception):
 
 def shown(sum, lines):
     """A stream in two lines or more: what it costs, and the lines of a round."""
-    told = [f"{sum.ratio():.2f}  looks {sum.looks:,.0f}, serving {sum.serving:,.0f}, bytes {sum.bytes:,}, requests and faults {sum.requests:,}"]
+    told = [f"{sum.ratio():.2f}: looks {sum.looks:,.0f}, serving {sum.serving:,.0f}; {sum.bytes:,} bytes, {sum.requests:,} requests"]
     for line in lines:
         text = line._replace(times=1).texts(0)
         more = f" .. of {len(text):,} bytes" if len(text) > 90 else ""
