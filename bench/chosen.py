@@ -20,7 +20,6 @@ import contextlib
 import datetime
 import fnmatch
 import hashlib
-import math
 import os
 import pathlib
 import select
@@ -361,7 +360,8 @@ def asked_for():
 
 def main():
     asked = asked_for()
-    signal.signal(signal.SIGTERM, lambda *_: sys.exit(1))
+    for each in (signal.SIGINT, signal.SIGTERM):
+        signal.signal(each, lambda *_: sys.exit(1))
     asked.cores = processors()
     pin(os.getpid(), asked.cores[1] if asked.cores else None)
     told_start(asked)
