@@ -155,6 +155,7 @@ FAULTY = {
 FAULTY_FOR_PROXIES = {"get-control", "get-251", "get-none", "incr-words", "set-junk", "ms-flag"}
 
 GET, LINE_OF_24, LINE_OF_24_ABSENT = b"get KEY\r\n", get(*HELD[:24]), get(*ABSENT[:24])
+GETS_LONG = get(*SHORT_ABSENT * 24, b"a" * 251)
 LONG_LINE = get(*(SHORT * KEYS_OF_A_LONG_LINE)[:KEYS_OF_A_LONG_LINE])
 LONG_LINE_ABSENT = get(*(SHORT_ABSENT * KEYS_OF_A_LONG_LINE)[:KEYS_OF_A_LONG_LINE])
 
@@ -207,13 +208,16 @@ STREAMS = [
       for name, line in FAULTY.items()),
     Stream("good-get-33", "get-24-absent", "work ahead for a line that has more keys than there is room",
            lambda: flow_of(GET + get(*ABSENT[:33]), requests=2), False),
-    # The dearest that look_model.py found: good requests that no look takes after another one, since a space is too much.
+    # The dearest that look_model.py found: good requests that no look takes after another one, since they have a space too many.
+    Stream("get-1-behind", "get-absent", "a look for each key", lambda: flow_of(b"get KEY \n", ABSENT), False),
+    Stream("gat-1-behind", "get-absent", "the same", lambda: flow_of(b"gat 0 KEY \n", ABSENT), False),
     Stream("get-3-behind", "get-24-absent", "a look for each 3 keys", lambda: flow_of(b"get KEY a b \n", ABSENT), False),
-    Stream("gat-3-behind", "get-24-absent", "the same", lambda: flow_of(b"gat 0 KEY a b \n", ABSENT), False),
+    Stream("get-3-half-behind", "get-24-absent", "the same, and a key is found", lambda: flow_of(b"get KEY a b \n"), False),
     Stream("get-24-behind", "get-24-absent", "a look for each 24 keys", lambda: flow(LINE_OF_24_ABSENT.replace(b"\r", b" ")), False),
     Stream("get-absent-between-2", "get-absent", "a look for each key", lambda: flow_of(b"get  KEY\n", ABSENT), False),
     Stream("touch-between-2", "get-absent", "the same", lambda: flow_of(b"touch  KEY 0\n", ABSENT), False),
     Stream("mg-between-2", "get-absent", "the same", lambda: flow_of(b"mg  KEY\n", ABSENT), False),
+    Stream("good-gets-long", "get", "a long line that is read ahead and refused", lambda: flow_of(GET + GETS_LONG, requests=2), False),
     # Data blocks.
     Stream("block-of-gets", "set-1000", "a block that is taken for commands", lambda: puts(filled_with(get(*ABSENT[:4]), 1_000))),
     Stream("block-of-one-get", "set", "the same in a small block", lambda: puts(get(*SHORT_ABSENT))),

@@ -3,11 +3,12 @@
 
 Usage: look_costs.py SERVER [PATTERN ..]
 
-SERVER is the built mc_serverd. A pattern is a text that is sent again and again, so often that it has 60,000 bytes, in one piece; `\\n`,
-`\\r`, `\\\\` and `\\xNN` are bytes, `TIMES*{..}` is so often what stands between the braces. Without patterns there are some of its own. A
+SERVER is the built mc_serverd. A pattern is a text that is sent again and again, so often that a piece has 14,000 bytes, or once; `\\n`,
+`\\r`, `\\\\` and `\\xNN` are bytes, `{..}*TIMES` is so often what stands between the braces. Without patterns there are some of its own. A
 row tells of each the instructions of the program's own code for one pattern, at a server of 1,000 items, which looks never, and at one of
-40,000: what the looks add, and what the model says that they add. The keys are held by neither. A count differs by some in a hundred with
-how the text comes, and with how full the table is: some 30 for each key.
+40,000: what the looks add, and what the model says that they add. Both hold the keys k0 to k999 and `k`, with values of 100 bytes, as the
+model has it that keys that begin with k are held. A count differs by some in a hundred with how the text comes, and with how full the
+table is: some 30 for each key.
 """
 
 import argparse
@@ -27,19 +28,19 @@ from servers import Server
 from socket_instructions import Counted
 
 FEW, MANY = 1_000, 40_000
-SIZE, TIMES = 60_000, 3
-REPEATED = re.compile(r"(\d+)\*\{([^}]*)\}")
+SIZE, TIMES = 14_000, 12
+REPEATED = re.compile(r"\{([^}]*)\}\*(\d+)")
 PATTERNS = [
-    r"zz\n", r"mn\n", r"get a\n", r"incr a 1\n", r"get a\nzz\n", r"get a\n31*{zz\n}", r"get a\n500*{z}\n", r"get a\n4000*{z}\n",
-    r"get a\n31*{mn\n}zz\n", r"get a\n31*{incr a x\n}zz\n", r"get a\n31*{set a x 0 0\n\r\n}zz\n", r"get a b\nzz\n", r"get a b c\nzz\n",
-    r"get24*{ abcd}\nzz\n", r"get32*{ abcd}\nzz\n", r"get24*{ abcd}\n", r"get a\nget31*{ a} \x01\n", r"get a\nget31*{ a} 251*{b}\n",
+    r"zz\n", r"mn\n", r"get a\n", r"incr a 1\n", r"get a\nzz\n", r"get a\n{zz\n}*31", r"get a\n{z}*500\n", r"get a\n{z}*4000\n",
+    r"get a\n{mn\n}*31zz\n", r"get a\n{incr a x\n}*31zz\n", r"get a\n{set a x 0 0\n\r\n}*31zz\n", r"get a b\nzz\n", r"get a b c\nzz\n",
+    r"get{ abcd}*24\nzz\n", r"get{ abcd}*32\nzz\n", r"get{ abcd}*24\n", r"get a\nget{ a}*31 \x01\n", r"get a\nget{ a}*31 {b}*251\n",
     r"get  a\n", r"get a b c \n", r"touch  a 0\n", r"delete a \n", r"mg  a\n", r"md a\n",
 ]  # fmt: skip
 
 
 def text_of(pattern):
     """The bytes that a pattern stands for."""
-    return REPEATED.sub(lambda found: int(found[1]) * found[2], pattern).encode().decode("unicode_escape").encode("latin-1")
+    return REPEATED.sub(lambda found: found[1] * int(found[2]), pattern).encode().decode("unicode_escape").encode("latin-1")
 
 
 class Costs:
@@ -53,6 +54,7 @@ class Costs:
             with Server(counted.script, BUDGET, MOST_ITEMS) as server:
                 reading = Reading()
                 Program(server, reading, items)
+                played(server, Play([(0, b"set k 0 0 0\r\n\r\n")], 1), reading)
                 played(server, Play([(0, text)] * times, times, apart=True), reading)
                 return counted.ended(server)
 

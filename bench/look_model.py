@@ -32,6 +32,7 @@ MOST_KEYS = MOST_LINES = 32
 MOST_EMPTY_WORDS = 64
 FEW_KEYS = 3  # fewer are not hashed
 SHORT_TEXT = 64  # with fewer bytes there is no look
+PASSES = 64  # requests at which no look begins after one that found little
 LONGEST_KEY, LONGEST_NAME, CODED_LIMIT, NUMBER = 250, 15, 336, 20
 RETRIEVALS, DATED = (b"get", b"gets"), (b"gat", b"gats")
 STORAGE = tuple(name.encode() for name in model.STORAGE)
@@ -45,13 +46,14 @@ LONGEST_TRY = 400  # changes without a gain
 
 class Costs(NamedTuple):
     """Instructions, as bench/look_costs.py counts them on a proved build. Of a look: itself, and once more if keys are hashed; a byte and
-    a line that it reads, a word that it splits, a key that it hashes and fetches, a byte of that. Of serving: a request or fault, a byte
-    of it, a key, a byte of that."""
+    a line that it reads, a byte of a line that is searched for words too long, a word that it splits, a key that it hashes and fetches, a
+    byte of that. Of serving: a request or fault, a byte of it, a key, a byte of that, a key that is held."""
 
     look: float = 450
     hashing: float = 65
     byte: float = 0.75
     line: float = 75
+    long_byte: float = 1.6
     word: float = 50
     key: float = 100
     key_byte: float = 1.6
@@ -59,12 +61,18 @@ class Costs(NamedTuple):
     request_byte: float = 2.1
     request_key: float = 205
     request_key_byte: float = 2.2
+    request_held: float = 250
 
 
 COSTS = Costs()
 
 
 # What the reader takes.
+
+
+def is_held(key):
+    """Whether the cache holds an item of a key."""
+    return key.startswith(b"k")
 
 
 class Front(NamedTuple):
@@ -74,8 +82,9 @@ class Front(NamedTuple):
     keys: tuple
     is_faulty: bool
 
-    def key_bytes(self):
-        return sum(map(len, self.keys))
+    def cost(self, size):
+        cost = COSTS.request + COSTS.request_byte * size + COSTS.request_key * len(self.keys)
+        return cost + COSTS.request_key_byte * sum(map(len, self.keys)) + COSTS.request_held * sum(map(is_held, self.keys))
 
 
 class Reader(model.Server):
@@ -112,15 +121,27 @@ class Seen(NamedTuple):
     end: int
     bytes: int
     lines: int
+    long_bytes: int
     words: int
-    keys: int
-    key_bytes: int
+    keys: list
 
     def cost(self):
-        cost = COSTS.look + COSTS.byte * self.bytes + COSTS.line * self.lines + COSTS.word * self.words
-        if self.keys < FEW_KEYS:
+        cost = COSTS.look + COSTS.byte * self.bytes + COSTS.line * self.lines + COSTS.long_byte * self.long_bytes + COSTS.word * self.words
+        if len(self.keys) < FEW_KEYS:
             return cost
-        return cost + COSTS.hashing + COSTS.key * self.keys + COSTS.key_byte * self.key_bytes
+        return cost + COSTS.hashing + COSTS.key * len(self.keys) + COSTS.key_byte * sum(map(len, self.keys))
+
+    def finds_little(self):
+        return len(self.keys) >= FEW_KEYS and sum(map(is_held, self.keys)) < len(self.keys) // 2
+
+
+class Kept(NamedTuple):
+    """What is kept of the last look: how many of the bytes in front it has read, at how many requests then none begins, and of how many
+    keys there are guesses."""
+
+    bytes: int = 0
+    passes: int = 0
+    guesses: int = 0
 
 
 class Ended(Exception):
@@ -133,16 +154,22 @@ class Look:
     def __init__(self, text, front, at, limit):
         self.text, self.place, self.limit = text, front.end, min(limit, front.end + WINDOW)
         self.keys = list(front.keys[:MOST_KEYS])
-        self.words, self.bytes, self.lines = len(self.keys), 0, 0
+        self.words, self.bytes, self.lines, self.long_bytes = len(self.keys), 0, 0, 0
 
     @staticmethod
-    def begins(front, looked):
-        """Whether a look begins at a request, if so many bytes in front were read by the last one."""
-        return looked == 0 and front.keys and not front.is_faulty
+    def begins(front, last):
+        """Whether a look begins at a request, by what is kept of the last one."""
+        return last.bytes == 0 and last.passes == 0 and front.keys and not front.is_faulty
 
     @staticmethod
-    def looked(seen, at):
-        return seen.end - at
+    def kept(seen, at):
+        return Kept(seen.end - at, PASSES if seen.finds_little() else 0)
+
+    @staticmethod
+    def after(last, front, size):
+        """What is kept once a request was served."""
+        passes = last.passes if last.bytes else max(0, last.passes - 1)
+        return Kept(max(0, last.bytes - size), passes)
 
     @classmethod
     def seen(cls, text, front, at, limit):
@@ -157,7 +184,7 @@ class Look:
                     break
         except Ended:
             pass
-        return Seen(taken, look.bytes, look.lines, look.words, len(keys), sum(map(len, keys)))
+        return Seen(taken, look.bytes, look.lines, look.long_bytes, look.words, keys)
 
     def byte(self):
         return self.text[self.place] if self.place < self.limit else -1
@@ -199,14 +226,22 @@ class Look:
             self.place += 1
         return self.text[start : self.place]
 
+    def take_keys(self, line):
+        """As many as there is room for, if no word of the line is too long for a key."""
+        if len(line.rstrip()) > LONGEST_KEY:
+            self.long_bytes += len(line)
+            if any(len(word) > LONGEST_KEY for word in line.split()):
+                raise Ended
+        self.take_key(LONGEST_KEY)
+        while self.byte() == 32 and len(self.keys) < MOST_KEYS:
+            self.take_key(LONGEST_KEY)
+
     def take_line(self):
-        after, name = self.end_of_line(), self.name()
+        start, after, name = self.place, self.end_of_line(), self.name()
         if name in RETRIEVALS or name in DATED:
             if name in DATED and model.i64(self.word(NUMBER)) is None:
                 raise Ended
-            self.take_key(LONGEST_KEY)
-            while self.byte() == 32:
-                self.take_key(LONGEST_KEY)
+            self.take_keys(self.text[start:after])
         elif name in KEYED:
             self.take_key(CODED_LIMIT)
         elif name in STORAGE or name == b"ms":
@@ -228,12 +263,16 @@ class LookBefore(Look):
         super().__init__(text, Front(at, (), False), at, limit)
 
     @staticmethod
-    def begins(_, looked):
-        return looked == 0
+    def begins(_, last):
+        return last.guesses == 0
 
     @staticmethod
-    def looked(seen, at):
-        return 0
+    def kept(seen, at):
+        return Kept(guesses=len(seen.keys))
+
+    @staticmethod
+    def after(last, front, size):
+        return Kept(guesses=max(0, last.guesses - (1 if front.is_faulty else len(front.keys))))
 
     def word(self, most=CODED_LIMIT):
         if self.byte() != 32:
@@ -346,8 +385,8 @@ class Sum(NamedTuple):
         """What looks cost at most. Each begins at a request that is served, and ends in a line that it does not take. No byte is in the
         lines of two looks, and none is hashed twice; one may be split twice, as a line that is not taken and as the next look's request.
         A line that is taken has three bytes at least, and a word two with the space before it."""
-        by_request = COSTS.look + COSTS.hashing + COSTS.line
-        return self.requests * by_request + self.bytes * (COSTS.byte + COSTS.line / 3 + COSTS.word + COSTS.key / 2 + COSTS.key_byte)
+        by_request, by_byte = COSTS.look + COSTS.hashing + COSTS.line, COSTS.byte + COSTS.long_byte + COSTS.key_byte
+        return self.requests * by_request + self.bytes * (by_byte + COSTS.line / 3 + COSTS.word + COSTS.key / 2)
 
 
 class Stream:
@@ -387,28 +426,26 @@ class Stream:
 
     def sum(self, reader):
         """The sum of a stretch that comes again and again. It is empty if a request is never whole."""
-        at, guesses, looked, sum, seen = 0, 0, 0, Sum(), {}
-        while (at, guesses, looked) not in seen:
-            seen[at, guesses, looked] = sum
+        at, last, sum, seen = 0, Kept(), Sum(), {}
+        while (at, last) not in seen:
+            seen[at, last] = sum
             front, cost = self.front(reader, at), 0
             if front is None:
                 return Sum()
-            keys, size = len(front.keys), front.end - at
-            if self.kind.begins(front, looked or guesses) and self.there(front.end) - at >= SHORT_TEXT:
-                look = self.look(front, at)
-                cost, guesses, looked = look.cost(), look.keys, self.kind.looked(look, at)
-            serving = COSTS.request + COSTS.request_byte * size + COSTS.request_key * keys + COSTS.request_key_byte * front.key_bytes()
-            sum = sum.plus(cost, serving, size)
-            looked = max(0, looked - size)
-            guesses = max(0, guesses - (keys or front.is_faulty)) if self.kind is LookBefore else 0
+            if self.there(front.end) - at >= SHORT_TEXT:
+                if self.kind.begins(front, last):
+                    look = self.look(front, at)
+                    cost, last = look.cost(), self.kind.kept(look, at)
+                last = self.kind.after(last, front, front.end - at)
+            sum = sum.plus(cost, front.cost(front.end - at), front.end - at)
             at = front.end % self.size
-        return sum.since(seen[at, guesses, looked])
+        return sum.since(seen[at, last])
 
 
 # The search.
 
 NUMBERS = [b"0", b"1", b"5", b"9", b"30", b"60", b"100", b"500", b"1000", b"2000", b"4000", b"6000", b"8000", b"x", b"-1", FAR, FAR]
-KEYS = [b"a", b"b", b"a" * 4, b"a" * 16, b"a" * 100, b"a" * 250, b"a" * 251, b"a\x7f", b"\x01", b""]
+KEYS = [b"a", b"k", b"k", b"a" * 4, b"a" * 16, b"k" * 100, b"a" * 250, b"a" * 251, b"a\x7f", b"\x01", b""]
 EXTRAS = [b"", b"", FAR, b"noreply", b"q", b"v", b"b", b"z", b"v" * 300]
 NAMES = [*RETRIEVALS, *DATED, b"set", b"cas", b"ms", *KEYED, b"mn", b"version", b"flush_all", b"xx", b""]
 FILLINGS = [b"x", b" ", b"\n", b"get a b c d\n", b"get" + b" " * 61 + b"\n", b"incr a 1\n"]
