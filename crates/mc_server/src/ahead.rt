@@ -13,7 +13,7 @@ const FEW: usize = 3;
 /// A text of fewer bytes is not worth a look.
 const SHORT: usize = 64;
 
-/// After a look of which fewer than half of the keys have an item none begins at this many requests.
+/// After a look that gained little none begins at this many requests.
 const PASSES: u8 = 64;
 
 /// The same after a look that found few keys.
@@ -36,15 +36,6 @@ impl Looked {
             passes: 0,
         }
     }
-
-    /// The same once a request is taken that has this many bytes.
-    #[inline]
-    pub fn past(self, front: Front) -> Looked {
-        Looked {
-            bytes: self.bytes.saturating_sub(front.size),
-            passes: self.passes,
-        }
-    }
 }
 
 /// Guesses of the items of the keys that come next on one connection, in the order of the keys. Who uses a guess looks whether it is
@@ -58,6 +49,8 @@ pub struct Ahead {
     used: u8,
     /// What the looks read, which says nothing ([`Store::guess_all`]).
     read: u8,
+    /// Whether a guess was for a line that is refused since the last request was taken.
+    vain: bool,
     /// The number of the connection.
     connection: u64,
 }
@@ -70,6 +63,7 @@ impl Ahead {
             count: 0,
             used: 0,
             read: 0,
+            vain: false,
             connection: 0,
         }
     }
@@ -79,8 +73,34 @@ impl Ahead {
     pub fn turn_to(&mut self, connection: u64) {
         if self.connection != connection {
             self.connection = connection;
-            self.count = 0;
-            self.used = 0;
+            self.drop_guesses();
+        }
+    }
+
+    /// There are no guesses from now on.
+    fn drop_guesses(&mut self) {
+        self.count = 0;
+        self.used = 0;
+    }
+
+    /// A line was refused. If there was a guess for it, those after it are let go, and for a while no look begins: a look takes a line with
+    /// a key whether it is refused or not, and who sends such lines gains nothing by it.
+    #[inline]
+    pub fn refuse(&mut self) {
+        if self.used < self.count {
+            self.drop_guesses();
+            self.vain = true;
+        }
+    }
+
+    /// What a connection keeps of its last look once a request or fault is taken.
+    #[inline]
+    pub fn past(&mut self, looked: Looked, front: Front) -> Looked {
+        let passes = if self.vain { PASSES } else { looked.passes };
+        self.vain = false;
+        Looked {
+            bytes: looked.bytes.saturating_sub(front.size),
+            passes,
         }
     }
 
@@ -98,8 +118,9 @@ impl Ahead {
     /// A look, which guesses the items of the keys of a retrieval that is first in a text, and of the requests that come after it, if the
     /// cache finds several items sooner together. Given what the connection keeps of the last look, it gives what it keeps of this one.
     ///
-    /// A look begins behind all that the last one took, so each byte is read by one look, however the text is cut. If a look finds fewer
-    /// than three keys, the next begins 4 requests later, and if fewer than half of its keys have an item, 64 requests later.
+    /// A look begins behind all lines that the last one took, so each byte is read by two looks at most, however the text is cut. If a look
+    /// finds fewer than three keys, the next begins 4 requests later; if no more than half of its keys have an item, or one of its lines is
+    /// refused, 64 requests later.
     #[inline]
     pub fn look<S: Store + Drop>(
         &mut self,
@@ -112,10 +133,7 @@ impl Ahead {
         if looked.bytes > 0 || text.len() < SHORT || !cache.guesses() {
             return looked;
         }
-        if looked.passes > 0 {
-            return one_passed(looked);
-        }
-        self.guess(keys.again(), front, text, cache)
+        self.guess(looked, keys.again(), front, text, cache)
     }
 
     /// The same of any request or fault, if something comes after it and it has a key.
@@ -131,29 +149,42 @@ impl Ahead {
         if looked.bytes > 0 || text.len() < SHORT || text.len() <= front.size || !cache.guesses() {
             return looked;
         }
-        if looked.passes > 0 {
-            return one_passed(looked);
-        }
+        self.guess_past(looked, asked, front, text, cache)
+    }
+
+    /// The same where it is known that something comes after it.
+    #[inline(never)]
+    fn guess_past<S: Store + Drop>(
+        &mut self,
+        looked: Looked,
+        asked: &Asked<'_>,
+        front: Front,
+        text: &[u8],
+        cache: &Cache<S>,
+    ) -> Looked {
         match keys_of(asked) {
-            Some(keys) => self.guess(keys, front, text, cache),
+            Some(keys) => self.guess(looked, keys, front, text, cache),
             None => looked,
         }
     }
 
-    /// The look, where it is known that it is to be done.
+    /// The look, unless it is passed over.
     #[inline(never)]
     fn guess<S: Store + Drop>(
         &mut self,
+        looked: Looked,
         keys: WordIter<'_>,
         front: Front,
         text: &[u8],
         cache: &Cache<S>,
     ) -> Looked {
+        if looked.passes > 0 {
+            return one_passed(looked);
+        }
         let mut first = FirstKeys::none();
         first.take(keys, text.get(front.size..).unwrap_or_default());
         let keys = first.keys();
-        self.used = 0;
-        self.count = 0;
+        self.drop_guesses();
         let mut passes = PASSES_AFTER_FEW;
         if keys.len() >= FEW
             && let Some(guesses) = self.guesses.get_mut(..keys.len())
@@ -169,9 +200,10 @@ impl Ahead {
     }
 }
 
-/// Whether fewer than half of the guesses say an item.
+/// Whether no more than half of the guesses say an item.
 fn finds_little(guesses: &[u32]) -> bool {
-    guesses.iter().filter(|guess| **guess != 0).count() < guesses.len() / 2
+    let found = guesses.iter().filter(|guess| **guess != 0).count();
+    found <= guesses.len() / 2
 }
 
 /// What is kept of a look once a request was passed over for it.

@@ -236,8 +236,7 @@ pub fn serve<S: Store + Drop>(
         Asked::Version => write_version(output).unwrap(),
         Asked::Quit => {}
         Asked::Faulty(fault) => {
-            // The look ahead took most faulty lines for one with a key: that guess is passed over.
-            let _ = ahead.next();
+            ahead.refuse();
             write_fault(*fault, output).unwrap();
         }
     }

@@ -157,7 +157,7 @@ impl Connection {
             }
             self.output.reserve(room)?;
             serve_keys(keys, None, with_cas, cache, moment, ahead, &mut self.output);
-            self.looked = self.looked.past(front);
+            self.looked = ahead.past(self.looked, front);
             self.reader.consume(front);
             return Ok(Limited::Turned(Turn::Took));
         }
@@ -203,7 +203,7 @@ impl Connection {
                     if !serve_within(asked, cache, moment, limit, ahead, &mut self.output)? {
                         return Ok(Limited::Refused);
                     }
-                    self.looked = self.looked.past(front);
+                    self.looked = ahead.past(self.looked, front);
                     self.reader.consume(front);
                     Ok(Limited::Turned(Turn::Took))
                 }
@@ -246,7 +246,7 @@ impl Connection {
                 *front
             }
         };
-        self.looked = self.looked.past(front);
+        self.looked = ahead.past(self.looked, front);
         self.reader.consume(front);
         Ok(Limited::Turned(Turn::Took))
     }

@@ -24,8 +24,8 @@ const DELETE: u8 = 127;
 
 /// The keys that the first requests of a text ask for, in their order, as many as there is room for.
 ///
-/// A line is taken only if the reader of requests would take it so: else it and all after it are left out. So each line that is taken is
-/// served, and its keys are looked up.
+/// A line is taken only if it ends where the reader of requests has it end, and, if it is a retrieval, only if that would not refuse it:
+/// else it and all after it are left out. So of each line that is taken the keys are looked up, unless it has one key and is refused.
 #[derive(Drop)]
 pub struct FirstKeys<'a> {
     keys: [&'a [u8]; AHEAD],
@@ -72,6 +72,9 @@ impl<'a> FirstKeys<'a> {
         let mut rest = text;
         for _ in 0..AHEAD {
             let count = self.count;
+            if count >= AHEAD {
+                break;
+            }
             let Some(more) = self.take_line(rest) else {
                 self.count = count;
                 break;
