@@ -9,8 +9,8 @@ With 32,768 items or more a server guesses where the items of a pipeline's next 
 - a seed plays 750 pipelines of 1 to 60 requests, whole and in pieces, to servers that evict. A fifth of the requests (junk.py) are made
   wrong: more spaces, too many words, bad lengths, blocks of another length, control bytes, long keys, other line ends. Blocks look like
   requests. One flush is at a random place. At the end too long blocks are refused, and each item is shown with its number;
-- a client that reads nothing holds up its own requests, for which the server has guessed already. Another client meanwhile deletes,
-  replaces, evicts or flushes their items.
+- a client sends requests of one look, of which the first delete, replace or evict items, and the others ask for these. For all of them the
+  server has guessed before it serves the first.
 
 The seconds of two servers begin at different times. So no item dies while they run: an exptime is none, past, or in the year 2096, and no
 reply shows how long an item has.
@@ -23,13 +23,12 @@ import contextlib
 import pathlib
 import random
 import re
-import select
 import sys
 
 sys.path.insert(0, str(pathlib.Path(__file__).resolve().parents[1] / "lib"))
 
 import junk
-from checks import PATIENCE, Wrong, asked, shortened, tally, want
+from checks import Wrong, shortened, tally, want
 from model import STORAGE
 from servers import Server
 from suite import are_built
@@ -41,19 +40,13 @@ MOST_ABOVE = 100  # the most bytes by which a length is more than its block has
 FLUSHES = [b"flush_all\r\n", b"flush_all 0\r\n", b"flush_all -1 noreply\r\n", b"flush_all 2592001\r\n"]
 NUMBERED = re.compile(rb"VALUE (k\d+) \d+ \d+ (\d+)\r\n")
 
-# Requests of a client that reads nothing. The first twenty answers have more bytes than the server and the system keep for it, so the
-# requests after them wait. One look guesses for 32 keys: for all of these.
-WAITING = b"get large\r\n" * 20 + b"get k0 k1 k2\r\nmg k3 v c\r\ngat 0 k4\r\nincr k5 1\r\ntouch k6 0\r\nmd k7\r\nappend k8 0 0 1\r\ny\r\n"
-WAITING += b"set k9 0 0 1\r\nz\r\nma k10\r\ndelete k11\r\n"
-
-# What another client does meanwhile, and what it sets after that: the first key that the waiting requests show.
+# What the first requests of a look do to an item, and what they leave of it.
 CHANGES = {
-    "deletes": b"".join(b"delete k%d noreply\r\n" % key for key in range(0, 20_000, 3)),
-    "other values": b"".join(b"set k%d 0 0 9 noreply\r\n123456789\r\n" % key for key in range(20_000)),
-    "evictions": b"".join(b"set new%d 0 0 1 noreply\r\nx\r\n" % key for key in range(30_000)),
-    "a flush": b"flush_all noreply\r\n",
+    "deletes": (b"delete %s\r\n", b"", b"DELETED"),
+    "other values": (b"set %s 7 0 5\r\n", b"after\r\n", b"STORED"),
+    "stale items": (b"md %s I\r\n", b"", b"HD"),
 }
-AFTER = b"set k0 7 0 5 noreply\r\nafter\r\n"
+SHOWN = [b"get %s\r\n", b"mg %s v f c\r\n", b"append %s 0 0 1\r\ny\r\n"]
 
 
 class Maker(junk.Maker):
@@ -179,12 +172,13 @@ def same(text, answers):
 
 
 def fill(both, dice):
-    """Sets all keys, in any order, and so evicts some."""
+    """Sets all keys, in any order, and so evicts some. Gives the keys in this order."""
     keys = list(range(KEYS))
     dice.shuffle(keys)
     for at in range(0, KEYS, 500):
         sets = (b"set k%d %d 0 3 noreply\r\n123\r\n" if key % 2 else b"ms k%d 3 F%d q\r\n456\r\n" for key in keys[at : at + 500])
         both.answer(b"".join(each % (key, at) for each, key in zip(sets, keys[at : at + 500])))
+    return [b"k%d" % key for key in keys]
 
 
 def pipeline_of(maker, faults, flush):
@@ -230,27 +224,31 @@ def pipelines_are_answered_alike(program, seed):
             raise Wrong(f"{held} items are there at the end")
 
 
-def a_change_behind_a_guess(program, change):
-    """A client reads nothing, so its last requests wait, for which the server has guessed. Another client changes their items."""
+def a_change_behind_a_guess(program, line, block, done):
+    """The first requests of a look change items, and the others ask for them."""
     with contextlib.ExitStack() as stack:
         both = Both(stack, program)
-        fill(both, random.Random(1))
-        (waiting, last), (change, done) = both.ended(WAITING), both.ended(change + AFTER)
-        answers = []
-        for server, client in zip(both.servers, both.connections):
-            asked(client, b"set large 0 0 1000000\r\n" + bytes(1_000_000) + b"\r\n", b"STORED\r\n")
-            client.sendall(waiting)
-            want(select.select([client], [], [], PATIENCE)[0], [client])
-            with server.connected() as other:
-                other.sendall(change)
-                between = answered(other, done)
-            answers.append(between + answered(client, last))
-        want(b"VALUE k0 7 5\r\nafter\r\n" in same(waiting, answers), True)
+        *_, first, second, third, fourth = fill(both, random.Random(1))
+        keys = [first, second, third, fourth]
+        shown = both.answer(b"".join(line % key + block for key in keys) + b"".join(each % key for each in SHOWN for key in keys))
+        want(shown.split(b"\r\n")[: len(keys)], [done] * len(keys))
+
+
+def an_eviction_behind_a_guess(program):
+    """The first requests of a look evict the items for which the others ask."""
+    with contextlib.ExitStack() as stack:
+        both = Both(stack, program)
+        keys = fill(both, random.Random(1))
+        oldest, newest = keys[KEYS - ITEMS :][:4], keys[-8:]
+        text = b"".join(b"set new%d 0 0 1\r\nx\r\n" % at for at in range(len(oldest)))
+        shown = both.answer(text + b"get %s\r\n" % b" ".join(newest) + b"".join(b"mg %s v\r\n" % key for key in oldest))
+        want((shown.count(b"VALUE"), shown.count(b"EN\r\n")), (len(newest), len(oldest)))
 
 
 def main(program, seeds):
     checks = [(f"seed {seed}", pipelines_are_answered_alike, (program, seed)) for seed in seeds]
-    checks += [(f"{name} behind a guess", a_change_behind_a_guess, (program, change)) for name, change in CHANGES.items()]
+    checks += [(f"{name} behind a guess", a_change_behind_a_guess, (program, *change)) for name, change in CHANGES.items()]
+    checks.append(("evictions behind a guess", an_eviction_behind_a_guess, (program,)))
     return tally(checks)
 
 
