@@ -34,7 +34,7 @@ HERE = pathlib.Path(__file__).resolve().parent
 sys.path.insert(0, str(HERE.parent / "tests" / "lib"))
 sys.path.insert(0, str(HERE))
 
-from chosen_streams import FILLED, STREAMS, VALUE
+from chosen_streams import AT_REST, FAST, FILLED, STREAMS, VALUE
 from serve import SERVERS_OF_A_PROXY, pin, processors
 from servers import Proxy, Server, connected
 
@@ -136,42 +136,50 @@ class Client:
         return ready[0][1]
 
 
-def clock(program):
-    """Seconds of a program's processor time, once it waits: the kernel adds what runs when it stops running."""
-    deadline, state = time.monotonic() + PATIENCE, pathlib.Path(f"/proc/{program.process.pid}/stat")
-    while state.read_text().rpartition(") ")[2][0] != "S":
-        if time.monotonic() > deadline:
-            raise Stopped("a program does not come to rest")
-    return program.processor_time()
-
-
-def played(program, play, reading):
-    """Plays it to a program: what that answered, in pieces, and the seconds of processor time that it took."""
-    with contextlib.ExitStack() as stack:
-        clients = [Client(program, reading) for _ in range(play.connections)]
-        for client in clients:
-            stack.enter_context(client.connection)
-        start = clock(program)
-        for number, piece in play.pieces:
-            client = clients[number]
-            if play.apart:
-                client.await_reading()
-                client.take()
-            client.send(piece)
-        for client in clients:
-            client.await_end()
-        seconds = clock(program) - start
-    return [answer for client in clients for answer in client.answers], seconds
-
-
 class Program:
     """A program that is measured, and what it has answered to a stream."""
 
-    def __init__(self, listener, reading, items):
+    def __init__(self, listener, reading):
         self.listener, self.reading, self.answers, self.last = listener, reading, None, []
-        self.fill(items)
+        self.state = os.open(f"/proc/{listener.process.pid}/stat", os.O_RDONLY)
 
-    def fill(self, items):
+    def await_rest(self):
+        """Waits until the program waits."""
+        deadline = time.monotonic() + PATIENCE
+        while os.pread(self.state, 512, 0).rpartition(b") ")[2][:1] != b"S":
+            if time.monotonic() > deadline:
+                raise Stopped("a program does not come to rest")
+
+    def clock(self):
+        """Seconds of its processor time, once it waits: the kernel adds what runs when it stops running."""
+        self.await_rest()
+        return self.listener.processor_time()
+
+    def send(self, play, clients):
+        for number, piece in play.pieces:
+            client = clients[number]
+            if play.sent != FAST:
+                client.await_reading()
+                client.take()
+            if play.sent == AT_REST:
+                self.await_rest()
+            client.send(piece)
+
+    def played(self, play):
+        """Plays it to the program: what that answered, in pieces, and the seconds of processor time that it took."""
+        with contextlib.ExitStack() as stack:
+            clients = [Client(self.listener, self.reading) for _ in range(play.connections)]
+            for client in clients:
+                stack.enter_context(client.connection)
+            start = self.clock()
+            self.send(play, clients)
+            for client in clients:
+                client.await_end()
+            seconds = self.clock() - start
+        return [answer for client in clients for answer in client.answers], seconds
+
+    def filled(self, items):
+        """The same with so many items, and those that streams ask for."""
         keys = [(b"k%d" % number, VALUE) for number in range(items)]
         text = b"".join(b"set %s 0 0 %d\r\n%s\r\n" % (key, len(value), value) for key, value in [*keys, *FILLED.items()])
         client = Client(self.listener, self.reading)
@@ -180,6 +188,7 @@ class Program:
             client.await_end()
         if b"".join(client.answers) != b"STORED\r\n" * (items + len(FILLED)):
             raise SystemExit(f"bench/chosen.py: {self.listener.program} cannot be filled")
+        return self
 
     def begin(self):
         """A stream begins."""
@@ -189,7 +198,7 @@ class Program:
         """Plays it some times, and gives the seconds of one."""
         total = 0
         for _ in range(times):
-            self.last, seconds = played(self.listener, play, self.reading)
+            self.last, seconds = self.played(play)
             for piece in self.last:
                 self.answers.update(piece)
             total += seconds
@@ -275,10 +284,10 @@ class Bench:
     def servers(self):
         """OLD's and NEW's, full, and NEW's with few items."""
         filled = [(self.tops[0], ITEMS), (self.tops[1], ITEMS), (self.tops[1], FEW_ITEMS)]
-        return [Program(self.server(top, 0), self.reading, items) for top, items in filled]
+        return [Program(self.server(top, 0), self.reading).filled(items) for top, items in filled]
 
     def proxies(self):
-        return [Program(self.proxy(top), self.reading, ITEMS) for top in self.tops]
+        return [Program(self.proxy(top), self.reading).filled(ITEMS) for top in self.tops]
 
 
 def told(number):

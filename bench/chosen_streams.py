@@ -29,12 +29,15 @@ MOST_CONNECTIONS = 1_024
 ENTRIES = 31  # lines that follow the first in a look ahead
 
 
+FAST, READ, AT_REST = "as fast as it is taken", "when all before is read", "when all before is read and the program waits"
+
+
 class Play(NamedTuple):
-    """Pieces, each with the number of its connection. Where they are apart, each is sent when what was sent there before has been read."""
+    """Pieces, each with the number of its connection, and when each is sent."""
 
     pieces: list
     requests: int
-    apart: bool = False
+    sent: str = FAST
     connections: int = 1
 
 
@@ -60,20 +63,20 @@ def flow(text, requests=1, size=TEXT):
 def batches(lines, count):
     """Lines, so many in each piece."""
     pieces = [b"".join(itertools.islice(itertools.cycle(lines), at, at + count)) for at in range(0, 400 * count, count)]
-    return Play([(0, piece) for piece in pieces], 400 * count, apart=True)
+    return Play([(0, piece) for piece in pieces], 400 * count, READ)
 
 
 def cut(text, size, requests, head=b""):
     """A text in pieces of a size, behind a piece that is its head."""
     heads = [(0, head)] if head else []
-    return Play(heads + [(0, text[at : at + size]) for at in range(0, len(text), size)], requests, apart=True)
+    return Play(heads + [(0, text[at : at + size]) for at in range(0, len(text), size)], requests, AT_REST)
 
 
 def turn_by_turn(lines):
     """A line on each of as many connections as a program has, byte by byte: each sends its next byte once all have sent the one before."""
     of_each = list(itertools.islice(itertools.cycle(lines), MOST_CONNECTIONS))
     pieces = [(number, line[at : at + 1]) for at in range(max(map(len, of_each))) for number, line in enumerate(of_each)]
-    return Play([piece for piece in pieces if piece[1]], MOST_CONNECTIONS, apart=True, connections=MOST_CONNECTIONS)
+    return Play([piece for piece in pieces if piece[1]], MOST_CONNECTIONS, READ, MOST_CONNECTIONS)
 
 
 def slowly(front, line=b"set s0 0 0 %d\r\n", requests=2):
@@ -192,9 +195,9 @@ STREAMS = [
     Stream("between-60", "get-24", "many spaces between keys", lambda: flow(LINE_OF_24.replace(b" ", b" " * 60))),
     Stream("behind-60", "get", "spaces before the line's end", lambda: flow_of(b"get KEY" + b" " * 60 + b"\r\n")),
     Stream("far-ms", "get", "a look ahead for each 9 bytes, from a line that is refused",
-           lambda: Play([(0, far(b"ms  %04d\n", 700))] * 30, 30 * 731, apart=True), False),
+           lambda: Play([(0, far(b"ms  %04d\n", 700))] * 30, 30 * 731, READ), False),
     Stream("far-set", "set", "the same by good requests alone",
-           lambda: Play([(0, far(b"set k  0 %04d 0\r\n\r\n", 325))] * 30, 30 * 356, apart=True), False),
+           lambda: Play([(0, far(b"set k  0 %04d 0\r\n\r\n", 325))] * 30, 30 * 356, READ), False),
     Stream("version-by-32", "get-by-32", "a look ahead at requests that have no key", lambda: batches([b"version\r\n"], 32), False),
     Stream("mn-by-32", "get-by-32", "the same", lambda: batches([b"mn\r\n"], 32), False),
     Stream("incr-absent-by-40", "get-by-32", "a look ahead that helps nothing",

@@ -21,8 +21,8 @@ HERE = pathlib.Path(__file__).resolve().parent
 sys.path.insert(0, str(HERE.parent / "tests" / "lib"))
 sys.path.insert(0, str(HERE))
 
-from chosen import BUDGET, MOST_ITEMS, Program, Reading, played
-from chosen_streams import Play
+from chosen import BUDGET, MOST_ITEMS, Program, Reading
+from chosen_streams import READ, Play
 from look_model import Look, Reader, Stream
 from servers import Server
 from socket_instructions import Counted
@@ -52,10 +52,9 @@ class Costs:
         with tempfile.TemporaryDirectory() as folder:
             counted = Counted(pathlib.Path(folder), self.server, "")
             with Server(counted.script, BUDGET, MOST_ITEMS) as server:
-                reading = Reading()
-                Program(server, reading, items)
-                played(server, Play([(0, b"set k 0 0 0\r\n\r\n")], 1), reading)
-                played(server, Play([(0, text)] * times, times, apart=True), reading)
+                program = Program(server, Reading()).filled(items)
+                program.played(Play([(0, b"set k 0 0 0\r\n\r\n")], 1))
+                program.played(Play([(0, text)] * times, times, READ))
                 return counted.ended(server)
 
     def of_one(self, text, items):
