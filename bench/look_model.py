@@ -176,15 +176,16 @@ class Look:
         look = cls(text, front, at, limit)
         taken, keys = look.place, list(look.keys)
         try:
-            while look.lines < MOST_LINES and len(look.keys) < MOST_KEYS:
+            while look.goes_on(front):
                 look.lines += 1
                 look.take_line()
                 taken, keys = look.place, list(look.keys)
-                if not keys:
-                    break
         except Ended:
             pass
         return Seen(taken, look.bytes, look.lines, look.long_bytes, look.words, keys)
+
+    def goes_on(self, front):
+        return self.lines < MOST_LINES and len(front.keys) <= MOST_KEYS
 
     def byte(self):
         return self.text[self.place] if self.place < self.limit else -1
@@ -273,6 +274,9 @@ class LookBefore(Look):
     @staticmethod
     def after(last, front, size):
         return Kept(guesses=max(0, last.guesses - (1 if front.is_faulty else len(front.keys))))
+
+    def goes_on(self, front):
+        return self.lines == 0 or self.lines < MOST_LINES and 0 < len(self.keys) < MOST_KEYS
 
     def word(self, most=CODED_LIMIT):
         if self.byte() != 32:
@@ -382,11 +386,20 @@ class Sum(NamedTuple):
         return self.looks / self.serving if self.serving else 0
 
     def bound(self):
-        """What looks cost at most. Each begins at a request that is served, and ends in a line that it does not take. No byte is in the
-        lines of two looks, and none is hashed twice; one may be split twice, as a line that is not taken and as the next look's request.
-        A line that is taken has three bytes at least, and a word two with the space before it."""
-        by_request, by_byte = COSTS.look + COSTS.hashing + COSTS.line, COSTS.byte + COSTS.long_byte + COSTS.key_byte
-        return self.requests * by_request + self.bytes * (by_byte + COSTS.line / 3 + COSTS.word + COSTS.key / 2)
+        """What looks cost at most."""
+        return self.requests * most_by_request() + self.bytes * most_by_byte()
+
+
+def most_by_request():
+    """What looks cost at most for a request that is served: each begins at one, and ends in a line that it does not take."""
+    return COSTS.look + COSTS.hashing + COSTS.line
+
+
+def most_by_byte():
+    """What they cost at most for a byte beside that. None is in the lines of two looks, and none is hashed twice; one may be split twice,
+    in a line that is not taken, and as the request at which the next look begins. A line that is taken has three bytes at least, and a
+    word two with the space before it."""
+    return COSTS.byte + COSTS.long_byte + COSTS.key_byte + COSTS.line / 3 + COSTS.word + COSTS.key / 2
 
 
 class Stream:
@@ -578,6 +591,8 @@ def main():
         print(f"above its bound of {above.args[0].bound():,.0f}: {shown(*above.args)}")
         return 1
     found.sort(key=lambda each: -each[0].ratio())
+    if not asked.before:
+        print(f"No stream is above the bound: {most_by_request():,.0f} instructions for each request and {most_by_byte():,.0f} for each byte.")
     print(f"{search.tried:,} streams from {len(found)} beginnings; instructions of looks over those of serving:")
     print(*(shown(*each) for each in found[: asked.shown]), sep="\n")
     return 0
