@@ -592,7 +592,8 @@ def main():
         return 1
     found.sort(key=lambda each: -each[0].ratio())
     if not asked.before:
-        print(f"No stream is above the bound: {most_by_request():,.0f} instructions for each request and {most_by_byte():,.0f} for each byte.")
+        bound = f"{most_by_request():,.0f} instructions for each request and {most_by_byte():,.0f} for each byte"
+        print(f"No stream is above the bound of {bound}.")
     print(f"{search.tried:,} streams from {len(found)} beginnings; instructions of looks over those of serving:")
     print(*(shown(*each) for each in found[: asked.shown]), sep="\n")
     return 0
