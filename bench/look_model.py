@@ -32,7 +32,8 @@ MOST_KEYS = MOST_LINES = 32
 MOST_EMPTY_WORDS = 64
 FEW_KEYS = 3  # fewer are not hashed
 SHORT_TEXT = 64  # with fewer bytes there is no look
-PASSES = 64  # requests at which no look begins after one that found little
+PASSES = 64  # requests at which no look begins after one that gained little
+PASSES_AFTER_FEW = 4  # the same after one that found few keys
 LONGEST_KEY, LONGEST_NAME, CODED_LIMIT, NUMBER = 250, 15, 336, 20
 RETRIEVALS, DATED = (b"get", b"gets"), (b"gat", b"gats")
 STORAGE = tuple(name.encode() for name in model.STORAGE)
@@ -131,8 +132,10 @@ class Seen(NamedTuple):
             return cost
         return cost + COSTS.hashing + COSTS.key * len(self.keys) + COSTS.key_byte * sum(map(len, self.keys))
 
-    def finds_little(self):
-        return len(self.keys) >= FEW_KEYS and sum(map(is_held, self.keys)) < len(self.keys) // 2
+    def passes(self):
+        if len(self.keys) < FEW_KEYS:
+            return PASSES_AFTER_FEW
+        return PASSES if sum(map(is_held, self.keys)) <= len(self.keys) // 2 else 0
 
 
 class Kept(NamedTuple):
@@ -163,13 +166,15 @@ class Look:
 
     @staticmethod
     def kept(seen, at):
-        return Kept(seen.end - at, PASSES if seen.finds_little() else 0)
+        return Kept(seen.end - at, seen.passes(), len(seen.keys) if len(seen.keys) >= FEW_KEYS else 0)
 
     @staticmethod
     def after(last, front, size):
         """What is kept once a request was served."""
+        if front.is_faulty and last.guesses:
+            return Kept(max(0, last.bytes - size), PASSES)
         passes = last.passes if last.bytes else max(0, last.passes - 1)
-        return Kept(max(0, last.bytes - size), passes)
+        return Kept(max(0, last.bytes - size), passes, max(0, last.guesses - len(front.keys)))
 
     @classmethod
     def seen(cls, text, front, at, limit):
@@ -185,7 +190,7 @@ class Look:
         return Seen(taken, look.bytes, look.lines, look.long_bytes, look.words, keys)
 
     def goes_on(self, front):
-        return self.lines < MOST_LINES and len(front.keys) <= MOST_KEYS
+        return self.lines < MOST_LINES and len(front.keys) <= MOST_KEYS and len(self.keys) < MOST_KEYS
 
     def byte(self):
         return self.text[self.place] if self.place < self.limit else -1
