@@ -19,6 +19,7 @@ STORED = [b"s%d" % number for number in range(100)]
 COUNTED = [b"n%d" % number for number in range(100)]
 LONG = [b"%03d" % number + b"L" * 247 for number in range(24)]
 SHORT = [b"%c" % letter for letter in b"pqrstuvwxyz"]
+COLD = [b"k%d" % (number * 7_919 % 100_000) for number in range(15_500)]  # held by a server with 100,000 items, far from the processor
 ABSENT = [b"a%d" % number for number in range(100)]
 LONG_ABSENT = [b"%03d" % number + b"A" * 247 for number in range(24)]
 SHORT_ABSENT = [b"%c" % letter for letter in b"ABCDEFGHIJKLMNOPQRSTUVWXYZ01234"]  # as many as a look takes beside one
@@ -107,6 +108,13 @@ def flow_of(form, keys=HELD, requests=1):
     return flow(b"".join(each(form, keys)), len(keys) * requests)
 
 
+def refused_after_hits(line):
+    """A good get, and as many lines on items that are far from the processor as a look takes after it."""
+    lines = each(line, COLD)
+    entries = [GET_ONE + b"".join(lines[at : at + ENTRIES]) for at in range(0, len(lines), ENTRIES)]
+    return flow(b"".join(entries), len(lines) + len(entries))
+
+
 def puts(block, line=b"set KEY 0 0 %d\r\n"):
     return flow_of(put(block, line), STORED)
 
@@ -157,6 +165,7 @@ FAULTY = {
 
 FAULTY_FOR_PROXIES = {"get-control", "get-251", "get-none", "incr-words", "set-junk", "ms-flag"}
 
+GET_ONE = get(b"k1")
 GET, LINE_OF_24, LINE_OF_24_ABSENT = b"get KEY\r\n", get(*HELD[:24]), get(*ABSENT[:24])
 GETS_LONG = get(*SHORT_ABSENT * 24, b"a" * 251)
 LONG_LINE = get(*(SHORT * KEYS_OF_A_LONG_LINE)[:KEYS_OF_A_LONG_LINE])
@@ -220,6 +229,10 @@ STREAMS = [
     Stream("get-absent-between-2", "get-absent", "a look for each key", lambda: flow_of(b"get  KEY\n", ABSENT), False),
     Stream("touch-between-2", "get-absent", "the same", lambda: flow_of(b"touch  KEY 0\n", ABSENT), False),
     Stream("mg-between-2", "get-absent", "the same", lambda: flow_of(b"mg  KEY\n", ABSENT), False),
+    Stream("cold-get", "cold-get", "to be served items that are far from the processor", lambda: flow_of(GET, COLD), False),
+    Stream("cold-md-refused", "cold-get", "items that are fetched for a refusal", lambda: refused_after_hits(b"md KEY !\n"), False),
+    Stream("cold-ms-refused", "cold-get", "the same", lambda: refused_after_hits(b"ms KEY 0 !\n\r\n"), False),
+    Stream("cold-incr-refused", "cold-get", "the same", lambda: refused_after_hits(b"incr KEY x\n"), False),
     Stream("good-gets-long", "get", "a long line that is read ahead and refused", lambda: flow_of(GET + GETS_LONG, requests=2), False),
     # Data blocks.
     Stream("block-of-gets", "set-1000", "a block that is taken for commands", lambda: puts(filled_with(get(*ABSENT[:4]), 1_000))),
