@@ -1,12 +1,19 @@
-use Rattle.std.proofs.Common.{rules, ◌≡◌, ◌∙◌, ◌<◌, true, List, Some, length, slice_get, refl, sym, ap}
+use Rattle.std.proofs.Common.{rules, ◌≡◌, ◌∙◌, ◌<◌, true, List, Some, None, length, slice_get, refl, sym, ap}
 use Rattle.std.specs.Prelude.{◌↔◌, IsTrue, not}
-use Rattle.std.proofs.lemmas.Option.{slice_get_read}
+use Rattle.std.proofs.lemmas.Option.{none-some, slice_get_past, slice_get_read}
 use Rattle.mc_server.specs.ServerState.{connection_at, output_of}
 use Rattle.mc_session.specs.SessionState.{link_at}
 use Rattle.mc_world.specs.WorldState.{SiteState}
 use Rattle.mc_world.proofs.AppliesLemmas.{pool_of}
-use Rattle.mc_world.proofs.ApplyingLemmas.{comes_if, some_if}
+use Rattle.mc_world.proofs.ApplyingLemmas.{comes_if, never, some_if}
 use Rattle.mc_world.proofs.pools.Pool.comes_back.Goals as goal
+
+-- there is no such server
+pub returns-in_default : goal.returns-in_default
+returns-in_default g c =
+    let none : slice_get c.self.inside.sites.items c.args.place ≡ None =
+    ap (λ (ss : List SiteState). slice_get ss c.args.place) (sym c.deref.ensures.value) ∙ slice_get_past c.deref.result.now c.args.place c.in_default.ensures.lookup.3 in
+    rw (← c.self.view_is) (λ count asked. never _ (λ can. none-some can.site (sym none ∙ can.at)))
 
 -- the link is up
 pub returns : goal.returns
