@@ -32,8 +32,8 @@ MOST_KEYS = MOST_LINES = 32
 MOST_EMPTY_WORDS = 64
 FEW_KEYS = 3  # fewer are not hashed
 SHORT_TEXT = 64  # with fewer bytes there is no look
-PASSES = 64  # requests at which no look begins after one that gained little
-PASSES_AFTER_FEW = 4  # the same after one that found few keys
+PASSES = 4  # requests at which no look begins after one that gained little; twice as many after each such look that follows it
+MOST_PASSES = 64  # at most at so many, and after a refused line
 LONGEST_KEY, LONGEST_NAME, CODED_LIMIT, NUMBER = 250, 15, 336, 20
 RETRIEVALS, DATED = (b"get", b"gets"), (b"gat", b"gats")
 STORAGE = tuple(name.encode() for name in model.STORAGE)
@@ -132,18 +132,20 @@ class Seen(NamedTuple):
             return cost
         return cost + COSTS.hashing + COSTS.key * len(self.keys) + COSTS.key_byte * sum(map(len, self.keys))
 
-    def passes(self):
-        if len(self.keys) < FEW_KEYS:
-            return PASSES_AFTER_FEW
-        return PASSES if sum(map(is_held, self.keys)) <= len(self.keys) // 2 else 0
+    def pause(self, before):
+        """At how many requests no look begins after this one, if there were none at so many after the last that gained little."""
+        if sum(map(is_held, self.keys)) > len(self.keys) // 2:
+            return 0
+        return min(MOST_PASSES, max(PASSES, before * 2))
 
 
 class Kept(NamedTuple):
-    """What is kept of the last look: how many of the bytes in front it has read, at how many requests then none begins, and of how many
-    keys there are guesses."""
+    """What is kept of the last look: how many of the bytes in front it has read, at how many requests then none begins, at how many none
+    began after the last that gained little, and of how many keys there are guesses."""
 
     bytes: int = 0
     passes: int = 0
+    pause: int = 0
     guesses: int = 0
 
 
@@ -165,16 +167,19 @@ class Look:
         return last.bytes == 0 and last.passes == 0 and front.keys and not front.is_faulty
 
     @staticmethod
-    def kept(seen, at):
-        return Kept(seen.end - at, seen.passes(), len(seen.keys) if len(seen.keys) >= FEW_KEYS else 0)
+    def kept(seen, at, last):
+        if len(seen.keys) < FEW_KEYS:
+            return Kept(seen.end - at, PASSES, last.pause, 0)
+        pause = seen.pause(last.pause)
+        return Kept(seen.end - at, pause, pause, len(seen.keys))
 
     @staticmethod
     def after(last, front, size):
         """What is kept once a request was served."""
         if front.is_faulty and last.guesses:
-            return Kept(max(0, last.bytes - size), PASSES)
+            return Kept(max(0, last.bytes - size), MOST_PASSES, last.pause)
         passes = last.passes if last.bytes else max(0, last.passes - 1)
-        return Kept(max(0, last.bytes - size), passes, max(0, last.guesses - len(front.keys)))
+        return Kept(max(0, last.bytes - size), passes, last.pause, max(0, last.guesses - len(front.keys)))
 
     @classmethod
     def seen(cls, text, front, at, limit):
@@ -273,7 +278,7 @@ class LookBefore(Look):
         return last.guesses == 0
 
     @staticmethod
-    def kept(seen, at):
+    def kept(seen, _at, _last):
         return Kept(guesses=len(seen.keys))
 
     @staticmethod
@@ -453,7 +458,7 @@ class Stream:
             if self.there(front.end) - at >= SHORT_TEXT:
                 if self.kind.begins(front, last):
                     look = self.look(front, at)
-                    cost, last = look.cost(), self.kind.kept(look, at)
+                    cost, last = look.cost(), self.kind.kept(look, at, last)
                 last = self.kind.after(last, front, front.end - at)
             sum = sum.plus(cost, front.cost(front.end - at), front.end - at)
             at = front.end % self.size

@@ -62,8 +62,8 @@ impl Reader {
         }
     }
 
-    /// Takes the next piece of the text. After `quit` or a line too long it is let go, and of a block that is refused what
-    /// comes is let go.
+    /// Takes the next piece of the text. After `quit` or a line too long it is dropped, and of a block that is refused what
+    /// comes is dropped.
     ///
     /// At `Memory` no byte is taken. It is never refused where nothing of the piece is kept: an empty piece, one after the
     /// end, or one that is all of a refused block.
@@ -178,7 +178,7 @@ impl Reader {
         self.unread.is_closed()
     }
 
-    /// Takes what [`Reader::peek`] showed, and lets go of its bytes once they are more than half of all. What comes
+    /// Takes what [`Reader::peek`] showed, and drops its bytes once they are more than half of all. What comes
     /// after it is looked at as a `feed` does, but for the words of a short line. It takes no memory.
     pub fn consume(&mut self, front: Front)
         requires { front_of self.old ≡ Some front }
@@ -201,7 +201,7 @@ impl Reader {
         self.unread.give_back(kept);
     }
 
-    /// How many bytes the reader keeps: those that are not taken, and of those taken the ones that are not let go yet,
+    /// How many bytes the reader keeps: those that are not taken, and of those taken the ones that are not dropped yet,
     /// which are never more. None are kept after the end, or while a block that is refused comes. Where nothing is whole, they
     /// are fewer than [`REQUEST_LIMIT`](crate::REQUEST_LIMIT).
     pub fn held(&self) -> usize

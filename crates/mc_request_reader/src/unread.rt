@@ -89,7 +89,7 @@ impl Unread {
     }
 
     /// Notes how far what has come was looked at, and begins to drop a block that is refused. Where nothing is whole,
-    /// what was taken is let go.
+    /// what was taken is dropped.
     ///
     /// What was looked at is not looked at again, and what is left is moved once.
     pub fn advance(&mut self)
@@ -164,7 +164,7 @@ impl Unread {
         self.start == 0 && self.buffer.len() < self.wanted
     }
 
-    /// Lets go of what was taken.
+    /// Drops what was taken.
     fn move_to_front(&mut self)
         ensures { self.new ≡ record self.old { held = length self.old.unread } }
     {
@@ -340,7 +340,7 @@ impl Unread {
         unread.len() >= self.wanted && (self.sure || is_whole(unread, self.searched))
     }
 
-    /// Takes what a look showed, and lets go of its bytes once they are more than half of all.
+    /// Takes what a look showed, and drops its bytes once they are more than half of all.
     pub fn consume(&mut self, front: Front)
         requires { front_of self.old ≡ Some front }
         ensures { KeepsRest (past front self.old) self.new }

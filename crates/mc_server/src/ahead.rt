@@ -3,7 +3,6 @@
 use crate::first_keys::{AHEAD, FirstKeys};
 use mc_cache::Cache;
 use mc_request::{Asked, MetaCommand, Update};
-use mc_request_reader::Front;
 use mc_store::Store;
 use mc_text::{WordIter, words};
 
@@ -13,11 +12,11 @@ const FEW: usize = 3;
 /// A text of fewer bytes is not worth a look.
 const SHORT: usize = 64;
 
-/// After a look that gained little none begins at this many requests.
-const PASSES: u8 = 64;
+/// After a look that gained little none begins at this many requests, and at twice as many after each such look that follows it.
+const PASSES: u32 = 4;
 
-/// The same after a look that found few keys.
-const PASSES_AFTER_FEW: u8 = 4;
+/// At most at this many, and at as many after one of whose lines one was refused.
+const MOST_PASSES: u32 = 64;
 
 /// What a connection keeps of its last look.
 #[derive(Clone, Copy)]
@@ -25,7 +24,9 @@ pub struct Looked {
     /// How many of the bytes that are not taken it has read: in these no other begins.
     bytes: usize,
     /// At how many requests after these none begins, since it found little.
-    passes: u8,
+    passes: u32,
+    /// At how many none began when one found little last, if none has found more since.
+    pause: u32,
 }
 
 impl Looked {
@@ -34,6 +35,7 @@ impl Looked {
         Looked {
             bytes: 0,
             passes: 0,
+            pause: 0,
         }
     }
 }
@@ -68,7 +70,7 @@ impl Ahead {
         }
     }
 
-    /// Turns to a connection, by its number. Guesses for another one are let go.
+    /// Turns to a connection, by its number. Guesses for another one are dropped.
     #[inline]
     pub fn turn_to(&mut self, connection: u64) {
         if self.connection != connection {
@@ -83,7 +85,7 @@ impl Ahead {
         self.used = 0;
     }
 
-    /// A line was refused. If there was a guess for it, those after it are let go, and for a while no look begins: a look takes a line with
+    /// A line was refused. If there was a guess for it, those after it are dropped, and for a while no look begins: a look takes a line with
     /// a key whether it is refused or not, and who sends such lines gains nothing by it.
     #[inline]
     pub fn refuse(&mut self) {
@@ -93,14 +95,19 @@ impl Ahead {
         }
     }
 
-    /// What a connection keeps of its last look once a request or fault is taken.
+    /// What a connection keeps of its last look once a request or fault of so many bytes is taken.
     #[inline]
-    pub fn past(&mut self, looked: Looked, front: Front) -> Looked {
-        let passes = if self.vain { PASSES } else { looked.passes };
+    pub fn past(&mut self, looked: Looked, size: usize) -> Looked {
+        let passes = if self.vain {
+            MOST_PASSES
+        } else {
+            looked.passes
+        };
         self.vain = false;
         Looked {
-            bytes: looked.bytes.saturating_sub(front.size),
+            bytes: looked.bytes.saturating_sub(size),
             passes,
+            ..looked
         }
     }
 
@@ -115,25 +122,26 @@ impl Ahead {
         guess.unwrap_or(0)
     }
 
-    /// A look, which guesses the items of the keys of a retrieval that is first in a text, and of the requests that come after it, if the
-    /// cache finds several items sooner together. Given what the connection keeps of the last look, it gives what it keeps of this one.
+    /// A look, which guesses the items of the keys of a retrieval that is first in a text, with so many bytes, and of the requests that come
+    /// after it, if the cache finds several items sooner together. Given what the connection keeps of the last look, it gives what it keeps of
+    /// this one.
     ///
     /// A look begins behind all lines that the last one took, so each byte is read by two looks at most, however the text is cut. If a look
-    /// finds fewer than three keys, the next begins 4 requests later; if no more than half of its keys have an item, or one of its lines is
-    /// refused, 64 requests later.
+    /// finds fewer than three keys, the next begins 4 requests later. If no more than half of its keys have an item, the next begins 4 requests
+    /// later too, and then 8, 16, 32 and 64, as long as none finds more; if one of its lines is refused, 64 requests later.
     #[inline]
     pub fn look<S: Store + Drop>(
         &mut self,
         looked: Looked,
         keys: &WordIter<'_>,
-        front: Front,
+        size: usize,
         text: &[u8],
         cache: &Cache<S>,
     ) -> Looked {
         if looked.bytes > 0 || text.len() < SHORT || !cache.guesses() {
             return looked;
         }
-        self.guess(looked, keys.again(), front, text, cache)
+        self.guess(looked, keys.again(), size, text, cache)
     }
 
     /// The same of any request or fault, if something comes after it and it has a key.
@@ -142,28 +150,15 @@ impl Ahead {
         &mut self,
         looked: Looked,
         asked: &Asked<'_>,
-        front: Front,
+        size: usize,
         text: &[u8],
         cache: &Cache<S>,
     ) -> Looked {
-        if looked.bytes > 0 || text.len() < SHORT || text.len() <= front.size || !cache.guesses() {
+        if looked.bytes > 0 || text.len() < SHORT || text.len() <= size || !cache.guesses() {
             return looked;
         }
-        self.guess_past(looked, asked, front, text, cache)
-    }
-
-    /// The same where it is known that something comes after it.
-    #[inline(never)]
-    fn guess_past<S: Store + Drop>(
-        &mut self,
-        looked: Looked,
-        asked: &Asked<'_>,
-        front: Front,
-        text: &[u8],
-        cache: &Cache<S>,
-    ) -> Looked {
         match keys_of(asked) {
-            Some(keys) => self.guess(looked, keys, front, text, cache),
+            Some(keys) => self.guess(looked, keys, size, text, cache),
             None => looked,
         }
     }
@@ -174,7 +169,7 @@ impl Ahead {
         &mut self,
         looked: Looked,
         keys: WordIter<'_>,
-        front: Front,
+        size: usize,
         text: &[u8],
         cache: &Cache<S>,
     ) -> Looked {
@@ -182,28 +177,41 @@ impl Ahead {
             return one_passed(looked);
         }
         let mut first = FirstKeys::none();
-        first.take(keys, text.get(front.size..).unwrap_or_default());
+        first.take(keys, text.get(size..).unwrap_or_default());
         let keys = first.keys();
         self.drop_guesses();
-        let mut passes = PASSES_AFTER_FEW;
+        let bytes = first.taken().saturating_add(size);
         if keys.len() >= FEW
             && let Some(guesses) = self.guesses.get_mut(..keys.len())
         {
             self.count = keys.len() as u8;
             self.read ^= cache.guess_all(keys, guesses);
-            passes = if finds_little(guesses) { PASSES } else { 0 };
+            return paused(bytes, pause_after(looked.pause, guesses));
         }
         Looked {
-            bytes: first.taken().saturating_add(front.size),
-            passes,
+            bytes,
+            passes: PASSES,
+            pause: looked.pause,
         }
     }
 }
 
-/// Whether no more than half of the guesses say an item.
-fn finds_little(guesses: &[u32]) -> bool {
+/// What is kept of a look that has read so many bytes, if none begins at so many requests after it.
+fn paused(bytes: usize, pause: u32) -> Looked {
+    Looked {
+        bytes,
+        passes: pause,
+        pause,
+    }
+}
+
+/// At how many requests none begins after a look with these guesses: at none, unless no more than half of them say an item.
+fn pause_after(before: u32, guesses: &[u32]) -> u32 {
     let found = guesses.iter().filter(|guess| **guess != 0).count();
-    found <= guesses.len() / 2
+    if found > guesses.len() / 2 {
+        return 0;
+    }
+    before.saturating_mul(2).max(PASSES).min(MOST_PASSES)
 }
 
 /// What is kept of a look once a request was passed over for it.
@@ -215,6 +223,7 @@ fn one_passed(looked: Looked) -> Looked {
 }
 
 /// The keys of a request that has one.
+#[inline(always)]
 fn keys_of<'a>(asked: &Asked<'a>) -> Option<WordIter<'a>> {
     match asked {
         Asked::Get { keys, .. } => Some(keys.again()),
@@ -228,6 +237,7 @@ fn keys_of<'a>(asked: &Asked<'a>) -> Option<WordIter<'a>> {
 }
 
 /// The key of a command that has one.
+#[inline(always)]
 fn key_of<'a>(update: &Update<&'a [u8], &'a [u8]>) -> Option<WordIter<'a>> {
     match update {
         Update::Store { key, .. }

@@ -150,14 +150,14 @@ impl Connection {
                 with_cas,
                 front,
             } = get;
-            self.looked = ahead.look(self.looked, &keys, front, self.reader.unread(), cache);
+            self.looked = ahead.look(self.looked, &keys, front.size, self.reader.unread(), cache);
             let room = room_for_get(&keys, cache);
             if limit.is_passed_by_get(room, &keys, cache) {
                 return Ok(Limited::Refused);
             }
             self.output.reserve(room)?;
             serve_keys(keys, None, with_cas, cache, moment, ahead, &mut self.output);
-            self.looked = ahead.past(self.looked, front);
+            self.looked = ahead.past(self.looked, front.size);
             self.reader.consume(front);
             return Ok(Limited::Turned(Turn::Took));
         }
@@ -199,11 +199,11 @@ impl Connection {
                         closes: asked.ends(),
                     };
                     let text = self.reader.unread();
-                    self.looked = ahead.look_past(self.looked, asked, front, text, cache);
+                    self.looked = ahead.look_past(self.looked, asked, front.size, text, cache);
                     if !serve_within(asked, cache, moment, limit, ahead, &mut self.output)? {
                         return Ok(Limited::Refused);
                     }
-                    self.looked = ahead.past(self.looked, front);
+                    self.looked = ahead.past(self.looked, front.size);
                     self.reader.consume(front);
                     Ok(Limited::Turned(Turn::Took))
                 }
@@ -239,14 +239,14 @@ impl Connection {
             Peek::More => return Ok(Limited::Turned(Turn::Idle)),
             Peek::First(asked, front) => {
                 let text = self.reader.unread();
-                self.looked = ahead.look_past(self.looked, asked, *front, text, cache);
+                self.looked = ahead.look_past(self.looked, asked, front.size, text, cache);
                 if !serve_within(asked, cache, moment, limit, ahead, &mut self.output)? {
                     return Ok(Limited::Refused);
                 }
                 *front
             }
         };
-        self.looked = ahead.past(self.looked, front);
+        self.looked = ahead.past(self.looked, front.size);
         self.reader.consume(front);
         Ok(Limited::Turned(Turn::Took))
     }
@@ -259,7 +259,7 @@ impl Connection {
         output
     }
 
-    /// Lets go of the first `count` bytes of the output, which the client was sent.
+    /// Releases the first `count` bytes of the output, which the client was sent.
     pub fn taken_out(&mut self, count: usize)
         requires { count ≤ length self.old.output }
         ensures { self.new ≡ record self.old { output = drop count self.old.output } }
