@@ -1,4 +1,6 @@
 //! Why a job was not played to its end.
+ghost use Rattle.std.specs.Prelude.{◌≡◌};
+ghost use Rattle.mc_jobs.specs.declared.errors.JobError.TheVariants.{Memory};
 
 use std::alloc::AllocError;
 use thiserror::Error;
@@ -15,6 +17,8 @@ pub enum JobError {
 }
 
 impl<E: Into<AllocError> + Drop> From<E> for JobError {
+    ghost from_gives = { λ _ e. e ≡ Memory };
+
     fn from(_e: E) -> JobError {
         JobError::Memory
     }

@@ -1,5 +1,7 @@
 -- The exit status of a program where it fails: this project's own.
 use Rattle.std.specs.Prelude.{ℕ}
+use Rattle.std.specs.declared.io.ErrorKind.{ErrorKind as IoKind}
+use Rattle.std.specs.declared.io.ErrorKind.TheVariants as io
 use Rattle.clap.specs.Values.{kind_of}
 use Rattle.clap.specs.declared.error.Error.{Error}
 use Rattle.clap.specs.declared.error.kind.ErrorKind.{ErrorKind}
@@ -7,7 +9,7 @@ use Rattle.clap.specs.declared.error.kind.ErrorKind.TheVariants.{OutOfMemory}
 use Rattle.mc_program.specs.declared.errors.ServeError.{ServeError}
 use Rattle.mc_program.specs.declared.errors.ServeError.TheVariants.{Listen, Memory}
 use Rattle.mc_program.specs.declared.failures.Failure.{Failure}
-use Rattle.mc_program.specs.declared.failures.Failure.TheVariants.{Output, Serve, Words}
+use Rattle.mc_program.specs.declared.failures.Failure.TheVariants.{NoText, Output, Serve, Words}
 
 -- what it ends with where it cannot serve
 abbrev pub status_of_error : ServeError → ℕ
@@ -27,3 +29,8 @@ failure_by_kind other error = Words error
 
 abbrev pub failure_by : Error → Failure
 failure_by error = failure_by_kind (kind_of error) error
+
+-- what an error of reading the words is, by its kind: want of memory, or a word that is no text
+abbrev pub failure_of : IoKind → Failure
+failure_of io.OutOfMemory = Serve Memory
+failure_of _ = NoText

@@ -1,4 +1,7 @@
 //! The words of a program.
+ghost use Rattle.std.specs.Prelude.{◌≡◌};
+ghost use Rattle.std.specs.IoError.{error_kind};
+ghost use Rattle.mc_program.specs.Statuses.{failure_of};
 
 use crate::errors::ServeError;
 use crate::failures::Failure;
@@ -13,7 +16,9 @@ pub fn read_words<R: Env + AllocGlobal>(rt: &R) -> Result<Vec<String>, Failure> 
 }
 
 /// What an error of reading the words says.
-fn failure_of(error: &io::Error) -> Failure {
+fn failure_of(error: &io::Error) -> Failure
+    ensures { result ≡ failure_of (error_kind error.now) }
+{
     if error.kind() == io::ErrorKind::OutOfMemory {
         Failure::Serve(ServeError::Memory)
     } else {

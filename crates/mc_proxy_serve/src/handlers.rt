@@ -1,7 +1,7 @@
 //! What serves the clients of a proxy.
 ghost use Rattle.std.specs.Prelude.{◌≡◌, ◌<◌, vec_len};
 
-use mc_clients::{Client, Handler};
+use mc_clients::{Client, Guard, Handler};
 use mc_program::ServeError;
 use mc_proxy::{MAX_SESSIONS, Proxy};
 use mc_proxy_pump::{Pumped, is_owed, pump_answers, pump_client};
@@ -81,7 +81,10 @@ impl ProxyHandler {
         ensures { client.new.number ≡ client.old.number }
     {
         let mut input = Input {
-            stream: &client.stream,
+            stream: Guard {
+                stream: &client.stream,
+                first: client.first,
+            },
             edge: client.edge,
         };
         let mut output = &client.stream;
@@ -95,6 +98,7 @@ impl ProxyHandler {
             &mut self.tally,
         );
         client.edge = input.edge;
+        client.first = input.stream.first;
         pumped
     }
 }

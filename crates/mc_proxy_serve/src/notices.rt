@@ -1,5 +1,8 @@
 //! What a proxy says of its servers on standard error.
 ghost use Rattle.std.specs.Prelude.{◌≡◌, ◌≢◌, Some, None, IfSome, IfNone};
+ghost use Rattle.std.specs.IoError.{error_kind};
+ghost use Rattle.mc_proxy_serve.specs.Causes.{cause_by};
+ghost use Rattle.mc_proxy_serve.specs.declared.notices.Cause.TheVariants.{Connect};
 
 use crate::options::PROGRAM;
 use mc_proxy::ProxyError;
@@ -38,6 +41,8 @@ pub enum Cause {
 }
 
 impl From<ProxyError> for Cause {
+    ghost from_gives = { λ error cause. cause ≡ cause_by error };
+
     fn from(error: ProxyError) -> Cause {
         match error {
             ProxyError::RingFull | ProxyError::AlreadyThere => Cause::NoPlace,
@@ -47,6 +52,8 @@ impl From<ProxyError> for Cause {
 }
 
 impl From<io::Error> for Cause {
+    ghost from_gives = { λ error cause. cause ≡ Connect (error_kind error) };
+
     fn from(error: io::Error) -> Cause {
         Cause::Connect(error.kind())
     }

@@ -117,7 +117,7 @@ impl Pool {
     /// were answered are put after `woken`, and the places whose links are at their mark no more after `freed`. The result says
     /// whether any other session may go on, since an upstream was lost or there was no memory to note one.
     ///
-    /// An upstream that fails is let go and its link is lost: the commands that wait on it are lost, and it is tried again.
+    /// An upstream that fails is dropped and its link is lost: the commands that wait on it are lost, and it is tried again.
     pub fn carry(
         &mut self,
         proxy: &mut Proxy,

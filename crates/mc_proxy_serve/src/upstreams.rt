@@ -92,7 +92,7 @@ impl Upstream {
         }
     }
 
-    /// Begins a connection where there is none and it is time for one; one that is not there after [`CONNECT_MILLIS`] is let go
+    /// Begins a connection where there is none and it is time for one; one that is not there after [`CONNECT_MILLIS`] is dropped
     /// first. A random number says when the next is begun where this one fails.
     pub fn keep<R: Net>(
         &mut self,
@@ -189,7 +189,7 @@ impl Upstream {
         }
     }
 
-    /// There is no connection now: one that was begun is let go.
+    /// There is no connection now: one that was begun is dropped.
     fn refuse(&mut self, cause: Cause) {
         self.state = State::Down;
         self.tried = true;

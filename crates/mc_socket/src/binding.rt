@@ -1,5 +1,5 @@
 //! Where to listen, and where a peer is.
-ghost use Rattle.std.specs.Prelude.{◌≡◌, true, IfOk, IfSome};
+ghost use Rattle.std.specs.Prelude.{◌≡◌, true, IfOk, IfSome, IsOkUnless};
 ghost use Rattle.std.specs.Net.Addr.{is_ipv4};
 ghost use Rattle.std.specs.Net.Socket.{socket_ip};
 ghost use Rattle.mc_address.specs.Addresses.{is_address};
@@ -14,7 +14,8 @@ use std::net::{Net, SocketAddr, ToSocketAddrs};
 ///
 /// A host that is a name is looked up, and so this may wait for whoever knows the name. An IPv4 address is not looked up.
 pub fn bind<R: Net>(rt: &R, listen: &str) -> Result<TcpListener, ServeError>
-    ensures { IfOk result (λ _. is_address listen.now ≡ true) }
+    ensures address { IfOk result (λ _. is_address listen.now ≡ true) }
+    ensures err { IsOkUnless result ServeError.Listen }
 {
     if !is_address(listen.as_bytes()) {
         return Err(ServeError::Listen);
