@@ -246,6 +246,11 @@ STRANGERS = {
     )},
     "post of an address": (b"POST http://a:11211/ HTTP/1.1\r\nContent-Length: 25\r\n\r\n", HTTP),
     "options of all": (b"OPTIONS * HTTP/1.1\r\n\r\n", HTTP),
+    **{f"{line.decode()}": (line + b"\r\nContent-Length: 25\r\n\r\n", HTTP) for line in (
+        b"PURGE / HTTP/1.1", b"propfind /a HTTP/1.1", b"CONNECT a:11211 HTTP/1.1", b"TRACE *  HTTP/1.0  ", b"PRI * HTTP/2.0",
+        b"GET * HTTP/1.1", b"x HTTP/", b"HTTP/1.1",
+    )},
+    "purge of many bytes": (b"PURGE /" + b"a" * 300 + b" HTTP/1.1\n\n", HTTP),
     "binary get": (b"\x80\x00\x00\x01" + bytes(19) + b"k", BINARY),
     "tls hello": (b"\x16\x03\x01\x02\x00\x01\x00\x01\xfc\x03\x03\r\n", TLS),
 }  # fmt: skip
@@ -261,7 +266,16 @@ TEXTS = {
     "a path in small letters": (b"get /a\r\n", b"END\r\n"),
     "http as a key": (b"get http\r\n", b"END\r\n"),
     "an empty line": (b"\n", b"ERROR\r\n"),
+    "a command that ends in a version": (b"get / HTTP/1.1\r\n", b"END\r\n"),
+    "a version in small letters": (b"PURGE / http/1.1\r\n", b"ERROR\r\n"),
+    "half a version": (b"PURGE / HTTP\r\n", b"ERROR\r\n"),
+    "a version before another word": (b"HTTP/1.1 200 OK\r\n", b"ERROR\r\n"),
+    "a version on the second line": (b"mn\r\nPURGE / HTTP/1.1\r\nmn\r\n", b"MN\r\nERROR\r\nMN\r\n"),
+    "a command behind empty lines": (b"\r\n \nget a\r\nx HTTP/1.1\r\n", b"ERROR\r\n" * 2 + b"END\r\nERROR\r\n"),
 }
+
+# Empty lines, behind which a stranger may begin: each is answered by itself.
+EMPTY_LINES = [b"\r\n", b"\n", b"  \r\n"]
 
 
 def answered_to(client, pieces):
@@ -293,6 +307,24 @@ def a_stranger_is_turned_away(start, name, sent, told):
             want(program.ended(), (0, b""))
 
 
+def a_stranger_behind_empty_lines_is_turned_away(start, name, sent):
+    """With these lines in one piece nothing is answered. Where they come before it, each is answered, and no line of the stranger."""
+    sent += b"set pwn 0 0 4\r\nhack\r\n"
+    for apart in (False, True):
+        with start("--accept 2") as program, program.connected() as other:
+            is_served(other)
+            with program.connected() as stranger:
+                port = stranger.getsockname()[1]
+                for line in EMPTY_LINES if apart else []:
+                    asked(stranger, line, b"ERROR\r\n")
+                pieces = [sent[at : at + 1] for at in range(len(sent))] if apart else [b"".join(EMPTY_LINES) + sent]
+                want(answered_to(stranger, pieces), b"")
+            want(lines_said(program), [f"{name}: {HOST}:{port} refused: {HTTP}"])
+            asked(other, b"get pwn\r\nquit\r\n", b"END\r\n")
+            want(received_to_the_end(other), b"")
+            want(program.ended(), (0, b""))
+
+
 def a_text_is_none_of_a_stranger(start, sent, answer):
     """Whole, and each byte by itself."""
     with start() as program:
@@ -313,7 +345,13 @@ def who_may_be_a_stranger_is_waited_for(start):
             want(select.select([slow], [], [], 0.3)[0], [])
             is_served(other)
             asked(slow, b"ET a\r\nversion\r\n", b"ERROR\r\nVERSION 1.6.0\r\n")
-        for sent in (b"", b"G", b"GET ", b"OPTIONS"):
+        with program.connected() as slow:
+            slow.sendall(b"\r\nPURGE / HTTP")
+            want(received(slow, 7), b"ERROR\r\n")
+            want(select.select([slow], [], [], 0.3)[0], [])
+            is_served(other)
+            asked(slow, b"\r\nversion\r\n", b"ERROR\r\nVERSION 1.6.0\r\n")
+        for sent in (b"", b"G", b"GET ", b"OPTIONS", b"PURGE / HTTP/1.1"):
             with program.connected() as ended:
                 ended.sendall(sent)
                 time.sleep(0.05)
@@ -389,6 +427,8 @@ def checks_of_connections(start, program, own, more_dialogues={}):
         yield check.__name__, check, (start,)
     for stranger, (sent, told) in STRANGERS.items():
         yield f"stranger, {stranger}", a_stranger_is_turned_away, (start, program, sent, told)
+    for line in (b"POST / HTTP/1.1\r\n\r\n", b"PRI * HTTP/2.0\r\n\r\nSM\r\n\r\n"):
+        yield f"behind empty lines, {line.decode().split()[0]}", a_stranger_behind_empty_lines_is_turned_away, (start, program, line)
     for text, (sent, answer) in TEXTS.items():
         yield f"no stranger, {text}", a_text_is_none_of_a_stranger, (start, sent, answer)
     yield strangers_are_told_once_in_a_second.__name__, strangers_are_told_once_in_a_second, (start, program)

@@ -5,7 +5,7 @@ use crate::handlers::{Client, Handler};
 use crate::reports::Report;
 use crate::strangers::{Refusal, opening};
 use mc_socket::{Edge, KEPT_ROOM, Step};
-use mc_stranger::{Opening, Stranger};
+use mc_stranger::{FirstLine, Opening, Stranger};
 use mc_watch::{Pace, Tally, earlier};
 use mio::event::Event;
 use mio::net::TcpStream;
@@ -18,7 +18,7 @@ use std::mem;
 #[derive(Drop)]
 struct Seat<K> {
     client: Client<K>,
-    /// Whether its first bytes are known to be the text protocol.
+    /// Whether its first bytes are known not to be a stranger's.
     known: bool,
     /// Whether it goes on in the next round, though nothing happens.
     queued: bool,
@@ -153,6 +153,7 @@ impl<K: Default + Drop> Clients<K> {
                 number,
                 ended: false,
                 edge: Edge::new(),
+                first: FirstLine::new(),
                 kept: K::default(),
             },
             known: false,
@@ -205,8 +206,8 @@ impl<K: Default + Drop> Clients<K> {
         }
     }
 
-    /// Serves the client of a key as far as it goes, once its first bytes are known. A stranger is turned away before anything of it
-    /// is read.
+    /// Serves the client of a key as far as it goes, once its first bytes are known. A stranger whom they show is turned away before
+    /// anything of it is read, and one whom its first line shows before that is.
     pub fn serve<H: Handler<K>>(&mut self, handler: &mut H, key: usize, moment: u64)
         requires { moment < 2 ^ 63 }
     {
@@ -233,7 +234,10 @@ impl<K: Default + Drop> Clients<K> {
                 }
             }
             Step::Wait => handler.give_back(seat.client.number, KEPT_ROOM),
-            Step::Close => self.close(handler, key),
+            Step::Close => match seat.client.first.opening() {
+                Opening::Strange(stranger) => self.turn_away(handler, key, stranger),
+                _ => self.close(handler, key),
+            },
         }
     }
 

@@ -2,6 +2,7 @@
 ghost use Rattle.std.specs.Prelude.{◌≡◌, ◌<◌, ◌^◌};
 
 use mc_socket::{Edge, Step};
+use mc_stranger::FirstLine;
 use mio::net::TcpStream;
 
 /// A client of a program on sockets: its socket, and what is known of it.
@@ -15,6 +16,8 @@ pub struct Client<K> {
     pub ended: bool,
     /// What is known of its input.
     pub edge: Edge,
+    /// What is known of its first line.
+    pub first: FirstLine,
     /// What its handler keeps of it beside.
     pub kept: K,
 }

@@ -6,20 +6,24 @@
 //! What serves them is a [`Handler`]: it admits a client, carries its bytes and says what is done with it then. [`patience`] says
 //! how long a round waits, and a [`Report`] what was done.
 //!
-//! A client is served once its first bytes are known to be the text protocol ([`mc_stranger::opening_of`]). A stranger is closed with
-//! all its bytes unread, and that is said on standard error ([`Clients::tell`]).
+//! A client is served once its first bytes are known not to be a stranger's ([`mc_stranger::opening_of`]), and read through a [`Guard`],
+//! which reads no line that shows a stranger ([`mc_stranger::FirstLine`]). A stranger is closed, and that is said on standard error
+//! ([`Clients::tell`]).
 //!
 //! [`serve_rounds`] waits, and may wait for ever; no other call does. What a socket carries, and who comes, no contract says.
-//! Proved is that all calls are safe, and that each but [`serve_rounds`] ends.
+//! Proved is that all calls are safe, that each but [`serve_rounds`] ends, and that no read of a [`Guard`] gives the whole first line of a
+//! stranger, in whatever pieces it comes.
 #![tactic(auto)]
 
 mod clients;
+mod guards;
 mod handlers;
 mod reports;
 mod rounds;
 mod strangers;
 
 pub use clients::Clients;
+pub use guards::Guard;
 pub use handlers::{Client, Handler};
 pub use reports::Report;
 pub use rounds::{Rounds, patience, serve_rounds};

@@ -1,1 +1,6 @@
 pub mod SettledLemmas
+pub mod EndLemmas
+pub mod CommandLemmas
+pub mod LineLemmas
+pub mod StayLemmas
+pub mod OnLiterals

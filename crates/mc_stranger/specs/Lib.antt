@@ -1,1 +1,4 @@
 pub mod Openings
+pub mod FirstLines
+pub mod FirstWords
+pub mod Places

@@ -5,15 +5,27 @@
 //! are none of the text protocol: a line of HTTP after the first could be a command that nobody meant. `specs/Openings.antt` says
 //! exactly which bytes are whose.
 //!
-//! [`what_is_settled_stays`], [`openings_are_settled`] and [`small_letters_are_text`] are laws: where a stream is cut plays no part,
-//! after [`OPENING_LEN`] bytes all is known, and a command in small letters is never a stranger's. [`openings_of_strangers`] and
-//! [`openings_of_text`] are examples. None of them does anything. No call takes memory.
+//! A request of HTTP by another method has no such beginning, and one may stand behind empty lines. So [`FirstLine`] looks at the first
+//! line that is not empty, in whatever pieces it comes, and looks at each byte once: a line that is no command and ends in a version of
+//! HTTP is a stranger's. `specs/FirstLines.antt` says which lines these are.
+//!
+//! [`what_is_settled_stays`], [`first_lines_stay`], [`openings_are_settled`], [`small_letters_are_text`] and [`commands_are_text`] are
+//! laws: where a stream is cut plays no part, after [`OPENING_LEN`] bytes its opening is known, a command in small letters has none of a stranger's, and a
+//! line that begins with a command is text once that has ended. [`openings_of_strangers`], [`openings_of_text`],
+//! [`first_lines_of_strangers`] and [`first_lines_of_text`] are examples. None of them does anything. No call takes memory.
 #![tactic(auto)]
 
+mod commands;
+mod endings;
+mod first_lines;
+mod first_words;
 mod laws;
 mod openings;
+mod places;
 
+pub use first_lines::FirstLine;
 pub use laws::{
+    commands_are_text, first_lines_of_strangers, first_lines_of_text, first_lines_stay,
     openings_are_settled, openings_of_strangers, openings_of_text, small_letters_are_text,
     what_is_settled_stays,
 };

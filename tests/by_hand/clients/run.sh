@@ -1,6 +1,6 @@
 #!/usr/bin/env bash
-# Tries others' clients on a server, call by call: pymemcache, pylibmc, PHP's Memcached, the programs of libmemcached, and
-# nutcracker, a proxy.
+# Tries others' clients on a server, call by call: pymemcache, pylibmc, PHP's Memcached, the programs of libmemcached,
+# nutcracker, a proxy, and curl, which is to be turned away.
 #
 # Usage: run.sh SERVER [--through PROXY] [--beside MEMCACHED]      (SERVER is the built mc_serverd, PROXY mc_proxyd)
 #
@@ -70,6 +70,7 @@ else
 fi
 if [ "$(php -r 'echo class_exists("Memcached");' 2> /dev/null)" = 1 ]; then
     add python3 "$here/with_php.py" "$@"
+    add python3 "$here/with_php_sessions.py" "$@"
 else
     skip with_php.py "PHP's Memcached" "php-cli, php-memcached"
 fi
@@ -77,6 +78,11 @@ if command -v memccapable > /dev/null; then
     add python3 "$here/with_tools.py" "$@"
 else
     skip with_tools.py "the programs of libmemcached" libmemcached-tools
+fi
+if command -v curl > /dev/null; then
+    add python3 "$here/with_curl.py" "$@"
+else
+    skip with_curl.py curl curl
 fi
 echo "$passed passed, $documented differ as documented, $failed failed"
 [ "$failed" -eq 0 ]
