@@ -1,6 +1,6 @@
-# `make run` proves and runs the script program on its stored script; `make serve` proves and starts the server at its
-# defaults, `make pool` two servers and a proxy in front of them on free ports; `make test` is the merge gate. `make install`
-# proves and builds the three programs, and puts them with their manual pages and systemd units below PREFIX.
+# `make run` proves and runs the script program on its stored script; `make serve` proves and starts the server with as many items as its
+# budget allows, `make pool` two servers and a proxy in front of them on free ports; `make test` is the merge gate. `make install` proves and
+# builds the three programs, and puts them with their manual pages and systemd units below PREFIX.
 # What a program needs is proved side by side (`prove.py`); `rt run` then finds nothing to prove.
 .PHONY: run serve pool install test
 
@@ -17,7 +17,7 @@ run:
 
 serve:
 	@./prove.py mc_serverd
-	@cd crates/mc_serverd && rt run
+	@crates/mc_serverd/out/mc_serverd --items auto
 
 pool:
 	@./prove.py mc_serverd mc_proxyd

@@ -46,11 +46,16 @@ SETTINGS = {
         "--answer 268435456 --idle 0 --report 0 --items 65536 --store table",
         "listen 127.0.0.1:11211 budget 67108864 items 65536 accept 0",
     ),
-    "items_of_a_budget": ("--budget 1000000000", "listen 127.0.0.1:11211 budget 1000000000 items 8333333 accept 0"),
-    "items_of_a_small_budget": ("--budget 7864439", "listen 127.0.0.1:11211 budget 7864439 items 65536 accept 0"),
-    "items_of_the_least_larger_budget": ("--budget 7864440", "listen 127.0.0.1:11211 budget 7864440 items 65537 accept 0"),
+    "a_budget_alone": ("--budget 1000000000", "listen 127.0.0.1:11211 budget 1000000000 items 65536 accept 0"),
+    "items_of_the_usual_budget": ("--items auto", "listen 127.0.0.1:11211 budget 67108864 items 559240 accept 0"),
+    "items_of_a_budget": ("--budget 1000000000 --items auto", "listen 127.0.0.1:11211 budget 1000000000 items 8333333 accept 0"),
+    "items_of_a_small_budget": ("--items auto --budget 7864439", "listen 127.0.0.1:11211 budget 7864439 items 65536 accept 0"),
+    "items_of_the_least_larger_budget": (
+        "--budget 7864440 --items=auto",
+        "listen 127.0.0.1:11211 budget 7864440 items 65537 accept 0",
+    ),
     "items_of_the_greatest_budget": (
-        "--budget 1099511627776",
+        "--budget 1099511627776 --items auto",
         "listen 127.0.0.1:11211 budget 1099511627776 items 16777216 accept 0",
     ),
     "in_another_order": (
@@ -71,11 +76,6 @@ REFUSED = {
     "too_much_budget": (
         ["--budget", "1099511627777"],
         "invalid value '1099511627777' for '--budget <bytes>': 1099511627777 is not in 1..=1099511627776",
-    ),
-    "no_items": (["--items", "0"], "invalid value '0' for '--items <n>': 0 is not in 1..=16777216"),
-    "too_many_items": (
-        ["--items", "16777217"],
-        "invalid value '16777217' for '--items <n>': 16777217 is not in 1..=16777216",
     ),
     "too_small_an_answer": (
         ["--answer", "1023"],
@@ -133,7 +133,7 @@ COUNTED = {
     b"ma k": (NOTHING, STORE, DEAD),
     b"ma k N0": (STORE, STORE, DEAD_STORE),
     b"ma k C9": (NOTHING, NOTHING, DEAD),
-    **dict.fromkeys((b"flush_all", b"flush_all 9", b"version", b"mn", b"stats", b"get"), (NOTHING, NOTHING, NOTHING)),
+    **dict.fromkeys((b"flush_all", b"flush_all 9", b"version", b"mn", b"quit", b"stats", b"get"), (NOTHING, NOTHING, NOTHING)),
 }
 
 
@@ -150,6 +150,27 @@ def no_memory_to_start_is_told():
     words = ["--listen", f"{HOST}:{free_port()}", "--items", "16777216"]
     status, _, errors = PROGRAM.run(*words, limits=[(resource.RLIMIT_AS, 100_000 * KILOBYTE)])
     want((status, errors), (4, "mc_serverd: out of memory\n"))
+
+
+def items_are_within_their_limits():
+    """A word of --items that is neither auto nor a number within the limits is refused."""
+    told = "mc_serverd: invalid value for '--items <n>': neither auto nor in 1..=16777216\n"
+    for word in ("0", "16777217", "18446744073709551617", "Auto", "auto ", "+1", "1.0", ""):
+        want(PROGRAM.run("--check", "--items", word), (2, "", told))
+
+
+def a_server_that_is_full_of_items_says_so():
+    """If more than half of the budget is free, once, with the words to write; else not at all."""
+    for budget, told in ((397, ["full at 3 items, while more than half of --budget is free: write --items auto"]), (396, [])):
+        with start(f"--items 3 --budget {budget}") as server:
+            with server.connected() as client:
+                for second in range(4):
+                    client.sendall(b"".join(b"set %d 0 0 1\r\nx\r\n" % number for number in range(4)))
+                    want(received(client, len(b"STORED\r\n") * 4), b"STORED\r\n" * 4)
+                    time.sleep(1)
+            server.process.terminate()
+            said = server.process.stderr.read().decode().splitlines()
+        want([line for line in said if "full" in line], [f"mc_serverd: {line}" for line in told])
 
 
 def more_than_65535_items_are_stored():
@@ -228,13 +249,13 @@ def a_report_is_said():
 
 
 def counts_of(server, requests):
-    """What a server reports of hits, misses, stores and dead items, once it has taken so many requests."""
+    """What a server reports of hits, misses, stores, dead items and evictions, once it has taken so many requests."""
     fields = {"requests": ""}
     for _ in range(9):
         fields = fields_of(lines_said(server)[0], "mc_serverd")
         if fields["requests"] == str(requests):
             break
-    return tuple(int(fields[key]) for key in ("requests", "hits", "misses", "stores", "expired"))
+    return tuple(int(fields[key]) for key in ("requests", "hits", "misses", "stores", "expired", "evictions"))
 
 
 def each_command_is_counted(at, before):
@@ -247,8 +268,31 @@ def each_command_is_counted(at, before):
             client.sendall(b"".join(before) + command + b"\r\nmn\r\n")
             tried.append((command, server, moves[at]))
         for command, server, (hits, misses, stores, expired) in tried:
-            wanted = (len(before) + 2, hits, misses, stores + len(before), expired)
-            want((command, counts_of(server, len(before) + 2)), (command, wanted))
+            requests = len(before) + (1 if command == b"quit" else 2)
+            wanted = (requests, hits, misses, stores + len(before), expired, 0)
+            want((command, counts_of(server, requests)), (command, wanted))
+
+
+# So many items that a server guesses where the keys of a pipeline are, and requests that let it do so: they find nothing.
+MANY = 33_000
+# Beside commands that end all, or name the number of the first item.
+ALONE = (b"flush_all", b"flush_all 9", b"quit", b"cas k 0 0 1 1\r\nx", b"ms k 1 C1\r\nx")
+AFTER = b"".join(b"touch of-an-item-that-is-not-there-%d 0\r\n" % number for number in range(4))
+
+
+def commands_are_counted_among_many_items(at, before):
+    """The same in one server of many items, each command in a pipeline and on a key of its own: the sums of what they move."""
+    told = {command: moves[at] for command, moves in COUNTED.items() if command not in ALONE}
+    sent = [b"set p%d 0 0 1 noreply\r\nx\r\n" % number for number in range(MANY)]
+    for number, command in enumerate(told):
+        sent += [piece.replace(b" k", b" k%03d" % number) for piece in (*before, command + b"\r\n")]
+        sent.append(AFTER)
+    requests = MANY + (len(before) + 1 + 4) * len(told) + 1
+    hits, misses, stores, expired = map(sum, zip(*told.values()))
+    with start("--report 1 --items 40000") as server, server.connected() as client:
+        client.sendall(b"".join(sent) + b"mn\r\n")
+        wanted = (requests, hits, misses, stores + MANY + len(before) * len(told), expired, 0)
+        want(counts_of(server, requests), wanted)
 
 
 def idle_connections_hold_little():
@@ -299,6 +343,8 @@ def checks():
     yield from checks_of_connections(start, "mc_serverd", 5)
     for check in (
         no_memory_to_start_is_told,
+        items_are_within_their_limits,
+        a_server_that_is_full_of_items_says_so,
         more_than_65535_items_are_stored,
         a_slow_reader_is_waited_for,
         too_large_an_answer_is_refused,
@@ -309,6 +355,7 @@ def checks():
         yield check.__name__, check, ()
     for at, (name, before) in enumerate(BEFORE.items()):
         yield f"each command is counted, {name}", each_command_is_counted, (at, before)
+        yield f"commands are counted among many items, {name}", commands_are_counted_among_many_items, (at, before)
 
 
 if __name__ == "__main__":

@@ -59,13 +59,18 @@ impl Counts {
         self.items.set(items);
         self.used.set(used);
     }
+
+    /// How many items the store holds, and what they cost.
+    pub fn held(&self) -> (usize, u64) {
+        (self.items.get(), self.used.get())
+    }
 }
 
 impl Display for Counts {
     fn fmt<W: fmt::Write>(&self, f: &mut Formatter<W>) -> fmt::Result {
         let (hits, misses, stores) = (self.hits.get(), self.misses.get(), self.stores.get());
         let (evictions, expired) = (self.evictions.get(), self.expired.get());
-        let (items, bytes) = (self.items.get(), self.used.get());
+        let (items, bytes) = self.held();
         write!(f, "hits={hits} misses={misses} stores={stores}")?;
         write!(
             f,

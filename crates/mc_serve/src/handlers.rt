@@ -4,7 +4,7 @@ ghost use Rattle.mc_server.specs.ServerState.{connection_at};
 ghost use Rattle.mc_pump.specs.Pumps.{Pumps};
 
 use crate::options::PROGRAM;
-use mc_clients::{Client, Handler};
+use mc_clients::{Client, Guard, Handler};
 use mc_pump::{Pumped, Watch, pump};
 use mc_server::{AnswerLimit, Server};
 use mc_socket::{Input, PIECE_LEN, Step, step_after};
@@ -102,7 +102,10 @@ fn pump_client<S: Store + Drop>(
     ensures number { client.new.number ≡ client.old.number }
 {
     let mut input = Input {
-        stream: &client.stream,
+        stream: Guard {
+            stream: &client.stream,
+            first: client.first,
+        },
         edge: client.edge,
     };
     let mut output = &client.stream;
@@ -117,5 +120,6 @@ fn pump_client<S: Store + Drop>(
         watch,
     );
     client.edge = input.edge;
+    client.first = input.stream.first;
     pumped
 }

@@ -4,8 +4,9 @@ ghost use Rattle.std.specs.Prelude.{◌<◌, ◌^◌};
 use crate::clocks::Seconds;
 use crate::counts::Counts;
 use crate::handlers::ServerHandler;
+use crate::items::advice_of;
 use crate::options::PROGRAM;
-use crate::settings::Service;
+use crate::settings::Settings;
 use mc_clients::{Clients, Rounds, patience};
 use mc_server::{MAX_CONNECTIONS, Server};
 use mc_socket::Backlog;
@@ -25,6 +26,9 @@ pub struct Host<S: Store + Drop> {
     clients: Clients<()>,
     /// What the server's store has done.
     counts: Rc<Counts>,
+    settings: Settings,
+    /// Whether it was said that its items are at their limit while much of its budget is free.
+    advised: bool,
     start: u64,
     /// The moment of the round.
     moment: u64,
@@ -40,15 +44,18 @@ impl<S: Store + Drop> Host<S> {
         alloc: Global,
         server: Server<S>,
         counts: Rc<Counts>,
-        service: Service,
+        settings: &Settings,
         moment: u64,
     ) -> Result<Self, AllocError>
         requires { moment < 2 ^ 63 }
     {
+        let service = settings.service;
         Ok(Host {
             handler: ServerHandler::new(alloc, server, service.answer)?,
             clients: Clients::new(alloc, MAX_CONNECTIONS, service.terms.idle)?,
             counts,
+            settings: *settings,
+            advised: false,
             start: moment,
             moment,
             rested: moment,
@@ -63,6 +70,22 @@ impl<S: Store + Drop> Host<S> {
         let counts = &*self.counts;
         // Where it cannot be said, all are served all the same.
         let _ = eprintln!(rt; "{PROGRAM}: {clients} {counts}");
+    }
+
+    /// Says on standard error, once, that its items are at their limit while more than half of its budget is free, and what to write.
+    fn advise<R: Eprint>(&mut self, rt: &R) {
+        let (held, used) = self.counts.held();
+        let Settings { budget, items, .. } = self.settings;
+        if self.advised {
+            return;
+        }
+        if let Some(advice) = advice_of(held, used, items, budget) {
+            self.advised = true;
+            // Where it cannot be said, all are served all the same.
+            let _ = eprintln!(rt;
+                "{PROGRAM}: full at {items} items, while more than half of --budget is free: {advice}"
+            );
+        }
     }
 }
 
@@ -104,6 +127,7 @@ impl<R: Eprint, C: Seconds, S: Store + Drop> Rounds<R, C> for Host<S> {
         }
         self.rested = self.moment;
         self.clients.rest(&mut self.handler, self.moment);
+        self.advise(rt);
         if self.pace.comes(self.moment) {
             self.report(rt, accepted);
         }

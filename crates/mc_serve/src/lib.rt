@@ -19,12 +19,14 @@ mod counted;
 mod counts;
 mod handlers;
 mod hosts;
+mod items;
 mod kinds;
 mod options;
 mod serving;
 mod settings;
 
 pub use clocks::{Seconds, SystemSeconds};
+pub use items::{Advice, Items, USUAL_ITEMS, advice_of, items_for, items_named};
 pub use kinds::{KINDS, StoreKind, kind_named};
 pub use mc_program::ServeError;
 pub use mc_socket::{PIECE_LEN, bind};

@@ -1,10 +1,11 @@
 //! The command line of a server.
 
+use crate::items::{items_for, items_named};
 use crate::kinds::{KINDS, StoreKind, kind_named};
-use crate::settings::{Service, Settings, USUAL_ANSWER, USUAL_BUDGET, items_for};
+use crate::settings::{Service, Settings, USUAL_ANSWER};
 use clap::builder::ValueParser;
 use clap::{Arg, ArgMatches, Command};
-use mc_cache::{MAX_BUDGET, MAX_ITEMS};
+use mc_cache::MAX_BUDGET;
 use mc_program::{Terms, accept, flag, idle, listen, report};
 use std::alloc::{AllocError, Global};
 use std::fmt;
@@ -28,14 +29,10 @@ pub struct Options<'a> {
 }
 
 impl<'a> Options<'a> {
-    /// What matches of [`command`] ask for; none where numbers are not within their limits, which the command refuses.
+    /// What matches of [`command`] ask for. There is none if the word of `--items` says nothing: the command refuses the other numbers.
     pub fn of(matches: &ArgMatches<'a>) -> Option<Options<'a>> {
-        let given = matches.get_one::<u64>("budget");
-        let budget = given.unwrap_or(USUAL_BUDGET);
-        let items = match matches.get_one::<usize>("items") {
-            Some(items) => items,
-            None => items_for(given),
-        };
+        let budget = matches.get_one::<u64>("budget")?;
+        let items = items_named(matches.get_str("items")?)?;
         let kind = kind_named(matches.get_str("store")?);
         let service = Service {
             terms: Terms::of(matches),
@@ -43,7 +40,7 @@ impl<'a> Options<'a> {
         };
         Some(Options {
             listen: matches.get_str("listen")?,
-            settings: Settings::new(budget, items, kind, service)?,
+            settings: Settings::new(budget, items_for(items, budget), kind, service)?,
             check: matches.get_flag("check"),
         })
     }
@@ -112,8 +109,9 @@ fn budget<'a>(alloc: Global) -> Arg<'a> {
         .long("budget")
         .value_name("bytes")
         .value_parser(ValueParser::unsigned(1, MAX_BUDGET))
+        .default_value("67108864")
         .help(
-            "What the items may cost in all, an item its key's and its value's bytes and 64: 1 to 1099511627776; 67108864 if not given",
+            "What the items may cost in all, an item its key's and its value's bytes and 64: 1 to 1099511627776",
         )
 }
 
@@ -121,9 +119,9 @@ fn items<'a>(alloc: Global) -> Arg<'a> {
     Arg::new(alloc, "items")
         .long("items")
         .value_name("n")
-        .value_parser(ValueParser::unsigned(1, MAX_ITEMS as u64))
+        .default_value("65536")
         .help(
-            "The most items: 1 to 16777216; their table is reserved at the start. If not given, 65536, or one for each 120 bytes of --budget if there are more",
+            "The most items: 1 to 16777216, or auto: one for each 120 bytes of --budget, from 65536 on. Their table is reserved at the start",
         )
 }
 

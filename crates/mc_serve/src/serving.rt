@@ -39,7 +39,7 @@ pub fn serve<R: Net + RandomSource + Wait + Eprint, C: Seconds>(
     let counts = Rc::new(alloc, Counts::default()).map_err(|_| ServeError::Memory)?;
     let server = new_server(rt, alloc, settings, counts.clone()?)?;
     let service = settings.service;
-    let mut host = Host::new(alloc, server, counts, service, clock.now())?;
+    let mut host = Host::new(alloc, server, counts, settings, clock.now())?;
     serve_rounds(rt, alloc, listener, service.terms.accept, clock, &mut host)
 }
 

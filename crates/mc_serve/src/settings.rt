@@ -1,34 +1,13 @@
 //! What a server is started with.
 ghost use Rattle.std.specs.Prelude.{◌≡◌, ◌↔◌, IfSome, IsSome};
 ghost use Rattle.mc_cache.specs.CacheState.{IsWithinBounds};
-ghost use Rattle.mc_serve.specs.Bounds.{items_for};
 
 use crate::kinds::StoreKind;
-use mc_cache::{MAX_ITEMS, is_within_bounds};
+use mc_cache::is_within_bounds;
 use mc_program::Terms;
 
 /// The most bytes that an answer may have, where nobody says otherwise: 256 MiB.
 pub const USUAL_ANSWER: usize = 268_435_456;
-
-/// What the items may cost in all, if nobody says otherwise: 64 MiB.
-pub const USUAL_BUDGET: u64 = 67_108_864;
-
-/// The most items, if nobody says anything of the budget or of the items.
-pub const USUAL_ITEMS: usize = 65_536;
-
-/// For how many bytes of a budget that is given there may be an item, if the number of items is not given.
-const BYTES_AN_ITEM: u64 = 120;
-
-/// The most items if their number is not given: one for each 120 bytes of a budget that is given, from [`USUAL_ITEMS`] to
-/// [`MAX_ITEMS`].
-pub fn items_for(budget: Option<u64>) -> usize
-    ensures { result ≡ items_for budget }
-{
-    match budget {
-        Some(budget) => ((budget / BYTES_AN_ITEM).min(MAX_ITEMS as u64) as usize).max(USUAL_ITEMS),
-        None => USUAL_ITEMS,
-    }
-}
 
 /// How clients are served.
 #[derive(Clone, Copy, Debug)]

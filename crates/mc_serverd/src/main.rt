@@ -30,9 +30,10 @@ where
     let alloc = rt.alloc();
     let words = read_words(rt)?;
     let matches = command(alloc)?.try_get_matches_from(words.as_slice())?;
-    // The command line refuses such a number first.
-    let out_of_limits = Failure::Refused("a number is not within its limits");
-    let options = Options::of(&matches).ok_or(out_of_limits)?;
+    let no_items = Failure::Refused(
+        "invalid value for '--items <n>': neither auto nor in 1..=16777216",
+    );
+    let options = Options::of(&matches).ok_or(no_items)?;
     if options.check {
         return check(rt, &options);
     }
