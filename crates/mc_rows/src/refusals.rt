@@ -18,7 +18,7 @@ struct Example {
     answers: &'static [&'static [u8]],
 }
 
-const EXAMPLES: [Example; 23] = [
+const EXAMPLES: [Example; 24] = [
     Example {
         name: "set_then_get",
         server: WIDE,
@@ -127,6 +127,25 @@ const EXAMPLES: [Example; 23] = [
             b"SERVER_ERROR out of memory storing object\r\nSTORED\r\nEND\r\nSTORED\r\nVALUE b 0 1\r\ny\r\nVALUE c 0 1\r\nz\r\nEND\r\nSERVER_ERROR object too large for cache\r\nVALUE b 0 1\r\ny\r\nVALUE c 0 1\r\nz\r\nEND\r\n",
             b"STORED\r\nSERVER_ERROR out of memory storing object\r\nVALUE a 0 1\r\nx\r\nEND\r\nSTORED\r\nVALUE a 0 1\r\nx\r\nVALUE c 0 1\r\nz\r\nEND\r\nSERVER_ERROR object too large for cache\r\nVALUE a 0 1\r\nx\r\nVALUE c 0 1\r\nz\r\nEND\r\n",
             b"STORED\r\nSTORED\r\nVALUE a 0 1\r\nx\r\nEND\r\nSERVER_ERROR out of memory storing object\r\nVALUE a 0 1\r\nx\r\nVALUE b 0 1\r\ny\r\nEND\r\nSERVER_ERROR object too large for cache\r\nVALUE a 0 1\r\nx\r\nVALUE b 0 1\r\ny\r\nEND\r\n",
+        ],
+    },
+    Example {
+        name: "refused_store_leaves_the_order",
+        server: Setup {
+            budget: 132,
+            ..WIDE
+        },
+        said: &[(
+            100,
+            b"set a 0 0 1\r\nx\r\nset b 0 0 1\r\ny\r\nget a\r\nset c 0 0 1\r\nz\r\nset d 0 0 1\r\nw\r\nget a b c d\r\n",
+            1,
+        )],
+        answers: &[
+            b"STORED\r\nSTORED\r\nVALUE a 0 1\r\nx\r\nEND\r\nSTORED\r\nSTORED\r\nVALUE c 0 1\r\nz\r\nVALUE d 0 1\r\nw\r\nEND\r\n",
+            b"SERVER_ERROR out of memory storing object\r\nSTORED\r\nEND\r\nSTORED\r\nSTORED\r\nVALUE c 0 1\r\nz\r\nVALUE d 0 1\r\nw\r\nEND\r\n",
+            b"STORED\r\nSERVER_ERROR out of memory storing object\r\nVALUE a 0 1\r\nx\r\nEND\r\nSTORED\r\nSTORED\r\nVALUE c 0 1\r\nz\r\nVALUE d 0 1\r\nw\r\nEND\r\n",
+            b"STORED\r\nSTORED\r\nVALUE a 0 1\r\nx\r\nEND\r\nSERVER_ERROR out of memory storing object\r\nSTORED\r\nVALUE a 0 1\r\nx\r\nVALUE d 0 1\r\nw\r\nEND\r\n",
+            b"STORED\r\nSTORED\r\nVALUE a 0 1\r\nx\r\nEND\r\nSTORED\r\nSERVER_ERROR out of memory storing object\r\nVALUE a 0 1\r\nx\r\nVALUE c 0 1\r\nz\r\nEND\r\n",
         ],
     },
     Example {
