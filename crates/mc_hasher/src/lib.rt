@@ -1,7 +1,7 @@
 //! A hasher of keys that a stranger cannot foretell.
 //!
 //! [`SecretState`] makes a [`KeyHasher`] for each key: `std::hash::RandomState` and its hasher, but faster for keys of some tens
-//! of bytes. Both hide random numbers in what a key is hashed to, so a stranger cannot choose keys that collide.
+//! of bytes. Both hide random numbers in what a key is hashed to, so a stranger who does not know them cannot tell which keys collide.
 //!
 //! # How strong it is
 //!

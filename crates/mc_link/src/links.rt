@@ -188,7 +188,7 @@ impl Link {
         output
     }
 
-    /// Lets go of the first `count` bytes of the output, which the server was sent. It takes no memory.
+    /// Releases the first `count` bytes of the output, which the server was sent. It takes no memory.
     pub fn taken_out(&mut self, count: usize)
         requires { count ≤ length self.old.state.output }
         ensures taken { self.new.state ≡ record self.old.state { output = drop count self.old.state.output } }

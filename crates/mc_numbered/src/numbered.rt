@@ -112,7 +112,7 @@ impl<T> Numbered<T> {
 impl<T: Drop> Numbered<T> {
     ghost use Rattle.mc_numbered.specs.Entries.{entry_of, without, with_next};
 
-    /// Puts something in, and gives the number that it has from now on. At an error it is let go.
+    /// Puts something in, and gives the number that it has from now on. At an error it is dropped.
     pub fn push(&mut self, value: T) -> Result<u64, AllocError>
         requires { self.old.next < 2 ^ 64 - 1 }
         ensures number { IfOk result (λ number. number ≡ self.old.next) }

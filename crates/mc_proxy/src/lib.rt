@@ -7,7 +7,7 @@
 //! whatever pieces they come ([`Proxy::feed`]), and takes a request a turn ([`Proxy::turn`]): each of the request's
 //! commands goes to the link of its key's owner, or is lost at once where that is down. Once it is known of each command
 //! what became of it, the oldest request is answered ([`Proxy::emit`]), and the caller takes the answer out
-//! ([`Proxy::output`], [`Proxy::taken_out`]). A session whose client went is let go ([`Proxy::gone`]), and what its
+//! ([`Proxy::output`], [`Proxy::taken_out`]). A session whose client went is dropped ([`Proxy::gone`]), and what its
 //! commands are answered is dropped.
 //!
 //! What a link is to send is [`Proxy::link_output`], taken out by [`Proxy::link_taken_out`]; what its server sent comes in

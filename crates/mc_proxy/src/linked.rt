@@ -33,7 +33,7 @@ impl Proxy {
         self.links.get(server).map_or(&[], Link::output)
     }
 
-    /// Lets go of the first `count` bytes of a link's output, which its server was sent. It takes no memory.
+    /// Releases the first `count` bytes of a link's output, which its server was sent. It takes no memory.
     pub fn link_taken_out(&mut self, server: usize, count: usize)
         requires { count ≤ length (link_at self.old.links server).output }
         ensures { self.new ≡ record self.old {

@@ -197,7 +197,7 @@ impl Proxy {
         self.sessions.get(number).map_or(&[], Session::output)
     }
 
-    /// Lets go of the first `count` bytes of a session's output, which its client was sent. It takes no memory.
+    /// Releases the first `count` bytes of a session's output, which its client was sent. It takes no memory.
     pub fn taken_out(&mut self, number: u64, count: usize)
         requires { count ≤ length (output_of (session_at self.old number)) }
         ensures { self.new ≡ sent_by number count (session_at self.old number) self.old }
@@ -235,7 +235,7 @@ impl Proxy {
         session.give_back(kept);
     }
 
-    /// Ends a session: its text, its answers and its unanswered requests are let go. What its commands are still answered
+    /// Ends a session: its text, its answers and its unanswered requests are dropped. What its commands are still answered
     /// by their servers is dropped when it comes. It takes no memory.
     pub fn gone(&mut self, number: u64) -> Result<(), ProxyError>
         ensures gone { OnOk result (self.new ≡ record self.old { sessions = without number self.old.sessions }) }

@@ -190,7 +190,7 @@ fn put_out(proxy: &mut Proxy, session: u64) -> Result<bool, ProxyError>
     Ok(answered)
 }
 
-/// Writes what is unsent, in one call, lets go of what the writer took, and says whether it took any.
+/// Writes what is unsent, in one call, drops what the writer took, and says whether it took any.
 fn send<W: Write>(
     proxy: &mut Proxy,
     session: u64,

@@ -75,7 +75,7 @@ fn round<R: Read, W: Write>(
     Err(Pumped::Blocked)
 }
 
-/// Writes what is unsent, in one call, lets go of what the writer took, and says whether it took any.
+/// Writes what is unsent, in one call, drops what the writer took, and says whether it took any.
 fn send<W: Write>(
     proxy: &mut Proxy,
     server: usize,

@@ -112,7 +112,7 @@ fn take_turns<S: Store + Drop>(
     Ok(Stop::Marked)
 }
 
-/// Writes what is unsent, in one call, lets go of what the writer took, and says whether it took any.
+/// Writes what is unsent, in one call, drops what the writer took, and says whether it took any.
 fn send<S: Store + Drop, W: Write>(
     server: &mut Server<S>,
     number: u64,

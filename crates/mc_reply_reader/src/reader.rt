@@ -87,7 +87,7 @@ impl ReplyReader {
         self.buffer.len() - self.start
     }
 
-    /// How many bytes are kept: those that are unread, and of the ones that were read those that are not let go yet, which are
+    /// How many bytes are kept: those that are unread, and of the ones that were read those that are not dropped yet, which are
     /// never more.
     pub fn held(&self) -> usize
         ensures held { result ≡ self.now.held }

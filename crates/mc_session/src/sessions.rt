@@ -307,7 +307,7 @@ impl Session {
         output
     }
 
-    /// Lets go of the first `count` bytes of the output, which the client was sent.
+    /// Releases the first `count` bytes of the output, which the client was sent.
     pub fn taken_out(&mut self, count: usize)
         requires { count ≤ length self.old.output }
         ensures { self.new ≡ record self.old { output = drop count self.old.output } }

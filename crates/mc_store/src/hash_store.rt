@@ -275,7 +275,7 @@ impl<M: Recent> Store for HashStore<M> {
     }
 }
 
-/// The body of an item, whose key is let go.
+/// The body of an item, whose key is dropped.
 fn body_of(item: (Key, Body)) -> Body
     ensures { result ≡ item.1 }
 {

@@ -138,7 +138,7 @@ impl Gate for Meeting {
     }
 }
 
-/// A gate that stays shut for the second server. The first one it lets go on once the second was refused so often that its thread ends.
+/// A gate that stays shut for the second server. It opens for the first one once the second was refused so often that its thread ends.
 #[derive(Drop)]
 pub struct ShutForOne {
     asked: AtomicU64,

@@ -111,7 +111,7 @@ impl<S: Store + Drop> Site<S> {
         self.server.output(self.connection)
     }
 
-    /// Lets go of the first of them, which the proxy was given.
+    /// Releases the first of them, which the proxy was given.
     pub fn give(&mut self, count: usize)
         requires { count ≤ length (output_of (connection_at self.old.server self.old.connection)) }
         ensures { self.new ≡ returned count self.old }
