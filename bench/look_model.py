@@ -134,7 +134,7 @@ class Seen(NamedTuple):
 
     def pause(self, before):
         """At how many requests no look begins after this one, if there were none at so many after the last that gained little."""
-        if sum(map(is_held, self.keys)) > len(self.keys) // 2:
+        if sum(map(is_held, self.keys)) > len(self.keys) // 4:
             return 0
         return min(MOST_PASSES, max(PASSES, before * 2))
 
@@ -167,9 +167,9 @@ class Look:
         return last.bytes == 0 and last.passes == 0 and front.keys and not front.is_faulty
 
     @staticmethod
-    def kept(seen, at, last):
+    def kept(seen, at, last, there):
         if len(seen.keys) < FEW_KEYS:
-            return Kept(seen.end - at, PASSES, last.pause, 0)
+            return Kept(seen.end - at, PASSES if there - seen.end >= SHORT_TEXT else 0, last.pause, 0)
         pause = seen.pause(last.pause)
         return Kept(seen.end - at, pause, pause, len(seen.keys))
 
@@ -278,7 +278,7 @@ class LookBefore(Look):
         return last.guesses == 0
 
     @staticmethod
-    def kept(seen, _at, _last):
+    def kept(seen, _at, _last, _there):
         return Kept(guesses=len(seen.keys))
 
     @staticmethod
@@ -458,7 +458,7 @@ class Stream:
             if self.there(front.end) - at >= SHORT_TEXT:
                 if self.kind.begins(front, last):
                     look = self.look(front, at)
-                    cost, last = look.cost(), self.kind.kept(look, at, last)
+                    cost, last = look.cost(), self.kind.kept(look, at, last, self.there(front.end))
                 last = self.kind.after(last, front, front.end - at)
             sum = sum.plus(cost, front.cost(front.end - at), front.end - at)
             at = front.end % self.size

@@ -127,8 +127,9 @@ impl Ahead {
     /// this one.
     ///
     /// A look begins behind all lines that the last one took, so each byte is read by two looks at most, however the text is cut. If a look
-    /// finds fewer than three keys, the next begins 4 requests later. If no more than half of its keys have an item, the next begins 4 requests
-    /// later too, and then 8, 16, 32 and 64, as long as none finds more; if one of its lines is refused, 64 requests later.
+    /// finds fewer than three keys, and leaves text enough for another one, the next begins 4 requests later. If no more than a quarter of its
+    /// keys have an item, the next begins 4 requests later too, and then 8, 16, 32 and 64, as long as none finds more; if one of its lines is
+    /// refused, 64 requests later.
     #[inline]
     pub fn look<S: Store + Drop>(
         &mut self,
@@ -190,7 +191,11 @@ impl Ahead {
         }
         Looked {
             bytes,
-            passes: PASSES,
+            passes: if text.len().saturating_sub(bytes) < SHORT {
+                0
+            } else {
+                PASSES
+            },
             pause: looked.pause,
         }
     }
@@ -205,10 +210,10 @@ fn paused(bytes: usize, pause: u32) -> Looked {
     }
 }
 
-/// At how many requests none begins after a look with these guesses: at none, unless no more than half of them say an item.
+/// At how many requests none begins after a look with these guesses: at none, unless no more than a quarter of them say an item.
 fn pause_after(before: u32, guesses: &[u32]) -> u32 {
     let found = guesses.iter().filter(|guess| **guess != 0).count();
-    if found > guesses.len() / 2 {
+    if found > guesses.len() / 4 {
         return 0;
     }
     before.saturating_mul(2).max(PASSES).min(MOST_PASSES)
