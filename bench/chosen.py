@@ -85,10 +85,11 @@ class Reading:
 class Client:
     """A connection to a program, and what it was answered."""
 
-    def __init__(self, program, reading):
+    def __init__(self, program, reading, is_settled=True):
         self.connection, self.reading, self.answers = connected(program.port, PATIENCE), reading, []
-        self.connection.sendall(b"version\r\n")
-        self.connection.recv(100)
+        if is_settled:
+            self.connection.sendall(b"version\r\n")
+            self.connection.recv(100)
         self.connection.setblocking(False)
         self.question = reading.question(self.connection)
 
@@ -168,7 +169,7 @@ class Program:
     def played(self, play):
         """Plays it to the program: what that answered, in pieces, and the seconds of processor time that it took."""
         with contextlib.ExitStack() as stack:
-            clients = [Client(self.listener, self.reading) for _ in range(play.connections)]
+            clients = [Client(self.listener, self.reading, play.is_settled) for _ in range(play.connections)]
             for client in clients:
                 stack.enter_context(client.connection)
             start = self.clock()

@@ -34,12 +34,14 @@ FAST, READ, AT_REST = "as fast as it is taken", "when all before is read", "when
 
 
 class Play(NamedTuple):
-    """Pieces, each with the number of its connection, and when each is sent."""
+    """Pieces, each with the number of its connection, and when each is sent. A connection that is settled has sent a line before, by which
+    it is known to speak text."""
 
     pieces: list
     requests: int
     sent: str = FAST
     connections: int = 1
+    is_settled: bool = True
 
 
 class Stream(NamedTuple):
@@ -59,6 +61,11 @@ def flow(text, requests=1, size=TEXT):
     """A text again and again on one connection, as fast as it is taken."""
     times = max(1, size // len(text))
     return Play([(0, text * times)], requests * times)
+
+
+def unsettled(play):
+    """The same from connections of which nothing is known."""
+    return play._replace(is_settled=False)
 
 
 def batches(lines, count):
@@ -185,6 +192,7 @@ STREAMS = [
     Stream("get-by-32", "get-by-32", "to be served 32 requests at a time", lambda: batches(each(GET), 32)),
     Stream("get-in-1", "get-in-1", "a read for each byte", lambda: cut(b"".join(each(GET) * 3), 1, 300)),
     Stream("get-in-50", "get-in-50", "a read for each 50 bytes", lambda: cut(b"".join(each(GET) * 100), 50, 10_000)),
+    Stream("get-250-by-1", "get-250-by-1", "to be served a request at a time, with a look at each", lambda: batches(each(GET, LONG), 1)),
     Stream("block-in-50", "block-in-50", "to store a block that comes slowly", lambda: slowly(b"")),
     # Spaces in front of a line.
     Stream("front-1", "get", "a get that is not taken for a plain one", lambda: flow_of(b" " + GET)),
@@ -199,6 +207,15 @@ STREAMS = [
            lambda: slowly(get(b"k1") + b" " * 480, requests=3)),
     Stream("line-in-1-behind-60k", "get-in-1", "a line that is searched again for each byte",
            lambda: cut(b" " * SEGMENTS + get(b"k1"), 1, 1, b" " * 60_000)),
+    # Lines before the first that is not empty: it may yet be a stranger's.
+    Stream("empty-lines", "get", "a look at each line for a stranger's", lambda: unsettled(flow(b"\r\n"))),
+    Stream("empty-lines-of-1", "get", "the same", lambda: unsettled(flow(b" \n"))),
+    Stream("empty-lines-of-60", "get", "the same at each space", lambda: unsettled(flow(b" " * 60 + b"\n"))),
+    Stream("empty-lines-of-65k", "get", "the same on the longest line", lambda: unsettled(flow(b" " * 65_000 + b"\n"))),
+    Stream("first-line-of-65k", "get", "a look at each word of a line that ends in no version",
+           lambda: unsettled(flow(b"a " * 32_500 + b"\n", size=1))),
+    Stream("first-line-in-1", "get-in-1", "a look at what has come for each byte",
+           lambda: unsettled(cut(b"a " * (SEGMENTS // 2) + b"\r\n", 1, 1))),
     # Spaces between words, and words that are empty.
     Stream("between-2", "get", "two spaces where a fast path wants one", lambda: flow_of(b"get  KEY\r\n")),
     Stream("between-60", "get-24", "many spaces between keys", lambda: flow(LINE_OF_24.replace(b" ", b" " * 60))),
@@ -224,7 +241,10 @@ STREAMS = [
     Stream("get-1-behind", "get-absent", "a look for each key", lambda: flow_of(b"get KEY \n", ABSENT), False),
     Stream("gat-1-behind", "get-absent", "the same", lambda: flow_of(b"gat 0 KEY \n", ABSENT), False),
     Stream("get-3-behind", "get-24-absent", "a look for each 3 keys", lambda: flow_of(b"get KEY a b \n", ABSENT), False),
-    Stream("get-3-half-behind", "get-24-absent", "the same, and a key is found", lambda: flow_of(b"get KEY a b \n"), False),
+    Stream("get-3-two-held-behind", "get-24-absent", "the same, and no pause", lambda: flow_of(b"get KEY k1 a \n"), False),
+    Stream("get-3-one-held-behind", "get-24-absent", "the same, and no more than half is found", lambda: flow_of(b"get KEY a b \n"), False),
+    Stream("get-16-nine-held-behind", "get-24-absent", "a look for each 16 keys, and no pause",
+           lambda: flow(get(*HELD[:9], *ABSENT[:7]).replace(b"\r", b" ")), False),
     Stream("get-24-behind", "get-24-absent", "a look for each 24 keys", lambda: flow(LINE_OF_24_ABSENT.replace(b"\r", b" ")), False),
     Stream("get-absent-between-2", "get-absent", "a look for each key", lambda: flow_of(b"get  KEY\n", ABSENT), False),
     Stream("touch-between-2", "get-absent", "the same", lambda: flow_of(b"touch  KEY 0\n", ABSENT), False),
@@ -248,6 +268,8 @@ STREAMS = [
     # Keys.
     Stream("mg-coded", "mg", "a key that is decoded more than once", lambda: flow_of(b"mg KEY b v\r\n", coded(HELD))),
     Stream("ms-coded", "ms", "the same", lambda: flow_of(put(VALUE, b"ms KEY %d b\r\n"), coded(STORED))),
+    Stream("mg-coded-held-word", "mg-quiet", "items that are fetched by the words of keys in base64",
+           lambda: flow_of(b"mg KEY b v q\r\n", [b"k%d" % number for number in range(100, 1_000)])),
     Stream("mg-coded-250", "mg", "the same with the longest key", lambda: flow_of(b"mg KEY b v\r\n", coded(LONG))),
     Stream("mg-badly-coded", "mg", "a key that is refused late", lambda: flow_of(b"mg KEY! b v\r\n", [key[:-1] for key in coded(LONG)])),
     Stream("incr-absent", "incr", "the same", lambda: flow_of(b"incr KEY 1\r\n", ABSENT)),

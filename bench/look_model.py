@@ -37,6 +37,7 @@ MOST_PASSES = 64  # at most at so many, and after a refused line
 LONGEST_KEY, LONGEST_NAME, CODED_LIMIT, NUMBER = 250, 15, 336, 20
 RETRIEVALS, DATED = (b"get", b"gets"), (b"gat", b"gats")
 STORAGE = tuple(name.encode() for name in model.STORAGE)
+META = (b"mg", b"ms", b"md", b"ma")
 KEYED = (b"incr", b"decr", b"touch", b"delete", b"mg", b"md", b"ma")
 
 MOST_LENGTH = 30_000  # bytes of a stream's round with its longest block
@@ -76,12 +77,19 @@ def is_held(key):
     return key.startswith(b"k")
 
 
+def is_coded(line):
+    """Whether the key of a meta command's line is in base64: its word is not what is looked up, and has no guess."""
+    name, *words = line.split()
+    return name in META and b"b" in words[1:]
+
+
 class Front(NamedTuple):
-    """The first request or fault of a text: where it ends, its keys, and whether it is a fault."""
+    """The first request or fault of a text: where it ends, its keys, whether it is a fault, and whether its key is in base64."""
 
     end: int
     keys: tuple
     is_faulty: bool
+    is_coded: bool = False
 
     def cost(self, size):
         cost = COSTS.request + COSTS.request_byte * size + COSTS.request_key * len(self.keys)
@@ -110,7 +118,8 @@ class Reader(model.Server):
         self.turn(connection, 0)
         end = len(text) - len(connection.unread)
         is_faulty = connection.output.startswith((b"ERROR", b"CLIENT_ERROR", b"SERVER_ERROR"))
-        return Front(end, tuple(self.keys), is_faulty) if end > at and not connection.closed else None
+        coded = bool(self.keys) and is_coded(text[at:end].partition(b"\n")[0])
+        return Front(end, tuple(self.keys), is_faulty, coded) if end > at and not connection.closed else None
 
 
 # What a look reads.
@@ -134,7 +143,7 @@ class Seen(NamedTuple):
 
     def pause(self, before):
         """At how many requests no look begins after this one, if there were none at so many after the last that gained little."""
-        if sum(map(is_held, self.keys)) > len(self.keys) // 4:
+        if sum(map(is_held, self.keys)) > len(self.keys) // 2:
             return 0
         return min(MOST_PASSES, max(PASSES, before * 2))
 
@@ -164,7 +173,11 @@ class Look:
     @staticmethod
     def begins(front, last):
         """Whether a look begins at a request, by what is kept of the last one."""
-        return last.bytes == 0 and last.passes == 0 and front.keys and not front.is_faulty
+        return last.bytes == 0 and last.passes == 0 and Look.has_guess(front)
+
+    @staticmethod
+    def has_guess(front):
+        return front.keys and not front.is_faulty and not front.is_coded
 
     @staticmethod
     def kept(seen, at, last, there):
@@ -178,8 +191,9 @@ class Look:
         """What is kept once a request was served."""
         if front.is_faulty and last.guesses:
             return Kept(max(0, last.bytes - size), MOST_PASSES, last.pause)
-        passes = last.passes if last.bytes else max(0, last.passes - 1)
-        return Kept(max(0, last.bytes - size), passes, last.pause, max(0, last.guesses - len(front.keys)))
+        passes = last.passes if last.bytes or not Look.has_guess(front) else max(0, last.passes - 1)
+        used = len(front.keys) if Look.has_guess(front) else 0
+        return Kept(max(0, last.bytes - size), passes, last.pause, max(0, last.guesses - used))
 
     @classmethod
     def seen(cls, text, front, at, limit):
@@ -219,6 +233,15 @@ class Look:
             raise Ended
         self.keys.append(word)
 
+    def take_meta_key(self, line):
+        """None in base64. The flags are read for it."""
+        word = self.word(CODED_LIMIT)
+        self.bytes += 6 * (len(line) - len(word))
+        if not is_coded(line):
+            if len(self.keys) == MOST_KEYS:
+                raise Ended
+            self.keys.append(word)
+
     def end_of_line(self):
         """What is after the line, in which no control byte is."""
         end = self.place
@@ -253,15 +276,18 @@ class Look:
             if name in DATED and model.i64(self.word(NUMBER)) is None:
                 raise Ended
             self.take_keys(self.text[start:after])
+        elif name in META:
+            self.take_meta_key(self.text[start:after])
         elif name in KEYED:
             self.take_key(CODED_LIMIT)
-        elif name in STORAGE or name == b"ms":
-            self.take_key(CODED_LIMIT if name == b"ms" else LONGEST_KEY)
+        elif name in STORAGE:
+            self.take_key(LONGEST_KEY)
+        elif name != b"mn" or self.byte() == 32:
+            raise Ended
+        if name in STORAGE or name == b"ms":
             words = [self.word(NUMBER) for _ in range(1 if name == b"ms" else 3)]
             length = model.digits(words[-1], 10, 2**31)
             after += self.limit if length is None else length + 2
-        elif name != b"mn" or self.byte() == 32:
-            raise Ended
         if after > self.limit:
             raise Ended
         self.place = after

@@ -12,7 +12,8 @@ const FEW: usize = 3;
 /// A text of fewer bytes is not worth a look.
 const SHORT: usize = 64;
 
-/// After a look that gained little none begins at this many requests, and at twice as many after each such look that follows it.
+/// After a look that found little none begins at this many requests. If no more than half of its keys had a guess, none begins at twice as many
+/// after each such look that follows it.
 const PASSES: u32 = 4;
 
 /// At most at this many, and at as many after one of whose lines one was refused.
@@ -21,7 +22,7 @@ const MOST_PASSES: u32 = 64;
 /// What a connection keeps of its last look.
 #[derive(Clone, Copy)]
 pub struct Looked {
-    /// How many of the bytes that are not taken it has read: in these no other begins.
+    /// How many of the bytes that are not taken are in lines that it took: in these no other begins.
     bytes: usize,
     /// At how many requests after these none begins, since it found little.
     passes: u32,
@@ -111,6 +112,12 @@ impl Ahead {
         }
     }
 
+    /// The guess for the next meta command's key: 0 for one in base64, for which there is none.
+    #[inline]
+    pub fn next_for(&mut self, coded: bool) -> u32 {
+        if coded { 0 } else { self.next() }
+    }
+
     /// The guess for the next key, which is used by that: 0 if there is none.
     #[inline]
     pub fn next(&mut self) -> u32 {
@@ -127,9 +134,10 @@ impl Ahead {
     /// this one.
     ///
     /// A look begins behind all lines that the last one took, so each byte is read by two looks at most, however the text is cut. If a look
-    /// finds fewer than three keys, and leaves text enough for another one, the next begins 4 requests later. If no more than a quarter of its
-    /// keys have an item, the next begins 4 requests later too, and then 8, 16, 32 and 64, as long as none finds more; if one of its lines is
-    /// refused, 64 requests later.
+    /// finds fewer than three keys, and leaves text enough for another one, the next begins 4 requests later. If no more than half of its keys
+    /// have a guess, the next begins 4 requests later too, and then 8, 16, 32 and 64, as long as none finds more; if one of its lines is refused,
+    /// 64 requests later. Requests at which none could begin are not counted: those without a key, or with a key in base64, and those in lines
+    /// that the look took.
     #[inline]
     pub fn look<S: Store + Drop>(
         &mut self,
@@ -210,10 +218,11 @@ fn paused(bytes: usize, pause: u32) -> Looked {
     }
 }
 
-/// At how many requests none begins after a look with these guesses: at none, unless no more than a quarter of them say an item.
+/// At how many requests none begins after a look with these guesses: at none, unless no more than half of its keys have one. (A key that no
+/// item has may have a guess, if many keys fell together with it.)
 fn pause_after(before: u32, guesses: &[u32]) -> u32 {
     let found = guesses.iter().filter(|guess| **guess != 0).count();
-    if found > guesses.len() / 4 {
+    if found > guesses.len() / 2 {
         return 0;
     }
     before.saturating_mul(2).max(PASSES).min(MOST_PASSES)
@@ -227,12 +236,13 @@ fn one_passed(looked: Looked) -> Looked {
     }
 }
 
-/// The keys of a request that has one.
+/// The keys of a request that has one, but for a key in base64: its word is not what is looked up.
 #[inline(always)]
 fn keys_of<'a>(asked: &Asked<'a>) -> Option<WordIter<'a>> {
     match asked {
         Asked::Get { keys, .. } => Some(keys.again()),
         Asked::Update { update, .. } => key_of(update),
+        Asked::Meta { form, .. } if form.coded => None,
         Asked::Meta { command, .. } => match command {
             MetaCommand::Get { key, .. } => Some(words(key)),
             MetaCommand::Update { update, .. } => key_of(update),

@@ -230,7 +230,8 @@ pub fn serve<S: Store + Drop>(
             serve_update(update, hides, cache, ahead.next(), moment, output)?;
         }
         Asked::Meta { command, form } => {
-            serve_meta(command, form, hides, cache, ahead.next(), moment, output)?;
+            let guess = ahead.next_for(form.coded);
+            serve_meta(command, form, hides, cache, guess, moment, output)?;
         }
         Asked::MetaNoop => write_noop(output).unwrap(),
         Asked::Version => write_version(output).unwrap(),

@@ -13,6 +13,9 @@ const LONG: usize = 8_192;
 /// The most bytes of a command's name that are looked at.
 const NAME: usize = LANES - 1;
 
+/// The bytes of a meta command's name.
+const NAME_OF_META: usize = 2;
+
 /// The most bytes of an exptime or a length.
 const NUMBER: usize = 20;
 
@@ -25,7 +28,8 @@ const DELETE: u8 = 127;
 /// The keys that the first requests of a text ask for, in their order, as many as there is room for.
 ///
 /// A line is taken only if it ends where the reader of requests has it end, and, if it is a retrieval, only if that would not refuse it:
-/// else it and all after it are left out. So of each line that is taken the keys are looked up, unless it has one key and is refused.
+/// else it and all after it are left out. So of each line that is taken the keys are looked up, unless it has one key and is refused. A key in
+/// base64 is left out, since its word is not what is looked up.
 #[derive(Drop)]
 pub struct FirstKeys<'a> {
     keys: [&'a [u8]; AHEAD],
@@ -90,10 +94,13 @@ impl<'a> FirstKeys<'a> {
         let (name, words) = split_word(text, NAME)?;
         match name {
             b"get" | b"gets" => self.take_keys(words, line)?,
-            b"mg" | b"incr" | b"decr" | b"ma" | b"md" | b"touch" | b"delete" => {
+            b"incr" | b"decr" | b"touch" | b"delete" => {
                 self.take_key(words, CODED_LIMIT)?;
             }
-            b"ms" => return after_block(self.take_key(words, CODED_LIMIT)?, after),
+            b"mg" | b"ma" | b"md" => {
+                self.take_meta_key(words, line)?;
+            }
+            b"ms" => return after_block(self.take_meta_key(words, line)?, after),
             b"set" | b"add" | b"replace" | b"append" | b"prepend" | b"cas" => {
                 let words = self.take_key(words, KEY_LIMIT)?;
                 let (_, words) = next_word(words, NUMBER)?;
@@ -126,6 +133,16 @@ impl<'a> FirstKeys<'a> {
         Some(rest)
     }
 
+    /// The same of a meta command, whose line is `words` up to the line's end: a key in base64 is left out.
+    fn take_meta_key(&mut self, words: &'a [u8], line: &[u8]) -> Option<&'a [u8]> {
+        let (word, rest) = next_word(words, CODED_LIMIT)?;
+        let flags = line.get(NAME_OF_META + word.len() + 1..)?;
+        if !is_coded(flags) {
+            self.push(word)?;
+        }
+        Some(rest)
+    }
+
     /// Takes the keys of a retrieval, of which there is one at least, as many as there is room for.
     fn take_keys(&mut self, words: &'a [u8], line: &[u8]) -> Option<()> {
         if line.len() > KEY_LIMIT && has_long_word(line) {
@@ -144,6 +161,11 @@ impl<'a> FirstKeys<'a> {
         }
         Some(())
     }
+}
+
+/// Whether one of a meta command's flags says that its key is in base64.
+fn is_coded(flags: &[u8]) -> bool {
+    flags.ends_with(b" b") || flags.windows(3).any(|three| three == b" b ".as_slice())
 }
 
 /// Whether a word of a line in which no control byte is has more bytes than a key.
