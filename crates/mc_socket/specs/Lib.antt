@@ -1,2 +1,3 @@
 pub mod Acceptors
+pub mod Bindings
 pub mod Steps

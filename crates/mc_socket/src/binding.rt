@@ -1,14 +1,18 @@
 //! Where to listen, and where a peer is.
-ghost use Rattle.std.specs.Prelude.{◌≡◌, true, IfOk, IfSome, IsOkUnless};
+ghost use Rattle.std.specs.Prelude.{◌≡◌, true, Result, IfOk, IfSome, IsOkUnless};
 ghost use Rattle.std.specs.Net.Addr.{is_ipv4};
 ghost use Rattle.std.specs.Net.Socket.{socket_ip};
+ghost use Rattle.std.specs.Net.ToAddrs.{HostAddrs, GivesAddrOfText};
+ghost use Rattle.std.specs.declared.io.Error.{Error};
 ghost use Rattle.mc_address.specs.Addresses.{is_address};
+ghost use Rattle.mc_socket.specs.Bindings.{first_ipv4};
 
 use crate::keeping::keep_alive;
 use mc_address::is_address;
 use mc_program::ServeError;
 use mio::net::TcpListener;
-use std::net::{Net, SocketAddr, ToSocketAddrs};
+use std::io;
+use std::net::{HostAddrs, Net, SocketAddr, ToSocketAddrs};
 
 /// Listens at a host and a port, `<host>:<port>`, by the first IPv4 address that the host has.
 ///
@@ -28,10 +32,23 @@ pub fn bind<R: Net>(rt: &R, listen: &str) -> Result<TcpListener, ServeError>
 
 /// The first IPv4 address of a host and a port, `<host>:<port>`; none where the host is not known, or has none.
 ///
-/// A host that is a name is looked up, as by [`bind`].
+/// A host that is a name is looked up, as by [`bind`]: what a look-up gives, no contract says. Of what it gave the first is taken.
 pub fn first_address<R: Net>(rt: &R, place: &str) -> Option<SocketAddr>
-    ensures { IfSome result (λ address. is_ipv4 (socket_ip address) ≡ true) }
+    ensures ipv4 { IfSome result (λ address. is_ipv4 (socket_ip address) ≡ true) }
+    ensures first { (found : Result HostAddrs Error) × GivesAddrOfText place.now found × (result ≡ first_ipv4 found) }
 {
-    let mut found = place.to_socket_addrs(rt).ok()?;
-    found.find(|address| address.is_ipv4())
+    first_ipv4(place.to_socket_addrs(rt))
+}
+
+/// The first IPv4 address of those that a look-up gave.
+fn first_ipv4(found: io::Result<HostAddrs>) -> Option<SocketAddr>
+    ensures first { result ≡ first_ipv4 found }
+    ensures ipv4 { IfSome result (λ address. is_ipv4 (socket_ip address) ≡ true) }
+{
+    for address in found.ok()? {
+        if address.is_ipv4() {
+            return Some(address);
+        }
+    }
+    None
 }

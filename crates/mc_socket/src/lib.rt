@@ -10,8 +10,8 @@
 //! that all who serve sockets share.
 //!
 //! No call waits but [`bind`] and [`first_address`], which look a name up. What a socket carries, and who comes, no contract
-//! says. Proved are how many an acceptor accepts, that an input drops and repeats no byte of its stream, what is done after a pump,
-//! and that a stopwatch never goes back.
+//! says. Proved are that an address is the first IPv4 one of those that a look-up gave, how many an acceptor accepts, that an
+//! input drops and repeats no byte of its stream, what is done after a pump, and that a stopwatch never goes back.
 #![tactic(auto)]
 
 mod acceptors;
