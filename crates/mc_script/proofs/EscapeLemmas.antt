@@ -5,6 +5,7 @@ use Rattle.std.proofs.lemmas.List.{length-take, length-take-le, take-append-drop
 use Rattle.std.proofs.lemmas.List.Sums.{AllPass-from_list_all, position_or_len_is, prefix_len-le-length, prefix_len_is}
 use Rattle.std.proofs.lemmas.List.Folds.{prefix_len-append}
 use Rattle.std.proofs.lemmas.Simd.{run_in_chunk_fails, run_in_chunk_stops}
+use Rattle.std.specs.Prelude.{is_some}
 use Rattle.std.specs.Option.{option_map, unwrap_or}
 use Rattle.std.specs.List.{All, list_all, prefix_len, position_or_len}
 use Rattle.memchr.specs.Find.{IsFirstByte, is_byte}
@@ -35,6 +36,12 @@ pub text_of-read : (text rest bytes : List ℕ) → text_of text ≡ option_map 
 unfolding text_from
 text_of-read text [] bytes e z = sym (e ∙ ap (λ (bs : List ℕ). Some bs) (append-nil bytes))
 text_of-read text (b ∷ bs) bytes e z = absurd (omega arith)
+
+-- no text stands for no bytes
+pub text_of-none_left : (rest : List ℕ) → length rest ≡ 0 → true ≡ is_some (text_of rest)
+unfolding text_from
+text_of-none_left [] z = refl
+text_of-none_left (b ∷ bs) z = absurd (omega arith)
 
 -- what a reader of escapes meets after a backslash
 pub ruleset after_backslash = (text_from_lost, text_from_x)

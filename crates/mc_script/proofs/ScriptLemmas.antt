@@ -1,5 +1,7 @@
 -- The events of a script, from the first line on.
-use Rattle.std.proofs.Common.{◌≡◌, ℕ, List, [], ◌∷◌, ◌++◌, Some, None, Result, Ok, Err, refl, sym, ap, append-nil, append_assoc}
+use Rattle.std.proofs.Common.{◌≡◌, ℕ, true, false, List, [], ◌∷◌, ◌++◌, Option, Some, None, Result, Ok, Err, refl, sym, ap, append-nil, append_assoc}
+use Rattle.std.specs.Prelude.{is_some}
+use Rattle.std.specs.Result.{result_err}
 use Rattle.mc_script.specs.Scripts.{events_of, event_of, with_event, script_of_lines, server_of, with_events}
 use Rattle.mc_script.specs.ScriptSeen.{Explains}
 use Rattle.mc_script.specs.declared.errors.SimError.{SimError}
@@ -55,3 +57,34 @@ pub explains-more : (e : SimError) (server : ℕ × ℕ × ℕ) (events : Result
 explains-more (BadLine m) server events h = rw h refl
 explains-more (Stream side) server events h = h
 explains-more Memory server events h = tt
+
+-- past a line that is an event the first bad line is the same
+past_event : (event : Option Event) (n : ℕ) (events : Result (List Event) ℕ) → is_some event ≡ true → result_err events ≡ result_err (with_event n event events)
+past_event None n events some = absurd cc
+past_event (Some event) n (Ok events) some = refl
+past_event (Some event) n (Err line) some = refl
+
+pub bad_line-past : (connections n : ℕ) (line : List ℕ) (lines rest : List (ℕ × List ℕ)) → lines ≡ (n, line) ∷ rest → is_some (event_of connections line) ≡ true
+    → result_err (events_of connections rest) ≡ result_err (events_of connections lines)
+unfolding events_of
+bad_line-past connections n line lines rest first some = rw first (past_event (event_of connections line) n (events_of connections rest) some)
+
+-- a line that is none is the first bad one
+no_event : (event : Option Event) (n : ℕ) (events : Result (List Event) ℕ) → is_some event ≡ false → Some n ≡ result_err (with_event n event events)
+no_event None n events none = refl
+no_event (Some event) n events none = absurd cc
+
+pub bad_line-here : (connections n : ℕ) (line : List ℕ) (lines rest : List (ℕ × List ℕ)) → lines ≡ (n, line) ∷ rest → is_some (event_of connections line) ≡ false
+    → Some n ≡ result_err (events_of connections lines)
+unfolding events_of
+bad_line-here connections n line lines rest first none = rw first (no_event (event_of connections line) n (events_of connections rest) none)
+
+-- where no line is left, none is bad
+pub bad_line-nil : (connections : ℕ) (lines : List (ℕ × List ℕ)) → lines ≡ [] → None ≡ result_err (events_of connections lines)
+unfolding events_of
+bad_line-nil connections lines none = rw none refl
+
+-- the bad line of a script whose server's line is good is one of its events'
+pub bad_line-events : (server : ℕ × ℕ × ℕ) (events : Result (List Event) ℕ) → result_err events ≡ result_err (with_events server events)
+bad_line-events server (Ok events) = refl
+bad_line-events server (Err line) = refl

@@ -1,5 +1,5 @@
 //! Escapes: how any bytes are in a line of printable ones.
-ghost use Rattle.std.specs.Prelude.{◌≡◌, ◌<◌, ◌≤◌, ◌+◌, ◌==◌, ◌&&◌, ◌++◌, ◌∷◌, ℕ, nat_le, List, Some, length, IfOk, IfSome, OnOk, OnErr, MatchOption, All, [], false, take, vec_len};
+ghost use Rattle.std.specs.Prelude.{◌≡◌, ◌<◌, ◌≤◌, ◌+◌, ◌==◌, ◌&&◌, ◌++◌, ◌∷◌, ℕ, nat_le, List, Some, None, length, is_some, true, IfOk, IfSome, OnOk, OnErr, MatchOption, All, [], false, take, vec_len};
 ghost use Rattle.std.specs.List.{list_all, position_or_len, prefix_len};
 ghost use Rattle.std.specs.Option.{option_map};
 ghost use Rattle.mc_script.specs.Escapes.{client_line, escape_of, escaped, is_plain, named_line, hex_value, letter_value, text_of, GivesByte, GivesNoByte, ReadsFront, Between, Backslash, NoDigit};
@@ -62,8 +62,40 @@ pub fn push_named_line(
 }
 
 /// The bytes that an escaped text stands for: `\r`, `\n`, `\\` and `\x` with two hexadecimal digits, small or
-/// capital, are escapes, and any other byte stands for itself. Nothing where a backslash begins no escape.
+/// capital, are escapes, and any other byte stands for itself. Nothing where a backslash begins no escape, also where memory for the
+/// bytes is refused: an error says that the text stands for some.
 pub fn read_escaped(alloc: Global, text: &[u8]) -> Result<Option<Vec<u8>>, AllocError>
+    ensures read { IfOk result (λ found. option_map (λ bytes. bytes.items) found ≡ text_of text.now) }
+    ensures memory { OnErr result (is_some (text_of text.now) ≡ true) }
+{
+    let read = read_bytes(alloc, text);
+    if read.is_err() && !is_escaped(text) {
+        return Ok(None);
+    }
+    read
+}
+
+/// Whether a text stands for bytes: each of its backslashes begins an escape, or is the second of one.
+pub(crate) fn is_escaped(text: &[u8]) -> bool
+    ensures { result ≡ is_some (text_of text.now) }
+{
+    let mut rest = text;
+    while !rest.is_empty() {
+        let Some(more) = past_byte(rest) else {
+            return false;
+        };
+        rest = more;
+    }
+    true
+}
+
+/// What was escaped is read again.
+pub fn escaped_is_read_again()
+    ensures { (bytes : List ℕ) → All (λ b. b < 256) bytes → text_of (escaped bytes) ≡ Some bytes }
+{}
+
+/// The same as `read_escaped`, with no word on an error.
+fn read_bytes(alloc: Global, text: &[u8]) -> Result<Option<Vec<u8>>, AllocError>
     ensures { IfOk result (λ found. option_map (λ bytes. bytes.items) found ≡ text_of text.now) }
 {
     let mut bytes = Vec::with_capacity(alloc, text.len())?;
@@ -76,11 +108,6 @@ pub fn read_escaped(alloc: Global, text: &[u8]) -> Result<Option<Vec<u8>>, Alloc
     }
     Ok(Some(bytes))
 }
-
-/// What was escaped is read again.
-pub fn escaped_is_read_again()
-    ensures { (bytes : List ℕ) → All (λ b. b < 256) bytes → text_of (escaped bytes) ≡ Some bytes }
-{}
 
 fn push_each_escaped(bytes: &[u8], out: &mut Vec<u8>) -> Result<(), AllocError>
     ensures escaped { OnOk result (out.new.items ≡ out.old.items ++ escaped bytes.now) }
@@ -334,6 +361,21 @@ fn run_length(text: &[u8]) -> usize
     ensures { result ≡ position_or_len (λ b. b == 92) text.now }
 {
     memchr(b'\\', text).unwrap_or(text.len())
+}
+
+/// What follows the first byte that a text stands for.
+#[tactic(auto, unfolding(crate::specs::Escapes::text_from))]
+fn past_byte(text: &[u8]) -> Option<&[u8]>
+    requires { 0 < length text.now }
+    ensures rest { MatchOption result (text_of text.now ≡ None) (λ rest. is_some (text_of text.now) ≡ is_some (text_of rest.now)) }
+    ensures shorter { IfSome result (λ rest. length rest.now < length text.now) }
+{
+    let (byte, rest) = cut_byte(text)?;
+    if byte != b'\\' {
+        return Some(rest);
+    }
+    let (_byte, after) = byte_of_escape(rest)?;
+    Some(after)
 }
 
 /// The byte of what follows a backslash, and the text after it.

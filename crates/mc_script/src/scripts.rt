@@ -1,12 +1,13 @@
 //! Scripts of events.
-ghost use Rattle.std.specs.Prelude.{◌≡◌, ℕ, ◌<◌, ◌≤◌, All, IfOk, IfErr, IfSome, Ok};
+ghost use Rattle.std.specs.Prelude.{◌≡◌, ℕ, ◌<◌, ◌≤◌, ◌↔◌, All, is_some, IfOk, IfErr, IfSome, IsErrOf, MatchOption, None, Ok, Err};
+ghost use Rattle.std.specs.Result.{result_err};
 ghost use Rattle.mc_script.specs.Events.{IsEventOf};
 ghost use Rattle.mc_script.specs.ScriptSeen.{Explains, script_seen};
 ghost use Rattle.mc_script.specs.Scripts.{event_named, event_of, events_of, script_of, server_of};
 ghost use Rattle.mc_cache.specs.CacheState.{IsWithinBounds};
 
 use crate::errors::SimError;
-use crate::escapes::read_escaped;
+use crate::escapes::{is_escaped, read_escaped};
 use crate::events::{Event, Script};
 use crate::lines::{LineIter, cut_at_space, lines_of};
 use crate::numbers::{read_limit, read_moment, read_place};
@@ -15,8 +16,50 @@ use mc_server::MAX_CONNECTIONS;
 use mc_text::Block;
 use std::alloc::{AllocError, Global};
 
-/// The script that a text is. The first bad line from the top is answered, and no line at all is a bad line 1.
+/// The script that a text is. The first bad line from the top is answered, and no line at all is a bad line 1: also where memory for the
+/// script is refused, so that `Memory` says that the text is a script.
 pub fn read_script(alloc: Global, input: &[u8]) -> Result<Script, SimError>
+    ensures script { IfOk result (λ script. script_of input.now ≡ Ok (script_seen script)) }
+    ensures error { IfErr result (λ error. Explains error (script_of input.now)) }
+    ensures bad_line { (line : ℕ) → IsErrOf result (SimError.BadLine line) ↔ (script_of input.now ≡ Err line) }
+{
+    match read_lines(alloc, input) {
+        Ok(script) => Ok(script),
+        Err(error) => match bad_line(input) {
+            Some(number) => Err(SimError::BadLine(number)),
+            None => Err(error),
+        },
+    }
+}
+
+/// The number of the first bad line of a text.
+fn bad_line(input: &[u8]) -> Option<u64>
+    ensures { result ≡ result_err (script_of input.now) }
+{
+    let mut lines = lines_of(input);
+    let Some((number, line)) = lines.next() else {
+        return Some(1);
+    };
+    let Some((connections, _, _)) = read_server(line) else {
+        return Some(number);
+    };
+    bad_event(connections, lines)
+}
+
+/// The number of the first line that is no event, where so many connections are there.
+fn bad_event(connections: u64, lines: LineIter<'_>) -> Option<u64>
+    ensures { result ≡ result_err (events_of connections lines.entry) }
+{
+    for (number, line) in lines {
+        if !is_event(connections, line) {
+            return Some(number);
+        }
+    }
+    None
+}
+
+/// The same as `read_script`, but that memory may be wanted before the first bad line is met.
+fn read_lines(alloc: Global, input: &[u8]) -> Result<Script, SimError>
     ensures script { IfOk result (λ script. script_of input.now ≡ Ok (script_seen script)) }
     ensures error { IfErr result (λ error. Explains error (script_of input.now)) }
 {
@@ -69,21 +112,36 @@ fn read_server(line: &[u8]) -> Option<(u64, u64, usize)>
 }
 
 /// The event of a line, where so many connections are there.
-#[tactic(auto, unfolding(crate::specs::Scripts::event_of))]
 fn read_event(alloc: Global, connections: u64, line: &[u8]) -> Result<Option<Event>, AllocError>
     ensures event { IfOk result (λ event. event ≡ event_of connections line.now) }
     ensures of { IfOk result (λ event. IfSome event (λ event. IsEventOf connections event)) }
 {
-    let Some((command, rest)) = cut_at_space(line) else {
+    let Some((name, connection, rest)) = parts_of(connections, line) else {
         return Ok(None);
     };
-    let Some((connection, rest)) = cut_at_space(rest) else {
-        return Ok(None);
+    read_event_named(alloc, name, connection, rest)
+}
+
+/// Whether a line is an event, where so many connections are there.
+fn is_event(connections: u64, line: &[u8]) -> bool
+    ensures { result ≡ is_some (event_of connections line.now) }
+{
+    let Some((name, _, rest)) = parts_of(connections, line) else {
+        return false;
     };
-    let Some(connection) = read_place(connection, connections) else {
-        return Ok(None);
-    };
-    read_event_named(alloc, command, connection, rest)
+    is_event_named(name, rest)
+}
+
+/// The command of a line, the number of its connection, where so many are there, and what follows that.
+#[tactic(auto, unfolding(crate::specs::Scripts::event_of))]
+fn parts_of(connections: u64, line: &[u8]) -> Option<(&[u8], u64, &[u8])>
+    ensures event { MatchOption result (event_of connections line.now ≡ None)
+        (λ parts. event_of connections line.now ≡ event_named parts.0.now parts.1 parts.2.now) }
+    ensures inside { IfSome result (λ parts. parts.1 < connections) }
+{
+    let (name, rest) = cut_at_space(line)?;
+    let (connection, rest) = cut_at_space(rest)?;
+    Some((name, read_place(connection, connections)?, rest))
 }
 
 /// The event of a command, by the number of its connection and what follows that.
@@ -107,4 +165,15 @@ fn read_event_named(
         return Ok(read_moment(rest).map(|moment| Event::Turn { connection, moment }));
     }
     Ok(None)
+}
+
+/// Whether a command is an event's, by what follows the number of its connection.
+#[tactic(auto, unfolding(crate::specs::Scripts::event_named))]
+fn is_event_named(name: &[u8], rest: &[u8]) -> bool
+    ensures { (connection : ℕ) → result ≡ is_some (event_named name.now connection rest.now) }
+{
+    if name == b"bytes".as_slice() {
+        return is_escaped(rest);
+    }
+    name == b"turn".as_slice() && read_moment(rest).is_some()
 }

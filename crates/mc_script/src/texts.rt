@@ -1,5 +1,5 @@
 //! The text of a script: a line for each client.
-ghost use Rattle.std.specs.Prelude.{IfErr, IfOk, IsOkUnless, OnOk};
+ghost use Rattle.std.specs.Prelude.{◌≡◌, ◌↔◌, ℕ, Err, IfErr, IfOk, IsErrOf, IsOkUnless, OnOk};
 ghost use Rattle.std.specs.Io.KnownBytes.{Appends};
 ghost use Rattle.mc_script.specs.Texts.{IsTextOf};
 ghost use Rattle.mc_script.specs.ScriptSeen.{Explains};
@@ -17,10 +17,11 @@ use std::io::Write;
 ///
 /// The contract has no condition: it holds of every input, wherever its bytes came from. Where the call succeeds, the
 /// input is a script, and the lines are those of outputs that answer it. Where it names a line, the input is no script,
-/// and that line is its first bad one.
+/// and that line is its first bad one. Where it answers `Memory`, the input is a script.
 pub fn text_of_script<S: ScriptStore>(alloc: Global, input: &[u8]) -> Result<Vec<u8>, SimError>
     ensures text { IfOk result (λ text. IsTextOf input.now text.items) }
     ensures error { IfErr result (λ error. Explains error (script_of input.now)) }
+    ensures bad_line { (line : ℕ) → IsErrOf result (SimError.BadLine line) ↔ (script_of input.now ≡ Err line) }
 {
     let script = read_script(alloc, input)?;
     let server = played_server::<S>(alloc, &script)?;

@@ -2,7 +2,7 @@ use Rattle.std.proofs.Common.{ℕ, sym, ◌∙◌, refl}
 use Rattle.std.proofs.lemmas.Result.{err_from_is_err_and}
 use Rattle.mc_script.specs.Lines.{lines_from}
 use Rattle.mc_script.proofs.ScriptLemmas.{script_of_lines-nil, script_of_lines-bad, script_of_lines-server, explains-more}
-use Rattle.mc_script.proofs.scripts.read_script.Goals as goal
+use Rattle.mc_script.proofs.scripts.read_lines.Goals as goal
 
 pub returns-in_default-clause-error : goal.returns-in_default-clause-error
 returns-in_default-clause-error c = script_of_lines-nil (lines_from 1 c.args.input.now) (sym c.lines_of-lines.ensures ∙ c.in_default.ensures.steps.0)

@@ -1,6 +1,6 @@
 use Rattle.std.proofs.Common.{◌≡◌, length, arith}
 use Rattle.mc_script.proofs.EscapeLemmas.{text_of-read}
-use Rattle.mc_script.proofs.escapes.read_escaped.Goals as goal
+use Rattle.mc_script.proofs.escapes.read_bytes.Goals as goal
 
 pub returns : goal.returns
 returns c =
