@@ -1,5 +1,5 @@
 -- What a server's history tells, by the order in which a proxy took the requests.
-use Rattle.std.specs.Prelude.{ℕ, ◌≡◌, ◌≢◌, ◌<◌, ◌⊎◌, true, List, [], ◌∷◌, Some, slice_get}
+use Rattle.std.specs.Prelude.{ℕ, ◌≡◌, ◌≢◌, true, List, [], ◌∷◌, Some, slice_get}
 use Rattle.mc_request.specs.declared.parts.Atom.{Atom}
 use Rattle.mc_reply.specs.Spelling.{spelling_of}
 use Rattle.mc_route.specs.Routes.{to_place}
@@ -37,7 +37,3 @@ HasReply history tag reply = (k : ℕ) × (e : Entry) × (slice_get history k �
 
 abbrev pub HasNone : List Entry → Tag → Type 0
 HasNone history tag = (k : ℕ) (e : Entry) → slice_get history k ≡ Some e → tag_in e ≢ tag
-
--- of one client the first was asked before the second
-abbrev pub IsBefore : Tag → Tag → Type 0
-IsBefore a b = (a.request < b.request) ⊎ ((a.request ≡ b.request) × (a.atom < b.atom))

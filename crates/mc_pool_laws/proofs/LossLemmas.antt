@@ -9,10 +9,10 @@ use Rattle.mc_route.specs.declared.outcomes.Outcome.TheVariants.{Awaited, Lost, 
 use Rattle.mc_route.specs.declared.routes.Routed.{Routed}
 use Rattle.mc_link.specs.declared.turns.Tag.{Tag}
 use Rattle.mc_cache.specs.CacheState.{CacheState}
-use Rattle.mc_account.specs.Lookups.{command_at, outcome_at}
+use Rattle.mc_account.specs.Lookups.{IsBefore, command_at, outcome_at}
 use Rattle.mc_account.specs.Orders.{Order}
 use Rattle.mc_history.specs.declared.entries.Entry.{Entry}
-use Rattle.mc_history.specs.Histories.{IsBefore, tag_in}
+use Rattle.mc_history.specs.Histories.{tag_in}
 use Rattle.mc_world.specs.Accounts.{Accounts, IsToldLost, NotAnswered}
 use Rattle.mc_world.specs.Logs.{Log, before, is_up, loses, number_of, puts, serves, takes}
 use Rattle.mc_world.proofs.FollowLemmas.{nothing_lost, reply_known}

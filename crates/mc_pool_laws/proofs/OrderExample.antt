@@ -19,10 +19,10 @@ use Rattle.mc_route.specs.declared.outcomes.Outcome.TheVariants as outcomes
 use Rattle.mc_route.specs.declared.routes.Routed.{Routed}
 use Rattle.mc_link.specs.declared.turns.Tag.{Tag}
 use Rattle.mc_session.specs.Sending.{tag_of}
-use Rattle.mc_account.specs.Lookups.{asked_at, command_at, outcome_at}
+use Rattle.mc_account.specs.Lookups.{IsBefore, asked_at, command_at, outcome_at}
 use Rattle.mc_account.specs.Orders.{AreInOrder, Entry as AskedFor, Order, is_complete}
 use Rattle.mc_history.specs.declared.entries.Entry.{Entry}
-use Rattle.mc_history.specs.Histories.{HasReply, IsBefore, IsLegal, tag_in}
+use Rattle.mc_history.specs.Histories.{HasReply, IsLegal, tag_in}
 use Rattle.mc_world.specs.Accounts.{NotAnswered, WasTaken}
 use Rattle.mc_world.specs.Logs.{IsRingAfter, Log, before, loses, number_of, puts, serves, takes}
 use Rattle.mc_pool_laws.specs.Told.{LinkHeld, WasAnswered}

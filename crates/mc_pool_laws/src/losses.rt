@@ -6,10 +6,10 @@ ghost use Rattle.mc_route.specs.declared.outcomes.Outcome.TheVariants.{Lost, Rep
 ghost use Rattle.mc_route.specs.declared.routes.Routed.{Routed};
 ghost use Rattle.mc_link.specs.declared.turns.Tag.{Tag};
 ghost use Rattle.mc_cache.specs.CacheState.{CacheState};
-ghost use Rattle.mc_account.specs.Lookups.{command_at, outcome_at};
+ghost use Rattle.mc_account.specs.Lookups.{IsBefore, command_at, outcome_at};
 ghost use Rattle.mc_account.specs.Orders.{Order};
 ghost use Rattle.mc_history.specs.declared.entries.Entry.{Entry};
-ghost use Rattle.mc_history.specs.Histories.{IsBefore, tag_in};
+ghost use Rattle.mc_history.specs.Histories.{tag_in};
 ghost use Rattle.mc_world.specs.Accounts.{Account, Accounts, IsToldLost, NotAnswered};
 ghost use Rattle.mc_world.specs.Logs.{Log, before, loses, number_of, puts, serves};
 ghost use Rattle.mc_pool_laws.specs.Followed.{FollowsProxy};

@@ -12,11 +12,11 @@ use Rattle.mc_route.specs.declared.outcomes.Outcome.TheVariants.{Lost, Reply}
 use Rattle.mc_link.specs.declared.turns.Tag.{Tag}
 use Rattle.mc_cache.specs.CacheState.{CacheState}
 use Rattle.mc_account.specs.Lanes.{Lane}
-use Rattle.mc_account.specs.Lookups.{IsRoutedWithin, command_at, command_in, outcome_at}
+use Rattle.mc_account.specs.Lookups.{IsBefore, IsRoutedWithin, command_at, command_in, outcome_at}
 use Rattle.mc_account.specs.Orders.{Entry as Asked, Order}
 use Rattle.mc_account.proofs.StayingLemmas.{answers_nothing}
 use Rattle.mc_account.proofs.WithinLemmas.{commands_within}
-use Rattle.mc_history.specs.Histories.{HasReply, IsBefore, tag_in}
+use Rattle.mc_history.specs.Histories.{HasReply, tag_in}
 use Rattle.mc_history.specs.declared.entries.Entry.{Entry}
 use Rattle.mc_world.specs.Accounts.{Accounts, NotAnswered}
 use Rattle.mc_world.specs.CourseHolds.{HaveOneConnection}

@@ -7,14 +7,14 @@ use Rattle.mc_link.specs.LinkState.{LinkState}
 use Rattle.mc_link.specs.declared.turns.Tag.{Tag}
 use Rattle.mc_cache.specs.CacheState.{CacheState}
 use Rattle.mc_account.specs.Lanes.{Lane}
-use Rattle.mc_account.specs.Lookups.{command_at}
+use Rattle.mc_account.specs.Lookups.{IsBefore, command_at}
 use Rattle.mc_account.specs.Orders.{AreInOrder, Order, Tagged, commands_to, entries_of}
 use Rattle.mc_account.proofs.OrderLemmas.{commands-append}
 use Rattle.mc_account.proofs.RisingLemmas.{commands_rise, past_front}
 use Rattle.mc_account.proofs.TagLemmas.{count_to, tag_once}
 use Rattle.mc_account.proofs.ThereLemmas.{command_is_there}
 use Rattle.mc_history.specs.Generations.{commands_of_lane}
-use Rattle.mc_history.specs.Histories.{IsBefore, tag_in}
+use Rattle.mc_history.specs.Histories.{tag_in}
 use Rattle.mc_history.specs.Made.{Made, commands_on, entry_of}
 use Rattle.mc_history.specs.Named.{tags_made, tags_of}
 use Rattle.mc_history.specs.declared.entries.Entry.{Entry}

@@ -15,7 +15,7 @@ use Rattle.mc_session.specs.declared.turns.Turn.TheVariants as turns
 use Rattle.mc_proxy.specs.ProxyState.{ProxyState}
 use Rattle.mc_account.specs.Answered.{answered_at}
 use Rattle.mc_account.specs.Lanes.{Lane}
-use Rattle.mc_account.specs.Lookups.{IsRoutedWithin}
+use Rattle.mc_account.specs.Lookups.{IsBefore, IsRoutedWithin}
 use Rattle.mc_account.specs.Orders.{Order, Tagged, commands_from}
 use Rattle.mc_account.specs.Holds.{ProxyHolds}
 use Rattle.mc_account.proofs.CountLemmas.{answered-turn}
@@ -23,7 +23,7 @@ use Rattle.mc_account.proofs.HandingLemmas.{handed_at, received, received_down, 
 use Rattle.mc_account.proofs.OpenSessions.{other_number, own_number}
 use Rattle.mc_account.proofs.StayingLemmas.{answers_push}
 use Rattle.mc_history.specs.declared.entries.Entry.{Entry}
-use Rattle.mc_history.specs.Histories.{IsBefore, tag_in}
+use Rattle.mc_history.specs.Histories.{tag_in}
 use Rattle.mc_world.specs.Accounts.{up_when_taken}
 use Rattle.mc_world.specs.Happens.{entry_of_tag}
 use Rattle.mc_world.specs.LogHolds.{AreOrdered, IsPlaced, LogHolds}

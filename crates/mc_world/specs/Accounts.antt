@@ -14,9 +14,9 @@ use Rattle.mc_cache.specs.CacheState.{CacheState}
 use Rattle.mc_account.specs.Orders.{AreInOrder, Entry as Asked, IsSized, Order, answers_of, commands_to, entries_of, is_complete, taken_of}
 use Rattle.mc_history.specs.declared.entries.Entry.{Entry}
 use Rattle.mc_world.specs.Logs.{IsRingAfter, Log, before, is_up, loses, moments_of, number_of, puts, serves, takes, turns_of}
-use Rattle.mc_history.specs.Histories.{HasNone, HasReply, IsBefore, IsLegal, tag_in}
+use Rattle.mc_history.specs.Histories.{HasNone, HasReply, IsLegal, tag_in}
 use Rattle.mc_history.specs.Named.{tags_of}
-use Rattle.mc_account.specs.Lookups.{asked_at, command_at, outcome_at}
+use Rattle.mc_account.specs.Lookups.{IsBefore, asked_at, command_at, outcome_at}
 
 -- at a place of the log, a request was taken, and was not answered yet
 abbrev pub WasTaken : Tag → Log → Type 0

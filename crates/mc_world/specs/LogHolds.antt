@@ -9,9 +9,9 @@ use Rattle.mc_link.specs.declared.turns.Tag.{Tag}
 use Rattle.mc_session.specs.SessionState.{SessionState, answered, link_at}
 use Rattle.mc_proxy.specs.ProxyState.{ProxyState, session_at}
 use Rattle.mc_account.specs.Answered.{AreAnswers}
-use Rattle.mc_account.specs.Lookups.{IsRoutedWithin, asked_at, command_at, outcome_at}
+use Rattle.mc_account.specs.Lookups.{IsBefore, IsRoutedWithin, asked_at, command_at, outcome_at}
 use Rattle.mc_account.specs.Orders.{Entry as Asked, Order}
-use Rattle.mc_history.specs.Histories.{IsBefore, tag_in}
+use Rattle.mc_history.specs.Histories.{tag_in}
 use Rattle.mc_history.specs.declared.entries.Entry.{Entry}
 use Rattle.mc_world.specs.Accounts.{IsToldLost, NotAnswered, WasTaken, up_when_taken}
 use Rattle.mc_world.specs.Logs.{IsRingAfter, Log, before, is_up, moments_of, number_of, puts, serves, takes, turns_of}
