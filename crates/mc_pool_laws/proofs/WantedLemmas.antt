@@ -56,12 +56,12 @@ wants : (s : CacheState) (atom : Atom (List ℕ)) (moment : ℕ) → may_refuse 
 wants s (atoms.Get key exptime with_cas) moment h = absurd (false≢true h)
 wants s (atoms.Update update) moment h =
     let w = by_update (settled s (key_in update) moment) update h in
-    record { stores = w.stores; grows = w.grows }
+    record { exact = h; stores = w.stores; grows = w.grows }
 wants s (atoms.Meta (metas.Get key get)) moment h =
-    record { stores = refl; grows = inl (by_get get (body_at key (settled s (Some key) moment).items) h) }
+    record { exact = h; stores = refl; grows = inl (by_get get (body_at key (settled s (Some key) moment).items) h) }
 wants s (atoms.Meta (metas.Update update show)) moment h =
     let w = by_update (settled s (key_in update) moment) update h in
-    record { stores = w.stores; grows = w.grows }
+    record { exact = h; stores = w.stores; grows = w.grows }
 
 -- so of each entry of a history
 pub are_wanted : (ring : RingState) (texts : ℕ → List ℕ) (log : Log) (place : ℕ) (s : CacheState) (es : List Entry) → IsReplayed ring texts log place s es → AreWanted ring texts log place s es

@@ -9,6 +9,7 @@ use Rattle.mc_request.specs.declared.parts.Update.TheVariants.{Count, Store}
 use Rattle.mc_ring.specs.Rings.{RingState}
 use Rattle.mc_route.specs.Routes.{to_place}
 use Rattle.mc_cache.specs.CacheState.{CacheState}
+use Rattle.mc_cache.specs.Memory.{may_refuse}
 use Rattle.mc_cache.specs.Settling.{settled}
 use Rattle.mc_cache.specs.Step.{atom_key, held_under, step_of}
 use Rattle.mc_history.specs.declared.entries.Entry.{Entry}
@@ -40,8 +41,10 @@ stores (atoms.Meta (metas.Update update show)) = may_store update
 stores (atoms.Meta (metas.Get key get)) = true
 stores other = false
 
--- A command wants memory at a moment: it may store an item, under a key that is not held then, or make the held value longer.
+-- A command wants memory at a moment: just there it may be refused it. So it may store an item, under a key that is not held then, or make
+-- the held value longer.
 pub record WantsMemory (s : CacheState) (atom : Atom (List ℕ)) (moment : ℕ) : Type 0 where
+  pub exact : may_refuse s atom moment ≡ true
   pub stores : stores atom ≡ true
   pub grows : (held_under (atom_key atom) (settled s (atom_key atom) moment) ≡ None) ⊎ (lengthens atom ≡ true)
 
