@@ -1,9 +1,12 @@
 //! New servers.
+ghost use Rattle.std.specs.Prelude.{◌≡◌, []};
+ghost use Rattle.mc_cache.specs.CacheState.{HasRoom};
 
 use crate::meagre::MeagreStore;
 use mc_cache::{Cache, is_within_bounds};
 use mc_item::CasCounter;
 use mc_server::Server;
+use mc_store::Store;
 use std::alloc::Global;
 use std::test::Fail;
 
@@ -33,10 +36,21 @@ pub const MOMENT: u64 = 100;
 
 /// A server that is set up so.
 pub fn new_server(alloc: Global, setup: Setup) -> Result<Server<MeagreStore>, Fail> {
+    server_over(alloc, MeagreStore::new(alloc, setup.keys), setup)
+}
+
+/// A server over a store, which is set up so but for the memory for new keys.
+pub fn server_over<S: Store + Drop>(
+    alloc: Global,
+    store: S,
+    setup: Setup,
+) -> Result<Server<S>, Fail>
+    requires empty { S.items store ≡ [] }
+    requires room { HasRoom setup.items (S.most store) }
+{
     if !is_within_bounds(setup.budget, setup.items) {
         return Err("no cache has these bounds".into());
     }
-    let store = MeagreStore::new(alloc, setup.keys);
     let counter = CasCounter::starting_at(setup.last);
     let cache = Cache::new(alloc, store, setup.budget, setup.items, counter);
     Ok(Server::new(alloc, cache))

@@ -93,13 +93,35 @@ fn points_and_owners_are_those_of_others(rt: HostRuntime) -> Result<(), Fail> {
     Ok(())
 }
 
-/// Of a server that has one point, the hash of `a`, and owns every key: what the next one takes when it joins. Hashlib gives the figure.
+/// How many of `k0` to `k999` the server owns that joined a ring; none if another key has another owner than before.
+fn taken_by_the_joined(alloc: Global, before: &Ring, after: &Ring) -> Result<Option<usize>, Fail> {
+    let joined = before.servers().len();
+    let mut taken = 0usize;
+    for number in 0..KEYS {
+        let text = format!(in alloc; "k{number}")?;
+        let key = Key::plain(alloc, text.as_bytes())?;
+        let owner = after.owner(&key);
+        if owner == joined {
+            taken = taken.saturating_add(1);
+        } else if owner != before.owner(&key) {
+            return Ok(None);
+        }
+    }
+    Ok(Some(taken))
+}
+
+/// A server that joins takes keys, and no other does: of a server with one point, the hash of `a`, all; of two servers, as many as hashlib
+/// gives.
 #[test]
 fn keys_stay_or_go_to_the_server_that_joins(rt: HostRuntime) -> Result<(), Fail> {
     let alloc = rt.alloc();
-    let ring = Ring::of_points(alloc, &[server(alloc, 0)?], &[AT_A])?;
-    assert_eq!(rt; owners(alloc, &ring)?, 0);
-    let ring = ring.with_server(alloc, server(alloc, 1)?)?;
-    assert_eq!(rt; owners(alloc, &ring)?, 500500);
+    let one = Ring::of_points(alloc, &[server(alloc, 0)?], &[AT_A])?;
+    assert_eq!(rt; owners(alloc, &one)?, 0);
+    let two = one.with_server(alloc, server(alloc, 1)?)?;
+    assert_eq!(rt; owners(alloc, &two)?, 500500);
+    assert_eq!(rt; taken_by_the_joined(alloc, &one, &two)?, Some(1_000));
+    let two = Ring::new(alloc, &[server(alloc, 0)?, server(alloc, 1)?])?;
+    let three = two.with_server(alloc, server(alloc, 2)?)?;
+    assert_eq!(rt; taken_by_the_joined(alloc, &two, &three)?, Some(357));
     Ok(())
 }

@@ -2,9 +2,11 @@
 //!
 //! A call that is refused memory is made again. So a client is answered as with ample memory, or as where one store was refused,
 //! whichever allocation is refused: `tests/gate/refused.py` refuses each of them in turn.
+ghost use Rattle.std.specs.Prelude.{◌≡◌, ◌+◌, [], IfOk};
 
-use mc_fixtures::{MeagreStore, Setup, WIDE, again, new_server};
+use mc_fixtures::{Setup, WIDE, again, new_server, server_over};
 use mc_server::{Server, ServerError, Turn};
+use mc_store::{FixedHasher, LruStore, Store, StoreError, TableStore};
 use std::alloc::{AllocError, Global};
 use std::test::Fail;
 
@@ -318,7 +320,7 @@ const EXAMPLES: [Example; 24] = [
 /// More requests than a client here sends at a time.
 const MANY: usize = 20;
 
-fn admit(server: &mut Server<MeagreStore>) -> Result<u64, ServerError> {
+fn admit<S: Store + Drop>(server: &mut Server<S>) -> Result<u64, ServerError> {
     again!(server.admit())
 }
 
@@ -326,16 +328,28 @@ fn repeated(alloc: Global, text: &[u8], times: usize) -> Result<Vec<u8>, AllocEr
     again!(text.repeat(alloc, times))
 }
 
-fn feed(server: &mut Server<MeagreStore>, number: u64, bytes: &[u8]) -> Result<(), ServerError> {
+fn feed<S: Store + Drop>(
+    server: &mut Server<S>,
+    number: u64,
+    bytes: &[u8],
+) -> Result<(), ServerError> {
     again!(server.feed(number, bytes))
 }
 
-fn turn(server: &mut Server<MeagreStore>, number: u64, moment: u32) -> Result<Turn, ServerError> {
+fn turn<S: Store + Drop>(
+    server: &mut Server<S>,
+    number: u64,
+    moment: u32,
+) -> Result<Turn, ServerError> {
     again!(server.turn(number, u64::from(moment)))
 }
 
 /// Takes each whole request.
-fn take_all(server: &mut Server<MeagreStore>, number: u64, moment: u32) -> Result<(), ServerError> {
+fn take_all<S: Store + Drop>(
+    server: &mut Server<S>,
+    number: u64,
+    moment: u32,
+) -> Result<(), ServerError> {
     for _ in 0..MANY {
         if turn(server, number, moment)? != Turn::Took {
             return Ok(());
@@ -344,14 +358,17 @@ fn take_all(server: &mut Server<MeagreStore>, number: u64, moment: u32) -> Resul
     Ok(())
 }
 
-/// Whether a client is answered in one of the ways that it may be answered.
-fn is_answered(alloc: Global, example: &Example) -> Result<bool, Fail> {
-    let mut server = new_server(alloc, example.server)?;
-    let number = admit(&mut server)?;
+/// Whether a client of a new server is answered in one of the ways that it may be answered.
+fn is_answered<S: Store + Drop>(
+    alloc: Global,
+    server: &mut Server<S>,
+    example: &Example,
+) -> Result<bool, Fail> {
+    let number = admit(server)?;
     for (moment, text, times) in example.said {
         let bytes = repeated(alloc, text, *times)?;
-        feed(&mut server, number, &bytes)?;
-        take_all(&mut server, number, *moment)?;
+        feed(server, number, &bytes)?;
+        take_all(server, number, *moment)?;
     }
     Ok(
         example
@@ -364,7 +381,60 @@ fn is_answered(alloc: Global, example: &Example) -> Result<bool, Fail> {
 #[test]
 fn clients_are_answered_all_the_same(rt: HostRuntime) -> Result<(), Fail> {
     for example in &EXAMPLES {
-        assert!(rt; is_answered(rt.alloc(), example)?, "{}", example.name);
+        let mut server = new_server(rt.alloc(), example.server)?;
+        assert!(rt;
+            is_answered(rt.alloc(), &mut server, example)?,
+            "{}",
+            example.name
+        );
+    }
+    Ok(())
+}
+
+fn new_lru(alloc: Global, items: usize) -> Result<LruStore<FixedHasher>, StoreError>
+    ensures empty { IfOk result (λ store. store.items ≡ []) }
+    ensures most { IfOk result (λ store. store.most ≡ items + 1) }
+{
+    again!(LruStore::new(alloc, items))
+}
+
+fn new_table(alloc: Global, items: usize) -> Result<TableStore<FixedHasher>, StoreError>
+    ensures empty { IfOk result (λ store. store.items ≡ []) }
+    ensures most { IfOk result (λ store. store.most ≡ items + 1) }
+{
+    again!(TableStore::new(alloc, items))
+}
+
+/// The same over lru's cache, but for the examples in which a list has memory for so many keys alone.
+#[test]
+fn clients_are_answered_all_the_same_over_lru(rt: HostRuntime) -> Result<(), Fail> {
+    for example in &EXAMPLES {
+        if example.server.keys == u64::MAX {
+            let store = new_lru(rt.alloc(), example.server.items)?;
+            let mut server = server_over(rt.alloc(), store, example.server)?;
+            assert!(rt;
+                is_answered(rt.alloc(), &mut server, example)?,
+                "{}",
+                example.name
+            );
+        }
+    }
+    Ok(())
+}
+
+/// The same over a table.
+#[test]
+fn clients_are_answered_all_the_same_over_a_table(rt: HostRuntime) -> Result<(), Fail> {
+    for example in &EXAMPLES {
+        if example.server.keys == u64::MAX {
+            let store = new_table(rt.alloc(), example.server.items)?;
+            let mut server = server_over(rt.alloc(), store, example.server)?;
+            assert!(rt;
+                is_answered(rt.alloc(), &mut server, example)?,
+                "{}",
+                example.name
+            );
+        }
     }
     Ok(())
 }
