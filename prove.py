@@ -84,11 +84,14 @@ SECONDS = {
     "mc_socket": 32,
     "mc_spelling": 79,
     "mc_store": 86,
+    "mc_stranger": 60,
     "mc_stream": 18,
     "mc_table": 60,
     "mc_text": 70,
+    "mc_thread_bench": 120,
     "mc_thread_rows": 60,
     "mc_threads": 190,
+    "mc_watch": 16,
     "mc_world": 260,
 }
 
