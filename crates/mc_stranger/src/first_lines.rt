@@ -33,15 +33,16 @@ impl FirstLine {
         self.place.opening()
     }
 
-    /// Takes the next bytes of the connection: once it is known what they are, these are looked at no further.
+    /// Takes the next bytes of the connection: once it is known what they are, these are looked at no further. Stretches of a line that
+    /// say nothing of their own are passed at once.
     pub fn pass(&mut self, piece: &[u8])
         ensures { SaysTheSame (kept_text self.old ++ piece.now) (kept_text self.new) }
     {
-        for byte in piece {
-            let Opening::Unsettled = self.place.opening() else {
-                return;
-            };
-            self.place = self.place.with(*byte);
+        let mut rest = piece;
+        while !rest.is_empty() {
+            let (place, more) = self.place.pass(rest);
+            self.place = place;
+            rest = more;
         }
     }
 }

@@ -37,6 +37,13 @@ impl FirstWord {
         word
     }
 
+    /// Whether there are none.
+    pub fn is_empty(&self) -> bool
+        ensures { IsTrue result ↔ self.now.len ≡ 0 }
+    {
+        self.len == 0
+    }
+
     /// Whether no byte goes on after them that may belong to the name of a command.
     pub fn is_full(&self) -> bool
         ensures { IsTrue result ↔ self.now.len ≡ WORD_ROOM }

@@ -22,6 +22,7 @@ mod first_words;
 mod laws;
 mod openings;
 mod places;
+mod spaces;
 
 pub use first_lines::FirstLine;
 pub use laws::{

@@ -1,5 +1,5 @@
 //! Where the bytes of a connection have come to in its first line that is not empty.
-ghost use Rattle.std.specs.Prelude.{ℕ, List, ◌≡◌, ◌≢◌, ◌++◌, ◌∷◌, [], true, take, length, ◌≤◌, if◌then◌else◌};
+ghost use Rattle.std.specs.Prelude.{ℕ, List, ◌≡◌, ◌≢◌, ◌++◌, ◌∷◌, [], true, take, length, ◌<◌, ◌≤◌, if◌then◌else◌};
 ghost use Rattle.mc_stranger.specs.FirstLines.{first_line_says, is_command, is_version};
 ghost use Rattle.mc_stranger.specs.FirstWords.{is_word};
 ghost use Rattle.mc_stranger.specs.Places.{SaysTheSame, ending_text, place_text};
@@ -8,6 +8,7 @@ use crate::commands::{is_command, is_version};
 use crate::endings::Ending;
 use crate::first_words::FirstWord;
 use crate::openings::{Opening, Stranger};
+use crate::spaces::without_spaces;
 use mc_text::content_to;
 
 /// Where the bytes of a connection have come to in its first line that is not empty.
@@ -37,16 +38,55 @@ impl Place {
         }
     }
 
-    /// The place with a byte more.
-    pub fn with(self, byte: u8) -> Place
-        ensures { SaysTheSame (place_text self ++ byte ∷ []) (place_text result) }
+    /// The place after the first of some bytes, or after several, and the bytes that are left: after them too it says what it said, and
+    /// what the bytes say.
+    pub fn pass(self, bytes: &[u8]) -> (Place, &[u8])
+        requires { 0 < length bytes.now }
+        ensures says { SaysTheSame (place_text self ++ bytes.now) (place_text result.0 ++ result.1.now) }
+        ensures shorter { length result.1.now < length bytes.now }
     {
         match self {
-            Place::First(word) => after_word(word, byte),
-            Place::Later(ending) => after_ending(ending, byte),
-            Place::Text => Place::Text,
-            Place::Strange => Place::Strange,
+            Place::First(word) => after_first(word, bytes),
+            Place::Later(ending) => after_later(ending, bytes),
+            Place::Text => (Place::Text, &[]),
+            Place::Strange => (Place::Strange, &[]),
         }
+    }
+}
+
+/// The place after a first word, if there is one, and a byte more, and the bytes after it. Spaces in front of the word are passed.
+fn after_first(word: FirstWord, bytes: &[u8]) -> (Place, &[u8])
+    requires { 0 < length bytes.now }
+    ensures says { SaysTheSame (take word.len word.bytes ++ bytes.now) (place_text result.0 ++ result.1.now) }
+    ensures shorter { length result.1.now < length bytes.now }
+{
+    match behind(word, bytes).split_first() {
+        Some((byte, more)) => (after_word(word, *byte), more),
+        None => (Place::First(word), &[]),
+    }
+}
+
+/// The bytes that count after a first word, or after none: then without the spaces in front of them.
+fn behind(word: FirstWord, bytes: &[u8]) -> &[u8]
+    ensures says { SaysTheSame (take word.len word.bytes ++ bytes.now) (take word.len word.bytes ++ result.now) }
+    ensures shorter { length result.now ≤ length bytes.now }
+{
+    if word.is_empty() {
+        without_spaces(bytes)
+    } else {
+        bytes
+    }
+}
+
+/// The place after the end of a line and a byte more, and the bytes after it.
+fn after_later(ending: Ending, bytes: &[u8]) -> (Place, &[u8])
+    requires { 0 < length bytes.now }
+    ensures says { SaysTheSame (place_text (Place.Later ending) ++ bytes.now) (place_text result.0 ++ result.1.now) }
+    ensures shorter { length result.1.now < length bytes.now }
+{
+    match bytes.split_first() {
+        Some((byte, more)) => (after_ending(ending, *byte), more),
+        None => (Place::Later(ending), &[]),
     }
 }
 

@@ -1,12 +1,13 @@
+use Rattle.std.proofs.Common.{◌++◌, arith}
 use Rattle.mc_stranger.specs.Places.{kept_text}
-use Rattle.mc_stranger.proofs.LineLemmas.{says_early, says_next}
+use Rattle.mc_stranger.proofs.SpaceLemmas.{says_then, end_of}
 use Rattle.mc_stranger.proofs.first_lines.FirstLine.pass.Goals as goal
 
-pub loop-byte-preserved : goal.loop-byte-preserved
-loop-byte-preserved c =
-    says_next (kept_text c.args.self.now) c.args.piece.now (kept_text c.loop-byte.self) _ c.loop-byte.byte-index c.loop-byte-test.true c.loop-byte.invariant c.with-self.ensures
+pub loop-rest-preserved : goal.loop-rest-preserved
+loop-rest-preserved c =
+    says_then (kept_text c.args.self.now ++ c.args.piece.now) (kept_text c.loop-rest.self ++ c.loop-rest.rest.now) _ c.loop-rest.invariant c.pass-place.ensures.says
 
-pub returns-in_default : goal.returns-in_default
-returns-in_default c =
-    says_early (kept_text c.args.self.now) c.args.piece.now (kept_text c.loop-byte.self) c.loop-byte.byte-index c.loop-byte.invariant
-    (c.opening.ensures.stays (λ is. c.in_default.not-Unsettled is))
+pub returns : goal.returns
+returns c =
+    end_of (kept_text c.args.self.now ++ c.args.piece.now) (kept_text c.loop-rest.self) c.loop-rest.rest.now c.loop-rest.invariant
+    (grind (arith, c.is_empty.ensures, c.loop-rest-test))

@@ -1,6 +1,10 @@
-use Rattle.std.proofs.Common.{◌++◌, take}
+use Rattle.std.proofs.Common.{◌++◌, length}
 use Rattle.mc_stranger.specs.Places.{SaysTheSame, kept_text}
 use Rattle.mc_stranger.proofs.first_lines.FirstLine.pass.Given as goal
 
-abbrev pub invariant-loop-byte : goal.invariant-loop-byte
-invariant-loop-byte l = SaysTheSame (kept_text l.initial.self ++ take l.byte-index l.piece) (kept_text l.self)
+-- what is kept, with the bytes that are left, says what was kept at first with all of them
+abbrev pub invariant-loop-rest : goal.invariant-loop-rest
+invariant-loop-rest l = SaysTheSame (kept_text l.initial.self ++ l.piece) (kept_text l.self ++ l.rest)
+
+abbrev pub decreases-loop-rest : goal.decreases-loop-rest
+decreases-loop-rest l = length l.rest

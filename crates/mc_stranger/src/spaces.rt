@@ -1,0 +1,49 @@
+//! Spaces in front of a text: they count for nothing.
+ghost use Rattle.std.specs.Prelude.{◌≡◌, ◌≤◌, ◌==◌, true, length, take, IsTrue};
+ghost use Rattle.std.specs.List.{list_all};
+ghost use Rattle.mc_stranger.specs.Places.{SaysTheSame};
+
+use std::simd::prelude::*;
+
+/// How many bytes are looked at together.
+const LANES: usize = 16;
+
+/// A text without the spaces in front of it, which are looked at in steps of 16.
+pub(crate) fn without_spaces(text: &[u8]) -> &[u8]
+    ensures says { SaysTheSame text.now result.now }
+    ensures shorter { length result.now ≤ length text.now }
+{
+    let mut rest = text;
+    while rest.len() >= LANES {
+        if !are_spaces(rest) {
+            return without_few(rest);
+        }
+        let (_, more) = rest.split_at(LANES);
+        rest = more;
+    }
+    without_few(rest)
+}
+
+/// The same, where few spaces are in front.
+fn without_few(text: &[u8]) -> &[u8]
+    ensures says { SaysTheSame text.now result.now }
+    ensures shorter { length result.now ≤ length text.now }
+{
+    let mut rest = text;
+    while let Some((b' ', more)) = rest.split_first() {
+        rest = more;
+    }
+    rest
+}
+
+/// Whether the first 16 bytes are spaces.
+#[inline(always)]
+fn are_spaces(text: &[u8]) -> bool
+    requires { LANES ≤ length text.now }
+    ensures { result ≡ list_all (λ b. b == 32) (take LANES text.now) }
+{
+    let others = u8x16::from_slice(text)
+        .simd_ne(u8x16::splat(b' '))
+        .to_bitmask();
+    others == 0
+}
