@@ -95,7 +95,7 @@ not_command u v h k alike front line = same_line u (codes "x " ++ v) h k
     (λ rest. front rest ∙ sym (front_x (v ++ rest)))
     (λ rest after. line rest after ∙ ap says_by (alike rest) ∙ sym (line_x (v ++ rest) after))
 
-ending_lacks : (end : Ending) → lacks is_feed (ending_text end) ≡ true
+pub ending_lacks : (end : Ending) → lacks is_feed (ending_text end) ≡ true
 ending_lacks Between = refl
 ending_lacks H = refl
 ending_lacks Ht = refl

@@ -10,6 +10,7 @@ use crate::first_words::FirstWord;
 use crate::openings::{Opening, Stranger};
 use crate::spaces::without_spaces;
 use mc_text::content_to;
+use memchr::memchr;
 
 /// Where the bytes of a connection have come to in its first line that is not empty.
 #[derive(Clone, Copy, Debug)]
@@ -78,15 +79,30 @@ fn behind(word: FirstWord, bytes: &[u8]) -> &[u8]
     }
 }
 
-/// The place after the end of a line and a byte more, and the bytes after it.
+/// The place after the end of a line and what more of it has come, its line feed included, and the bytes after that.
 fn after_later(ending: Ending, bytes: &[u8]) -> (Place, &[u8])
     requires { 0 < length bytes.now }
     ensures says { SaysTheSame (place_text (Place.Later ending) ++ bytes.now) (place_text result.0 ++ result.1.now) }
     ensures shorter { length result.1.now < length bytes.now }
 {
-    match bytes.split_first() {
-        Some((byte, more)) => (after_ending(ending, *byte), more),
-        None => (Place::Later(ending), &[]),
+    match memchr(b'\n', bytes) {
+        Some(end) => {
+            let (line, _) = bytes.split_at(end);
+            let (_, more) = bytes.split_at(end + 1);
+            (at_end(ending.after(line)), more)
+        }
+        None => (Place::Later(ending.after(bytes)), &[]),
+    }
+}
+
+/// The place after the line feed of a line that ends so.
+fn at_end(ending: Ending) -> Place
+    ensures { SaysTheSame (place_text (Place.Later ending) ++ 10 ∷ []) (place_text result) }
+{
+    if ending.is_version() {
+        Place::Strange
+    } else {
+        Place::Text
     }
 }
 
@@ -141,17 +157,5 @@ fn ending_of(word: &[u8]) -> Ending
         Ending::Version
     } else {
         Ending::Other
-    }
-}
-
-/// The place after the end of a line and a byte more.
-fn after_ending(ending: Ending, byte: u8) -> Place
-    ensures { SaysTheSame (place_text (Place.Later ending) ++ byte ∷ []) (place_text result) }
-{
-    match byte {
-        b'\n' if ending.is_version() => Place::Strange,
-        b'\n' => Place::Text,
-        b' ' => Place::Later(ending.with_space()),
-        _ => Place::Later(ending.with(byte)),
     }
 }

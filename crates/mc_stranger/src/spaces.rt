@@ -1,7 +1,7 @@
 //! Spaces in front of a text: they count for nothing.
-ghost use Rattle.std.specs.Prelude.{◌≡◌, ◌≤◌, ◌==◌, true, length, take, IsTrue};
+ghost use Rattle.std.specs.Prelude.{ℕ, List, [], ◌≡◌, ◌≤◌, ◌==◌, ◌++◌, ◌∷◌, length, take};
 ghost use Rattle.std.specs.List.{list_all};
-ghost use Rattle.mc_stranger.specs.Places.{SaysTheSame};
+ghost use Rattle.mc_stranger.specs.Places.{EndsTheSame, SaysTheSame};
 
 use std::simd::prelude::*;
 
@@ -11,6 +11,7 @@ const LANES: usize = 16;
 /// A text without the spaces in front of it, which are looked at in steps of 16.
 pub(crate) fn without_spaces(text: &[u8]) -> &[u8]
     ensures says { SaysTheSame text.now result.now }
+    ensures ends { (end : List ℕ) → EndsTheSame (end ++ 32 ∷ []) end → EndsTheSame (end ++ text.now) (end ++ result.now) }
     ensures shorter { length result.now ≤ length text.now }
 {
     let mut rest = text;
@@ -27,6 +28,7 @@ pub(crate) fn without_spaces(text: &[u8]) -> &[u8]
 /// The same, where few spaces are in front.
 fn without_few(text: &[u8]) -> &[u8]
     ensures says { SaysTheSame text.now result.now }
+    ensures ends { (end : List ℕ) → EndsTheSame (end ++ 32 ∷ []) end → EndsTheSame (end ++ text.now) (end ++ result.now) }
     ensures shorter { length result.now ≤ length text.now }
 {
     let mut rest = text;

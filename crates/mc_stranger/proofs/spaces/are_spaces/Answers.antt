@@ -1,4 +1,4 @@
-use Rattle.std.proofs.Common.{◌≡◌, ◌==◌, not, length, take, eqb, ap, ◌∙◌, arith, w8}
+use Rattle.std.proofs.Common.{◌≡◌, not, length, take, eqb, ap, ◌∙◌, arith, w8}
 use Rattle.std.proofs.lemmas.List.{length-take}
 use Rattle.std.proofs.lemmas.Simd.{bitmask_splat}
 use Rattle.mc_text.proofs.TestLemmas.{none_by_mask}

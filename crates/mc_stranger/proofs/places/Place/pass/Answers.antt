@@ -1,4 +1,3 @@
-use Rattle.std.proofs.Common.{sym}
 use Rattle.mc_stranger.proofs.LineLemmas.{text_stays, strange_stays}
 use Rattle.mc_stranger.proofs.places.Place.pass.Goals as goal
 
