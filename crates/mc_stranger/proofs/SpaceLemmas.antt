@@ -1,5 +1,5 @@
 -- Spaces in front of a text, and bytes that come in stretches.
-use Rattle.std.proofs.Common.{◌≡◌, ◌≢◌, ◌∙◌, ℕ, zero, suc, ◌+◌, ◌<◌, ◌≤◌, ◌==◌, ◌&&◌, not, Bool, true, false, List, [], ◌∷◌, ◌++◌, length, take, drop, get_or, filter, inl, inr, refl, sym, ap, arith, append_assoc}
+use Rattle.std.proofs.Common.{◌≡◌, ◌≢◌, ◌∙◌, ℕ, zero, suc, ◌+◌, ◌<◌, ◌≤◌, ◌==◌, ◌&&◌, not, Bool, true, false, List, [], ◌∷◌, ◌++◌, length, take, drop, get_or, filter, Option, None, Some, IfSome, Bor, inl, inr, refl, sym, ap, arith, append_assoc}
 use Rattle.std.proofs.lemmas.Bool.Decides.{nat_tests}
 use Rattle.std.proofs.lemmas.List.{append-nil, take-append-drop, take_more}
 use Rattle.std.proofs.lemmas.List.Elements.{filter-append}
@@ -14,7 +14,7 @@ use Rattle.mc_stranger.specs.declared.endings.Ending.{Ending}
 use Rattle.mc_stranger.specs.declared.places.Place.{Place}
 use Rattle.mc_stranger.specs.declared.places.Place.TheVariants.{Later}
 use Rattle.mc_stranger.proofs.EndLemmas.{cut, lacks, is_space, is_run, words_after, strip_more, strip_after}
-use Rattle.mc_stranger.proofs.LineLemmas.{space_in_front, is_feed, ending_lacks, later, whole}
+use Rattle.mc_stranger.proofs.LineLemmas.{space_in_front, empty_line, is_feed, ending_lacks, later, whole}
 
 first_of : (a b : Bool) → (a && b) ≡ true → a ≡ true
 first_of true b h = refl
@@ -218,3 +218,13 @@ later_ended end next place bytes line more k inside feed h line_is more_is alike
     ∙ ap (λ (t : List ℕ). first_line_says (t ++ rest)) (sym (append_assoc (place_text (Later end)) line (10 ∷ more)))
     ∙ says_behind (place_text (Later end) ++ line) (place_text (Later next)) (10 ∷ more) (later_more end next line lacking alike) rest
     ∙ says_byte (place_text (Later next)) (place_text place) more 10 ended rest
+
+-- an empty line less
+pub feed_less : (text more : List ℕ) → text ≡ 10 ∷ more → SaysTheSame text more
+feed_less text more is = λ next. ap (λ (t : List ℕ). first_line_says (t ++ next)) is ∙ empty_line [] [] refl refl refl (more ++ next)
+
+pub return_less : (text more : List ℕ) (left : Option (Bor (List ℕ))) → text ≡ 13 ∷ more → IfSome left (λ rest. more ≡ 10 ∷ rest.now)
+    → IfSome left (λ rest. SaysTheSame text rest.now)
+return_less text more None is h = h
+return_less text more (Some rest) is h = λ next.
+    ap (λ (t : List ℕ). first_line_says (t ++ next)) (is ∙ ap (λ (t : List ℕ). 13 ∷ t) h) ∙ empty_line (13 ∷ []) [] refl refl refl (rest.now ++ next)

@@ -8,7 +8,7 @@ use crate::commands::{is_command, is_version};
 use crate::endings::Ending;
 use crate::first_words::FirstWord;
 use crate::openings::{Opening, Stranger};
-use crate::spaces::without_spaces;
+use crate::spaces::without_blanks;
 use mc_text::content_to;
 use memchr::memchr;
 
@@ -55,7 +55,8 @@ impl Place {
     }
 }
 
-/// The place after a first word, if there is one, and a byte more, and the bytes after it. Spaces in front of the word are passed.
+/// The place after a first word, if there is one, and a byte more, and the bytes after it. Empty lines and spaces in front of
+/// the word are passed.
 fn after_first(word: FirstWord, bytes: &[u8]) -> (Place, &[u8])
     requires { 0 < length bytes.now }
     ensures says { SaysTheSame (take word.len word.bytes ++ bytes.now) (place_text result.0 ++ result.1.now) }
@@ -67,13 +68,13 @@ fn after_first(word: FirstWord, bytes: &[u8]) -> (Place, &[u8])
     }
 }
 
-/// The bytes that count after a first word, or after none: then without the spaces in front of them.
+/// The bytes that count after a first word, or after none: then without the empty lines and the spaces in front of them.
 fn behind(word: FirstWord, bytes: &[u8]) -> &[u8]
     ensures says { SaysTheSame (take word.len word.bytes ++ bytes.now) (take word.len word.bytes ++ result.now) }
     ensures shorter { length result.now ≤ length bytes.now }
 {
     if word.is_empty() {
-        without_spaces(bytes)
+        without_blanks(bytes)
     } else {
         bytes
     }

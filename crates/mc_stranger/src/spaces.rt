@@ -1,5 +1,5 @@
-//! Spaces in front of a text: they count for nothing.
-ghost use Rattle.std.specs.Prelude.{ℕ, List, [], ◌≡◌, ◌≤◌, ◌==◌, ◌++◌, ◌∷◌, length, take};
+//! Spaces and empty lines in front of a text: they count for nothing.
+ghost use Rattle.std.specs.Prelude.{ℕ, List, [], ◌≡◌, ◌<◌, ◌≤◌, ◌==◌, ◌++◌, ◌∷◌, IfSome, length, take};
 ghost use Rattle.std.specs.List.{list_all};
 ghost use Rattle.mc_stranger.specs.Places.{EndsTheSame, SaysTheSame};
 
@@ -7,6 +7,44 @@ use std::simd::prelude::*;
 
 /// How many bytes are looked at together.
 const LANES: usize = 16;
+
+/// A text that begins a line, without the empty lines in front of it and the spaces after them.
+pub(crate) fn without_blanks(text: &[u8]) -> &[u8]
+    ensures says { SaysTheSame text.now result.now }
+    ensures shorter { length result.now ≤ length text.now }
+{
+    let mut rest = text;
+    while let Some(more) = after_blank(rest) {
+        rest = more;
+    }
+    rest
+}
+
+/// A text that begins a line, without the empty line or the spaces at its front, if one of these is there.
+#[inline(always)]
+fn after_blank(text: &[u8]) -> Option<&[u8]>
+    ensures says { IfSome result (λ rest. SaysTheSame text.now rest.now) }
+    ensures shorter { IfSome result (λ rest. length rest.now < length text.now) }
+{
+    let (first, more) = text.split_first()?;
+    match *first {
+        b'\n' => Some(more),
+        b' ' => Some(without_spaces(more)),
+        b'\r' => after_feed(more),
+        _ => None,
+    }
+}
+
+/// A text without the line feed at its front, if one is there.
+#[inline(always)]
+fn after_feed(text: &[u8]) -> Option<&[u8]>
+    ensures { IfSome result (λ rest. text.now ≡ 10 ∷ rest.now) }
+{
+    match text.split_first() {
+        Some((b'\n', more)) => Some(more),
+        _ => None,
+    }
+}
 
 /// A text without the spaces in front of it, which are looked at in steps of 16.
 pub(crate) fn without_spaces(text: &[u8]) -> &[u8]
