@@ -2,7 +2,7 @@
 ghost use Rattle.std.specs.Prelude.{ℕ, List, ◌≡◌, ◌≢◌, ◌≤◌, ◌++◌, ◌∷◌, [], length, IfSome, if◌then◌else◌};
 ghost use Rattle.mc_stranger.specs.Places.{EndsTheSame, ending_text, ends};
 
-use crate::spaces::without_spaces;
+use crate::spaces::{alike_at_end, without_spaces};
 use memchr::memchr;
 
 /// What the bytes after the first word end in.
@@ -105,7 +105,7 @@ impl Ending {
     }
 
     /// The end with a byte after it that is no space.
-    pub fn with(self, byte: u8) -> Ending
+    fn with(self, byte: u8) -> Ending
         requires { byte ≢ 32 }
         ensures { EndsTheSame (ending_text self ++ byte ∷ []) (ending_text result) }
     {
@@ -152,11 +152,11 @@ fn last_word(text: &[u8]) -> Option<&[u8]>
 {
     let mut from = text.len().saturating_sub(2);
     while from > 0 {
+        let (front, word) = text.split_at(from);
         if text[from - 1] == b' ' && text[from] != b' ' {
-            let (_, word) = text.split_at(from);
             return Some(word);
         }
-        from -= 1;
+        from -= alike_at_end(front);
     }
     None
 }

@@ -87,3 +87,29 @@ fn are_spaces(text: &[u8]) -> bool
         .to_bitmask();
     others == 0
 }
+
+/// How many bytes may be passed from the end of a text backwards, as none of them is the first of a word behind a space: 16 that are
+/// spaces, or of which none is one, or else the last byte.
+#[inline(always)]
+pub(crate) fn alike_at_end(text: &[u8]) -> usize
+    requires { 0 < length text.now }
+    ensures some { 0 < result }
+    ensures inside { result ≤ length text.now }
+{
+    if text.len() < LANES {
+        return 1;
+    }
+    let (_, last) = text.split_at(text.len() - LANES);
+    if are_alike(last) { LANES } else { 1 }
+}
+
+/// Whether the first 16 bytes are spaces, or none of them is one. Whichever it says costs time, and nothing else.
+#[inline(always)]
+fn are_alike(text: &[u8]) -> bool
+    requires { LANES ≤ length text.now }
+{
+    let spaces = u8x16::from_slice(text)
+        .simd_eq(u8x16::splat(b' '))
+        .to_bitmask();
+    spaces == 0 || spaces == 0xffff
+}
