@@ -6,8 +6,9 @@
 //! exactly which bytes are whose.
 //!
 //! A request of HTTP by another method has no such beginning, and one may stand behind empty lines. So [`FirstLine`] looks at the first
-//! line that is not empty, in whatever pieces it comes, and looks at each byte once: a line that is no command and ends in a version of
-//! HTTP is a stranger's. `specs/FirstLines.antt` says which lines these are.
+//! line that is not empty, in whatever pieces it comes: a line that is no command and ends in a version of HTTP is a stranger's.
+//! `specs/FirstLines.antt` says which lines these are. Empty lines, spaces and long words are passed many bytes at a time, so that a client
+//! costs little more before its line is known than after.
 //!
 //! [`what_is_settled_stays`], [`first_lines_stay`], [`openings_are_settled`], [`small_letters_are_text`] and [`commands_are_text`] are
 //! laws: where a stream is cut plays no part, after [`OPENING_LEN`] bytes its opening is known, a command in small letters has none of a stranger's, and a
