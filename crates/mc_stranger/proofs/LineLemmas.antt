@@ -1,8 +1,8 @@
 -- What a line says of what it begins with.
-use Rattle.std.proofs.Common.{◌≡◌, ◌≢◌, ◌∙◌, ℕ, zero, suc, ◌+◌, ◌-◌, ◌<◌, ◌≤◌, ◌==◌, Bool, true, false, List, [], ◌∷◌, ◌++◌, length, length-append, take, drop, slice_index, get_or, filter, inl, inr, refl, sym, ap, subst, arith, codes, if◌then◌else◌, append_assoc}
+use Rattle.std.proofs.Common.{◌≡◌, ◌≢◌, ◌∙◌, ℕ, zero, suc, ◌-◌, ◌<◌, ◌≤◌, ◌==◌, Bool, true, false, List, [], ◌∷◌, ◌++◌, length, length-append, take, slice_index, filter, inl, inr, refl, sym, ap, subst, arith, codes, if◌then◌else◌, append_assoc}
 use Rattle.std.proofs.lemmas.Bool.{lt-ltb}
 use Rattle.std.proofs.lemmas.Bool.Decides.{nat_tests}
-use Rattle.std.proofs.lemmas.List.{append-nil, take-append-drop, take_more}
+use Rattle.std.proofs.lemmas.List.{append-nil}
 use Rattle.std.specs.List.{slice_split}
 use Rattle.std.specs.Str.Lines.{strip_carriage_return}
 use Rattle.mc_forms.proofs.FieldLemmas.{either}
@@ -105,12 +105,6 @@ ending_lacks Version = refl
 ending_lacks Spaces = refl
 ending_lacks Return = refl
 ending_lacks Other = refl
-
-pub ending_goes_on : (end next : Ending) (b : ℕ) → b ≢ 10 → EndsTheSame (ending_text end ++ b ∷ []) (ending_text next)
-    → SaysTheSame (place_text (Later end) ++ b ∷ []) (place_text (Later next))
-ending_goes_on end next b no_feed alike =
-    let other : (b == 10) ≡ false = grind (arith, nat_tests) in
-    later (ending_text end ++ b ∷ []) (ending_text next) (lacks_more is_feed (ending_text end) b (ending_lacks end) other) (ending_lacks next) alike
 
 -- lines after one that has come whole
 lines_after : (line rest : List ℕ) → lines_say (line ∷ slice_split is_feed rest) ≡ line_says (words (strip_carriage_return line)) (first_line_says rest)
@@ -353,29 +347,6 @@ text_stays rest more = says_text (rest ++ more) ∙ sym (says_text more)
 
 pub strange_stays : (rest more : List ℕ) → first_line_says (codes "HTTP/\n" ++ rest ++ more) ≡ first_line_says (codes "HTTP/\n" ++ more)
 strange_stays rest more = says_strange (rest ++ more) ∙ sym (says_strange more)
-
--- bytes, and one more
-pub says_more : (bytes text next : List ℕ) (b : ℕ) → SaysTheSame bytes text → SaysTheSame (text ++ b ∷ []) next → SaysTheSame (bytes ++ b ∷ []) next
-says_more bytes text next b first second = λ rest.
-    ap first_line_says (append_assoc bytes (b ∷ []) rest) ∙ first (b ∷ rest) ∙ ap first_line_says (sym (append_assoc text (b ∷ []) rest)) ∙ second rest
-
--- a piece of which only the first bytes count
-pub says_early : (bytes piece text : List ℕ) (count : ℕ) → SaysTheSame (bytes ++ take count piece) text
-    → ((more : List ℕ) → SaysTheSame (text ++ more) text) → SaysTheSame (bytes ++ piece) text
-says_early bytes piece text count first known = λ rest.
-    let whole : bytes ++ piece ≡ bytes ++ take count piece ++ drop count piece =
-    sym (append_assoc bytes (take count piece) (drop count piece) ∙ ap (λ (part : List ℕ). bytes ++ part) (take-append-drop count piece)) in
-    ap (λ (front : List ℕ). first_line_says (front ++ rest)) whole
-    ∙ ap first_line_says (append_assoc (bytes ++ take count piece) (drop count piece) rest)
-    ∙ first (drop count piece ++ rest)
-    ∙ ap first_line_says (sym (append_assoc text (drop count piece) rest)) ∙ known (drop count piece) rest
-
-pub says_next : (bytes piece text next : List ℕ) (at : ℕ) → at < length piece → SaysTheSame (bytes ++ take at piece) text
-    → SaysTheSame (text ++ get_or piece at 0 ∷ []) next → SaysTheSame (bytes ++ take (at + 1) piece) next
-says_next bytes piece text next at inside first second = λ rest.
-    let more : bytes ++ take (at + 1) piece ≡ bytes ++ take at piece ++ get_or piece at 0 ∷ [] =
-    ap (λ (part : List ℕ). bytes ++ part) (take_more piece at 0 inside) ∙ sym (append_assoc bytes (take at piece) (get_or piece at 0 ∷ [])) in
-    ap (λ (front : List ℕ). first_line_says (front ++ rest)) more ∙ says_more (bytes ++ take at piece) text next (get_or piece at 0) first second rest
 
 -- the end of a line whose first word is a version, or none
 pub ending_or : (version : Bool) → ending_text (if version then Version else Other) ≡ version_or version
