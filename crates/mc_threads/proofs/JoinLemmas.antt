@@ -7,7 +7,7 @@ use Rattle.mc_server.specs.Served.{Entry}
 use Rattle.mc_threads.specs.Accounts.{at}
 use Rattle.mc_threads.specs.Starts.{Each1, Each2, HasSettled, IsFresh}
 use Rattle.mc_threads.specs.Talks.{came_from, went_to}
-use Rattle.mc_threads.specs.Workers.{IsWorked, WasLet}
+use Rattle.mc_threads.specs.Workers.{IsWorked, WasLet, WasRefused}
 use Rattle.mc_threads.specs.declared.errors.Ended.{Ended}
 use Rattle.mc_threads.specs.declared.links.Ends.{Ends}
 use Rattle.mc_threads.specs.declared.start.Given.{Given}
@@ -79,6 +79,18 @@ let_at {C} {G} {H} f times lets knows gate n server hs cs h ended ended2 clocks 
     let B : ℕ → Type 0 = λ p. WasLet (lets (f h).gate.value p) (knows (f h).gate.value p) (at (map times cs) server) ended2 in
     let D : List ℕ → Type 0 = λ t. WasLet (lets (f h).gate.value (f h).place) (knows (f h).gate.value (f h).place) t ended2 in
     rw e (subst A own (subst B here (subst D began was)))
+
+-- the gate refused the worker of a server
+pub refused_at : {C G H : Type 0} (f : H → Given C G) (lets refuses : G → ℕ → ℕ → Type 0) (gate : G) (n server : ℕ) (hs : List H) (h : H)
+    → h ≡ get_or hs server h → Each1 (λ i x. ((f x).gate.value ≡ gate) × ((f x).place ≡ i)) n hs → server < n
+    → WasRefused (lets (f h).gate.value (f h).place) (refuses (f h).gate.value (f h).place) → WasRefused (lets gate server) (refuses gate server)
+refused_at {C} {G} {H} f lets refuses gate n server hs h is gates low was =
+    let gated = gates server h low in
+    let own : (f h).gate.value ≡ gate = ap (λ (x : H). (f x).gate.value) is ∙ gated.0 in
+    let here : (f h).place ≡ server = ap (λ (x : H). (f x).place) is ∙ gated.1 in
+    let A : G → Type 0 = λ v. WasRefused (lets v server) (refuses v server) in
+    let B : ℕ → Type 0 = λ p. WasRefused (lets (f h).gate.value p) (refuses (f h).gate.value p) in
+    subst A own (subst B here was)
 
 -- nothing was said yet over these rings
 pub fresh_ends : {H : Type 0} (ends : List Ends) (hs : List H) (n : ℕ) → length ends ≡ n → n ≤ length hs → Each2 (λ e (h : H). IsFresh e) n ends hs

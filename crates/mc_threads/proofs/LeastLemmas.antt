@@ -1,9 +1,11 @@
 -- The least of several causes, as one worker more is joined.
-use Rattle.std.proofs.Common.{◌≡◌, ◌⊎◌, inl, inr, ℕ, zero, suc, ◌≤◌, List, [], ◌∷◌, ◌++◌, length, Result, Ok, Err, Some, slice_get, IfErr, refl, sym, subst, arith}
+use Rattle.std.proofs.Common.{◌≡◌, ◌⊎◌, inl, inr, ℕ, zero, suc, ◌<◌, ◌≤◌, List, [], ◌∷◌, ◌++◌, length, Result, Ok, Err, Some, slice_get, IfErr, refl, sym, subst, arith}
 use Rattle.std.specs.Prelude.{OnOk}
 use Rattle.std.proofs.lemmas.Option.{none-some, same_Some}
-use Rattle.mc_threads.specs.Causes.{IsCause, IsLeast, rank_of}
+use Rattle.mc_threads.specs.Causes.{EndsCaller, EndsRun, IsCause, IsLeast, rank_of}
+use Rattle.mc_threads.specs.Workers.{WasRefused}
 use Rattle.mc_threads.specs.declared.errors.Ended.{Ended}
+use Rattle.mc_threads.specs.declared.errors.Ended.TheVariants.{GateShut, EndsDiffer, StartFailed, Strange, Memory, Stopped}
 
 -- what is at a number of a list to which one is added
 at_pushed : {X : Type 0} (xs : List X) (x : X) (i : ℕ) (y : X) → slice_get (xs ++ x ∷ []) i ≡ Some y → (slice_get xs i ≡ Some y) ⊎ (x ≡ y)
@@ -91,3 +93,26 @@ least-err {T} own rs e next least is one low = (
 pub went_well : {T : Type 0} (own : Result (Unit {0}) Ended) (rs : List (Result T Ended)) (P : Type 0) → ((cause : Ended) → IsCause own rs cause → ⊥) → OnOk own P → P
 went_well (Ok nothing) rs P none on = on
 went_well (Err e) rs P none on = absurd (none e (inl refl))
+
+-- a cause that is no gate's ends a run
+pub other_ends : (servers : ℕ) (lets refuses : ℕ → ℕ → Type 0) (cause : Ended) → (cause ≡ GateShut → ⊥) → EndsRun servers lets refuses cause
+other_ends servers lets refuses GateShut other = absurd (other refl)
+other_ends servers lets refuses EndsDiffer other = tt
+other_ends servers lets refuses StartFailed other = tt
+other_ends servers lets refuses Strange other = tt
+other_ends servers lets refuses Memory other = tt
+other_ends servers lets refuses Stopped other = tt
+
+-- so does the least of the threads' causes, where the gate refused each worker that ended by it
+pub least_ends : {T : Type 0} (servers : ℕ) (lets refuses : ℕ → ℕ → Type 0) (own : Result (Unit {0}) Ended) (rs : List (Result T Ended)) (cause : Ended) → IsCause own rs cause
+    → IfErr own (λ one. EndsCaller one)
+    → ((server : ℕ) → slice_get rs server ≡ Some (Err GateShut) → (k : ℕ) × (k < servers) × WasRefused (lets k) (refuses k)) → EndsRun servers lets refuses cause
+least_ends {T} servers lets refuses own rs GateShut is callers shut = elim is [
+  | inl ours ↦ let none : EndsCaller GateShut = subst (λ (r : Result (Unit {0}) Ended). IfErr r (λ one. EndsCaller one)) ours callers in absurd none
+  | inr there ↦ shut there.0 there.1
+]
+least_ends {T} servers lets refuses own rs EndsDiffer is callers shut = tt
+least_ends {T} servers lets refuses own rs StartFailed is callers shut = tt
+least_ends {T} servers lets refuses own rs Strange is callers shut = tt
+least_ends {T} servers lets refuses own rs Memory is callers shut = tt
+least_ends {T} servers lets refuses own rs Stopped is callers shut = tt

@@ -1,5 +1,6 @@
 -- Which of several causes ends a run, and what is answered for it.
-use Rattle.std.specs.Prelude.{ℕ, ◌≡◌, ◌≤◌, ◌⊎◌, List, Result, Ok, Err, Some, slice_get}
+use Rattle.std.specs.Prelude.{ℕ, ◌≡◌, ◌<◌, ◌≤◌, ◌⊎◌, List, Result, Ok, Err, Some, slice_get}
+use Rattle.mc_threads.specs.Workers.{WasRefused}
 use Rattle.mc_threads.specs.declared.errors.Ended.{Ended}
 use Rattle.mc_threads.specs.declared.errors.Ended.TheVariants.{GateShut, EndsDiffer, StartFailed, Strange, Memory, Stopped}
 use Rattle.mc_threads.specs.declared.errors.ThreadsError.{ThreadsError}
@@ -22,6 +23,16 @@ IsCause {T} own results cause = (own ≡ Err cause) ⊎ ((server : ℕ) × (slic
 abbrev pub IsLeast : {T : Type 0} → Result (Unit {0}) Ended → List (Result T Ended) → Result (Unit {0}) Ended → Type 0
 IsLeast {T} own results (Ok nothing) = (cause : Ended) → IsCause own results cause → ⊥
 IsLeast {T} own results (Err least) = IsCause own results least × ((cause : Ended) → IsCause own results cause → rank_of least ≤ rank_of cause)
+
+-- why the caller's thread ends: no gate refuses it
+abbrev pub EndsCaller : Ended → Type 0
+EndsCaller GateShut = ⊥
+EndsCaller cause = Unit {0}
+
+-- why a run ends: where the gate is shut, it refused one of so many servers
+abbrev pub EndsRun : ℕ → (ℕ → ℕ → Type 0) → (ℕ → ℕ → Type 0) → Ended → Type 0
+EndsRun servers lets refuses GateShut = (server : ℕ) × (server < servers) × WasRefused (lets server) (refuses server)
+EndsRun servers lets refuses cause = Unit {0}
 
 -- what is answered for a cause: a thread is stopped only where another one failed
 abbrev pub told_of : Ended → ThreadsError

@@ -1,6 +1,6 @@
 pub mod Accounts
-pub mod Causes
 pub mod Workers
+pub mod Causes
 pub mod Links
 pub mod Starts
 pub mod Talks

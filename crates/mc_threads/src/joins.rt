@@ -1,5 +1,5 @@
 //! Joining the workers.
-ghost use Rattle.std.specs.Prelude.{◌≡◌, ℕ, ◌<◌, ◌≤◌, Ok, Some, vec_len, vec_capacity, slice_get, slice_index_or, IfOk};
+ghost use Rattle.std.specs.Prelude.{◌≡◌, ℕ, ◌<◌, ◌≤◌, Ok, Some, vec_len, vec_capacity, slice_get, slice_index_or, Err, IfOk, IsErrOf, IsOkUnless};
 ghost use Rattle.std.specs.PromisedHandle.{KeepsEach};
 ghost use Rattle.rtrb.specs.Ring.{sent, received};
 ghost use Rattle.mc_threads.specs.Causes.{IsLeast};
@@ -48,6 +48,7 @@ fn settle<C: Drop>(done: Done<C>, ends: &mut Ends) -> Result<C, Ended>
     ensures clock { IfOk result (λ clock. clock ≡ done.clock) }
     ensures went { IfOk result (λ _. received done.from ≡ sent ends.old.to) }
     ensures came { IfOk result (λ _. sent done.to ≡ received ends.old.from) }
+    ensures err { IsOkUnless result Ended.EndsDiffer }
 {
     let Done {
         mut to,
@@ -71,6 +72,7 @@ pub fn settle_all<C: Clock + Drop>(
     ensures len { IfOk result (λ clocks. vec_len clocks ≡ vec_len results) }
     ensures settled { IfOk result (λ clocks. (server : ℕ) → server < vec_len results
         → HasSettled C C.times results.items clocks.items ends.old.items server) }
+    ensures shut { IsErrOf result Ended.GateShut → (server : ℕ) × (slice_get results.items server ≡ Some (Err Ended.GateShut)) }
 {
     let mut clocks = Vec::new(alloc);
     let mut place = 0;

@@ -1,5 +1,6 @@
 //! The caller's thread: the proxy between the clients' pieces and the rings.
-ghost use Rattle.std.specs.Prelude.{OnOk};
+ghost use Rattle.std.specs.Prelude.{◌≡◌, IsOkUnless, MatchResult, OnOk};
+ghost use Rattle.mc_threads.specs.Causes.{EndsCaller};
 ghost use Rattle.mc_threads.specs.Links.{Carries, IsMoved, SameEnds};
 ghost use Rattle.mc_threads.specs.Talks.{HasReplied, StillTalks};
 
@@ -27,6 +28,7 @@ pub fn exchange(
 ) -> Result<(), Ended>
     ensures rings { SameEnds ends.old ends.new }
     ensures carries { OnOk result (Carries place ends.old ends.new proxy.old proxy.new) }
+    ensures err { IsOkUnless result Ended.Memory }
 {
     let (pushed, _) = ends.to.push_partial_slice(proxy.link_output(place));
     let count = pushed.len();
@@ -38,7 +40,7 @@ pub fn exchange(
 
 /// Takes a reply of the server of a place, where one has come whole: whether it did.
 fn take_reply(proxy: &mut Proxy, place: usize) -> Result<bool, Ended>
-    ensures { OnOk result (HasReplied place proxy.old proxy.new) }
+    ensures { MatchResult result (λ _. HasReplied place proxy.old proxy.new) (λ cause. EndsCaller cause) }
 {
     match proxy.link_turn(place)? {
         LinkTurn::Took => Ok(true),
@@ -49,7 +51,7 @@ fn take_reply(proxy: &mut Proxy, place: usize) -> Result<bool, Ended>
 
 /// Takes the replies of the server of a place that have come whole, at most [`AT_ONCE`].
 pub fn take_replies(proxy: &mut Proxy, place: usize) -> Result<(), Ended>
-    ensures { OnOk result (HasReplied place proxy.old proxy.new) }
+    ensures { MatchResult result (λ _. HasReplied place proxy.old proxy.new) (λ cause. EndsCaller cause) }
 {
     for _ in 0..AT_ONCE {
         if !take_reply(proxy, place)? {
@@ -61,7 +63,7 @@ pub fn take_replies(proxy: &mut Proxy, place: usize) -> Result<(), Ended>
 
 /// Takes the requests of a client that need not wait, at most [`AT_ONCE`].
 pub fn ask_some(proxy: &mut Proxy, client: u64) -> Result<(), Ended>
-    ensures { OnOk result (StillTalks proxy.old proxy.new) }
+    ensures { MatchResult result (λ _. StillTalks proxy.old proxy.new) (λ cause. cause ≡ Ended.Memory) }
 {
     for _ in 0..AT_ONCE {
         let turn = proxy.turn(client)?;
@@ -74,7 +76,7 @@ pub fn ask_some(proxy: &mut Proxy, client: u64) -> Result<(), Ended>
 
 /// Puts the answers out to a client that are known, at most [`AT_ONCE`].
 pub fn answer_some(proxy: &mut Proxy, client: u64) -> Result<(), Ended>
-    ensures { OnOk result (StillTalks proxy.old proxy.new) }
+    ensures { MatchResult result (λ _. StillTalks proxy.old proxy.new) (λ cause. cause ≡ Ended.Memory) }
 {
     for _ in 0..AT_ONCE {
         let emit = proxy.emit(client)?;
@@ -87,7 +89,7 @@ pub fn answer_some(proxy: &mut Proxy, client: u64) -> Result<(), Ended>
 
 /// Moves all that was put out to a client.
 pub fn move_out(proxy: &mut Proxy, output: &mut Vec<u8>, client: u64) -> Result<(), Ended>
-    ensures { OnOk result (IsMoved client proxy.old proxy.new output.old.items output.new.items) }
+    ensures { MatchResult result (λ _. IsMoved client proxy.old proxy.new output.old.items output.new.items) (λ cause. cause ≡ Ended.Memory) }
 {
     let more = proxy.output(client);
     let count = more.len();

@@ -1,5 +1,5 @@
 //! The proxy of a run, before its first round.
-ghost use Rattle.std.specs.Prelude.{◌≡◌, [], length, IfOk, OnOk};
+ghost use Rattle.std.specs.Prelude.{◌≡◌, [], length, IfOk, MatchResult};
 ghost use Rattle.mc_threads.specs.Accounts.{joined, texts_of};
 ghost use Rattle.mc_threads.specs.Talks.{HasAdmitted, HasFed, Talks};
 
@@ -10,7 +10,7 @@ use std::alloc::{AllocError, Global};
 
 /// A proxy whose links are all up, and which was fed all that the clients send.
 pub fn opened_proxy(alloc: Global, ring: &Ring, inputs: &[Vec<Vec<u8>>]) -> Result<Proxy, Ended>
-    ensures { IfOk result (λ proxy. Talks ring.now (length inputs.now) (texts_of inputs.now) (λ _. []) (λ _. []) (λ _. []) proxy) }
+    ensures { MatchResult result (λ proxy. Talks ring.now (length inputs.now) (texts_of inputs.now) (λ _. []) (λ _. []) (λ _. []) proxy) (λ cause. cause ≡ Ended.Memory) }
 {
     let mut proxy = raised_proxy(alloc, copy_of(ring)?)?;
     for client in 0..inputs.len() {
@@ -28,7 +28,7 @@ fn copy_of(ring: &Ring) -> Result<Ring, AllocError>
 
 /// A proxy without clients, whose links are all up with the first generation.
 fn raised_proxy(alloc: Global, ring: Ring) -> Result<Proxy, Ended>
-    ensures { IfOk result (λ proxy. Talks ring 0 (λ _. []) (λ _. []) (λ _. []) (λ _. []) proxy) }
+    ensures { MatchResult result (λ proxy. Talks ring 0 (λ _. []) (λ _. []) (λ _. []) (λ _. []) proxy) (λ cause. cause ≡ Ended.Memory) }
 {
     let places = ring.servers().len();
     let mut proxy = Proxy::new(alloc, ring)?;
@@ -40,7 +40,7 @@ fn raised_proxy(alloc: Global, ring: Ring) -> Result<Proxy, Ended>
 
 /// Admits a client, and takes all pieces of its text.
 fn admit_one(proxy: &mut Proxy, pieces: &Vec<Vec<u8>>) -> Result<(), Ended>
-    ensures { OnOk result (HasAdmitted (joined pieces.now.items) proxy.old proxy.new) }
+    ensures { MatchResult result (λ _. HasAdmitted (joined pieces.now.items) proxy.old proxy.new) (λ cause. cause ≡ Ended.Memory) }
 {
     let client = proxy.admit()?;
     feed_all(proxy, client, pieces)?;
@@ -49,7 +49,7 @@ fn admit_one(proxy: &mut Proxy, pieces: &Vec<Vec<u8>>) -> Result<(), Ended>
 
 /// Takes all pieces of a client's text.
 fn feed_all(proxy: &mut Proxy, client: u64, pieces: &Vec<Vec<u8>>) -> Result<(), Ended>
-    ensures { OnOk result (HasFed client (joined pieces.now.items) proxy.old proxy.new) }
+    ensures { MatchResult result (λ _. HasFed client (joined pieces.now.items) proxy.old proxy.new) (λ cause. cause ≡ Ended.Memory) }
 {
     for place in 0..pieces.len() {
         feed_one(proxy, client, pieces[place].as_slice())?;
@@ -59,7 +59,7 @@ fn feed_all(proxy: &mut Proxy, client: u64, pieces: &Vec<Vec<u8>>) -> Result<(),
 
 /// Takes a piece of a client's text.
 fn feed_one(proxy: &mut Proxy, client: u64, piece: &[u8]) -> Result<(), Ended>
-    ensures { OnOk result (HasFed client piece.now proxy.old proxy.new) }
+    ensures { MatchResult result (λ _. HasFed client piece.now proxy.old proxy.new) (λ cause. cause ≡ Ended.Memory) }
 {
     proxy.feed(client, piece)?;
     Ok(())

@@ -1,6 +1,7 @@
 //! The rounds of the caller's thread over all clients and links.
-ghost use Rattle.std.specs.Prelude.{◌≡◌, ℕ, ◌<◌, ◌++◌, vec_len, codes, OnOk, IsTrue};
+ghost use Rattle.std.specs.Prelude.{◌≡◌, ℕ, ◌<◌, ◌++◌, vec_len, codes, IfErr, IsOkUnless, IsTrue, MatchResult, OnOk};
 ghost use Rattle.rtrb.specs.Ring.{sent, received};
+ghost use Rattle.mc_threads.specs.Causes.{EndsCaller};
 ghost use Rattle.mc_threads.specs.Links.{SameEnds};
 ghost use Rattle.mc_threads.specs.Starts.{Each2};
 ghost use Rattle.mc_threads.specs.Talks.{HasAnswered, HasCarried, HasEnded, HasQuit, HasRound, IsAnswered, IsQuiet, IsSilent, StillTalks};
@@ -16,7 +17,7 @@ use std::thread;
 
 /// Each client may have requests taken.
 fn ask_all(proxy: &mut Proxy, clients: usize) -> Result<(), Ended>
-    ensures { OnOk result (StillTalks proxy.old proxy.new) }
+    ensures { MatchResult result (λ _. StillTalks proxy.old proxy.new) (λ cause. cause ≡ Ended.Memory) }
 {
     for client in 0..clients {
         ask_some(proxy, client as u64)?;
@@ -29,6 +30,7 @@ fn carry_all(proxy: &mut Proxy, ends: &mut Vec<Ends>, buffer: &mut Vec<u8>) -> R
     ensures len { vec_len ends.new ≡ vec_len ends.old }
     ensures rings { OnOk result (Each2 SameEnds (vec_len ends.old) ends.old.items ends.new.items) }
     ensures carried { OnOk result (HasCarried ends.old.items ends.new.items proxy.old proxy.new) }
+    ensures cause { IfErr result (λ cause. EndsCaller cause) }
 {
     for place in 0..ends.len() {
         exchange(proxy, &mut ends[place], place, buffer)?;
@@ -41,6 +43,7 @@ fn carry_all(proxy: &mut Proxy, ends: &mut Vec<Ends>, buffer: &mut Vec<u8>) -> R
 fn answer_all(proxy: &mut Proxy, outputs: &mut Vec<Vec<u8>>) -> Result<(), Ended>
     ensures len { vec_len outputs.new ≡ vec_len outputs.old }
     ensures answered { OnOk result (HasAnswered outputs.old.items outputs.new.items proxy.old proxy.new) }
+    ensures err { IsOkUnless result Ended.Memory }
 {
     for client in 0..outputs.len() {
         answer_some(proxy, client as u64)?;
@@ -59,6 +62,7 @@ fn round(
     ensures lens { (vec_len ends.new ≡ vec_len ends.old) × (vec_len outputs.new ≡ vec_len outputs.old) }
     ensures rings { OnOk result (Each2 SameEnds (vec_len ends.old) ends.old.items ends.new.items) }
     ensures round { OnOk result (HasRound outputs.old.items outputs.new.items ends.old.items ends.new.items proxy.old proxy.new) }
+    ensures cause { IfErr result (λ cause. EndsCaller cause) }
 {
     ask_all(proxy, outputs.len())?;
     carry_all(proxy, ends, buffer)?;
@@ -122,6 +126,7 @@ pub fn talk<R: Wait>(
     ensures lens { (vec_len ends.new ≡ vec_len ends.old) × (vec_len outputs.new ≡ vec_len outputs.old) }
     ensures rings { OnOk result (Each2 SameEnds (vec_len ends.old) ends.old.items ends.new.items) }
     ensures ended { OnOk result (HasEnded outputs.old.items outputs.new.items ends.old.items ends.new.items proxy.old proxy.new) }
+    ensures cause { IfErr result (λ cause. EndsCaller cause) }
 {
     let mut buffer = piece(alloc)?;
     'rounds: for _ in rt.forever() {
@@ -143,6 +148,7 @@ fn close_one<R: Wait>(rt: &R, stop: &AtomicBool, ends: &mut Ends) -> Result<(), 
     ensures rings { OnOk result (SameEnds ends.old ends.new) }
     ensures quit { OnOk result (sent ends.new.to ≡ sent ends.old.to ++ codes "quit\r\n") }
     ensures came { OnOk result (received ends.new.from ≡ received ends.old.from) }
+    ensures err { IsOkUnless result Ended.Stopped }
 {
     'rounds: for _ in rt.forever() {
         if stop.load(Ordering::SeqCst) {
@@ -161,6 +167,7 @@ fn close_all<R: Wait>(rt: &R, stop: &AtomicBool, ends: &mut Vec<Ends>) -> Result
     ensures len { vec_len ends.new ≡ vec_len ends.old }
     ensures rings { OnOk result (Each2 SameEnds (vec_len ends.old) ends.old.items ends.new.items) }
     ensures quit { OnOk result (HasQuit (vec_len ends.old) ends.old.items ends.new.items) }
+    ensures err { IsOkUnless result Ended.Stopped }
 {
     for place in 0..ends.len() {
         close_one(rt, stop, &mut ends[place])?;

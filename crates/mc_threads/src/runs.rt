@@ -1,9 +1,10 @@
 //! A run: one server on each thread, and the proxy on the caller's.
-ghost use Rattle.std.specs.Prelude.{◌≡◌, ℕ, ◌≢◌, ◌<◌, ◌↔◌, [], length, vec_len, map, IfOk, IsErrOf};
+ghost use Rattle.std.specs.Prelude.{◌≡◌, ℕ, ◌≢◌, ◌<◌, ◌↔◌, [], length, vec_len, map, IfErr, IfOk, IsErrOf, IsOkUnless};
 ghost use Rattle.mc_cache.specs.CacheState.{IsWithinBounds, opening_cache};
 ghost use Rattle.mc_proxy.specs.declared.limits.TheConstants.{MAX_SESSIONS};
 ghost use Rattle.mc_threads.specs.Accounts.{Account, at, outs_of, texts_of};
-ghost use Rattle.mc_threads.specs.Workers.{AreLet};
+ghost use Rattle.mc_threads.specs.Causes.{EndsRun};
+ghost use Rattle.mc_threads.specs.Workers.{AreLet, WasRefused};
 
 use crate::errors::{Ended, ThreadsError, error_of};
 use crate::joins::{join_all, settle_all};
@@ -46,6 +47,7 @@ pub struct Ran<C> {
 fn empty_outputs(alloc: Global, clients: usize) -> Result<Vec<Vec<u8>>, Ended>
     ensures len { IfOk result (λ outputs. vec_len outputs ≡ clients) }
     ensures empty { IfOk result (λ outputs. (client : ℕ) → outs_of outputs.items client ≡ []) }
+    ensures err { IsOkUnless result Ended.Memory }
 {
     let mut outputs = Vec::new(alloc);
     for _ in 0..clients {
@@ -72,6 +74,7 @@ fn run_in<'s, E: 's, C: Clock + Send + Drop + 's, G: Gate + Sync, R: Threads + W
     ensures outputs { IfOk result (λ ran. vec_len ran.outputs ≡ length inputs.now) }
     ensures clocks { IfOk result (λ ran. vec_len ran.clocks ≡ vec_len clocks) }
     ensures let_in { IfOk result (λ ran. AreLet (vec_len clocks) (G.lets gate.now) (G.knows gate.now) (at (map C.times clocks.items)) (at (map C.times ran.clocks.items))) }
+    ensures cause { IfErr result (λ cause. EndsRun (vec_len clocks) (G.lets gate.now) (G.refuses gate.now) cause) }
 {
     let mut proxy = opened_proxy(alloc, &config.ring, inputs)?;
     let mut outputs = empty_outputs(alloc, inputs.len())?;
@@ -128,6 +131,8 @@ pub fn run_threads<C: Clock + Send + Drop, G: Gate + Sync, R: Threads + Wait + T
     ensures clock_count { IsErrOf result ThreadsError.ClockCount ↔ (vec_len clocks ≢ length config.now.ring.servers) }
     ensures too_many { IsErrOf result ThreadsError.TooManyClients
         ↔ ((vec_len clocks ≡ length config.now.ring.servers) × (MAX_SESSIONS < length inputs.now)) }
+    ensures gate_shut { IsErrOf result ThreadsError.GateShut
+        → (server : ℕ) × (server < vec_len clocks) × WasRefused (G.lets gate.now server) (G.refuses gate.now server) }
 {
     if clocks.len() != config.ring.servers().len() {
         return Err(ThreadsError::ClockCount);
@@ -148,6 +153,7 @@ pub fn run_threads<C: Clock + Send + Drop, G: Gate + Sync, R: Threads + Wait + T
             ensures outputs { IfOk result (λ ran. vec_len ran.outputs ≡ length inputs.entry.now) }
             ensures clocks { IfOk result (λ ran. vec_len ran.clocks ≡ vec_len clocks) }
             ensures let_in { IfOk result (λ ran. AreLet (vec_len clocks) (G.lets gate.entry.now) (G.knows gate.entry.now) (at (map C.times clocks.items)) (at (map C.times ran.clocks.items))) }
+            ensures cause { IfErr result (λ cause. EndsRun (vec_len clocks) (G.lets gate.entry.now) (G.refuses gate.entry.now) cause) }
         { run_in(rt, scope, alloc, config, inputs, clocks, gate, shared) },
     );
     ran.map_err(error_of)

@@ -1,4 +1,4 @@
-use Rattle.std.proofs.Common.{rules, ◌≡◌, ◌∙◌, ℕ, ◌<◌, List, [], Ok, arith, get_or, length, map, refl, vec_len, sym, ap, subst}
+use Rattle.std.proofs.Common.{rules, inr, ◌≡◌, ◌∙◌, ℕ, ◌<◌, List, [], Result, Ok, Err, IfErr, arith, get_or, length, map, refl, vec_len, sym, ap, subst}
 use Rattle.std.proofs.lemmas.Option.{get_or_from_slice_get, slice_get_within}
 use Rattle.mc_cache.specs.CacheState.{opening_cache}
 use Rattle.mc_cache_laws.proofs.GoodStepLemmas.{opening_is_good}
@@ -7,11 +7,14 @@ use Rattle.mc_threads.specs.Starts.{Each2, IsOf}
 use Rattle.mc_threads.specs.Links.{SameEnds}
 use Rattle.mc_threads.specs.Talks.{HasEnded, came_from, went_to}
 use Rattle.mc_threads.specs.Workers.{IsWorked}
+use Rattle.mc_threads.specs.Causes.{EndsRun}
+use Rattle.mc_threads.specs.declared.errors.Ended.{Ended}
+use Rattle.mc_threads.specs.declared.errors.Ended.TheVariants.{GateShut}
 use Rattle.mc_threads.specs.declared.worker.Bounds.{Bounds}
 use Rattle.rtrb.specs.Ring.{received, sent}
 use Rattle.mc_threads.proofs.AtLemmas.{some_at}
-use Rattle.mc_threads.proofs.JoinLemmas.{fresh_ends, let_at, worked_at}
-use Rattle.mc_threads.proofs.LeastLemmas.{went_well}
+use Rattle.mc_threads.proofs.JoinLemmas.{fresh_ends, let_at, refused_at, worked_at}
+use Rattle.mc_threads.proofs.LeastLemmas.{least_ends, other_ends, went_well}
 use Rattle.mc_threads.proofs.ListLemmas.{still_ends, still_of}
 use Rattle.mc_threads.proofs.CompleteLemmas.{completes}
 use Rattle.mc_threads.proofs.TalkLemmas.{talks_as}
@@ -86,3 +89,61 @@ returns-clause-account g c =
       subst (λ (bytes : List ℕ). IsWorked (opening_cache c.args.config.now.budget c.args.config.now.items 0) (at (map g.C.Clock.times c.args.clocks.items) server)
           (at (map g.C.Clock.times c.in_ok-clocks.clocks.items) server) bytes (came_from ends server) w.0) (ended.quit server low) w.1,
     ))
+
+-- where a worker ended by a shut gate, its gate refused it
+pub returns-in_err-join_all-clause-cause : goal.returns-in_err-join_all-clause-cause
+returns-in_err-join_all-clause-cause g c =
+    let results = c.join_all.new.results.items in
+    let children = c.start_all-started.new.children.items in
+    let count : ℕ = vec_len c.start_all-started.new.children in
+    let clocks : ℕ = vec_len c.args.clocks in
+    let lets : ℕ → ℕ → Type 0 = g.G.Gate.lets c.args.gate.now in
+    let refuses : ℕ → ℕ → Type 0 = g.G.Gate.refuses c.args.gate.now in
+    let cause : Ended = c.in_err-join_all.field-0.0 in
+    let same : c.from_residual-in_err-join_all.result ≡ Err cause = search rules in
+    let size : length c.join_all.new.results.items ≡ vec_len c.join_all.new.results = search rules in
+    let ends = least_ends clocks lets refuses (Err c.in-Err.ended) results cause c.in_err-join_all.ensures.least.0 c.in-Err.ensures.cause (λ server at.
+    let inside = slice_get_within results server (Err GateShut) at in
+    let low : server < vec_len c.start_all-started.new.children = omega (arith, inside, size, c.join_all.ensures.len) in
+    let k = (c.join_all.ensures.joined server (Err GateShut) low).1 in
+    let kept = rw (get_or_from_slice_get results server (Err GateShut) (Err GateShut) at) at k.kept in (
+      server,
+      omega (arith, low, c.start_all-started.ensures.few),
+      refused_at (λ h. h.promise) g.G.Gate.lets g.G.Gate.refuses c.args.gate.now count server children k.handle k.handle_is c.start_all-started.ensures.started low kept,
+    )) in
+    subst (λ (r : Result _ Ended). IfErr r (λ one. EndsRun clocks lets refuses one)) (sym same) ends
+
+pub returns-in_err-join_all-2-clause-cause : goal.returns-in_err-join_all-2-clause-cause
+returns-in_err-join_all-2-clause-cause g c =
+    let results = c.join_all-2.new.results.items in
+    let children = c.start_all-started.new.children.items in
+    let count : ℕ = vec_len c.start_all-started.new.children in
+    let clocks : ℕ = vec_len c.args.clocks in
+    let lets : ℕ → ℕ → Type 0 = g.G.Gate.lets c.args.gate.now in
+    let refuses : ℕ → ℕ → Type 0 = g.G.Gate.refuses c.args.gate.now in
+    let cause : Ended = c.in_err-join_all-2.field-0.0 in
+    let same : c.from_residual-in_err-join_all-2.result ≡ Err cause = search rules in
+    let size : length c.join_all-2.new.results.items ≡ vec_len c.join_all-2.new.results = search rules in
+    let ends = least_ends clocks lets refuses c.talk-own.result results cause c.in_err-join_all-2.ensures.least.0 c.talk-own.ensures.cause (λ server at.
+    let inside = slice_get_within results server (Err GateShut) at in
+    let low : server < vec_len c.start_all-started.new.children = omega (arith, inside, size, c.join_all-2.ensures.len) in
+    let k = (c.join_all-2.ensures.joined server (Err GateShut) low).1 in
+    let kept = rw (get_or_from_slice_get results server (Err GateShut) (Err GateShut) at) at k.kept in (
+      server,
+      omega (arith, low, c.start_all-started.ensures.few),
+      refused_at (λ h. h.promise) g.G.Gate.lets g.G.Gate.refuses c.args.gate.now count server children k.handle k.handle_is c.start_all-started.ensures.started low kept,
+    )) in
+    subst (λ (r : Result _ Ended). IfErr r (λ one. EndsRun clocks lets refuses one)) (sym same) ends
+
+-- no worker ended by a cause, so none by a shut gate
+pub returns-in_err-clocks-clause-cause : goal.returns-in_err-clocks-clause-cause
+returns-in_err-clocks-clause-cause g c =
+    let clocks : ℕ = vec_len c.args.clocks in
+    let lets : ℕ → ℕ → Type 0 = g.G.Gate.lets c.args.gate.now in
+    let refuses : ℕ → ℕ → Type 0 = g.G.Gate.refuses c.args.gate.now in
+    let cause : Ended = c.in_err-clocks.field-0.0 in
+    let same : c.from_residual-in_err-clocks.result ≡ Err cause = search rules in
+    let ends = other_ends clocks lets refuses cause (λ is.
+    let shut = c.in_err-clocks.ensures.shut (ap (λ (e : Ended). Err e) is) in
+    c.in_ok-join_all-2.ensures.least GateShut (inr (shut.0, shut.1))) in
+    subst (λ (r : Result _ Ended). IfErr r (λ one. EndsRun clocks lets refuses one)) (sym same) ends
