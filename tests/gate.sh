@@ -53,7 +53,7 @@ add tests/gate/pools.py --worlds 100
 add tests/gate/pool_mistakes.py 150
 add tests/gate/spellings.py 5
 add tests/gate/refused.py crates/mc_rows/out/mc_rows_tests refusals::clients_are_answered_all_the_same
-add tests/gate/refused.py crates/mc_rows/out/mc_rows_tests refusals::clients_are_answered_all_the_same_over_lru
+add tests/gate/refused.py crates/mc_rows/out/mc_rows_tests refusals::clients_are_answered_all_the_same_over_lru 1
 add tests/gate/refused.py crates/mc_rows/out/mc_rows_tests refusals::clients_are_answered_all_the_same_over_a_table
 add tests/gate/refused.py crates/mc_pool_rows/out/mc_pool_rows_tests pools::dialogues_of_a_pool_go_so
 add tests/gate/refused.py crates/mc_pool_rows/out/mc_pool_rows_tests worlds::links_are_lost_and_back

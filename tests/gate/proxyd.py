@@ -332,7 +332,7 @@ def a_reply_without_memory_is_said():
         client.sendall(get)
         want(received(pool.links[0], len(get)), get)
         allow_memory(pool, pool.memory("VmSize"))
-        with contextlib.suppress(ConnectionResetError):
+        with contextlib.suppress(ConnectionResetError, BrokenPipeError):
             pool.links[0].sendall(shown)
         want(received(client, len(LOST)), LOST)
         is_said(pool, f"{address} lost: out of memory")

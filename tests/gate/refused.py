@@ -1,14 +1,15 @@
 #!/usr/bin/env python3
 """Refuses each allocation of a test in turn, and sees that the test passes all the same.
 
-Usage: refused.py PROGRAM TEST     (crates/mc_rows/out/mc_rows_tests or crates/mc_pool_rows/out/mc_pool_rows_tests, as `rt ci` or `rt test` built
-it, and a test's name)
+Usage: refused.py PROGRAM TEST [COUNT ..]     (crates/mc_rows/out/mc_rows_tests or crates/mc_pool_rows/out/mc_pool_rows_tests, as `rt ci`
+or `rt test` built it, a test's name, and how many in a row are refused: once 1 and once 3, if none is given)
 
 The program is run again and again with a library in front of the C library, which refuses the Nth allocation, for N from 1
-until none is left to refuse; and once more so with the two after it refused too. The test has to make a call again that was
+until none is left to refuse, and those after it too, COUNT in all. The test has to make a call again that was
 refused memory, and then has to find all as it would have been; or, where a store was answered so, all else as the cache has it
-then. The library is that of refusing.py. A line is printed for each N at which the test
-fails; the last line is 'N passed, M failed', one for each way.
+then. (Where a store asks for one piece of memory, three refusals in a row may refuse several stores, which the test does not foresee.)
+The library is that of refusing.py. A line is printed for each N at which the test
+fails; the last line is 'N passed, M failed', one for each COUNT.
 """
 import os
 import pathlib
@@ -36,13 +37,14 @@ def refuses(library, program, test, count):
     return is_so and first > 2
 
 
-def main(program, test):
+def main(program, test, counts):
     with tempfile.TemporaryDirectory() as folder:
         library = refusing.build(folder)
-        return counted([refuses(library, program, test, count) for count in (1, 3)])
+        return counted([refuses(library, program, test, count) for count in counts])
 
 
 if __name__ == "__main__":
-    if len(sys.argv) != 3:
+    if len(sys.argv) < 3:
         sys.exit(__doc__)
-    sys.exit(main(os.path.realpath(sys.argv[1]), sys.argv[2]) if are_built(sys.argv[1]) else 1)
+    program, test, *counts = sys.argv[1:]
+    sys.exit(main(os.path.realpath(program), test, list(map(int, counts)) or [1, 3]) if are_built(program) else 1)
