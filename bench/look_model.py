@@ -33,7 +33,9 @@ MOST_EMPTY_WORDS = 64
 FEW_KEYS = 3  # fewer are not hashed
 SHORT_TEXT = 64  # with fewer bytes there is no look
 PASSES = 4  # requests at which no look begins after one that gained little; twice as many after each such look that follows it
-MOST_PASSES = 64  # at most at so many, and after a refused line
+VAIN_PASSES, VAIN_BYTES = 2, 128  # at so many more for each line that is refused though it has a guess, and one more for so many bytes
+MOST_FLAGS = 64  # bytes in which a meta command's flag for base64 is looked for
+MOST_PASSES = 64  # at most at so many
 LONGEST_KEY, LONGEST_NAME, CODED_LIMIT, NUMBER = 250, 15, 336, 20
 RETRIEVALS, DATED = (b"get", b"gets"), (b"gat", b"gats")
 STORAGE = tuple(name.encode() for name in model.STORAGE)
@@ -190,7 +192,7 @@ class Look:
     def after(last, front, size):
         """What is kept once a request was served."""
         if front.is_faulty and last.guesses:
-            return Kept(max(0, last.bytes - size), MOST_PASSES, last.pause)
+            return Kept(max(0, last.bytes - size), min(MOST_PASSES, last.passes + VAIN_PASSES + size // VAIN_BYTES), last.pause, last.guesses - 1)
         passes = last.passes if last.bytes or not Look.has_guess(front) else max(0, last.passes - 1)
         used = len(front.keys) if Look.has_guess(front) else 0
         return Kept(max(0, last.bytes - size), passes, last.pause, max(0, last.guesses - used))
@@ -234,10 +236,11 @@ class Look:
         self.keys.append(word)
 
     def take_meta_key(self, line):
-        """None in base64. The flags are read for it."""
+        """None in base64. The first flags are read for it."""
         word = self.word(CODED_LIMIT)
-        self.bytes += 6 * (len(line) - len(word))
-        if not is_coded(line):
+        line = line.partition(word)[2][:MOST_FLAGS]
+        self.bytes += 6 * len(line)
+        if b"b" not in line.split():
             if len(self.keys) == MOST_KEYS:
                 raise Ended
             self.keys.append(word)

@@ -12,11 +12,17 @@ const FEW: usize = 3;
 /// A text of fewer bytes is not worth a look.
 const SHORT: usize = 64;
 
-/// After a look that found little none begins at this many requests. If no more than half of its keys had a guess, none begins at twice as many
-/// after each such look that follows it.
+/// After a look that found little none begins at this many requests. If no more than half of its keys had a guess, none begins at twice as
+/// many after each such look that follows it.
 const PASSES: u32 = 4;
 
-/// At most at this many, and at as many after one of whose lines one was refused.
+/// At so many more for each line that is refused though there is a guess for it.
+const VAIN_PASSES: u32 = 2;
+
+/// And at one more for so many bytes that it has with its data block.
+const VAIN_BYTES: usize = 128;
+
+/// At most at this many.
 const MOST_PASSES: u32 = 64;
 
 /// What a connection keeps of its last look.
@@ -86,12 +92,12 @@ impl Ahead {
         self.used = 0;
     }
 
-    /// A line was refused. If there was a guess for it, those after it are dropped, and for a while no look begins: a look takes a line with
-    /// a key whether it is refused or not, and who sends such lines gains nothing by it.
+    /// A line was refused. If there was a guess for it, that is passed over, and the next look begins later: a look takes a line with a key
+    /// whether it is refused or not, and who sends such lines gains nothing by it.
     #[inline]
     pub fn refuse(&mut self) {
         if self.used < self.count {
-            self.drop_guesses();
+            self.used += 1;
             self.vain = true;
         }
     }
@@ -99,15 +105,11 @@ impl Ahead {
     /// What a connection keeps of its last look once a request or fault of so many bytes is taken.
     #[inline]
     pub fn past(&mut self, looked: Looked, size: usize) -> Looked {
-        let passes = if self.vain {
-            MOST_PASSES
-        } else {
-            looked.passes
-        };
+        let more = if self.vain { vain_passes(size) } else { 0 };
         self.vain = false;
         Looked {
             bytes: looked.bytes.saturating_sub(size),
-            passes,
+            passes: looked.passes.saturating_add(more).min(MOST_PASSES),
             ..looked
         }
     }
@@ -135,9 +137,9 @@ impl Ahead {
     ///
     /// A look begins behind all lines that the last one took, so each byte is read by two looks at most, however the text is cut. If a look
     /// finds fewer than three keys, and leaves text enough for another one, the next begins 4 requests later. If no more than half of its keys
-    /// have a guess, the next begins 4 requests later too, and then 8, 16, 32 and 64, as long as none finds more; if one of its lines is refused,
-    /// 64 requests later. Requests at which none could begin are not counted: those without a key, or with a key in base64, and those in lines
-    /// that the look took.
+    /// have a guess, the next begins 4 requests later too, and then 8, 16, 32 and 64, as long as none finds more. Each of its lines that is
+    /// refused puts the next one off by 2 requests more, and by one for 128 bytes, to 64 at most. Requests at which none could begin are not
+    /// counted: those without a key, or with a key in base64, and those in lines that the look took.
     #[inline]
     pub fn look<S: Store + Drop>(
         &mut self,
@@ -207,6 +209,12 @@ impl Ahead {
             pause: looked.pause,
         }
     }
+}
+
+/// At how many requests more none begins for a refused line of so many bytes.
+fn vain_passes(size: usize) -> u32 {
+    let bytes = (size / VAIN_BYTES).min(MOST_PASSES as usize);
+    VAIN_PASSES.saturating_add(bytes as u32)
 }
 
 /// What is kept of a look that has read so many bytes, if none begins at so many requests after it.

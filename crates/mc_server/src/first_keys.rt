@@ -16,6 +16,9 @@ const NAME: usize = LANES - 1;
 /// The bytes of a meta command's name.
 const NAME_OF_META: usize = 2;
 
+/// The most bytes of a meta command's flags among which that for base64 is looked for.
+const FLAGS: usize = 64;
+
 /// The most bytes of an exptime or a length.
 const NUMBER: usize = 20;
 
@@ -137,7 +140,7 @@ impl<'a> FirstKeys<'a> {
     fn take_meta_key(&mut self, words: &'a [u8], line: &[u8]) -> Option<&'a [u8]> {
         let (word, rest) = next_word(words, CODED_LIMIT)?;
         let flags = line.get(NAME_OF_META + word.len() + 1..)?;
-        if !is_coded(flags) {
+        if !is_coded(flags.get(..FLAGS).unwrap_or(flags)) {
             self.push(word)?;
         }
         Some(rest)
@@ -163,7 +166,7 @@ impl<'a> FirstKeys<'a> {
     }
 }
 
-/// Whether one of a meta command's flags says that its key is in base64.
+/// Whether one of these flags says that the key is in base64.
 fn is_coded(flags: &[u8]) -> bool {
     flags.ends_with(b" b") || flags.windows(3).any(|three| three == b" b ".as_slice())
 }
