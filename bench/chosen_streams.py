@@ -126,6 +126,23 @@ def puts(block, line=b"set KEY 0 0 %d\r\n"):
     return flow_of(put(block, line), STORED)
 
 
+def sets():
+    """Sets of one key after the other."""
+    return each(put(VALUE, b"set KEY 0 0 %d\r\n"), STORED)
+
+
+def part_refused(keys, count):
+    """So many sets, and a line that is refused, of one key after the other."""
+    before = itertools.cycle([b"".join(sets()[at : at + count]) for at in range(0, len(STORED) - count, count)])
+    return flow(b"".join(next(before) + b"md %s !\n" % key for key in keys), (count + 1) * len(keys))
+
+
+def guesses_one_off():
+    """As many sets as a look takes, and behind the first a refused line that has no guess: each of the others gets another one's."""
+    rounds = [[first, b"mg YQ== b !\n", *others] for first, *others in (sets()[at : at + 32] for at in range(0, 96, 32))]
+    return flow(b"".join(itertools.chain(*rounds)), sum(map(len, rounds)))
+
+
 def coded(keys):
     return [base64.b64encode(key) for key in keys]
 
@@ -253,6 +270,11 @@ STREAMS = [
     Stream("cold-md-refused", "cold-get", "items that are fetched for a refusal", lambda: refused_after_hits(b"md KEY !\n"), False),
     Stream("cold-ms-refused", "cold-get", "the same", lambda: refused_after_hits(b"ms KEY 0 !\n\r\n"), False),
     Stream("cold-incr-refused", "cold-get", "the same", lambda: refused_after_hits(b"incr KEY x\n"), False),
+    Stream("set-eighth-cold", "set", "an eighth of a look's keys for refusals, with items that are fetched for them",
+           lambda: part_refused(COLD[:600], 7), False),
+    Stream("set-quarter-refused", "set", "a quarter of a look's keys for refusals", lambda: part_refused(LONG, 3), False),
+    Stream("set-quarter-cold", "set", "the same, with items that are fetched for them", lambda: part_refused(COLD[:1_300], 3), False),
+    Stream("set-one-off", "set", "guesses that are another key's", guesses_one_off, False),
     Stream("good-gets-long", "get", "a long line that is read ahead and refused", lambda: flow_of(GET + GETS_LONG, requests=2), False),
     # Data blocks.
     Stream("block-of-gets", "set-1000", "a block that is taken for commands", lambda: puts(filled_with(get(*ABSENT[:4]), 1_000))),

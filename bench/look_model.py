@@ -33,7 +33,8 @@ MOST_EMPTY_WORDS = 64
 FEW_KEYS = 3  # fewer are not hashed
 SHORT_TEXT = 64  # with fewer bytes there is no look
 PASSES = 4  # requests at which no look begins after one that gained little; twice as many after each such look that follows it
-VAIN_PASSES, VAIN_BYTES = 2, 128  # at so many more for each line that is refused though it has a guess, and one more for so many bytes
+VAIN_PASSES, VAIN_BYTES = 4, 128  # at so many more for a line that is refused though it has a guess, and one more for so many bytes
+KEYS_TO_ONE_REFUSED = 8  # once such lines are more than one to so many keys of a look
 MOST_FLAGS = 64  # bytes in which a meta command's flag for base64 is looked for
 MOST_PASSES = 64  # at most at so many
 LONGEST_KEY, LONGEST_NAME, CODED_LIMIT, NUMBER = 250, 15, 336, 20
@@ -152,12 +153,13 @@ class Seen(NamedTuple):
 
 class Kept(NamedTuple):
     """What is kept of the last look: how many of the bytes in front it has read, at how many requests then none begins, at how many none
-    began after the last that gained little, and of how many keys there are guesses."""
+    began after the last that gained little, of how many keys there are guesses, and how many of its lines may yet be refused free."""
 
     bytes: int = 0
     passes: int = 0
     pause: int = 0
     guesses: int = 0
+    spare: int = 0
 
 
 class Ended(Exception):
@@ -186,16 +188,18 @@ class Look:
         if len(seen.keys) < FEW_KEYS:
             return Kept(seen.end - at, PASSES if there - seen.end >= SHORT_TEXT else 0, last.pause, 0)
         pause = seen.pause(last.pause)
-        return Kept(seen.end - at, pause, pause, len(seen.keys))
+        return Kept(seen.end - at, pause, pause, len(seen.keys), len(seen.keys) // KEYS_TO_ONE_REFUSED)
 
     @staticmethod
     def after(last, front, size):
         """What is kept once a request was served."""
         if front.is_faulty and last.guesses:
-            return Kept(max(0, last.bytes - size), min(MOST_PASSES, last.passes + VAIN_PASSES + size // VAIN_BYTES), last.pause, last.guesses - 1)
+            more = 0 if last.spare else VAIN_PASSES + size // VAIN_BYTES
+            passes = min(MOST_PASSES, last.passes + more)
+            return Kept(max(0, last.bytes - size), passes, last.pause, last.guesses - 1, max(0, last.spare - 1))
         passes = last.passes if last.bytes or not Look.has_guess(front) else max(0, last.passes - 1)
         used = len(front.keys) if Look.has_guess(front) else 0
-        return Kept(max(0, last.bytes - size), passes, last.pause, max(0, last.guesses - used))
+        return Kept(max(0, last.bytes - size), passes, last.pause, max(0, last.guesses - used), last.spare)
 
     @classmethod
     def seen(cls, text, front, at, limit):

@@ -116,10 +116,10 @@ impl Reader {
         self.unread.peek()
     }
 
-    /// The first request that has come whole, if it is a good `get` or `gets`: what [`Reader::peek`] would show, by small values. None
-    /// says nothing of what is first.
+    /// The first request that has come whole, if it is a good `get` or `gets` without a space in front: what [`Reader::peek`] would show,
+    /// by small values. None says nothing of what is first.
     ///
-    /// Its line is read once. It takes no memory, and copies nothing.
+    /// Its line is read once if it begins with `g`, else one byte of it. It takes no memory, and copies nothing.
     #[inline(always)]
     pub fn peek_get(&self) -> Option<LentGet<'_>>
         ensures seen { IfSome result (λ get. Shows self.now (get_of get) get.front) }
@@ -129,11 +129,11 @@ impl Reader {
         self.unread.peek_get()
     }
 
-    /// The first line, if its end is known and it begins like one that no data block follows. What it asks for, by
+    /// The first line, if its end is known and it begins like no storage command. What it asks for, by
     /// [`command_line`](mc_request::command_line), is then served where that wrote it: [`Reader::peek`] moves it. None says nothing of
     /// what is first.
     ///
-    /// Its first two bytes and its last are read. It takes no memory, and copies nothing.
+    /// No more than its first three bytes and its last are read. It takes no memory, and copies nothing.
     #[inline(always)]
     pub fn peek_lone(&self) -> Option<LentLine<'_>>
         ensures seen { IfSome result (λ line. (what : Taken) → IsAlone line what → Shows self.now what (front_by line what)) }

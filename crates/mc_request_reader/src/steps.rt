@@ -174,13 +174,13 @@ fn with_block<'a>(storing: Storing<'a>, block: &'a [u8], end: &[u8]) -> Asked<'a
 }
 
 /// The keys of the first request of the bytes, of which so many were searched, whether it asks for numbers, and how many bytes it takes,
-/// where it is a good `get` or `gets`. Nothing else of it is read.
+/// where it is a good `get` or `gets` without a space in front. Of any other line one byte is read, unless that is a `g`.
 #[inline(always)]
 pub fn first_get(unread: &[u8], searched: Searched) -> Option<(WordIter<'_>, bool, usize)>
     requires { IsSearched searched unread.now }
     ensures { IfSome result (λ get. next_request unread.now ≡ Some (Taken.Whole (Request.Get get.0 None get.1), get.2)) }
 {
-    if !matches!(searched, Searched::Ends(_)) {
+    if !matches!(searched, Searched::Ends(_)) || unread.first() != Some(&b'g') {
         return None;
     }
     match searched.line(unread) {
@@ -192,31 +192,35 @@ pub fn first_get(unread: &[u8], searched: Searched) -> Option<(WordIter<'_>, boo
     }
 }
 
-/// The first line of the bytes, of which so many were searched, if its end is known and it begins like one that no data block follows.
+/// The first line of the bytes, of which so many were searched, if its end is known and it begins like no storage command.
 #[inline(always)]
 pub fn first_lone(unread: &[u8], searched: Searched) -> Option<LentLine<'_>>
     requires { IsSearched searched unread.now }
     ensures { IfSome result (λ line. (what : Taken) → meaning (words line.content.now) ≡ Alone what
         → next_request unread.now ≡ Some (what, line.size)) }
 {
-    if !matches!(searched, Searched::Ends(_)) {
+    if !matches!(searched, Searched::Ends(_)) || !is_lone(unread) {
         return None;
     }
     match searched.line(unread) {
-        Line::Whole { content, taken } if is_lone(content) => Some(LentLine {
+        Line::Whole { content, taken } => Some(LentLine {
             content,
             size: taken,
         }),
-        Line::Whole { .. } | Line::Partial | Line::TooLong => None,
+        Line::Partial | Line::TooLong => None,
     }
 }
 
-/// Whether a line begins as one that no data block follows. A wrong answer costs time, and nothing else.
+/// Whether the bytes begin like no storage command, nor with several spaces. A wrong answer costs time, and nothing else.
 #[inline(always)]
-fn is_lone(content: &[u8]) -> bool {
-    match content.split_first() {
+fn is_lone(unread: &[u8]) -> bool {
+    let line = match unread.split_first() {
+        Some((b' ', line)) => line,
+        _ => unread,
+    };
+    match line.split_first() {
         Some((b'm', rest)) => rest.first() != Some(&b's'),
-        Some((letter, _)) => matches!(letter, b'd' | b'f' | b'g' | b'i' | b'q' | b't' | b'v'),
+        Some((letter, _)) => !matches!(letter, b'a' | b'c' | b'p' | b'r' | b's' | b' '),
         None => false,
     }
 }

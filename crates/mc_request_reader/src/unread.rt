@@ -213,7 +213,7 @@ impl Unread {
         }
     }
 
-    /// The first request that has come whole, if it is a good `get` or `gets` whose line's end is known.
+    /// The first request that has come whole, if it is a good `get` or `gets` without a space in front, whose line's end is known.
     #[inline(always)]
     pub fn peek_get(&self) -> Option<LentGet<'_>>
         ensures seen { IfSome result (λ get. Shows self.now (get_of get) get.front) }
@@ -251,7 +251,7 @@ impl Unread {
         })
     }
 
-    /// The first line, if its end is known and it begins like one that no data block follows.
+    /// The first line, if its end is known and it begins like no storage command.
     #[inline(always)]
     pub fn peek_lone(&self) -> Option<LentLine<'_>>
         ensures seen { IfSome result (λ line. (what : Taken) → IsAlone line what → Shows self.now what (front_by line what)) }

@@ -16,11 +16,14 @@ const SHORT: usize = 64;
 /// many after each such look that follows it.
 const PASSES: u32 = 4;
 
-/// At so many more for each line that is refused though there is a guess for it.
-const VAIN_PASSES: u32 = 2;
+/// At so many more for each line that is refused though there is a guess for it, once these are more than an eighth of a look's keys.
+const VAIN_PASSES: u32 = 4;
 
 /// And at one more for so many bytes that it has with its data block.
 const VAIN_BYTES: usize = 128;
+
+/// Of so many of a look's keys one may be in a line that is refused, and puts no look off.
+const KEYS_TO_ONE_REFUSED: u8 = 8;
 
 /// At most at this many.
 const MOST_PASSES: u32 = 64;
@@ -56,9 +59,11 @@ pub struct Ahead {
     count: u8,
     /// How many of them were used.
     used: u8,
+    /// How many of these were for a line that was refused.
+    refused: u8,
     /// What the looks read, which says nothing ([`Store::guess_all`]).
     read: u8,
-    /// Whether a guess was for a line that is refused since the last request was taken.
+    /// Whether the line that is served is refused, and puts the next look off.
     vain: bool,
     /// The number of the connection.
     connection: u64,
@@ -71,6 +76,7 @@ impl Ahead {
             guesses: [0; AHEAD],
             count: 0,
             used: 0,
+            refused: 0,
             read: 0,
             vain: false,
             connection: 0,
@@ -90,15 +96,17 @@ impl Ahead {
     fn drop_guesses(&mut self) {
         self.count = 0;
         self.used = 0;
+        self.refused = 0;
     }
 
-    /// A line was refused. If there was a guess for it, that is passed over, and the next look begins later: a look takes a line with a key
-    /// whether it is refused or not, and who sends such lines gains nothing by it.
+    /// A line was refused. If a guess is left, one is passed over. If more than an eighth of a look's keys are in such lines, the next look
+    /// begins later: a look takes a line with a key whether it is refused or not, and who sends such lines gains nothing by it.
     #[inline]
     pub fn refuse(&mut self) {
         if self.used < self.count {
             self.used += 1;
-            self.vain = true;
+            self.refused = self.refused.saturating_add(1);
+            self.vain = self.refused > self.count / KEYS_TO_ONE_REFUSED;
         }
     }
 
@@ -131,15 +139,16 @@ impl Ahead {
         guess.unwrap_or(0)
     }
 
-    /// A look, which guesses the items of the keys of a retrieval that is first in a text, with so many bytes, and of the requests that come
-    /// after it, if the cache finds several items sooner together. Given what the connection keeps of the last look, it gives what it keeps of
-    /// this one.
+    /// A look, which guesses the items of the keys of a retrieval that is first in a text, with so many bytes, and of the requests that
+    /// come after it, if the cache finds several items sooner together. Given what the connection keeps of the last look, it gives what it
+    /// keeps of this one.
     ///
-    /// A look begins behind all lines that the last one took, so each byte is read by two looks at most, however the text is cut. If a look
-    /// finds fewer than three keys, and leaves text enough for another one, the next begins 4 requests later. If no more than half of its keys
-    /// have a guess, the next begins 4 requests later too, and then 8, 16, 32 and 64, as long as none finds more. Each of its lines that is
-    /// refused puts the next one off by 2 requests more, and by one for 128 bytes, to 64 at most. Requests at which none could begin are not
-    /// counted: those without a key, or with a key in base64, and those in lines that the look took.
+    /// A look begins behind all lines that the last one took, so each byte is read by two looks at most, however the text is cut. If it
+    /// finds fewer than three keys, and leaves text enough for another one, the next begins 4 requests later. If no more than half of its
+    /// keys have a guess, the next begins 4 requests later too, and then 8, 16, 32 and 64, as long as none finds more. Of its lines that are
+    /// refused, each beyond an eighth of its keys puts the next one off by 4 requests more, and by one for 128 bytes, to 64 at most.
+    /// Requests at which none could begin are not counted: those without a key, or with a key in base64, those that are refused, those in
+    /// lines that the look took, and those with fewer than 64 bytes from there on.
     #[inline]
     pub fn look<S: Store + Drop>(
         &mut self,

@@ -31,8 +31,8 @@ const DELETE: u8 = 127;
 /// The keys that the first requests of a text ask for, in their order, as many as there is room for.
 ///
 /// A line is taken only if it ends where the reader of requests has it end, and, if it is a retrieval, only if that would not refuse it:
-/// else it and all after it are left out. So of each line that is taken the keys are looked up, unless it has one key and is refused. A key in
-/// base64 is left out, since its word is not what is looked up.
+/// else it and all after it are left out. So of each line that is taken the keys are looked up, unless it has one key and is refused. A key
+/// in base64 is left out if that flag is in the first 64 bytes of the flags, since its word is not what is looked up.
 #[derive(Drop)]
 pub struct FirstKeys<'a> {
     keys: [&'a [u8]; AHEAD],
@@ -136,7 +136,8 @@ impl<'a> FirstKeys<'a> {
         Some(rest)
     }
 
-    /// The same of a meta command, whose line is `words` up to the line's end: a key in base64 is left out.
+    /// The same of a meta command, whose line is `words` up to the line's end: a key in base64 is left out, if that flag is in the first
+    /// 64 bytes of the flags.
     fn take_meta_key(&mut self, words: &'a [u8], line: &[u8]) -> Option<&'a [u8]> {
         let (word, rest) = next_word(words, CODED_LIMIT)?;
         let flags = line.get(NAME_OF_META + word.len() + 1..)?;
