@@ -8,7 +8,12 @@ where none is refused; or one store is refused: it is answered `SERVER_ERROR out
 a model prints that then leaves its items, their order and its numbers as they were (model.py, pool_model.py). The library that
 refuses is that of refusing.py. It prints a line for each script that fails; the last line is 'N passed, M failed'.
 
-A script NAME.txt that has a NAME.refused is played over each store that mc_sim has, with one, two or three allocations refused from each on
+Scripts of a link that is lost, and of a get whose keys two servers have, are played over each store that mc_sim has.
+
+A script of a server and one of a pool, each of 3,000 lines, are played too. Of their allocations only those of 16,384 bytes or more are
+refused in turn: the growths of a list that has many lines.
+
+A script NAME.txt that has a NAME.refused is played over each store, with one, two or three allocations refused from each on
 (a block that is refused is asked for once more): one of these runs must print what that file has.
 """
 import concurrent.futures
@@ -29,6 +34,13 @@ from suite import are_built, built, counted, examples
 
 NO_MEMORY = "SERVER_ERROR out of memory storing object"
 GIVES_UP = (4, b"", b"mc_sim: out of memory\n")
+OVER_EACH_STORE = (
+    "pool_keys_of_two_servers_the_second_replies_first",
+    "pool_a_lost_command_is_served_after_a_newer_one",
+    "pool_a_lost_command_is_dropped_by_a_drain",
+)
+MANY_LINES = 3_000
+GROWTH = 16_384
 
 
 class Stores:
@@ -76,23 +88,46 @@ def with_one_refused(script):
         told.add(text.encode())
 
 
-def run(library, words, script, number, count=1):
+def run(library, words, script, number, count=1, least=0):
     """The status, the output and the errors of a run with so many allocations refused from this one on, and whether there was one."""
-    ran, refused = refusing.run(library, words, number, count, input=script)
+    ran, refused = refusing.run(library, words, number, count, least, input=script)
     return (ran.returncode, ran.stdout, ran.stderr), refused > 0
 
 
-def fault_of(library, program, script):
+def fault_of(library, script, words):
     """What is wrong where an allocation of a script is refused, if anything is."""
-    calm, _ = run(library, [program], script, 0)
+    calm, _ = run(library, words, script, 0)
     others = with_one_refused(script) if calm[0] == 0 else set()
     for number in itertools.count(1):
-        ended, was_refused = run(library, [program], script, number)
+        ended, was_refused = run(library, words, script, number)
         if not was_refused:
             return None if number > 1 else "nothing was refused"
         status, output, errors = ended
         if ended not in (GIVES_UP, calm) and (status, errors, output in others) != (0, b"", True):
             return f"wrong where allocation {number} is refused"
+
+
+def long_scripts():
+    """A script of a server, and one of a pool, of so many lines: a client counts."""
+    rounds = MANY_LINES // 2
+    alone = [line for number in range(rounds) for line in (rf"bytes 0 set k{number % 99} 0 0 1\r\n{number % 10}\r\n", "turn 0 1")]
+    steps = (r"bytes 0 incr n 1\r\n", "turn 0", "toserver 0 1 all", "serve 0 1 100", "toproxy 0 all", "reply 0")
+    pool = [r"bytes 0 set n 0 0 1\r\n0\r\n", *steps[1:], *(step for _ in range(rounds // 3 - 1) for step in steps), "drain 200", "emit 0"]
+    for lines in ["server 1 67108864 1000", *alone], ["pool 1 1 67108864 1000", *pool]:
+        yield "\n".join([*lines, ""]).encode()
+
+
+def fault_of_long(library, script, words):
+    """What is wrong where a growth of a list of many lines is refused, or where none is, if anything is."""
+    calm, _ = run(library, words, script, 0)
+    if calm != (0, printed_with(Stores(0), script).encode(), b""):
+        return "is not played as the model plays it"
+    for number in itertools.count(1):
+        ended, was_refused = run(library, words, script, number, least=GROWTH)
+        if not was_refused:
+            return None if number > 2 else "too few growths were refused"
+        if ended != GIVES_UP:
+            return f"wrong where growth {number} is refused: {ended}"
 
 
 def stores(program):
@@ -125,16 +160,26 @@ def are_refused(library, program, scripts):
             yield printed
 
 
+def played(program, scripts):
+    """Of each script what names it in a line on its failure, its text, and the words that play it."""
+    for script in scripts:
+        yield script, script.read_bytes(), [program]
+        for words in stores(program) if script.stem in OVER_EACH_STORE else ():
+            yield f"{script} {' '.join(words)}", script.read_bytes(), [program, *words]
+
+
 def main(program):
     scripts = [path for path in examples() if path.stat().st_size]
     with tempfile.TemporaryDirectory() as folder, concurrent.futures.ThreadPoolExecutor(os.cpu_count()) as pool:
         library = refusing.build(folder)
-        looks = functools.partial(fault_of, library, program)
-        faults = list(pool.map(looks, (script.read_bytes() for script in scripts)))
+        names, texts, words = zip(*played(program, scripts))
+        faults = list(pool.map(functools.partial(fault_of, library), texts, words))
+        long = dict(zip(("a server's script of 3,000 lines", "a pool's script of 3,000 lines"), long_scripts()))
+        faults += pool.map(functools.partial(fault_of_long, library), long.values(), [[program]] * len(long))
         refused = list(are_refused(library, program, scripts))
-    for script, fault in zip(scripts, faults):
+    for name, fault in zip([*names, *long], faults):
         if fault:
-            print(f"{script}: {fault}")
+            print(f"{name}: {fault}")
     return counted([fault is None for fault in faults] + refused)
 
 

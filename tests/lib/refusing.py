@@ -17,17 +17,19 @@ long write(int, const void *, size_t);
 
 static long made;
 
-static int is_refused(void) {
-    const char *first = getenv("REFUSED_FIRST"), *count = getenv("REFUSED_COUNT");
-    long past = ++made - (first ? atol(first) : 0);
-    if (!first || !count || past < 0 || past >= atol(count))
+static int is_refused(size_t size) {
+    const char *first = getenv("REFUSED_FIRST"), *count = getenv("REFUSED_COUNT"), *least = getenv("REFUSED_LEAST");
+    if (!first || !count || (least && (long)size < atol(least)))
+        return 0;
+    long past = ++made - atol(first);
+    if (past < 0 || past >= atol(count))
         return 0;
     write(2, "refused\n", 8);
     return 1;
 }
 
-void *malloc(size_t size) { return is_refused() ? 0 : __libc_malloc(size); }
-void *realloc(void *block, size_t size) { return is_refused() ? 0 : __libc_realloc(block, size); }
+void *malloc(size_t size) { return is_refused(size) ? 0 : __libc_malloc(size); }
+void *realloc(void *block, size_t size) { return is_refused(size) ? 0 : __libc_realloc(block, size); }
 """
 
 
@@ -41,10 +43,10 @@ def build(folder):
     return library
 
 
-def run(library, words, first, count, **how):
-    """Runs a program with so many allocations refused from the first on. Gives the run, whose errors are the program's own, and how many
-    were refused."""
-    names = {"LD_PRELOAD": library, "REFUSED_FIRST": str(first), "REFUSED_COUNT": str(count)}
+def run(library, words, first, count, least=0, **how):
+    """Runs a program with so many allocations refused from the first on, of those that ask for so many bytes at least. Gives the run, whose
+    errors are the program's own, and how many were refused."""
+    names = {"LD_PRELOAD": library, "REFUSED_FIRST": str(first), "REFUSED_COUNT": str(count), "REFUSED_LEAST": str(least)}
     streams = {"stdout": subprocess.PIPE, "stderr": subprocess.PIPE, "close_fds": False}
     ran = subprocess.run(words, env={**os.environ, **names}, timeout=SECONDS, **streams, **how)
     ran.stderr, refused = ran.stderr.replace(TOLD, b""), ran.stderr.count(TOLD)
