@@ -320,6 +320,22 @@ const EXAMPLES: [Example; 24] = [
 /// More requests than a client here sends at a time.
 const MANY: usize = 20;
 
+/// A text of fewer bytes comes in single bytes too.
+const SHORT: usize = 256;
+
+/// The sizes of the pieces in which an example's texts come: whole, and, where they are short, in single bytes.
+fn pieces(example: &Example) -> &'static [usize] {
+    let is_short = example
+        .said
+        .iter()
+        .all(|(_, text, times)| text.len() < SHORT && *times == 1);
+    if is_short {
+        &[usize::MAX, 1]
+    } else {
+        &[usize::MAX]
+    }
+}
+
 fn admit<S: Store + Drop>(server: &mut Server<S>) -> Result<u64, ServerError> {
     again!(server.admit())
 }
@@ -358,17 +374,20 @@ fn take_all<S: Store + Drop>(
     Ok(())
 }
 
-/// Whether a client of a new server is answered in one of the ways that it may be answered.
+/// Whether a client of a new server, whose texts come in pieces of so many bytes, is answered in one of the ways that it may be answered.
 fn is_answered<S: Store + Drop>(
     alloc: Global,
     server: &mut Server<S>,
     example: &Example,
+    piece: usize,
 ) -> Result<bool, Fail> {
     let number = admit(server)?;
     for (moment, text, times) in example.said {
         let bytes = repeated(alloc, text, *times)?;
-        feed(server, number, &bytes)?;
-        take_all(server, number, *moment)?;
+        for part in bytes.chunks(piece.max(1)) {
+            feed(server, number, part)?;
+            take_all(server, number, *moment)?;
+        }
     }
     Ok(
         example
@@ -381,12 +400,14 @@ fn is_answered<S: Store + Drop>(
 #[test]
 fn clients_are_answered_all_the_same(rt: HostRuntime) -> Result<(), Fail> {
     for example in &EXAMPLES {
-        let mut server = new_server(rt.alloc(), example.server)?;
-        assert!(rt;
-            is_answered(rt.alloc(), &mut server, example)?,
-            "{}",
-            example.name
-        );
+        for piece in pieces(example) {
+            let mut server = new_server(rt.alloc(), example.server)?;
+            assert!(rt;
+                is_answered(rt.alloc(), &mut server, example, *piece)?,
+                "{}",
+                example.name
+            );
+        }
     }
     Ok(())
 }
@@ -409,11 +430,14 @@ fn new_table(alloc: Global, items: usize) -> Result<TableStore<FixedHasher>, Sto
 #[test]
 fn clients_are_answered_all_the_same_over_lru(rt: HostRuntime) -> Result<(), Fail> {
     for example in &EXAMPLES {
-        if example.server.keys == u64::MAX {
+        if example.server.keys != u64::MAX {
+            continue;
+        }
+        for piece in pieces(example) {
             let store = new_lru(rt.alloc(), example.server.items)?;
             let mut server = server_over(rt.alloc(), store, example.server)?;
             assert!(rt;
-                is_answered(rt.alloc(), &mut server, example)?,
+                is_answered(rt.alloc(), &mut server, example, *piece)?,
                 "{}",
                 example.name
             );
@@ -426,11 +450,14 @@ fn clients_are_answered_all_the_same_over_lru(rt: HostRuntime) -> Result<(), Fai
 #[test]
 fn clients_are_answered_all_the_same_over_a_table(rt: HostRuntime) -> Result<(), Fail> {
     for example in &EXAMPLES {
-        if example.server.keys == u64::MAX {
+        if example.server.keys != u64::MAX {
+            continue;
+        }
+        for piece in pieces(example) {
             let store = new_table(rt.alloc(), example.server.items)?;
             let mut server = server_over(rt.alloc(), store, example.server)?;
             assert!(rt;
-                is_answered(rt.alloc(), &mut server, example)?,
+                is_answered(rt.alloc(), &mut server, example, *piece)?,
                 "{}",
                 example.name
             );
