@@ -1,7 +1,7 @@
-//! A hasher of keys that a stranger cannot foretell.
+//! A keyed hasher: what it gives depends on secret random numbers.
 //!
 //! [`SecretState`] makes a [`KeyHasher`] for each key: `std::hash::RandomState` and its hasher, but faster for keys of some tens
-//! of bytes. Both hide random numbers in what a key is hashed to, so a stranger who does not know them cannot tell which keys collide.
+//! of bytes. With both, which keys collide depends on random numbers that a stranger does not know.
 //!
 //! # How strong it is
 //!

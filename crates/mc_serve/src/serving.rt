@@ -24,7 +24,7 @@ use std::random::RandomSource;
 use std::rc::Rc;
 use std::sync::Wait;
 
-/// Serves the connections that a listener accepts, over one cache, at the moments that the clock tells. Its hashes nobody can foretell.
+/// Serves the connections that a listener accepts, over one cache, at the moments that the clock tells. Its hashes are keyed by random numbers.
 ///
 /// It answers once as many connections as the settings say were accepted and all of them are closed; without such a
 /// limit it serves for ever. A connection that fails is closed, and the others go on. A round of the poll reads the clock
@@ -43,7 +43,7 @@ pub fn serve<R: Net + RandomSource + Wait + Eprint, C: Seconds>(
     serve_rounds(rt, alloc, listener, service.terms.accept, clock, &mut host)
 }
 
-/// A server without a connection, over an empty cache whose hashes nobody can foretell, and whose store counts what it does.
+/// A server without a connection, over an empty cache whose hashes are keyed by random numbers, and whose store counts what it does.
 fn new_server<R: RandomSource>(
     rt: &R,
     alloc: Global,
