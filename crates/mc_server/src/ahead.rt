@@ -113,11 +113,15 @@ impl Ahead {
     /// What a connection keeps of its last look once a request or fault of so many bytes is taken.
     #[inline]
     pub fn past(&mut self, looked: Looked, size: usize) -> Looked {
-        let more = if self.vain { vain_passes(size) } else { 0 };
+        let bytes = looked.bytes.saturating_sub(size);
+        if !self.vain {
+            return Looked { bytes, ..looked };
+        }
         self.vain = false;
+        let passes = looked.passes.saturating_add(vain_passes(size));
         Looked {
-            bytes: looked.bytes.saturating_sub(size),
-            passes: looked.passes.saturating_add(more).min(MOST_PASSES),
+            bytes,
+            passes: passes.min(MOST_PASSES),
             ..looked
         }
     }

@@ -93,32 +93,34 @@ impl<'a> FirstKeys<'a> {
 
     /// Takes the keys of the first line, and gives what is after it and its data block.
     fn take_line(&mut self, text: &'a [u8]) -> Option<&'a [u8]> {
-        let (line, after) = split_line(text)?;
         let (name, words) = split_word(text, NAME)?;
         match name {
-            b"get" | b"gets" => self.take_keys(words, line)?,
+            b"get" | b"gets" => self.take_keys(words),
             b"incr" | b"decr" | b"touch" | b"delete" => {
-                self.take_key(words, CODED_LIMIT)?;
+                let rest = self.take_key(words, CODED_LIMIT)?;
+                Some(split_line(rest)?.1)
             }
-            b"mg" | b"ma" | b"md" => {
-                self.take_meta_key(words, line)?;
+            b"mg" | b"ma" | b"md" => Some(self.take_meta_key(words)?.1),
+            b"ms" => {
+                let (words, after) = self.take_meta_key(words)?;
+                let (len, _) = next_word(words, NUMBER)?;
+                after_block(len, after)
             }
-            b"ms" => return after_block(self.take_meta_key(words, line)?, after),
             b"set" | b"add" | b"replace" | b"append" | b"prepend" | b"cas" => {
                 let words = self.take_key(words, KEY_LIMIT)?;
                 let (_, words) = next_word(words, NUMBER)?;
                 let (_, words) = next_word(words, NUMBER)?;
-                return after_block(words, after);
+                let (len, rest) = next_word(words, NUMBER)?;
+                after_block(len, split_line(rest)?.1)
             }
             b"gat" | b"gats" => {
                 let (exptime, words) = next_word(words, NUMBER)?;
                 read_i64(exptime)?;
-                self.take_keys(words, line)?;
+                self.take_keys(words)
             }
-            b"mn" if is_over(words) => {}
-            _ => return None,
+            b"mn" => after_line(words),
+            _ => None,
         }
-        Some(after)
     }
 
     /// Takes a key, if there is room.
@@ -136,34 +138,31 @@ impl<'a> FirstKeys<'a> {
         Some(rest)
     }
 
-    /// The same of a meta command, whose line is `words` up to the line's end: a key in base64 is left out, if that flag is in the first
-    /// 64 bytes of the flags.
-    fn take_meta_key(&mut self, words: &'a [u8], line: &[u8]) -> Option<&'a [u8]> {
+    /// The same of a meta command, and what is after its line: a key in base64 is left out, if that flag is in the first 64 bytes of the
+    /// flags.
+    fn take_meta_key(&mut self, words: &'a [u8]) -> Option<(&'a [u8], &'a [u8])> {
         let (word, rest) = next_word(words, CODED_LIMIT)?;
-        let flags = line.get(NAME_OF_META + word.len() + 1..)?;
+        let (flags, after) = split_line(rest)?;
         if !is_coded(flags.get(..FLAGS).unwrap_or(flags)) {
             self.push(word)?;
         }
-        Some(rest)
+        Some((rest, after))
     }
 
-    /// Takes the keys of a retrieval, of which there is one at least, as many as there is room for.
-    fn take_keys(&mut self, words: &'a [u8], line: &[u8]) -> Option<()> {
-        if line.len() > KEY_LIMIT && has_long_word(line) {
-            return None;
-        }
+    /// Takes the keys of a retrieval, of which there is one at least, as many as there is room for, and gives what is after its line.
+    fn take_keys(&mut self, words: &'a [u8]) -> Option<&'a [u8]> {
         let mut rest = self.take_key(words, KEY_LIMIT)?;
         for _ in 0..AHEAD {
-            if is_over(rest) {
-                return Some(());
+            if rest.first() != Some(&b' ') {
+                return after_line(rest);
             }
             let (word, more) = next_word(rest, KEY_LIMIT)?;
             if self.push(word).is_none() {
-                return Some(());
+                return after_keys(rest);
             }
             rest = more;
         }
-        Some(())
+        after_keys(rest)
     }
 }
 
@@ -172,9 +171,10 @@ fn is_coded(flags: &[u8]) -> bool {
     flags.ends_with(b" b") || flags.windows(3).any(|three| three == b" b ".as_slice())
 }
 
-/// Whether a word of a line in which no control byte is has more bytes than a key.
-fn has_long_word(line: &[u8]) -> bool {
-    !are_plain_keys(&words(line))
+/// What is after the first line, if none of its words has more bytes than a key.
+fn after_keys(text: &[u8]) -> Option<&[u8]> {
+    let (line, after) = split_line(text)?;
+    are_plain_keys(&words(line)).then_some(after)
 }
 
 /// The first line without its end, if it is whole and no control byte is in it, and what is after it.
@@ -187,10 +187,13 @@ fn split_line(text: &[u8]) -> Option<(&[u8], &[u8])> {
     }
 }
 
-/// Whether nothing is left of a line in which no control byte is.
+/// What is after the end of a line, if that is first.
 #[inline]
-fn is_over(rest: &[u8]) -> bool {
-    matches!(rest.first(), Some(b'\r' | b'\n'))
+fn after_line(text: &[u8]) -> Option<&[u8]> {
+    match text {
+        [b'\n', after @ ..] | [b'\r', b'\n', after @ ..] => Some(after),
+        _ => None,
+    }
 }
 
 /// The word in front, if it has at most this many bytes, and what is after it, from the byte on that ends it.
@@ -213,11 +216,10 @@ fn next_word(text: &[u8], most: usize) -> Option<(&[u8], &[u8])> {
     Some((word, rest))
 }
 
-/// What is after the data block whose length is the next word of its line.
-fn after_block<'a>(words: &[u8], after: &'a [u8]) -> Option<&'a [u8]> {
-    let (word, _) = next_word(words, NUMBER)?;
-    let block = (read_len(word)? as usize).checked_add(2)?;
-    after.get(block..)
+/// What is after the data block of this length.
+fn after_block<'a>(len: &[u8], text: &'a [u8]) -> Option<&'a [u8]> {
+    let block = (read_len(len)? as usize).checked_add(2)?;
+    text.get(block..)
 }
 
 /// Where the first byte is that is no more than another, or is 127. The processor looks at many at once.
