@@ -229,6 +229,7 @@ class Look:
         start = self.place
         while self.byte() > 32 and self.byte() != 127 and self.place - start <= most:
             self.place += 1
+        self.bytes += self.place - start + 1
         if self.place == start or self.place - start > most or self.byte() < 0:
             raise Ended
         return self.text[start : self.place]
@@ -239,18 +240,20 @@ class Look:
             raise Ended
         self.keys.append(word)
 
-    def take_meta_key(self, line):
-        """None in base64. The first flags are read for it."""
-        word = self.word(CODED_LIMIT)
-        line = line.partition(word)[2][:MOST_FLAGS]
+    def take_meta_key(self):
+        """None in base64. The first flags are read for it. What is after the line is given."""
+        word, flags = self.word(CODED_LIMIT), self.place
+        after = self.end_of_line()
+        line = self.text[flags : min(after, flags + MOST_FLAGS)].rstrip(b"\r\n")
         self.bytes += 6 * len(line)
         if b"b" not in line.split():
             if len(self.keys) == MOST_KEYS:
                 raise Ended
             self.keys.append(word)
+        return after
 
     def end_of_line(self):
-        """What is after the line, in which no control byte is."""
+        """What is after the line, in which no control byte comes from here on."""
         end = self.place
         while end < self.limit and self.text[end] > 31 and self.text[end] != 127:
             end += 1
@@ -267,32 +270,43 @@ class Look:
             self.place += 1
         return self.text[start : self.place]
 
-    def take_keys(self, line):
-        """As many as there is room for, if no word of the line is too long for a key."""
-        if len(line.rstrip()) > LONGEST_KEY:
-            self.long_bytes += len(line)
-            if any(len(word) > LONGEST_KEY for word in line.split()):
-                raise Ended
+    def take_keys(self):
+        """As many as there is room for, if no word of the line is too long for a key. What is after the line is given."""
         self.take_key(LONGEST_KEY)
-        while self.byte() == 32 and len(self.keys) < MOST_KEYS:
-            self.take_key(LONGEST_KEY)
+        while self.byte() == 32:
+            start = self.place
+            word = self.word(LONGEST_KEY)
+            if len(self.keys) == MOST_KEYS:
+                self.place = start
+                after = self.end_of_line()
+                self.long_bytes += after - start
+                if any(len(word) > LONGEST_KEY for word in self.text[start:after].split()):
+                    raise Ended
+                return after
+            self.keys.append(word)
+        return self.end_of_line()
 
     def take_line(self):
-        start, after, name = self.place, self.end_of_line(), self.name()
+        name = self.name()
+        self.bytes += len(name)
         if name in RETRIEVALS or name in DATED:
             if name in DATED and model.i64(self.word(NUMBER)) is None:
                 raise Ended
-            self.take_keys(self.text[start:after])
+            after = self.take_keys()
         elif name in META:
-            self.take_meta_key(self.text[start:after])
+            after = self.take_meta_key()
         elif name in KEYED:
             self.take_key(CODED_LIMIT)
+            after = self.end_of_line()
         elif name in STORAGE:
             self.take_key(LONGEST_KEY)
-        elif name != b"mn" or self.byte() == 32:
+        elif name == b"mn" and self.byte() != 32:
+            after = self.end_of_line()
+        else:
             raise Ended
         if name in STORAGE or name == b"ms":
             words = [self.word(NUMBER) for _ in range(1 if name == b"ms" else 3)]
+            after = after if name == b"ms" else self.end_of_line()
             length = model.digits(words[-1], 10, 2**31)
             after += self.limit if length is None else length + 2
         if after > self.limit:
