@@ -9,7 +9,6 @@ pub mod Applies
 pub mod LogHolds
 pub mod Worlds
 pub mod Courses
-pub mod LateMemory
 pub mod CourseHolds
 pub mod Joins
 pub mod Runs

@@ -1,6 +1,5 @@
 //! The course of a world: its pool, its clients, and the log of what was done.
-ghost use Rattle.std.specs.Prelude.{◌≡◌, ◌<◌, ◌^◌, ◌↔◌, [], length, IfErr, IfOk, IsTrue, OnOk, OnErr};
-ghost use Rattle.mc_world.specs.LateMemory.{AsksLate};
+ghost use Rattle.std.specs.Prelude.{◌≡◌, ◌<◌, ◌^◌, ◌↔◌, [], length, IfErr, IfOk, OnOk, OnErr};
 
 use crate::clients::Client;
 use crate::errors::{Step, WorldError};
@@ -42,8 +41,7 @@ impl<S: Store + Drop> Course<S> {
     ghost use Rattle.mc_event.specs.declared.events.Event.TheVariants.{ClientBytes, ClientGone, ClientTakes, ServerTurn, ToServer};
 
     /// Does what an event says, where it applies, and puts it down in the log, in which there is room first: so the log is out of
-    /// reach of what happens. Where the event does not apply no memory is asked for: so it is looked at first, unless the log has
-    /// room and what happens finds it out by itself. At an error nothing has changed.
+    /// reach of what happens. Where the event does not apply no memory is asked for. At an error nothing has changed.
     pub(crate) fn step(&mut self, event: &Event<Block>) -> Result<Step, WorldError>
         requires serves { CourseServes self.old }
         ensures done { IfOk result (λ step. Does step (IsDone event.now self.old self.new) (self.new ≡ self.old)) }
@@ -51,13 +49,10 @@ impl<S: Store + Drop> Course<S> {
         ensures err { OnErr result (self.new ≡ self.old) }
         ensures err_applies { OnErr result (Applies event.now self.old.pool) }
     {
-        let has_room = self.log.len() < self.log.capacity();
-        if !(has_room && asks_late(event)) {
-            if !self.pool.applies(event) {
-                return Ok(Step::Nothing);
-            }
-            self.log.reserve(1)?;
+        if !self.pool.applies(event) {
+            return Ok(Step::Nothing);
         }
+        self.log.reserve(1)?;
         let log = mem::replace(&mut self.log, Vec::new(self.alloc));
         let happened = self.happen(event);
         self.log = log;
@@ -99,13 +94,12 @@ impl<S: Store + Drop> Course<S> {
         Ok(place)
     }
 
-    /// Does it, but for the log. An event that asks for memory late applies where memory is refused.
+    /// Does it, but for the log.
     fn happen(&mut self, event: &Event<Block>) -> Result<Step, WorldError>
         requires serves { CourseServes self.old }
         ensures happens { IfOk result (λ step. Does step (HappensTo event.now self.old self.new) (self.new ≡ self.old)) }
         ensures applies { IfOk result (λ step. (step ≡ Done) ↔ Applies event.now self.old.pool) }
         ensures err { OnErr result (self.new ≡ self.old) }
-        ensures err_applies { OnErr result (AsksLate event.now → Applies event.now self.old.pool) }
     {
         match event {
             Event::ClientBytes { client, bytes } => self.hear(*client, bytes.as_slice()),
@@ -203,8 +197,6 @@ impl<S: Store + Drop> Course<S> {
         ensures applies { IfOk result (λ step. (step ≡ Done)
             ↔ ByWay server generation self.old.pool (CanReachServer server count self.old.pool) (CanReachLate server generation count self.old.pool)) }
         ensures err { OnErr result (self.new ≡ self.old) }
-        ensures err_applies { OnErr result
-            (ByWay server generation self.old.pool (CanReachServer server count self.old.pool) (CanReachLate server generation count self.old.pool)) }
     {
         if self.pool.lives(server, generation) {
             return self.pool.reach_server(server, count);
@@ -219,8 +211,6 @@ impl<S: Store + Drop> Course<S> {
         ensures applies { IfOk result (λ step. (step ≡ Done)
             ↔ ((moment < 2 ^ 63) × ByWay server generation self.old.pool (CanServe server self.old.pool) (CanServeLate server generation self.old.pool))) }
         ensures err { OnErr result (self.new ≡ self.old) }
-        ensures err_applies { OnErr result
-            ((moment < 2 ^ 63) × ByWay server generation self.old.pool (CanServe server self.old.pool) (CanServeLate server generation self.old.pool)) }
     {
         if moment >= 1 << 63 {
             return Ok(Step::Nothing);
@@ -229,16 +219,5 @@ impl<S: Store + Drop> Course<S> {
             return self.pool.server_turn(server, moment);
         }
         self.pool.late_turn(server, generation, moment)
-    }
-}
-
-/// Whether an event asks for memory only where it applies: all but those that first make room for what a client sends, or for
-/// what it takes.
-fn asks_late(event: &Event<Block>) -> bool
-    ensures { IsTrue result ↔ AsksLate event.now }
-{
-    match event {
-        Event::ClientBytes { .. } | Event::ClientGone { .. } | Event::ClientTakes { .. } => false,
-        _ => true,
     }
 }
