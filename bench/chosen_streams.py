@@ -290,8 +290,6 @@ STREAMS = [
     # Keys.
     Stream("mg-coded", "mg", "a key that is decoded more than once", lambda: flow_of(b"mg KEY b v\r\n", coded(HELD))),
     Stream("ms-coded", "ms", "the same", lambda: flow_of(put(VALUE, b"ms KEY %d b\r\n"), coded(STORED))),
-    Stream("mg-coded-held-word", "mg-quiet", "items that are fetched by the words of keys in base64",
-           lambda: flow_of(b"mg KEY b v q\r\n", [b"k%d" % number for number in range(100, 1_000)])),
     Stream("mg-coded-250", "mg", "the same with the longest key", lambda: flow_of(b"mg KEY b v\r\n", coded(LONG))),
     Stream("mg-badly-coded", "mg", "a key that is refused late", lambda: flow_of(b"mg KEY! b v\r\n", [key[:-1] for key in coded(LONG)])),
     Stream("incr-absent", "incr", "the same", lambda: flow_of(b"incr KEY 1\r\n", ABSENT)),
@@ -311,6 +309,8 @@ STREAMS = [
     Stream("set-noreply", "set", "work that nobody is told of", lambda: puts(VALUE, b"set KEY 0 0 %d noreply\r\n")),
     Stream("incr-noreply", "incr", "the same", lambda: flow_of(b"incr KEY 1 noreply\r\n", COUNTED)),
     Stream("mg-quiet", "mg", "misses that are not answered", lambda: flow_of(b"mg KEY v q\r\n", ABSENT)),
+    Stream("mg-coded-held-word", "mg-quiet", "items that are fetched by the words of keys in base64",
+           lambda: flow_of(b"mg KEY b v q\r\n", [b"k%d" % number for number in range(100, 1_000)])),
     Stream("ms-quiet", "ms", "work that nobody is told of", lambda: puts(VALUE, b"ms KEY %d q\r\n")),
     Stream("mn", "mg", "the shortest request", lambda: flow(b"mn\r\n")),
     # Many connections.
