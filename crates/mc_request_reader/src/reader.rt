@@ -129,7 +129,7 @@ impl Reader {
         self.unread.peek_get()
     }
 
-    /// The first line, if its end is known and it begins like no storage command. What it asks for, by
+    /// The first line, if its end is known and it begins like no storage command, nor with several spaces. What it asks for, by
     /// [`command_line`](mc_request::command_line), is then served where that wrote it: [`Reader::peek`] moves it. None says nothing of
     /// what is first.
     ///

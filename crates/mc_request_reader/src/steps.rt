@@ -174,7 +174,8 @@ fn with_block<'a>(storing: Storing<'a>, block: &'a [u8], end: &[u8]) -> Asked<'a
 }
 
 /// The keys of the first request of the bytes, of which so many were searched, whether it asks for numbers, and how many bytes it takes,
-/// where it is a good `get` or `gets` without a space in front. Of any other line one byte is read, unless that is a `g`.
+/// where it is a good `get` or `gets` without a space in front. Of a line that begins with another byte
+/// than `g` that byte alone is read.
 #[inline(always)]
 pub fn first_get(unread: &[u8], searched: Searched) -> Option<(WordIter<'_>, bool, usize)>
     requires { IsSearched searched unread.now }
@@ -192,7 +193,8 @@ pub fn first_get(unread: &[u8], searched: Searched) -> Option<(WordIter<'_>, boo
     }
 }
 
-/// The first line of the bytes, of which so many were searched, if its end is known and it begins like no storage command.
+/// The first line of the bytes, of which so many were searched, if its end is known and it begins like no storage command, nor with several
+/// spaces.
 #[inline(always)]
 pub fn first_lone(unread: &[u8], searched: Searched) -> Option<LentLine<'_>>
     requires { IsSearched searched unread.now }

@@ -24,7 +24,7 @@ use std::random::RandomSource;
 use std::rc::Rc;
 use std::sync::Wait;
 
-/// Serves the connections that a listener accepts, over one cache, at the moments that the clock tells. Its hashes are keyed by random numbers.
+/// Serves the connections that a listener accepts, over one cache, at the moments that the clock tells. Random numbers key its hashes.
 ///
 /// It answers once as many connections as the settings say were accepted and all of them are closed; without such a
 /// limit it serves for ever. A connection that fails is closed, and the others go on. A round of the poll reads the clock

@@ -16,7 +16,7 @@ const SHORT: usize = 64;
 /// many after each such look that follows it.
 const PASSES: u32 = 4;
 
-/// At so many more for each line that is refused though there is a guess for it, once these are more than an eighth of a look's keys.
+/// At so many more for each line that is refused while a guess is left, once these are more than an eighth of a look's keys.
 const VAIN_PASSES: u32 = 4;
 
 /// And at one more for so many bytes that it has with its data block.
@@ -149,10 +149,10 @@ impl Ahead {
     ///
     /// A look begins behind all lines that the last one took, so each byte is read by two looks at most, however the text is cut. If it
     /// finds fewer than three keys, and leaves text enough for another one, the next begins 4 requests later. If no more than half of its
-    /// keys have a guess, the next begins 4 requests later too, and then 8, 16, 32 and 64, as long as none finds more. Of its lines that are
-    /// refused, each beyond an eighth of its keys puts the next one off by 4 requests more, and by one for 128 bytes, to 64 at most.
-    /// Requests at which none could begin are not counted: those without a key, or with a key in base64, those that are refused, those in
-    /// lines that the look took, and those with fewer than 64 bytes from there on.
+    /// keys have a guess, the next begins 4 requests later too, and then 8, 16, 32 and 64, as long as none finds more. Of its refused lines
+    /// each beyond an eighth of its keys puts the next one off by 4 requests more, and by one for 128 bytes, to 64 at most. Requests at
+    /// which none could begin are not counted: those without a key, or with a key in base64, those that are refused, those in lines that
+    /// the look took, and those with fewer than 64 bytes from there on.
     #[inline]
     pub fn look<S: Store + Drop>(
         &mut self,

@@ -13,9 +13,6 @@ const LONG: usize = 8_192;
 /// The most bytes of a command's name that are looked at.
 const NAME: usize = LANES - 1;
 
-/// The bytes of a meta command's name.
-const NAME_OF_META: usize = 2;
-
 /// The most bytes of a meta command's flags among which that for base64 is looked for.
 const FLAGS: usize = 64;
 
