@@ -105,10 +105,8 @@ impl<'a> FirstKeys<'a> {
             }
             b"set" | b"add" | b"replace" | b"append" | b"prepend" | b"cas" => {
                 let words = self.take_key(words, KEY_LIMIT)?;
-                let (_, words) = next_word(words, NUMBER)?;
-                let (_, words) = next_word(words, NUMBER)?;
-                let (len, rest) = next_word(words, NUMBER)?;
-                after_block(len, split_line(rest)?.1)
+                let (len, after) = third_word(words)?;
+                after_block(len, after)
             }
             b"gat" | b"gats" => {
                 let (exptime, words) = next_word(words, NUMBER)?;
@@ -211,6 +209,53 @@ fn next_word(text: &[u8], most: usize) -> Option<(&[u8], &[u8])> {
         return None;
     }
     Some((word, rest))
+}
+
+/// The third word of the rest of a line, and what is after the line: of a storage command's rest behind the key that is the length.
+#[inline]
+fn third_word(text: &[u8]) -> Option<(&[u8], &[u8])> {
+    if let Some((word, rest)) = third_in_lanes(text) {
+        return Some((word, after_line(rest)?));
+    }
+    let (_, words) = next_word(text, NUMBER)?;
+    let (_, words) = next_word(words, NUMBER)?;
+    let (word, rest) = next_word(words, NUMBER)?;
+    Some((word, split_line(rest)?.1))
+}
+
+/// The same, and the rest from the line's end on, if that is among the first 16 bytes and no word is empty.
+#[inline]
+fn third_in_lanes(text: &[u8]) -> Option<(&[u8], &[u8])> {
+    let (lanes, _) = text.split_first_chunk::<LANES>()?;
+    let bytes = u8x16::from_array(*lanes);
+    let ends = control_bytes(bytes);
+    let marks = (ends | bytes.simd_eq(u8x16::splat(b' ')).to_bitmask()) & up_to_first(ends);
+    let third = without_first(without_first(marks));
+    let behind = without_first(third);
+    if ends == 0 || marks & 1 == 0 || marks & (marks << 1) != 0 || behind == 0 {
+        return None;
+    }
+    let word = text.get(third.trailing_zeros() as usize + 1..behind.trailing_zeros() as usize)?;
+    Some((word, text.get(ends.trailing_zeros() as usize..)?))
+}
+
+/// Which of some bytes are control bytes.
+#[inline(always)]
+fn control_bytes(bytes: u8x16) -> u64 {
+    bytes.simd_lt(u8x16::splat(b' ')).to_bitmask()
+        | bytes.simd_eq(u8x16::splat(DELETE)).to_bitmask()
+}
+
+/// The bits up to the lowest that is set, with it.
+#[inline(always)]
+fn up_to_first(bits: u64) -> u64 {
+    bits ^ bits.wrapping_sub(1)
+}
+
+/// The bits without the lowest that is set.
+#[inline(always)]
+fn without_first(bits: u64) -> u64 {
+    bits & bits.wrapping_sub(1)
 }
 
 /// What is after the data block of this length.

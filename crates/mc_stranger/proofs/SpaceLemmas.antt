@@ -45,15 +45,6 @@ pub says_byte : (text next more : List ℕ) (b : ℕ) → SaysTheSame (text ++ b
 says_byte text next more b same = λ rest.
     ap (λ (bytes : List ℕ). first_line_says (bytes ++ rest)) (sym (append_assoc text (b ∷ []) more)) ∙ says_behind (text ++ b ∷ []) next more same rest
 
-not_not : (a : Bool) → not (not a) ≡ a
-not_not true = refl
-not_not false = refl
-
--- a space is what is not another byte
-pub each_is : (bytes : List ℕ) → list_all (λ b. not (not (b == 32))) bytes ≡ list_all is_space bytes
-each_is [] = refl
-each_is (b ∷ bs) = rw (not_not (b == 32), each_is bs) refl
-
 -- a space less, and several
 pub space_less : (text rest more : List ℕ) (b : ℕ) → SaysTheSame text rest → rest ≡ b ∷ more → b ≡ 32 → SaysTheSame text more
 space_less text rest more b same is space = λ next.

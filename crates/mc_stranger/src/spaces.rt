@@ -1,12 +1,9 @@
 //! Spaces and empty lines in front of a text: they count for nothing.
-ghost use Rattle.std.specs.Prelude.{ℕ, List, [], ◌≡◌, ◌<◌, ◌≤◌, ◌==◌, ◌++◌, ◌∷◌, IfSome, length, take};
-ghost use Rattle.std.specs.List.{list_all};
+ghost use Rattle.std.specs.Prelude.{ℕ, List, [], ◌≡◌, ◌<◌, ◌≤◌, ◌++◌, ◌∷◌, IfSome, length};
 ghost use Rattle.mc_stranger.specs.Places.{EndsTheSame, SaysTheSame};
 
+use mc_text::{LANES, are_spaces};
 use std::simd::prelude::*;
-
-/// How many bytes are looked at together.
-const LANES: usize = 16;
 
 /// A text that begins a line, without the empty lines in front of it and the spaces after them.
 pub(crate) fn without_blanks(text: &[u8]) -> &[u8]
@@ -74,18 +71,6 @@ fn without_few(text: &[u8]) -> &[u8]
         rest = more;
     }
     rest
-}
-
-/// Whether the first 16 bytes are spaces.
-#[inline(always)]
-fn are_spaces(text: &[u8]) -> bool
-    requires { LANES ≤ length text.now }
-    ensures { result ≡ list_all (λ b. b == 32) (take LANES text.now) }
-{
-    let others = u8x16::from_slice(text)
-        .simd_ne(u8x16::splat(b' '))
-        .to_bitmask();
-    others == 0
 }
 
 /// How many bytes may be passed from the end of a text backwards, as none of them is the first of a word behind a space: 16 that are

@@ -1,5 +1,5 @@
-//! Whether the bytes of a text may be in a plain key, or on a line of such.
-ghost use Rattle.std.specs.Prelude.{◌≡◌, ◌<◌, ◌≤◌, length, take};
+//! Whether the bytes of a text may be in a plain key, or on a line of such, or are spaces.
+ghost use Rattle.std.specs.Prelude.{◌≡◌, ◌<◌, ◌≤◌, ◌==◌, length, take};
 ghost use Rattle.std.specs.List.{list_all};
 ghost use Rattle.mc_text.specs.Keys.{is_key_byte, is_line_byte};
 ghost use Rattle.mc_text.specs.ByteTests.{is_from};
@@ -93,4 +93,16 @@ fn are_lanes_from(least: u8, text: &[u8]) -> bool
     let lower = lanes.simd_lt(u8x16::splat(least)).to_bitmask();
     let deletes = lanes.simd_eq(u8x16::splat(DELETE)).to_bitmask();
     lower == 0 && deletes == 0
+}
+
+/// Whether the first 16 bytes of a text ([`LANES`]) are spaces. They are looked at together.
+#[inline(always)]
+pub fn are_spaces(text: &[u8]) -> bool
+    requires { LANES ≤ length text.now }
+    ensures { result ≡ list_all (λ b. b == 32) (take LANES text.now) }
+{
+    let others = u8x16::from_slice(text)
+        .simd_ne(u8x16::splat(b' '))
+        .to_bitmask();
+    others == 0
 }

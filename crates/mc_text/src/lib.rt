@@ -8,7 +8,7 @@
 //! [`KeyBytes`] asks a map of keys for some bytes: no key has to be made for a look-up.
 //! [`Block`] is the bytes of a data block.
 //! [`let_go`] and [`drop_front`] serve whoever keeps bytes that are taken from the front, [`give_back`] whoever will keep
-//! none for a while, and [`append`] whoever has made room for what is appended.
+//! none for a while, and [`append`] whoever has made room for what is appended. [`are_spaces`] looks at [`LANES`] bytes at once.
 //!
 //! Each call gives exactly what the definition of its name in `specs/` says of the bytes. Only what makes a
 //! key or a block takes memory. [`coded_keys_have_one_word`] is a law, and the other functions are worked examples: they
@@ -31,6 +31,7 @@ mod word_iter;
 
 pub use appends::append;
 pub use blocks::{Block, VALUE_LIMIT};
+pub use byte_tests::are_spaces;
 pub use coded_keys::{CODED_LIMIT, CODED_ROOM, is_coded_key, read_coded, write_coded};
 pub use fronts::{drop_front, give_back, let_go};
 pub use key_bytes::KeyBytes;
@@ -38,6 +39,7 @@ pub use keys::{KEY_LIMIT, Key, KeyError, are_plain_keys, is_plain_key};
 pub use laws::coded_keys_have_one_word;
 pub use lines::{LINE_LIMIT, Line, content_to, next_line, next_line_from};
 pub use numbers::{read_flags, read_i64, read_len, read_u64};
+pub use places::LANES;
 pub use rows::{
     coded_keys_by_their_words, keys_by_their_bytes, lines_by_their_ends, numbers_within_limits,
     words_between_spaces,

@@ -7,7 +7,7 @@ use memchr::memchr;
 use std::simd::prelude::*;
 
 /// How many bytes are looked at together. In fewer a byte is found sooner one by one.
-pub(crate) const LANES: usize = 16;
+pub const LANES: usize = 16;
 
 /// After so many bytes a search that takes longer to begin with is faster.
 const FAR: usize = 64;
