@@ -1,7 +1,7 @@
 //! The keys that the first requests of a text ask for.
 ghost use Rattle.std.specs.Prelude.{◌≤◌, length};
 
-use mc_text::{CODED_LIMIT, KEY_LIMIT, WordIter, are_plain_keys, read_i64, read_len, words};
+use mc_text::{CODED_LIMIT, KEY_LIMIT, LANES, WordIter, are_plain_keys, read_i64, read_len, words};
 use std::simd::prelude::*;
 
 /// The most keys that are found.
@@ -18,9 +18,6 @@ const FLAGS: usize = 64;
 
 /// The most bytes of an exptime or a length.
 const NUMBER: usize = 20;
-
-/// How many bytes are looked at together.
-const LANES: usize = 16;
 
 /// The control byte above the others, which is in no key.
 const DELETE: u8 = 127;
@@ -211,7 +208,7 @@ fn next_word(text: &[u8], most: usize) -> Option<(&[u8], &[u8])> {
     Some((word, rest))
 }
 
-/// The third word of the rest of a line, and what is after the line: of a storage command's rest behind the key that is the length.
+/// The third word of the rest of a line, and what is after the line. Of what follows a storage command's key it is the length.
 #[inline]
 fn third_word(text: &[u8]) -> Option<(&[u8], &[u8])> {
     if let Some((word, rest)) = third_in_lanes(text) {
@@ -223,15 +220,16 @@ fn third_word(text: &[u8]) -> Option<(&[u8], &[u8])> {
     Some((word, split_line(rest)?.1))
 }
 
-/// The same, and the rest from the line's end on, if that is among the first 16 bytes and no word is empty.
+/// The third word of the rest of a line, and the text from its first control byte on, if that is among the first 16 bytes, and one space
+/// alone is in front of each word and none in front of that byte.
 #[inline]
 fn third_in_lanes(text: &[u8]) -> Option<(&[u8], &[u8])> {
     let (lanes, _) = text.split_first_chunk::<LANES>()?;
     let bytes = u8x16::from_array(*lanes);
     let ends = control_bytes(bytes);
-    let marks = (ends | bytes.simd_eq(u8x16::splat(b' ')).to_bitmask()) & up_to_first(ends);
-    let third = without_first(without_first(marks));
-    let behind = without_first(third);
+    let marks = (ends | bytes.simd_eq(u8x16::splat(b' ')).to_bitmask()) & lowest_and_below(ends);
+    let third = without_lowest(without_lowest(marks));
+    let behind = without_lowest(third);
     if ends == 0 || marks & 1 == 0 || marks & (marks << 1) != 0 || behind == 0 {
         return None;
     }
@@ -246,15 +244,15 @@ fn control_bytes(bytes: u8x16) -> u64 {
         | bytes.simd_eq(u8x16::splat(DELETE)).to_bitmask()
 }
 
-/// The bits up to the lowest that is set, with it.
+/// The lowest bit that is set, and all below it: all bits, if none is set.
 #[inline(always)]
-fn up_to_first(bits: u64) -> u64 {
+fn lowest_and_below(bits: u64) -> u64 {
     bits ^ bits.wrapping_sub(1)
 }
 
 /// The bits without the lowest that is set.
 #[inline(always)]
-fn without_first(bits: u64) -> u64 {
+fn without_lowest(bits: u64) -> u64 {
     bits & bits.wrapping_sub(1)
 }
 
