@@ -4,10 +4,11 @@
 Usage: look_model.py [--seconds S] [--seed N] [--shown N] [--without NAME,NAME ..] [--before]
 
 It is a model of the look, byte by byte (`Look`), and of what the reader takes (tests/lib/model.py). What both cost, in instructions,
-stands in `Costs`. The three words behind a storage command's key count as such, though the look finds them at once in a short line. A stream is some lines again and again, all there at once, or up to the end of a line. The search changes lines, their
-words and their order by the dice, keeps what is no cheaper, and begins anew where nothing was gained for long; it ends after S seconds
-(20). Shown are the dearest streams of N beginnings (5): what their looks cost beside their serving, and one round of their lines. No
-line has a command of --without.
+stands in `Costs`. The three words behind a storage command's key count as such, though the look finds them at once in a short line; that it
+tries this first in a longer line is not counted. A stream is some lines again and again, all there at once, or up to the end of a line.
+The search changes lines, their words and their order by the dice, keeps what is no cheaper, and begins anew where nothing was gained for
+long; it ends after S seconds (20). Shown are the dearest streams of N beginnings (5): what their looks cost beside their serving, and one
+round of their lines. No line has a command of --without.
 
 On every stream that is tried the looks are to cost no more than `bound` says, by the bytes that came and the requests that were served.
 Where they cost more, the stream is shown, and the exit status is 1.
