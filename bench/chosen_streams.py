@@ -213,6 +213,7 @@ STREAMS = [
     Stream("block-in-50", "block-in-50", "to store a block that comes slowly", lambda: slowly(b"")),
     # Spaces in front of a line.
     Stream("front-1", "get", "a get that is not taken for a plain one", lambda: flow_of(b" " + GET)),
+    Stream("front-16", "get", "spaces of which fewer are there than are passed together", lambda: flow_of(b" " * 16 + GET)),
     Stream("front-60", "get", "spaces that are walked more than once", lambda: flow_of(b" " * 60 + GET)),
     Stream("front-500", "get", "the same on a line that is still short", lambda: flow_of(b" " * 500 + GET)),
     Stream("front-10k", "get", "the same on a line that is no longer short", lambda: flow_of(b" " * 10_000 + GET)),
@@ -227,6 +228,8 @@ STREAMS = [
     # Lines before the first that is not empty: it may yet be a stranger's.
     Stream("empty-lines", "get", "a look at each line for a stranger's", lambda: unsettled(flow(b"\r\n"))),
     Stream("empty-lines-of-1", "get", "the same", lambda: unsettled(flow(b" \n"))),
+    Stream("empty-lines-of-2", "get", "spaces that the fast looks leave to the slow one", lambda: unsettled(flow(b"  \n"))),
+    Stream("empty-lines-of-16", "get", "the same, of fewer than are passed together", lambda: unsettled(flow(b" " * 16 + b"\n"))),
     Stream("empty-lines-of-60", "get", "the same at each space", lambda: unsettled(flow(b" " * 60 + b"\n"))),
     Stream("empty-lines-of-65k", "get", "the same on the longest line", lambda: unsettled(flow(b" " * 65_000 + b"\n"))),
     Stream("first-line-of-65k", "get", "a look at each word of a line that ends in no version",
@@ -235,6 +238,7 @@ STREAMS = [
            lambda: unsettled(cut(b"a " * (SEGMENTS // 2) + b"\r\n", 1, 1))),
     # Spaces between words, and words that are empty.
     Stream("between-2", "get", "two spaces where a fast path wants one", lambda: flow_of(b"get  KEY\r\n")),
+    Stream("pairs-24", "get-24", "a look at 16 bytes for each pair of spaces", lambda: flow(LINE_OF_24.replace(b" ", b"  "))),
     Stream("between-60", "get-24", "many spaces between keys", lambda: flow(LINE_OF_24.replace(b" ", b" " * 60))),
     Stream("behind-60", "get", "spaces before the line's end", lambda: flow_of(b"get KEY" + b" " * 60 + b"\r\n")),
     Stream("far-ms", "get", "a look ahead for each 9 bytes, from a line that is refused",
