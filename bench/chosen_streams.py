@@ -228,7 +228,7 @@ STREAMS = [
     # Lines before the first that is not empty: it may yet be a stranger's.
     Stream("empty-lines", "get", "a look at each line for a stranger's", lambda: unsettled(flow(b"\r\n"))),
     Stream("empty-lines-of-1", "get", "the same", lambda: unsettled(flow(b" \n"))),
-    Stream("empty-lines-of-2", "get", "spaces that the fast looks leave to the slow one", lambda: unsettled(flow(b"  \n"))),
+    Stream("empty-lines-of-2", "get", "spaces in pairs, and a line end behind each", lambda: unsettled(flow(b"  \n"))),
     Stream("empty-lines-of-16", "get", "the same, of fewer than are passed together", lambda: unsettled(flow(b" " * 16 + b"\n"))),
     Stream("empty-lines-of-60", "get", "the same at each space", lambda: unsettled(flow(b" " * 60 + b"\n"))),
     Stream("empty-lines-of-65k", "get", "the same on the longest line", lambda: unsettled(flow(b" " * 65_000 + b"\n"))),

@@ -32,7 +32,8 @@ SIZE, TIMES = 14_000, 12
 REPEATED = re.compile(r"\{([^}]*)\}\*(\d+)")
 PATTERNS = [
     r"zz\n", r"mn\n", r"get a\n", r"incr a 1\n", r"get a\nzz\n", r"get a\n{zz\n}*31", r"get a\n{z}*500\n", r"get a\n{z}*4000\n",
-    r"get a\n{mn\n}*31zz\n", r"get a\n{incr a x\n}*31zz\n", r"get a\n{set a x 0 0\n\r\n}*31zz\n", r"get a b\nzz\n", r"get a b c\nzz\n",
+    r"get a\n{mn\n}*31zz\n", r"get a\n{incr a x\n}*31zz\n", r"get a\n{set a x 0 0\n\r\n}*31zz\n",
+    r"get a\n{set a 4294967295 1700000000 0\n\r\n}*31zz\n", r"get a b\nzz\n", r"get a b c\nzz\n",
     r"get{ abcd}*24\nzz\n", r"get{ abcd}*32\nzz\n", r"get{ abcd}*24\n", r"get a\nget{ a}*31 \x01\n", r"get a\nget{ a}*31 {b}*251\n",
     r"get  a\n", r"get a b c \n", r"touch  a 0\n", r"delete a \n", r"mg  a\n", r"md a\n",
 ]  # fmt: skip

@@ -28,8 +28,8 @@ pub enum Next {
 /// After a `feed` or a `consume` it is known whether something is whole. If nothing is, no call reads a byte until more come; only
 /// if a `consume` brought a short line to the front, of at most 512 bytes, each look and each [`Reader::ready`] until the next feed
 /// reads the words of it that may announce a block. If something is whole, `ready` reads no byte, and [`Reader::peek`],
-/// [`Reader::peek_get`] and [`Reader::peek_lone`] each read what is first, at each call: no more than its line. Where nothing is
-/// whole, a reader keeps fewer than [`REQUEST_LIMIT`](crate::REQUEST_LIMIT) bytes.
+/// [`Reader::peek_get`] and [`Reader::peek_lone`] each read what is first, at each call: its line, and no more than 15 bytes behind
+/// that. Where nothing is whole, a reader keeps fewer than [`REQUEST_LIMIT`](crate::REQUEST_LIMIT) bytes.
 #[derive(Drop)]
 pub struct Reader {
     alloc: Global,
@@ -129,11 +129,12 @@ impl Reader {
         self.unread.peek_get()
     }
 
-    /// The first line, if its end is known and it begins like no storage command, nor with several spaces. What it asks for, by
+    /// The first line, if its end is known and what follows its leading spaces begins like no storage command. What it asks for, by
     /// [`command_line`](mc_request::command_line), is then served where that wrote it: [`Reader::peek`] moves it. None says nothing of
     /// what is first.
     ///
-    /// No more than its first three bytes and its last are read. It takes no memory, and copies nothing.
+    /// Its leading spaces are read, 16 bytes at a time, so up to 15 bytes behind them too, and the byte before its line feed. It takes
+    /// no memory, and copies nothing.
     #[inline(always)]
     pub fn peek_lone(&self) -> Option<LentLine<'_>>
         ensures seen { IfSome result (λ line. (what : Taken) → IsAlone line what → Shows self.now what (front_by line what)) }

@@ -13,7 +13,7 @@ use crate::searched::Searched;
 use mc_request::{
     Asked, CommandLine, Fault, Request, Storing, Taken, announced_in, command_line, plain_get,
 };
-use mc_text::{LINE_LIMIT, Line, WordIter};
+use mc_text::{LINE_LIMIT, Line, WordIter, without_spaces};
 
 /// What is after a data block.
 const LINE_END: &[u8] = b"\r\n";
@@ -193,8 +193,8 @@ pub fn first_get(unread: &[u8], searched: Searched) -> Option<(WordIter<'_>, boo
     }
 }
 
-/// The first line of the bytes, of which so many were searched, if its end is known and it begins like no storage command, nor with several
-/// spaces.
+/// The first line of the bytes, of which so many were searched, if its end is known and what follows its leading spaces begins like no
+/// storage command.
 #[inline(always)]
 pub fn first_lone(unread: &[u8], searched: Searched) -> Option<LentLine<'_>>
     requires { IsSearched searched unread.now }
@@ -213,16 +213,12 @@ pub fn first_lone(unread: &[u8], searched: Searched) -> Option<LentLine<'_>>
     }
 }
 
-/// Whether the bytes begin like no storage command, nor with several spaces. A wrong answer costs time, and nothing else.
+/// Whether what follows the leading spaces begins like no storage command. A wrong answer costs time, and nothing else.
 #[inline(always)]
 fn is_lone(unread: &[u8]) -> bool {
-    let line = match unread.split_first() {
-        Some((b' ', line)) => line,
-        _ => unread,
-    };
-    match line.split_first() {
+    match without_spaces(unread).split_first() {
         Some((b'm', rest)) => rest.first() != Some(&b's'),
-        Some((letter, _)) => !matches!(letter, b'a' | b'c' | b'p' | b'r' | b's' | b' '),
+        Some((letter, _)) => !matches!(letter, b'a' | b'c' | b'p' | b'r' | b's'),
         None => false,
     }
 }

@@ -251,7 +251,7 @@ impl Unread {
         })
     }
 
-    /// The first line, if its end is known and it begins like no storage command, nor with several spaces.
+    /// The first line, if its end is known and what follows its leading spaces begins like no storage command.
     #[inline(always)]
     pub fn peek_lone(&self) -> Option<LentLine<'_>>
         ensures seen { IfSome result (λ line. (what : Taken) → IsAlone line what → Shows self.now what (front_by line what)) }

@@ -4,10 +4,10 @@ use Rattle.std.proofs.lemmas.Bool.Decides.{nat_tests}
 use Rattle.std.proofs.lemmas.List.{append-nil, take-append-drop, take_more}
 use Rattle.std.proofs.lemmas.List.Elements.{filter-append}
 use Rattle.std.proofs.lemmas.List.Folds.{list_all-append}
-use Rattle.std.specs.List.{list_all, slice_split}
+use Rattle.std.specs.List.{list_all, prefix_len, slice_split}
 use Rattle.std.specs.Str.Lines.{strip_carriage_return}
 use Rattle.mc_forms.proofs.FieldLemmas.{either}
-use Rattle.mc_text.specs.Words.{words}
+use Rattle.mc_text.specs.Words.{words, without_spaces}
 use Rattle.mc_stranger.specs.FirstLines.{end_in_version, first_line_says}
 use Rattle.mc_stranger.specs.Places.{ends, EndsTheSame, SaysTheSame, ending_text, place_text}
 use Rattle.mc_stranger.specs.declared.endings.Ending.{Ending}
@@ -23,6 +23,9 @@ first_of false b h = absurd cc
 rest_of : (a b : Bool) → (a && b) ≡ true → b ≡ true
 rest_of true b h = h
 rest_of false b h = absurd cc
+
+take_one : (n b : ℕ) (bs : List ℕ) → take (1 + n) (b ∷ bs) ≡ b ∷ take n bs
+take_one n b bs = let is : 1 + n ≡ suc n = omega arith in ap (λ (k : ℕ). take k (b ∷ bs)) is
 
 -- spaces in front of a text
 pub spaces_say : (spaces text : List ℕ) → list_all is_space spaces ≡ true → SaysTheSame (spaces ++ text) text
@@ -45,15 +48,24 @@ pub says_byte : (text next more : List ℕ) (b : ℕ) → SaysTheSame (text ++ b
 says_byte text next more b same = λ rest.
     ap (λ (bytes : List ℕ). first_line_says (bytes ++ rest)) (sym (append_assoc text (b ∷ []) more)) ∙ says_behind (text ++ b ∷ []) next more same rest
 
--- a space less, and several
+-- a space less
 pub space_less : (text rest more : List ℕ) (b : ℕ) → SaysTheSame text rest → rest ≡ b ∷ more → b ≡ 32 → SaysTheSame text more
 space_less text rest more b same is space = λ next.
     same next ∙ ap (λ (bytes : List ℕ). first_line_says (bytes ++ next)) is ∙ rw space (space_in_front [] refl (more ++ next))
 
-pub spaces_less : (text rest more : List ℕ) (count : ℕ) → SaysTheSame text rest → more ≡ drop count rest → list_all is_space (take count rest) ≡ true → SaysTheSame text more
-spaces_less text rest more count same is h = λ next.
-    same next ∙ ap (λ (bytes : List ℕ). first_line_says (bytes ++ next)) (sym (take-append-drop count rest))
-    ∙ spaces_say (take count rest) (drop count rest) h next ∙ ap (λ (bytes : List ℕ). first_line_says (bytes ++ next)) (sym is)
+-- what is left out in front is spaces
+front_spaces : (text : List ℕ) → list_all is_space (take (prefix_len is_space text) text) ≡ true
+front_spaces [] = refl
+front_spaces (b ∷ bs) = elim (either (b == 32)) [
+  | inl space ↦ rw space (ap (λ (t : List ℕ). list_all is_space t) (take_one (prefix_len is_space bs) b bs) ∙ rw space (front_spaces bs))
+  | inr other ↦ rw other refl
+]
+
+pub spaces_less : (text more : List ℕ) → more ≡ without_spaces text → SaysTheSame text more
+spaces_less text more is =
+    let count = prefix_len is_space text in
+    λ next. ap (λ (bytes : List ℕ). first_line_says (bytes ++ next)) (sym (take-append-drop count text))
+    ∙ spaces_say (take count text) (drop count text) (front_spaces text) next ∙ ap (λ (bytes : List ℕ). first_line_says (bytes ++ next)) (sym is)
 
 pub end_of : (text kept rest : List ℕ) → SaysTheSame text (kept ++ rest) → length rest ≡ 0 → SaysTheSame text kept
 end_of text kept [] same none = λ next. same next ∙ ap (λ (bytes : List ℕ). first_line_says (bytes ++ next)) (append-nil kept)
@@ -81,16 +93,12 @@ absorbed_front end bytes more p each h = λ rest.
 space_is : (end : List ℕ) → EndsTheSame (end ++ 32 ∷ []) end → (b : ℕ) → is_space b ≡ true → EndsTheSame (end ++ b ∷ []) end
 space_is end spaced b h = let is : b ≡ 32 = grind (arith, nat_tests, h) in rw is spaced
 
-pub spaces_end : (text rest more end : List ℕ) (count : ℕ) → EndsTheSame text (end ++ rest) → EndsTheSame (end ++ 32 ∷ []) end → more ≡ drop count rest
-    → list_all is_space (take count rest) ≡ true → EndsTheSame text (end ++ more)
-spaces_end text rest more end count same spaced is h = λ next.
-    same next ∙ ap (λ (bytes : List ℕ). ends (end ++ bytes ++ next)) (sym (take-append-drop count rest))
-    ∙ absorbed_front end (take count rest) (drop count rest) is_space (space_is end spaced) h next
+pub spaces_end : (text more end : List ℕ) → EndsTheSame (end ++ 32 ∷ []) end → more ≡ without_spaces text → EndsTheSame (end ++ text) (end ++ more)
+spaces_end text more end spaced is =
+    let count = prefix_len is_space text in
+    λ next. ap (λ (bytes : List ℕ). ends (end ++ bytes ++ next)) (sym (take-append-drop count text))
+    ∙ absorbed_front end (take count text) (drop count text) is_space (space_is end spaced) (front_spaces text) next
     ∙ ap (λ (bytes : List ℕ). ends (end ++ bytes ++ next)) (sym is)
-
-pub space_end : (text rest more end : List ℕ) → EndsTheSame text (end ++ rest) → EndsTheSame (end ++ 32 ∷ []) end → rest ≡ 32 ∷ more → EndsTheSame text (end ++ more)
-space_end text rest more end same spaced is = λ next.
-    same next ∙ ap (λ (bytes : List ℕ). ends (end ++ bytes ++ next)) is ∙ absorbed_front end (32 ∷ []) more is_space (space_is end spaced) refl next
 
 -- bytes of which one is nowhere
 pub no_such : (byte : ℕ) (text : List ℕ) (count : ℕ) → ((k : ℕ) → k < count → (get_or text k 0 == byte) ≡ true → ⊥) → lacks (λ b. b == byte) (take count text) ≡ true

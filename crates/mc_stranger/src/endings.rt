@@ -2,7 +2,8 @@
 ghost use Rattle.std.specs.Prelude.{ℕ, List, ◌≡◌, ◌≢◌, ◌≤◌, ◌++◌, ◌∷◌, [], length, IfSome, if◌then◌else◌};
 ghost use Rattle.mc_stranger.specs.Places.{EndsTheSame, ending_text, ends};
 
-use crate::spaces::{alike_at_end, without_spaces};
+use crate::spaces::alike_at_end;
+use mc_text::without_spaces;
 use memchr::memchr;
 
 /// What the bytes after the first word end in.

@@ -1,8 +1,8 @@
 //! Spaces and empty lines in front of a text: they count for nothing.
-ghost use Rattle.std.specs.Prelude.{ℕ, List, [], ◌≡◌, ◌<◌, ◌≤◌, ◌++◌, ◌∷◌, IfSome, length};
-ghost use Rattle.mc_stranger.specs.Places.{EndsTheSame, SaysTheSame};
+ghost use Rattle.std.specs.Prelude.{◌≡◌, ◌<◌, ◌≤◌, ◌∷◌, IfSome, length};
+ghost use Rattle.mc_stranger.specs.Places.{SaysTheSame};
 
-use mc_text::{LANES, are_spaces};
+use mc_text::{LANES, without_spaces};
 use std::simd::prelude::*;
 
 /// A text that begins a line, without the empty lines in front of it and the spaces after them.
@@ -41,36 +41,6 @@ fn after_feed(text: &[u8]) -> Option<&[u8]>
         Some((b'\n', more)) => Some(more),
         _ => None,
     }
-}
-
-/// A text without the spaces in front of it, which are looked at in steps of 16.
-pub(crate) fn without_spaces(text: &[u8]) -> &[u8]
-    ensures says { SaysTheSame text.now result.now }
-    ensures ends { (end : List ℕ) → EndsTheSame (end ++ 32 ∷ []) end → EndsTheSame (end ++ text.now) (end ++ result.now) }
-    ensures shorter { length result.now ≤ length text.now }
-{
-    let mut rest = text;
-    while rest.len() >= LANES {
-        if !are_spaces(rest) {
-            return without_few(rest);
-        }
-        let (_, more) = rest.split_at(LANES);
-        rest = more;
-    }
-    without_few(rest)
-}
-
-/// The same, where few spaces are in front.
-fn without_few(text: &[u8]) -> &[u8]
-    ensures says { SaysTheSame text.now result.now }
-    ensures ends { (end : List ℕ) → EndsTheSame (end ++ 32 ∷ []) end → EndsTheSame (end ++ text.now) (end ++ result.now) }
-    ensures shorter { length result.now ≤ length text.now }
-{
-    let mut rest = text;
-    while let Some((b' ', more)) = rest.split_first() {
-        rest = more;
-    }
-    rest
 }
 
 /// How many bytes may be passed from the end of a text backwards, as none of them is the first of a word behind a space: 16 that are

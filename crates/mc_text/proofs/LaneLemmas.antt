@@ -1,5 +1,5 @@
 -- The first place of a byte, by the bytes that are looked at together.
-use Rattle.std.proofs.Common.{◌≡◌, ℕ, ◌+◌, ◌-◌, ◌<◌, ◌≤◌, ◌==◌, Bool, true, false, not, List, length, take, drop, get_or, Some, None, inl, inr, sym, ap, ◌∙◌, arith}
+use Rattle.std.proofs.Common.{◌≡◌, ℕ, ◌+◌, ◌-◌, ◌<◌, ◌≤◌, ◌==◌, Bool, true, false, not, List, [], ◌∷◌, length, take, drop, get_or, Some, None, inl, inr, refl, sym, ap, ◌∙◌, arith}
 use Rattle.std.proofs.lemmas.Bool.{cases_lt}
 use Rattle.std.proofs.lemmas.List.{get_or-drop, length-drop}
 use Rattle.std.proofs.lemmas.Simd.{run_in_chunk_fails, run_in_chunk_stops}
@@ -52,3 +52,12 @@ first_in_lanes byte rest place le is lt = (
   record { low = omega arith; high = omega arith; before = nowhere_in_lanes byte rest place le is },
   ap (λ (k : ℕ). get_or rest k 0 == byte) (omega arith) ∙ run_in_chunk_stops (λ b. b == byte) rest 0 16 place 0 (omega arith) is lt,
 )
+
+not_not : (b : Bool) → not (not b) ≡ b
+not_not true = refl
+not_not false = refl
+
+-- a space is what is not another byte
+pub run_of_spaces : (bytes : List ℕ) → prefix_len (λ b. not (not (b == 32))) bytes ≡ prefix_len (λ b. b == 32) bytes
+run_of_spaces [] = refl
+run_of_spaces (b ∷ bs) = rw (not_not (b == 32), run_of_spaces bs) refl

@@ -1,5 +1,5 @@
 -- Tests of the bytes of a text.
-use Rattle.std.proofs.Common.{◌≡◌, ℕ, ◌+◌, ◌*◌, ◌-◌, ◌≤◌, ◌==◌, Bool, true, false, not, ◌&&◌, cond, eqb, List, [], ◌∷◌, take, drop, map, refl, sym, ap, ◌∙◌, arith, take-add}
+use Rattle.std.proofs.Common.{◌≡◌, ℕ, ◌+◌, ◌*◌, ◌-◌, ◌≤◌, Bool, true, false, not, ◌&&◌, cond, eqb, List, [], ◌∷◌, take, drop, map, refl, sym, ap, ◌∙◌, arith, take-add}
 use Rattle.std.proofs.lemmas.List.{take-append-drop}
 use Rattle.std.proofs.lemmas.List.Folds.{list_all-append}
 use Rattle.std.specs.List.{list_all}
@@ -82,12 +82,3 @@ and_no false = refl
 -- where those from a place on fail, all do
 pub fails_later : (p : ℕ → Bool) (xs : List ℕ) (m : ℕ) → list_all p (drop m xs) ≡ false → list_all p xs ≡ false
 fails_later p xs m fails = sym (overlap p xs m m (omega arith)) ∙ rw fails (and_no (list_all p (take m xs)))
-
-not_not : (b : Bool) → not (not b) ≡ b
-not_not true = refl
-not_not false = refl
-
--- a space is what is not another byte
-pub each_is_space : (bytes : List ℕ) → list_all (λ b. not (not (b == 32))) bytes ≡ list_all (λ b. b == 32) bytes
-each_is_space [] = refl
-each_is_space (b ∷ bs) = rw (not_not (b == 32), each_is_space bs) refl

@@ -1,5 +1,5 @@
-//! Whether the bytes of a text may be in a plain key, or on a line of such, or are spaces.
-ghost use Rattle.std.specs.Prelude.{◌≡◌, ◌<◌, ◌≤◌, ◌==◌, length, take};
+//! Whether the bytes of a text may be in a plain key, or on a line of such.
+ghost use Rattle.std.specs.Prelude.{◌≡◌, ◌<◌, ◌≤◌, length, take};
 ghost use Rattle.std.specs.List.{list_all};
 ghost use Rattle.mc_text.specs.Keys.{is_key_byte, is_line_byte};
 ghost use Rattle.mc_text.specs.ByteTests.{is_from};
@@ -48,7 +48,7 @@ fn are_from(least: u8, text: &[u8]) -> bool
     are_lanes_from(least, last)
 }
 
-/// The same of fewer than 16 bytes: the first 8 of them are looked at together, and the last 8.
+/// Likewise for fewer than 16 bytes: the first 8 of them are looked at together, and the last 8.
 fn are_few_from(least: u8, text: &[u8]) -> bool
     requires { length text.now < LANES }
     ensures { result ≡ list_all (is_from least) text.now }
@@ -60,7 +60,7 @@ fn are_few_from(least: u8, text: &[u8]) -> bool
     are_half_from(least, text) && are_half_from(least, last)
 }
 
-/// The same, one by one.
+/// Likewise, one by one.
 fn are_single_from(least: u8, text: &[u8]) -> bool
     ensures { result ≡ list_all (is_from least) text.now }
 {
@@ -71,7 +71,7 @@ fn are_single_from(least: u8, text: &[u8]) -> bool
     good
 }
 
-/// The same of the first 8 bytes of a text.
+/// Likewise for the first 8 bytes of a text.
 #[inline(always)]
 fn are_half_from(least: u8, text: &[u8]) -> bool
     requires { HALF ≤ length text.now }
@@ -83,7 +83,7 @@ fn are_half_from(least: u8, text: &[u8]) -> bool
     lower == 0 && deletes == 0
 }
 
-/// The same of the first 16 bytes of a text.
+/// Likewise for the first 16 bytes of a text.
 #[inline(always)]
 fn are_lanes_from(least: u8, text: &[u8]) -> bool
     requires { LANES ≤ length text.now }
@@ -93,16 +93,4 @@ fn are_lanes_from(least: u8, text: &[u8]) -> bool
     let lower = lanes.simd_lt(u8x16::splat(least)).to_bitmask();
     let deletes = lanes.simd_eq(u8x16::splat(DELETE)).to_bitmask();
     lower == 0 && deletes == 0
-}
-
-/// Whether the first 16 bytes of a text ([`LANES`]) are spaces. They are looked at together.
-#[inline(always)]
-pub fn are_spaces(text: &[u8]) -> bool
-    requires { LANES ≤ length text.now }
-    ensures { result ≡ list_all (λ b. b == 32) (take LANES text.now) }
-{
-    let others = u8x16::from_slice(text)
-        .simd_ne(u8x16::splat(b' '))
-        .to_bitmask();
-    others == 0
 }

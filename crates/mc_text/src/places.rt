@@ -1,4 +1,4 @@
-//! Where a byte is first.
+//! Where a byte is first, and how many spaces are in front.
 ghost use Rattle.std.specs.Prelude.{◌≡◌, ◌≤◌, ◌-◌, ◌==◌, not, length, take};
 ghost use Rattle.std.specs.List.{prefix_len};
 ghost use Rattle.memchr.specs.Find.{IsFirstByte, Nowhere, Passes, is_byte};
@@ -74,5 +74,21 @@ pub(crate) fn place_in_lanes(byte: u8, text: &[u8]) -> usize
         LANES
     } else {
         marks.trailing_zeros() as usize
+    }
+}
+
+/// How many of the first 16 bytes are spaces in front of the others: all if no other is among them.
+#[inline(always)]
+pub(crate) fn spaces_in_lanes(text: &[u8]) -> usize
+    requires { LANES ≤ length text.now }
+    ensures { result ≡ prefix_len (λ b. b == 32) (take LANES text.now) }
+{
+    let others = u8x16::from_slice(text)
+        .simd_ne(u8x16::splat(b' '))
+        .to_bitmask();
+    if others == 0 {
+        LANES
+    } else {
+        others.trailing_zeros() as usize
     }
 }

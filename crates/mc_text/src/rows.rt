@@ -3,7 +3,7 @@
 
 ghost use Rattle.std.specs.Prelude.{◌≡◌, pos, negsuc, [], ◌∷◌, Some, None, true, false, codes};
 ghost use Rattle.mc_text.specs.Lines.{Whole, Partial, first_line};
-ghost use Rattle.mc_text.specs.Words.{words};
+ghost use Rattle.mc_text.specs.Words.{words, without_spaces};
 ghost use Rattle.mc_text.specs.Numbers.{read_u64, read_i64, read_len, read_flags};
 ghost use Rattle.mc_text.specs.Keys.{is_plain_key};
 ghost use Rattle.mc_text.specs.CodedKeys.{coded_key, coded_of};
@@ -20,6 +20,8 @@ pub fn lines_by_their_ends()
 pub fn words_between_spaces()
     ensures three { words (codes "  set a\tb   5 ") ≡ codes "set" ∷ codes "a\tb" ∷ codes "5" ∷ [] }
     ensures none { words (codes "  ") ≡ [] }
+    ensures in_front { without_spaces (codes "  a b ") ≡ codes "a b " }
+    ensures alone { without_spaces (codes "  ") ≡ [] }
 {}
 
 /// Numbers have digits alone, leading zeros included, and a limit; an exptime may have a minus.
