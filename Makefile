@@ -1,11 +1,13 @@
 # `make run` proves and runs the script program on its stored script; `make serve` proves and starts the server with as many items as its
 # budget allows, `make pool` two servers and a proxy in front of them on free ports; `make test` is the merge gate. `make install` proves and
-# builds the three programs, and puts them with their manual pages and systemd units below PREFIX.
+# builds the three programs, and puts them with their manual pages and systemd units below PREFIX. `make deb` makes a Debian package of the
+# three in dist/, and `make release` all files of a release; GATE=FILE names a file with what `make test` printed.
 # What a program needs is proved side by side (`prove.py`); `rt run` then finds nothing to prove.
-.PHONY: run serve pool install test
+.PHONY: run serve pool install deb release test
 
 PREFIX = /usr/local
 PROGRAMS = mc_serverd mc_proxyd mc_sim
+GATE =
 
 ifeq ($(shell command -v rt 2> /dev/null),)
 $(error the Rattle toolchain is missing: its command `rt` is not on the PATH (`rt version` names the toolchain))
@@ -26,6 +28,15 @@ pool:
 install:
 	@./prove.py $(PROGRAMS)
 	@install/install.sh $(DESTDIR)$(PREFIX) $(PREFIX) $(PROGRAMS)
+
+deb:
+	@./prove.py $(PROGRAMS)
+	@install/deb.sh $(PROGRAMS)
+
+release:
+	@install/release.sh --unchanged
+	@./prove.py $(PROGRAMS)
+	@install/release.sh "$(GATE)" $(PROGRAMS)
 
 test:
 	@tests/gate.sh
