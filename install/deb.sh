@@ -3,15 +3,17 @@
 #
 # Usage: deb.sh [PROGRAM..]      (mc_serverd mc_proxyd mc_sim)
 #
-# The package is dist/wiersbol_VERSION_amd64.deb. install/version has the version, which the first entry of CHANGELOG.md must have too.
-# LICENSE has the licence, whose SPDX line README.md must have too. All times in the package are that of the last commit, or
-# SOURCE_DATE_EPOCH, so the same programs give the same bytes. It needs Debian's dpkg-dev and binutils.
+# The package is dist/wiersbol_VERSION_amd64.deb. install/version has the version, which the first entry of CHANGELOG.md must have too, and
+# the name of the package in README.md and docs/RUNNING.md. LICENSE has the licence, whose SPDX line README.md must have too. All times in
+# the package are that of the last commit, or SOURCE_DATE_EPOCH, so the same programs give the same bytes. It needs Debian's dpkg-dev and
+# binutils.
 set -eu
 cd "$(dirname "$0")/.."
 [ $# -gt 0 ] || set -- mc_serverd mc_proxyd mc_sim
 export LC_ALL=C TZ=UTC SOURCE_DATE_EPOCH="${SOURCE_DATE_EPOCH:-$(git log -1 --format=%ct)}"
 umask 022
 read -r version < install/version
+package=wiersbol_${version}_amd64.deb
 maintainer=$(sed -n 's/^Maintainer: //p' install/debian/control)
 work=$(mktemp -d)
 trap 'rm -rf "$work"' EXIT
@@ -62,6 +64,9 @@ for name in "$@"; do
     [ -x "crates/$name/out/$name" ] || refuse "$name is not built: ./prove.py $name"
 done
 grep -qxF "$(grep '^SPDX-License-Identifier: ' LICENSE)" README.md || refuse 'README.md names another licence than LICENSE'
+for page in README.md docs/RUNNING.md; do
+    grep -qF "$package" "$page" || refuse "$page does not name $package"
+done
 changelog > "$work/changelog"
 [ "$(sed -n '1s/.*(\(.*\)).*/\1/p' "$work/changelog")" = "$version" ] || refuse "CHANGELOG.md does not begin with $version"
 
@@ -90,7 +95,6 @@ install -m 755 install/debian/postinst install/debian/prerm install/debian/postr
 find "$root" -exec touch -h -d "@$SOURCE_DATE_EPOCH" {} +
 
 mkdir -p dist
-package=wiersbol_${version}_amd64.deb
 dpkg-deb --root-owner-group -Zxz --threads-max=1 --build "$root" "$work/$package" > /dev/null
 mv "$work/$package" "dist/$package"
 echo "dist/$package"

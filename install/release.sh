@@ -4,8 +4,9 @@
 # Usage: release.sh [GATE [PROGRAM..]]      (no gate; mc_serverd mc_proxyd mc_sim)
 #        release.sh --unchanged
 #
-# GATE is a file with what `make test` printed. PROVED names the commit, what `rt version` prints, the gate's last line, and the sums of
-# the programs as they were built. A tree with uncommitted changes is refused, and a gate that failed. --unchanged only looks at the tree.
+# GATE is a file with what `make test` printed on this commit. PROVED names the commit, what `rt version` prints, the gate's last line, and
+# the sums of the programs as they were built. A tree with uncommitted changes is refused, and a gate that failed. --unchanged only looks at
+# the tree.
 # The archive unpacks into /usr/local: tar -xzf ARCHIVE -C /usr/local --strip-components=1. The same programs give the same bytes.
 set -eu
 gate=${1:-}
@@ -45,7 +46,9 @@ strip --strip-unneeded --remove-section=.comment --remove-section=.note "$work/$
 documents=./usr/share/doc/wiersbol
 mkdir -p "$work/$name/share/doc/wiersbol"
 dpkg-deb --fsys-tarfile "$package" | tar -xO "$documents/copyright" > "$work/$name/share/doc/wiersbol/copyright"
-tar -C "$work" --sort=name --format=gnu --owner=root:0 --group=root:0 --mtime="@$SOURCE_DATE_EPOCH" -cf - "$name" | gzip -9n > "dist/$name.tar.gz"
+# No folder is an entry of its own: to unpack one would change the mode of that of /usr/local.
+(cd "$work" && find "$name" -type f | sort) \
+    | tar -C "$work" -T - --format=gnu --owner=root:0 --group=root:0 --mtime="@$SOURCE_DATE_EPOCH" -cf - | gzip -9n > "dist/$name.tar.gz"
 
 {
     echo "Wiersbol $version"
