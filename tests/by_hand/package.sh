@@ -11,7 +11,7 @@
 # A line says what each check saw. The last line is 'N passed, M failed'.
 set -u
 suite=bookworm
-stages="unshare --mount --pid --fork --kill-child"
+namespaces=(unshare --mount --pid --fork --kill-child)
 
 # The mirror of this machine's apt that has the suite.
 mirror() {
@@ -31,7 +31,7 @@ give_up() {
 
 # Makes the clean root, and runs the checks in namespaces.
 outside() {
-    local command
+    local command needed
     [ "$(id -u)" -eq 0 ] || give_up 'only root can make a clean root'
     for command in debootstrap unshare ip; do
         command -v "$command" > /dev/null || give_up "$command is missing"
@@ -41,13 +41,21 @@ outside() {
     trap '[ -z "$child" ] || kill "$child" 2> /dev/null; wait; rm -rf --one-file-system "$scratch"' EXIT
     trap 'exit 1' INT TERM
     needed=$(dpkg-deb -f "$package" Depends | sed 's/([^)]*)//g; s/|[^,]*//g; s/ //g')
-    $stages debootstrap --variant=minbase --include="$needed" "$suite" "$scratch/root" "$(mirror)" > "$scratch/log" 2>&1 &
-    child=$!
-    wait "$child" || { tail -n 5 "$scratch/log"; give_up 'debootstrap failed'; }
+    attended "${namespaces[@]}" debootstrap --variant=minbase --include="$needed" "$suite" "$scratch/root" "$(mirror)" > "$scratch/log" 2>&1 \
+        || give_up "debootstrap failed: $(tail -n 3 "$scratch/log")"
     chmod 755 "$scratch"
-    $stages --net "$0" --inside "$package" "$scratch/root" &
+    attended "${namespaces[@]}" --net "$0" --inside "$package" "$scratch/root"
+}
+
+# Runs a command, and ends it if the script is interrupted.
+attended() {
+    local status
+    "$@" &
     child=$!
     wait "$child"
+    status=$?
+    child=
+    return "$status"
 }
 
 in_root() {
