@@ -1,10 +1,12 @@
-# `make run` proves and runs the script program on its stored script; `make serve` proves and starts the server with as many items as its
-# budget allows, `make pool` two servers and a proxy in front of them on free ports; `make test` is the merge gate. `make install` proves and
-# builds the three programs, and puts them with their manual pages and systemd units below PREFIX. `make deb` makes a Debian package of the
-# three in dist/, and `make release` all files of a release; GATE=FILE names a file with what `make test` printed.
+# `make try` plays the stored script, or SCRIPT=FILE, and proves nothing. `make run` proves and runs the script program on the stored one;
+# `make serve` proves and starts the server with as many items as its budget allows, `make pool` two servers and a proxy in front of them on
+# free ports; `make test` is the merge gate. `make install` proves and builds the three programs, and puts them with their manual pages and
+# systemd units below PREFIX. `make deb` makes a Debian package of the three in dist/, and `make release` all files of a release; GATE=FILE
+# names a file with what `make test` printed.
 # What a program needs is proved side by side (`prove.py`); `rt run` then finds nothing to prove.
-.PHONY: run serve pool install deb release test
+.PHONY: try run serve pool install deb release test
 
+SCRIPT = crates/mc_sim/stdin
 PREFIX = /usr/local
 PROGRAMS = mc_serverd mc_proxyd mc_sim
 GATE =
@@ -12,6 +14,10 @@ GATE =
 ifeq ($(shell command -v rt 2> /dev/null),)
 $(error the Rattle toolchain is missing: its command `rt` is not on the PATH (`rt version` names the toolchain))
 endif
+
+try:
+	@echo 'not proved yet: make run proves it' >&2
+	@cd crates/mc_sim && rt try < '$(abspath $(SCRIPT))'
 
 run:
 	@./prove.py mc_sim
