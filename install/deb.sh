@@ -3,16 +3,16 @@
 #
 # Usage: deb.sh [PROGRAM..]      (mc_serverd mc_proxyd mc_sim)
 #
-# The package is dist/wiersbol_VERSION_amd64.deb. install/version has the version, which the first entry of CHANGELOG.md must have too, and
-# the name of the package in README.md and docs/RUNNING.md. LICENSE has the licence, whose SPDX line README.md must have too. All times in
-# the package are that of the last commit, or SOURCE_DATE_EPOCH, so the same programs give the same bytes. It needs Debian's dpkg-dev and
-# binutils.
+# The package is dist/wiersbol_VERSION_amd64.deb. The version is that of crates/mc_program/src/version.rt, which the programs print. The
+# first entry of CHANGELOG.md must have it too, and the name of the package in README.md and docs/RUNNING.md. LICENSE has the licence, whose
+# SPDX line README.md must have too. All times in the package are that of the last commit, or SOURCE_DATE_EPOCH, so the same programs give
+# the same bytes. It needs Debian's dpkg-dev and binutils.
 set -eu
 cd "$(dirname "$0")/.."
 [ $# -gt 0 ] || set -- mc_serverd mc_proxyd mc_sim
 export LC_ALL=C TZ=UTC SOURCE_DATE_EPOCH="${SOURCE_DATE_EPOCH:-$(git log -1 --format=%ct)}"
 umask 022
-read -r version < install/version
+version=$(sed -n 's/^pub const VERSION: &str = "\([0-9.]*\) .*/\1/p' crates/mc_program/src/version.rt)
 package=wiersbol_${version}_amd64.deb
 maintainer=$(sed -n 's/^Maintainer: //p' install/debian/control)
 work=$(mktemp -d)

@@ -11,7 +11,7 @@ import sys
 
 # What a page says beside the options: what the program is, its description, its exit statuses, and its other pages.
 SERVES = {
-    0: "after --check, or after as many connections as --accept says",
+    0: "after --check or --version, or after as many connections as --accept says",
     1: "the line of --check cannot be written",
     2: "the words are refused, or ask for help",
     3: "it cannot listen",
@@ -39,7 +39,7 @@ PAGES = {
         "plays a script to a memcached server or to a whole pool",
         "Reads a script from standard input, plays it without a socket, and prints what each client was sent.",
         {
-            0: "the script was played to its end",
+            0: "the script was played to its end, or the words ask for the version",
             2: "a line of the script is bad, which is named; or the words are refused, or ask for help",
             3: "a read or a write failed, or the input did not end",
             4: "there was no memory",

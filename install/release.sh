@@ -32,7 +32,7 @@ if [ -n "$gate" ]; then
 fi
 toolchain=$(rt version)
 
-read -r version < install/version
+version=$(sed -n 's/^pub const VERSION: &str = "\([0-9.]*\) .*/\1/p' crates/mc_program/src/version.rt)
 SOURCE_DATE_EPOCH=$(git log -1 --format=%ct)
 export SOURCE_DATE_EPOCH
 work=$(mktemp -d)

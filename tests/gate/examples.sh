@@ -75,6 +75,12 @@ shows_help() {
     [ $? -eq 2 ] && cmp -s "$scratch/out" sim.help
 }
 
+# Whether mc_sim shows its version.
+shows_version() {
+    "$built" --version < /dev/null > "$scratch/out"
+    [ $? -eq 0 ] && grep -qx 'mc_sim [0-9.]* (memcached text protocol 1.6)' "$scratch/out"
+}
+
 refuses_words() {
     "$built" --aside < $examples/classic/set.txt > "$scratch/out" 2> "$scratch/err"
     [ $? -eq 2 ] && [ ! -s "$scratch/out" ] && [ -s "$scratch/err" ]
@@ -118,6 +124,7 @@ if [ $# -eq 0 ]; then
     count "set, from a stream that fails" reads_that_fail
     count "set, to a stream that fails" writes_that_fail
     count "--help" shows_help
+    count "--version" shows_version
     count "a word that is not known" refuses_words
     count "--trace" tells_lines
 fi

@@ -5,6 +5,7 @@ A check is a function that raises an error where it fails: `Wrong`, where someth
 """
 
 import pathlib
+import re
 import resource
 import socket
 import subprocess
@@ -12,11 +13,12 @@ import sys
 import time
 
 from servers import HOST, limit
-from suite import NAME, counted
+from suite import CRATES, NAME, counted
 
 PATIENCE = 10  # seconds until a check gives up
 KILOBYTE = 1024
 MARK = 4_194_304  # as many unsent bytes stop a connection's turns
+VERSION = re.search(r'VERSION: &str = "(.*)"', (CRATES / "mc_program/src/version.rt").read_text())[1]
 FAILURES = (OSError, RuntimeError, ValueError, subprocess.SubprocessError)
 
 
@@ -116,6 +118,10 @@ def help_is_printed(program, word, text):
     want(program.run(word), (2, text, ""))
 
 
+def version_is_printed(program, word):
+    want(program.run(word), (0, f"{program.name} {VERSION}\n", ""))
+
+
 def no_text_is_refused(program):
     want(program.run(b"--listen", b"\xff:1"), (2, "", f"{program.name}: a word is no text in UTF-8\n"))
 
@@ -147,6 +153,8 @@ def checks_of_words(program, settings, refused, text_of_help):
         yield f"refused, {name}", words_are_refused, (program, words, why)
     for word in ("--help", "-h"):
         yield word, help_is_printed, (program, word, text_of_help)
+    for word in ("--version", "-V"):
+        yield word, version_is_printed, (program, word)
     for listen in NO_ADDRESSES + UNKNOWN_HOSTS:
         yield f"cannot listen at {listen!r}", it_cannot_listen, (program, listen)
     for check in (no_text_is_refused, output_that_fails_is_told, a_port_in_use_is_told):

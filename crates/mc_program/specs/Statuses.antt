@@ -5,7 +5,7 @@ use Rattle.std.specs.declared.io.ErrorKind.TheVariants as io
 use Rattle.clap.specs.Values.{kind_of}
 use Rattle.clap.specs.declared.error.Error.{Error}
 use Rattle.clap.specs.declared.error.kind.ErrorKind.{ErrorKind}
-use Rattle.clap.specs.declared.error.kind.ErrorKind.TheVariants.{OutOfMemory}
+use Rattle.clap.specs.declared.error.kind.ErrorKind.TheVariants.{DisplayVersion, OutOfMemory}
 use Rattle.mc_program.specs.declared.errors.ServeError.{ServeError}
 use Rattle.mc_program.specs.declared.errors.ServeError.TheVariants.{Listen, Memory}
 use Rattle.mc_program.specs.declared.failures.Failure.{Failure}
@@ -16,9 +16,15 @@ abbrev pub status_of_error : ServeError → ℕ
 status_of_error Listen = 3
 status_of_error Memory = 4
 
--- 1 where output fails, 2 where the words are refused, and that of the error of serving
+-- 0 where the words ask for the version, 2 where they are refused or ask for help
+abbrev pub status_of_words : ErrorKind → ℕ
+status_of_words DisplayVersion = 0
+status_of_words _ = 2
+
+-- 1 where output fails, 2 where a word is no text or the program refuses the words, and else that of the words or of the error of serving
 abbrev pub status_of : Failure → ℕ
 status_of Output = 1
+status_of (Words error) = status_of_words (kind_of error)
 status_of (Serve error) = status_of_error error
 status_of other = 2
 

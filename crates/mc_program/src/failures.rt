@@ -1,4 +1,4 @@
-//! Why a program ends with another status than 0.
+//! Why a program ends with another status than 0, or by words that ask for its version.
 ghost use Rattle.std.specs.Prelude.{◌≡◌, MatchResult};
 ghost use Rattle.mc_program.specs.Statuses.{status_of, failure_by};
 ghost use Rattle.mc_program.specs.declared.failures.Failure.TheVariants.{Serve};
@@ -8,10 +8,10 @@ use crate::errors::ServeError;
 use clap::error::ErrorKind;
 use std::alloc::AllocError;
 
-/// Why a program ends with another status than 0.
+/// Why a program ends with another status than 0, or by words that ask for its version.
 #[derive(Debug, Drop)]
 pub enum Failure {
-    /// The words are refused by the command line, or ask for help.
+    /// The words are refused by the command line, or ask for help or the version.
     Words(clap::Error),
     /// A word is no text in UTF-8.
     NoText,
@@ -30,12 +30,13 @@ impl Failure {
     {
         match self {
             Failure::Output => 1,
+            Failure::Words(error) if error.kind() == ErrorKind::DisplayVersion => 0,
             Failure::Words(_) | Failure::NoText | Failure::Refused(_) => 2,
             Failure::Serve(error) => error.status(),
         }
     }
 
-    /// Says it on standard error, as the program of a name; a text of help goes to standard output.
+    /// Says it on standard error, as the program of a name; a text of help, and the version, go to standard output.
     pub fn tell<R: Print + Eprint>(&self, rt: &R, program: &str) {
         // Where it cannot be said, the status alone tells it.
         let _ = match self {

@@ -1,21 +1,24 @@
 //! A program that serves sockets: its words, and how it ends.
 //!
 //! [`listen`], [`idle`], [`report`] and [`accept`] are options that such programs have alike, and [`number`] and [`flag`] make
-//! others; [`Terms`] are what the words say of all clients. [`ServeError`] is why a program cannot serve.
+//! others; [`Terms`] are what the words say of all clients, and [`VERSION`] is what `--version` prints. [`ServeError`] is why a program
+//! cannot serve.
 //!
-//! The exit status is 0 where the program came to its end. Else it is 1 where standard output cannot be written, 2 where the
-//! words are refused (those that ask for help among them), 3 where it cannot listen, and 4 where there was no memory to start
-//! with; standard error says why.
+//! The exit status is 0 where the program came to its end, or the words ask for the version. Else it is 1 where standard output cannot
+//! be written, 2 where the words are refused (those that ask for help among them), 3 where it cannot listen, and 4 where there was no
+//! memory to start with; standard error says why.
 #![tactic(auto)]
 
 mod errors;
 mod failures;
 mod options;
 mod terms;
+mod version;
 mod words;
 
 pub use errors::ServeError;
 pub use failures::{Failure, exit_status};
 pub use options::{accept, flag, idle, listen, number, report};
 pub use terms::Terms;
+pub use version::VERSION;
 pub use words::read_words;

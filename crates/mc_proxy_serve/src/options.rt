@@ -6,7 +6,7 @@ ghost use Rattle.mc_proxy_serve.specs.declared.options.ListError.TheVariants.{Me
 use crate::settings::ProxySettings;
 use clap::builder::ValueParser;
 use clap::{Arg, ArgMatches, Command};
-use mc_program::{Terms, accept, flag, idle, listen, number, report};
+use mc_program::{Terms, VERSION, accept, flag, idle, listen, number, report};
 use mc_ring::{Address, Ring, RingError};
 use std::alloc::{AllocError, Global};
 use thiserror::Error;
@@ -107,6 +107,7 @@ fn joining(
 /// The command of a proxy program, with the meaning, the default and the limits of each option.
 pub fn command<'a>(alloc: Global) -> Result<Command<'a>, AllocError> {
     Command::new(alloc, PROGRAM)
+        .version(VERSION)
         .about("A memcached proxy: spreads keys over servers by libketama's ring")
         .arg(listen(alloc, "127.0.0.1:11212"))?
         .arg(held(alloc))?

@@ -6,7 +6,7 @@ use crate::settings::{Service, Settings, USUAL_ANSWER};
 use clap::builder::ValueParser;
 use clap::{Arg, ArgMatches, Command};
 use mc_cache::MAX_BUDGET;
-use mc_program::{Terms, accept, flag, idle, listen, report};
+use mc_program::{Terms, VERSION, accept, flag, idle, listen, report};
 use std::alloc::{AllocError, Global};
 use std::fmt;
 use std::fmt::{Display, Formatter};
@@ -85,6 +85,7 @@ impl Display for Options<'_> {
 /// The command of a server program, with the meaning, the default and the limits of each option.
 pub fn command<'a>(alloc: Global) -> Result<Command<'a>, AllocError> {
     Command::new(alloc, PROGRAM)
+        .version(VERSION)
         .about("A memcached server: a cache that is proved, for clients of the text protocol")
         .arg(listen(alloc, "127.0.0.1:11211"))?
         .arg(budget(alloc))?

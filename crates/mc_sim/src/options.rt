@@ -5,7 +5,7 @@ use crate::kinds::{KINDS, StoreKind, kind_named};
 use crate::texts::Printed;
 use clap::builder::ValueParser;
 use clap::{Arg, ArgMatches, Command};
-use mc_program::flag;
+use mc_program::{VERSION, flag};
 use std::alloc::{AllocError, Global};
 
 /// What a command line asks for.
@@ -44,6 +44,7 @@ fn printed_by(account: bool) -> Printed
 /// The command of the program, with the meaning of each option.
 pub fn command<'a>(alloc: Global) -> Result<Command<'a>, AllocError> {
     Command::new(alloc, "mc_sim")
+        .version(VERSION)
         .about(
             "Plays a script on standard input, of a memcached server or of a pool, and prints what its clients are sent",
         )
