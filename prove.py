@@ -9,8 +9,8 @@ A crate is skipped where neither its text, nor that of a crate that it uses, nor
 then is still there, by its time.
 
 Of the crates that are ready, the one with the longest way up to a crate that was asked for comes first. Each has one job or more: as
-many as let all end soonest, by the seconds below. On a terminal the last line says what is being proved, and how long it may yet
-take: that is from these seconds, and from the pace so far. Else there is a line for each crate that is done.
+many as let all end soonest, by the seconds below. On a terminal the last line says what is being proved, what that shows to be
+true, and how long it may yet take: that is from these seconds, and from the pace so far. There is a line for each crate that is done.
 
 --processors N takes N at a time; with no N, all that there are, but one for each 3 GB of free memory. --plan proves nothing: it
 prints when each crate would start and end. A failure ends all that runs; what rt said of the crate is printed, and the status is 1.
@@ -93,6 +93,51 @@ SECONDS = {
     "mc_threads": 190,
     "mc_watch": 16,
     "mc_world": 260,
+}
+
+# What the proof of a crate shows, in a few words: for the screen of whoever waits for a program.
+SHOWN = {
+    "mc_account": "a proxy's links and answers fit together, as one relation",
+    "mc_address": "which texts name a server's address",
+    "mc_cache": "each command does to the items what the protocol says",
+    "mc_cache_laws": "a stored value is what the next get answers",
+    "mc_clients": "how many clients there are at most, and which are idle",
+    "mc_event": "what can happen to a pool",
+    "mc_forms": "what is spelled by a form is read back",
+    "mc_hasher": "what a key's hash is, by secret numbers",
+    "mc_history": "each server's commands are one history, each of them once",
+    "mc_item": "what an item costs, and that its numbers rise",
+    "mc_link": "each reply meets the command that it answers",
+    "mc_numbered": "each thing is found by its number",
+    "mc_pool_play": "a pool's script prints what its clients were sent",
+    "mc_pool_script": "what each line of a pool's script means",
+    "mc_program": "how a program ends, and by which status",
+    "mc_proxy": "each client gets the answers to its own requests, in order",
+    "mc_proxy_pump": "a proxy's bytes are carried whole, and in order",
+    "mc_proxy_serve": "a proxy on sockets is never out of its bounds",
+    "mc_proxyd": "the proxy's program is safe",
+    "mc_pump": "a connection's bytes are carried whole, and in order",
+    "mc_reply": "each answer is spelled as the protocol says",
+    "mc_reply_reader": "what a server answers is read back, and strange bytes are seen",
+    "mc_request": "each line means one request, or one fault",
+    "mc_request_reader": "requests are the same, however their bytes are cut",
+    "mc_ring": "whose key it is, by libketama's points",
+    "mc_route": "each command goes to the owner of its key",
+    "mc_script": "what each line of a script means, and what it prints",
+    "mc_serve": "a server on sockets keeps its items as the cache wants them",
+    "mc_server": "each connection is answered in order, over one cache",
+    "mc_serverd": "the server's program is safe",
+    "mc_session": "a client's answers come in the order of its requests",
+    "mc_sim": "the script program is safe",
+    "mc_socket": "an input drops and repeats no byte of its stream",
+    "mc_spelling": "each command has one text, and no text begins another",
+    "mc_store": "each store holds the items that a plain list would",
+    "mc_stranger": "who does not speak the text protocol",
+    "mc_stream": "what one read or write can have done",
+    "mc_table": "entries stay in the order of their last use",
+    "mc_text": "how words, numbers, keys and base64 are read",
+    "mc_watch": "when something is said to the operator, and how often",
+    "mc_world": "whatever happens to a pool, its account holds",
 }
 
 
@@ -361,7 +406,10 @@ class Screen:
 
     def line(self, schedule, runs):
         names = ", ".join(f"{run.name} {clock(run.took())}" for run in runs)
-        return f"{self.done} of {self.count} proved; now {names}; {self.left(schedule, runs)} to go"
+        shown = [SHOWN[run.name] for run in runs if run.name in SHOWN]
+        # Of several crates each has its turn, for five seconds.
+        now = f" ({shown[int(time.monotonic() / 5) % len(shown)]})" if shown else ""
+        return f"{self.done} of {self.count} proved; {self.left(schedule, runs)} to go; now {names}{now}"
 
     def show(self, schedule, runs):
         """Writes the last line of a terminal anew."""
@@ -372,7 +420,8 @@ class Screen:
         self.done += 1
         self.expected += seconds(run.name, jobs)
         self.taken += run.took()
-        print(f"{self.clear()}{self.done} of {self.count}: {run.name} is proved ({clock(run.took())})", end="", flush=True)
+        shown = f": {SHOWN[run.name]}" if run.name in SHOWN else ""
+        print(f"{self.clear()}{self.done} of {self.count}: {run.name} is proved ({clock(run.took())}){shown}", end="", flush=True)
 
     def more(self, schedule, runs):
         """Ends the line of a crate with what comes after it."""

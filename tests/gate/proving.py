@@ -19,8 +19,10 @@ import sys
 import tempfile
 import time
 
-sys.path.insert(0, str(pathlib.Path(__file__).resolve().parents[1] / "lib"))
+TESTS = pathlib.Path(__file__).resolve().parents[1]
+sys.path[:0] = [str(TESTS / "lib"), str(TESTS.parent)]
 
+import prove
 from checks import PATIENCE, Wrong, tally, want
 from suite import TOP
 
@@ -324,6 +326,14 @@ def a_name_that_is_no_crate_is_refused(repository):
     want(repository.prove("other", status=1), ({}, "prove.py: crates.txt lists no other\n"))
 
 
+def each_crate_of_a_program_has_words(_):
+    """Of this project's own crates: what the screen says is being shown."""
+    crates = prove.Crates((TOP / "crates.txt").read_text())
+    need = {it for name in ("mc_serverd", "mc_proxyd", "mc_sim") for it in crates.below(name) | {name}}
+    want(sorted(prove.SHOWN), sorted(need))
+    want([name for name, shown in prove.SHOWN.items() if len(shown) > 72], [])
+
+
 def tried(check):
     with tempfile.TemporaryDirectory() as room:
         check(Repository(room))
@@ -350,6 +360,7 @@ CHECKS = [
     two_at_once_prove_each_crate_once,
     a_plan_proves_nothing,
     a_name_that_is_no_crate_is_refused,
+    each_crate_of_a_program_has_words,
 ]
 
 if __name__ == "__main__":
