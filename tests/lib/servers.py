@@ -4,8 +4,8 @@ name.
     with Server(program) as server, Proxy(proxy_program, [server.address]) as proxy:
         ..proxy.port, server.process.pid..
 
-The port is one that was free a moment ago, on 127.0.0.1. A program takes connections from the first line of the block on,
-and is ended at the end of it.
+The port is one that was free a moment ago, on 127.0.0.1, where no host of a network of the script's own is given (`on`, network.py).
+A program takes connections from the first line of the block on, and is ended at the end of it.
 """
 
 import os
@@ -64,6 +64,11 @@ def connected(port, timeout=10):
     return connection
 
 
+def address_on(on, port):
+    """The address of a port of a host, or of this machine."""
+    return f"{on.address if on else HOST}:{port}"
+
+
 def limit(limits):
     for name, most in limits:
         resource.setrlimit(name, (most, most))
@@ -73,16 +78,18 @@ class Listener:
     """A program that was started with these words, and listens at a port.
 
     `limits` are kinds of resources with the most of each. Where its standard output is no pipe nobody waits for it to start.
+    `on` is the host that it runs on, where that is not this machine.
     """
 
     says_where = True  # whether it prints where it listens; else it is tried
 
-    def __init__(self, program, words, port, limits=(), stdout=subprocess.PIPE, stderr=None):
-        self.program, self.port = str(program), port
-        self.address = f"{HOST}:{port}"
+    def __init__(self, program, words, port, limits=(), stdout=subprocess.PIPE, stderr=None, on=None):
+        self.program, self.port, self.on = str(program), port, on
+        self.address = address_on(on, port)
         limiting = (lambda: limit(limits)) if limits else None
+        before, files = (on.entering(), [on.namespace]) if on else ([], [])
         self.process = subprocess.Popen(
-            [self.program, *words], stdout=stdout, stderr=stderr, preexec_fn=limiting
+            [*before, self.program, *words], stdout=stdout, stderr=stderr, preexec_fn=limiting, pass_fds=files
         )
         try:
             self.await_start()
@@ -103,7 +110,7 @@ class Listener:
             self.connected_in_time().close()
 
     def connected(self):
-        return connected(self.port)
+        return self.on.connected(self.on.address, self.port) if self.on else connected(self.port)
 
     def connected_in_time(self):
         """A connection to a program that may not listen yet."""
@@ -157,12 +164,12 @@ class Listener:
 class Server(Listener):
     """A server, with a budget of bytes and a limit of items (memcached has its own ways with both), and further words."""
 
-    def __init__(self, program, budget=67108864, items=65536, port=None, words=()):
+    def __init__(self, program, budget=67108864, items=65536, port=None, words=(), on=None):
         port = port or free_port()
         self.says_where = not is_memcached(program)
         if self.says_where:
-            words = [*f"--listen {HOST}:{port} --budget {budget} --items {items}".split(), *words]
-            super().__init__(program, words, port)
+            words = [*f"--listen {address_on(on, port)} --budget {budget} --items {items}".split(), *words]
+            super().__init__(program, words, port, on=on)
         else:
             megabytes = 64 + 2 * budget // 2**20
             words = f"-l {HOST} -p {port} -U 0 -t 1 -u nobody -m {megabytes} -c 2000".split()
@@ -178,18 +185,18 @@ class Server(Listener):
 class Proxy(Listener):
     """A proxy in front of the servers of some addresses (`<host>:<port>`), all alike."""
 
-    def __init__(self, program, addresses, words=(), limits=(), **streams):
-        port = free_port()
+    def __init__(self, program, addresses, words=(), limits=(), port=None, on=None, **streams):
+        port = port or free_port()
         self.folder = tempfile.TemporaryDirectory()
         self.says_where = not is_nutcracker(program)
         if self.says_where:
-            words = ["--listen", f"{HOST}:{port}", *words, *addresses]
+            words = ["--listen", address_on(on, port), *words, *addresses]
         else:
             pool = pathlib.Path(self.folder.name) / "pool.yml"
             pool.write_text(POOL.format(listen=f"{HOST}:{port}") + "".join(f"   - {each}:1\n" for each in addresses))
             words = ["-c", str(pool), "-a", HOST, "-s", str(free_port())]
             streams = {"stderr": subprocess.DEVNULL, **streams}
-        super().__init__(program, words, port, limits, **streams)
+        super().__init__(program, words, port, limits, on=on, **streams)
 
     def stop(self):
         super().stop()
