@@ -5,9 +5,9 @@ Usage: chaos.py PROXY SERVER [--seconds N] [--seed N] [--clients N] [--kinds WOR
                                                         (75 seconds, seed 1, 12 clients, all kinds, 30 seconds of rest)
 
 PROXY is the built mc_proxyd, SERVER the built mc_serverd. Three servers, two proxies and three hosts of clients each have a network
-namespace (tests/lib/network.py says what that needs). The first proxy has its default options, the second `--timeout 1000`. One fault
-after the other is made, of each kind equally often: KINDS below. --kinds takes those whose name has this word. A fault lasts up to two
-seconds; the next begins once each server that it touched answers again through each proxy that it touched.
+namespace (tests/lib/network.py says what that needs). The first proxy has `--timeout 0`, the second `--timeout 1000`. One fault after the
+other is made, of each kind equally often: KINDS below. --kinds takes those whose name has this word. A fault lasts up to two seconds;
+the next begins once each server that it touched answers again through each proxy that it touched.
 
 Each client knows which answers are right (tests/lib/checked_clients.py). The script ends with status 1, and says what came, where
 
@@ -57,7 +57,7 @@ from rings import Ring
 from servers import Proxy, Server
 
 SERVERS, CLIENT_HOSTS, KEYS_AT_A_SERVER = 3, 3, 6
-PROXY_WORDS = ([], ["--timeout", "1000"])
+PROXY_WORDS = (["--timeout", "0"], ["--timeout", "1000"])
 PORT = 11211
 PATIENCE = 30  # seconds that a client waits for an answer
 SECONDS_TO_RETURN = 20
