@@ -127,7 +127,7 @@ class Run:
 
     def __init__(self, asked, stack):
         self.seed, self.dice, self.verbose = asked.seed, random.Random(asked.seed), asked.verbose
-        self.programs, self.stack = (asked.proxy, asked.server), stack
+        self.programs = asked.proxy, asked.server
         self.network = stack.enter_context(Network(asked.seed))
         self.server_hosts = [self.network.host() for _ in range(SERVERS)]
         self.proxy_hosts = [self.network.host() for _ in PROXY_WORDS]
@@ -168,8 +168,8 @@ class Run:
 
     def sockets(self):
         """How many descriptors each program has."""
-        programs = {**{f"server {at}": it for at, it in enumerate(self.servers)}, **{f"proxy {at}": it for at, it in enumerate(self.proxies)}}
-        return {name: settles(it.descriptors) for name, it in programs.items()}
+        named = (*((f"server {at}", it) for at, it in enumerate(self.servers)), *((f"proxy {at}", it) for at, it in enumerate(self.proxies)))
+        return {name: settles(it.descriptors) for name, it in named}
 
     # What a fault touches.
 
