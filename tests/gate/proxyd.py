@@ -26,7 +26,7 @@ sys.path.insert(0, str(pathlib.Path(__file__).resolve().parents[1] / "lib"))
 
 from checks import (
     PATIENCE, UNKNOWN_HOSTS, Program, asked, checks_of_words, is_served, received, received_to_the_end, settles, tally,
-    want, want_at_most, words_are_refused,
+    want, want_at_most, words_are_refused, wrong_sizes_are_refused,
 )  # fmt: skip
 from connections import checks_of_connections, fields_of, lines_said
 from live_pool import LOST, QUIET, Played, Pool, all_that_comes, answered_in_time, data_segments, nothing_comes, stored
@@ -72,7 +72,6 @@ REFUSED = {
     "an_unknown_option": (["--bind", "1"], UNKNOWN),
     "an_option_twice": (["--check", "--check"], "the argument '--check' cannot be used multiple times" + USAGE),
     "no_value": (["--listen"], "a value is required for '--listen <host:port>' but none was supplied"),
-    "nothing_held": (["--held", "0"], "invalid value '0' for '--held <bytes>': 0 is not in 1..=1099511627776"),
     "no_milliseconds": (
         ["--timeout", "1s"],
         "invalid value '1s' for '--timeout <milliseconds>': invalid digit found in string",
@@ -142,6 +141,11 @@ def bad_lists_are_told(words):
 def no_server_is_refused():
     why = "the following required arguments were not provided:\n  <server>...\n\nUsage: mc_proxyd --check <server>..."
     words_are_refused(Program(PROXY.path), ["--check"], why)
+
+
+def sizes_are_within_their_limits():
+    wrong_sizes_are_refused(PROXY, "held", 1)
+    want(PROXY.run("--check", "--held=256m"), (0, "servers 1 points 160\n", ""))
 
 
 # Keys and their servers.
@@ -748,6 +752,7 @@ def checks():
     yield from checks_of_connections(start, "mc_proxyd", 7, DIALOGUES)
     for check in (
         no_server_is_refused,
+        sizes_are_within_their_limits,
         hashes_of_the_model,
         each_key_is_at_its_owner,
         a_get_of_many_keys_is_in_their_order,

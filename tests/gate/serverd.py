@@ -19,7 +19,7 @@ sys.path.insert(0, str(pathlib.Path(__file__).resolve().parents[1] / "lib"))
 
 from checks import (
     KILOBYTE, MARK, Program, asked, checks_of_words, is_served, received, received_to_the_end, settles, tally, want,
-    want_at_most,
+    want_at_most, wrong_sizes_are_refused,
 )  # fmt: skip
 from connections import checks_of_connections, fields_of, lines_said
 from servers import HOST, Listener, free_port
@@ -58,6 +58,18 @@ SETTINGS = {
         "--budget 1099511627776 --items auto",
         "listen 127.0.0.1:11211 budget 1099511627776 items 16777216 accept 0",
     ),
+    "sizes_in_letters": (
+        "--budget 2G --answer 1K",
+        "listen 127.0.0.1:11211 budget 2147483648 items 65536 accept 0 answer 1024",
+    ),
+    "sizes_in_small_letters": (
+        "--budget=3m --answer=256m",
+        "listen 127.0.0.1:11211 budget 3145728 items 65536 accept 0",
+    ),
+    "the_greatest_sizes_in_letters": (
+        "--budget 1024G --answer 1073741824k",
+        "listen 127.0.0.1:11211 budget 1099511627776 items 65536 accept 0 answer 1099511627776",
+    ),
     "in_another_order": (
         "--report 4 --accept 3 --items 2",
         "listen 127.0.0.1:11211 budget 67108864 items 2 accept 3 report 4",
@@ -72,15 +84,6 @@ REFUSED = {
     "a_word": (["--check", "x"], "unexpected argument 'x' found" + USAGE),
     "an_option_twice": (["--check", "--check"], "the argument '--check' cannot be used multiple times" + USAGE),
     "no_value": (["--listen"], "a value is required for '--listen <host:port>' but none was supplied"),
-    "no_budget": (["--budget", "0"], "invalid value '0' for '--budget <bytes>': 0 is not in 1..=1099511627776"),
-    "too_much_budget": (
-        ["--budget", "1099511627777"],
-        "invalid value '1099511627777' for '--budget <bytes>': 1099511627777 is not in 1..=1099511627776",
-    ),
-    "too_small_an_answer": (
-        ["--answer", "1023"],
-        "invalid value '1023' for '--answer <bytes>': 1023 is not in 1024..=1099511627776",
-    ),
     "no_seconds": (["--idle", "1s"], "invalid value '1s' for '--idle <seconds>': invalid digit found in string"),
     "seconds_below_0": (["--report=-1"], "invalid value '-1' for '--report <seconds>': invalid digit found in string"),
     "an_unknown_store": (["--store", "list"], "invalid value 'list' for '--store <kind>'\n  [possible values: table, lru]"),
@@ -157,6 +160,11 @@ def items_are_within_their_limits():
     told = "mc_serverd: invalid value for '--items <n>': neither auto nor in 1..=16777216\n"
     for word in ("0", "16777217", "18446744073709551617", "Auto", "auto ", "+1", "1.0", ""):
         want(PROGRAM.run("--check", "--items", word), (2, "", told))
+
+
+def sizes_are_within_their_limits():
+    wrong_sizes_are_refused(PROGRAM, "budget", 1)
+    wrong_sizes_are_refused(PROGRAM, "answer", 1024, ("1023", "0", "0K"))
 
 
 def a_server_that_is_full_of_items_says_so():
@@ -349,6 +357,7 @@ def checks():
     for check in (
         no_memory_to_start_is_told,
         items_are_within_their_limits,
+        sizes_are_within_their_limits,
         a_server_that_is_full_of_items_says_so,
         more_than_65535_items_are_stored,
         a_slow_reader_is_waited_for,

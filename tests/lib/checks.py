@@ -131,6 +131,20 @@ def output_that_fails_is_told(program):
         want(program.run("--check", stdout=full), (1, "", f"{program.name}: output failed\n"))
 
 
+# What is no number of bytes from 1 to 1,099,511,627,776. 64 bits cannot tell the last two.
+NO_SIZES = [
+    "", "0", "0G", "1025G", "1073741825k", "1099511627777", "1T", "1GB", "1KiB", "G", "1.5G", "1,024", "+1", "-1", "1 G", " 1", "G1", "K2K",
+    "17179869185G", "18446744073709551616",
+]  # fmt: skip
+
+
+def wrong_sizes_are_refused(program, option, least, words=()):
+    """A word that is no number of bytes, with K, M or G or without, or one outside the limits."""
+    why = f"invalid value for '--{option} <bytes>': neither in {least}..=1099511627776 nor a number of K, M or G up to 1024G"
+    for word in (*NO_SIZES, *words):
+        want((word, program.run("--check", f"--{option}={word}")), (word, (2, "", f"{program.name}: {why}\n")))
+
+
 def it_cannot_listen(program, listen):
     want(program.run(f"--listen={listen}"), (3, "", f"{program.name}: cannot listen\n"))
 

@@ -55,3 +55,12 @@ pub fn number<'a>(alloc: Global, name: &'a str, unit: &'a str, help: &'a str) ->
         .default_value("0")
         .help(help)
 }
+
+/// An option whose value is a number of bytes, as [`size_within`](crate::size_within) reads it.
+pub fn size<'a>(alloc: Global, name: &'a str, usual: &'a str, help: &'a str) -> Arg<'a> {
+    Arg::new(alloc, name)
+        .long(name)
+        .value_name("bytes")
+        .default_value(usual)
+        .help(help)
+}

@@ -4,9 +4,8 @@ ghost use Rattle.mc_proxy_serve.specs.Lists.{list_error_by};
 ghost use Rattle.mc_proxy_serve.specs.declared.options.ListError.TheVariants.{Memory};
 
 use crate::settings::ProxySettings;
-use clap::builder::ValueParser;
 use clap::{Arg, ArgMatches, Command};
-use mc_program::{Terms, VERSION, accept, flag, idle, listen, number, report};
+use mc_program::{Terms, VERSION, accept, flag, idle, listen, number, report, size, size_within};
 use mc_ring::{Address, Ring, RingError};
 use std::alloc::{AllocError, Global};
 use thiserror::Error;
@@ -40,6 +39,9 @@ pub enum ListError {
     /// 2: no memory.
     #[error("out of memory")]
     Memory,
+    /// 3: the word of `--held` is no number of bytes, or is outside its limits.
+    #[error("bad number of bytes")]
+    Held,
 }
 
 impl From<AllocError> for ListError {
@@ -65,6 +67,7 @@ impl From<RingError> for ListError {
 impl<'a> Options<'a> {
     /// What matches of [`command`] ask for.
     pub fn of(alloc: Global, matches: &ArgMatches<'a>) -> Result<Options<'a>, ListError> {
+        let held = matches.get_str("held").unwrap_or("");
         let words = matches.get_strs("server").ok_or(ListError::Bad)?;
         let mut servers = Vec::with_capacity(alloc, words.len())?;
         for word in words {
@@ -79,7 +82,7 @@ impl<'a> Options<'a> {
             ring,
             settings: ProxySettings {
                 terms: Terms::of(matches),
-                held: matches.get_one::<u64>("held").ok_or(ListError::Bad)?,
+                held: size_within(held, 1, MOST_HELD).ok_or(ListError::Held)?,
                 timeout: matches.get_one::<u64>("timeout").unwrap_or(0),
                 join,
             },
@@ -139,14 +142,12 @@ pub fn command<'a>(alloc: Global) -> Result<Command<'a>, AllocError> {
 }
 
 fn held<'a>(alloc: Global) -> Arg<'a> {
-    Arg::new(alloc, "held")
-        .long("held")
-        .value_name("bytes")
-        .value_parser(ValueParser::unsigned(1, MOST_HELD))
-        .default_value("268435456")
-        .help(
-            "As many bytes of requests and replies kept for a client stop it until it is owed nothing: 1 to 1099511627776",
-        )
+    size(
+        alloc,
+        "held",
+        "268435456",
+        "As many bytes of requests and replies kept for a client stop it until it is owed nothing: 1 to 1099511627776, or with K, M or G",
+    )
 }
 
 fn join<'a>(alloc: Global) -> Arg<'a> {

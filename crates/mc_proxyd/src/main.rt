@@ -54,13 +54,18 @@ where
     Ok(())
 }
 
+/// Why a word of `--held` is refused.
+const BAD_HELD: &str = "invalid value for '--held <bytes>': neither in 1..=1099511627776 nor a number of K, M or G up to 1024G";
+
 /// How the program ends where the words name no pool.
 fn failure_of(error: ListError) -> Failure
     ensures bad { error ≡ ListError.Bad → status_of result ≡ 2 }
+    ensures held { error ≡ ListError.Held → status_of result ≡ 2 }
     ensures memory { error ≡ ListError.Memory → result ≡ Failure.Serve ServeError.Memory }
 {
     match error {
         ListError::Bad => Failure::Refused("bad server list"),
+        ListError::Held => Failure::Refused(BAD_HELD),
         ListError::Memory => Failure::Serve(ServeError::Memory),
     }
 }

@@ -6,13 +6,22 @@ use crate::settings::{Service, Settings, USUAL_ANSWER};
 use clap::builder::ValueParser;
 use clap::{Arg, ArgMatches, Command};
 use mc_cache::MAX_BUDGET;
-use mc_program::{Terms, VERSION, accept, flag, idle, listen, report};
+use mc_program::{Terms, VERSION, accept, flag, idle, listen, report, size, size_within};
 use std::alloc::{AllocError, Global};
 use std::fmt;
 use std::fmt::{Display, Formatter};
 
 /// The fewest bytes that an answer may be allowed: what is counted for a request without a value.
 const LEAST_ANSWER: u64 = 1024;
+
+/// Why a word of `--budget` is refused.
+const BAD_BUDGET: &str = "invalid value for '--budget <bytes>': neither in 1..=1099511627776 nor a number of K, M or G up to 1024G";
+
+/// Why a word of `--items` is refused.
+const BAD_ITEMS: &str = "invalid value for '--items <n>': neither auto nor in 1..=16777216";
+
+/// Why a word of `--answer` is refused.
+const BAD_ANSWER: &str = "invalid value for '--answer <bytes>': neither in 1024..=1099511627776 nor a number of K, M or G up to 1024G";
 
 /// The program's name.
 pub const PROGRAM: &str = "mc_serverd";
@@ -29,21 +38,34 @@ pub struct Options<'a> {
 }
 
 impl<'a> Options<'a> {
-    /// What matches of [`command`] ask for. There is none if the word of `--items` says nothing: the command refuses the other numbers.
-    pub fn of(matches: &ArgMatches<'a>) -> Option<Options<'a>> {
-        let budget = matches.get_one::<u64>("budget")?;
-        let items = items_named(matches.get_str("items")?)?;
-        let kind = kind_named(matches.get_str("store")?);
+    /// What matches of [`command`] ask for. An error says which word is refused, and why: of `--budget`, `--items` or `--answer`. The
+    /// command refuses the others.
+    pub fn of(matches: &ArgMatches<'a>) -> Result<Options<'a>, &'static str> {
+        let budget = size_of(matches, "budget", 1).ok_or(BAD_BUDGET)?;
+        let items = items_named(word_of(matches, "items")).ok_or(BAD_ITEMS)?;
+        let answer = size_of(matches, "answer", LEAST_ANSWER).ok_or(BAD_ANSWER)?;
+        let kind = kind_named(word_of(matches, "store"));
         let service = Service {
             terms: Terms::of(matches),
-            answer: matches.get_one::<usize>("answer")?,
+            answer: answer as usize,
         };
-        Some(Options {
-            listen: matches.get_str("listen")?,
-            settings: Settings::new(budget, items_for(items, budget), kind, service)?,
+        let settings = Settings::new(budget, items_for(items, budget), kind, service);
+        Ok(Options {
+            listen: word_of(matches, "listen"),
+            settings: settings.ok_or(BAD_BUDGET)?,
             check: matches.get_flag("check"),
         })
     }
+}
+
+/// The word of an option; none says nothing.
+fn word_of<'a>(matches: &ArgMatches<'a>, name: &str) -> &'a str {
+    matches.get_str(name).unwrap_or("")
+}
+
+/// How many bytes the word of an option says, if they are from `least` to [`MAX_BUDGET`].
+fn size_of(matches: &ArgMatches<'_>, name: &str, least: u64) -> Option<u64> {
+    size_within(word_of(matches, name), least, MAX_BUDGET)
 }
 
 /// What to listen at and what to serve with, as it is printed: the four settings that are always there, and of the others those
@@ -106,14 +128,12 @@ pub fn command<'a>(alloc: Global) -> Result<Command<'a>, AllocError> {
 }
 
 fn budget<'a>(alloc: Global) -> Arg<'a> {
-    Arg::new(alloc, "budget")
-        .long("budget")
-        .value_name("bytes")
-        .value_parser(ValueParser::unsigned(1, MAX_BUDGET))
-        .default_value("67108864")
-        .help(
-            "What the items may cost in all, an item its key's and its value's bytes and 64: 1 to 1099511627776",
-        )
+    size(
+        alloc,
+        "budget",
+        "67108864",
+        "What the items may cost in all, an item its key's and its value's bytes and 64: 1 to 1099511627776, or with K, M or G, as 2G",
+    )
 }
 
 fn items<'a>(alloc: Global) -> Arg<'a> {
@@ -138,12 +158,10 @@ fn store<'a>(alloc: Global) -> Arg<'a> {
 }
 
 fn answer<'a>(alloc: Global) -> Arg<'a> {
-    Arg::new(alloc, "answer")
-        .long("answer")
-        .value_name("bytes")
-        .value_parser(ValueParser::unsigned(LEAST_ANSWER, MAX_BUDGET))
-        .default_value("268435456")
-        .help(
-            "The most bytes of an answer: a request whose answer may have more closes its connection; 1024 to 1099511627776",
-        )
+    size(
+        alloc,
+        "answer",
+        "268435456",
+        "The most bytes of an answer: a request whose answer may have more closes its connection; 1024 to 1099511627776, or with K, M or G",
+    )
 }

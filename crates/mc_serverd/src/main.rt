@@ -30,10 +30,7 @@ where
     let alloc = rt.alloc();
     let words = read_words(rt)?;
     let matches = command(alloc)?.try_get_matches_from(words.as_slice())?;
-    let no_items = Failure::Refused(
-        "invalid value for '--items <n>': neither auto nor in 1..=16777216",
-    );
-    let options = Options::of(&matches).ok_or(no_items)?;
+    let options = Options::of(&matches).map_err(Failure::Refused)?;
     if options.check {
         return check(rt, &options);
     }
