@@ -58,6 +58,12 @@ SETTINGS = {
         "--budget 1099511627776 --items auto",
         "listen 127.0.0.1:11211 budget 1099511627776 items 16777216 accept 0",
     ),
+    "cas_numbers_by_the_clock": ("--cas-from now", "listen 127.0.0.1:11211 budget 67108864 items 65536 accept 0 cas-from now"),
+    "cas_numbers_from_the_greatest": (
+        "--cas-from=9223372036854775807 --idle 1",
+        "listen 127.0.0.1:11211 budget 67108864 items 65536 accept 0 cas-from 9223372036854775807 idle 1",
+    ),
+    "cas_numbers_from_0": ("--cas-from 0", "listen 127.0.0.1:11211 budget 67108864 items 65536 accept 0"),
     "sizes_in_letters": (
         "--budget 2G --answer 1K",
         "listen 127.0.0.1:11211 budget 2147483648 items 65536 accept 0 answer 1024",
@@ -165,6 +171,27 @@ def items_are_within_their_limits():
 def sizes_are_within_their_limits():
     wrong_sizes_are_refused(PROGRAM, "budget", 1)
     wrong_sizes_are_refused(PROGRAM, "answer", 1024, ("1023", "0", "0K"))
+
+
+def cas_numbers_begin_as_said():
+    """Above the number that was named, or above 2^30 for each second since 1970 by the clock: so a later server gives greater ones."""
+    for word in ("Now", "now ", "", "-1", "+1", "9223372036854775808", "18446744073709551617", "1G"):
+        why = "invalid value for '--cas-from <n>': neither now nor in 0..=9223372036854775807"
+        want((word, PROGRAM.run("--check", f"--cas-from={word}")), (word, (2, "", f"mc_serverd: {why}\n")))
+    for words, number in (("", 1), ("--cas-from 41", 42), ("--cas-from 9223372036854775807", 2**63)):
+        want(first_number(words), number)
+    before = time.time()
+    first = first_number("--cas-from now")
+    time.sleep(max(0, (first >> 30) + 1.1 - time.time()))
+    want(before - 2 < (first >> 30) <= time.time() and first % 2**30 == 1, True)
+    want(first_number("--cas-from now") >= first + 2**30, True)
+
+
+def first_number(words):
+    """The number of the first item of a server."""
+    with start(words) as server, server.connected() as client:
+        client.sendall(b"ms k 1 c\r\nx\r\nquit\r\n")
+        return int(received_to_the_end(client).removeprefix(b"HD c"))
 
 
 def a_server_that_is_full_of_items_says_so():
@@ -358,6 +385,7 @@ def checks():
         no_memory_to_start_is_told,
         items_are_within_their_limits,
         sizes_are_within_their_limits,
+        cas_numbers_begin_as_said,
         a_server_that_is_full_of_items_says_so,
         more_than_65535_items_are_stored,
         a_slow_reader_is_waited_for,

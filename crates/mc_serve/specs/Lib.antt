@@ -1,4 +1,5 @@
 pub mod Bounds
+pub mod CasFrom
 pub mod Chosen
 pub mod Clocks
 pub mod Kinds

@@ -13,6 +13,7 @@
 //! the clock tells, and what is done with it afterwards; of the system's clock, that it never goes back.
 #![tactic(auto)]
 
+mod cas_from;
 mod chosen;
 mod clocks;
 mod counted;
@@ -25,6 +26,7 @@ mod options;
 mod serving;
 mod settings;
 
+pub use cas_from::{CasFrom, cas_from_named, last_number};
 pub use clocks::{Seconds, SystemSeconds};
 pub use items::{Advice, Items, USUAL_ITEMS, advice_of, items_for, items_named};
 pub use kinds::{KINDS, StoreKind, kind_named};

@@ -1,5 +1,6 @@
 //! The command line of a server.
 
+use crate::cas_from::{CasFrom, cas_from_named};
 use crate::items::{items_for, items_named};
 use crate::kinds::{KINDS, StoreKind, kind_named};
 use crate::settings::{Service, Settings, USUAL_ANSWER};
@@ -20,6 +21,9 @@ const BAD_BUDGET: &str = "invalid value for '--budget <bytes>': neither in 1..=1
 /// Why a word of `--items` is refused.
 const BAD_ITEMS: &str = "invalid value for '--items <n>': neither auto nor in 1..=16777216";
 
+/// Why a word of `--cas-from` is refused.
+const BAD_CAS_FROM: &str = "invalid value for '--cas-from <n>': neither now nor in 0..=9223372036854775807";
+
 /// Why a word of `--answer` is refused.
 const BAD_ANSWER: &str = "invalid value for '--answer <bytes>': neither in 1024..=1099511627776 nor a number of K, M or G up to 1024G";
 
@@ -38,18 +42,20 @@ pub struct Options<'a> {
 }
 
 impl<'a> Options<'a> {
-    /// What matches of [`command`] ask for. An error says which word is refused, and why: of `--budget`, `--items` or `--answer`. The
-    /// command refuses the others.
+    /// What matches of [`command`] ask for. An error says which word is refused, and why: of `--budget`, `--items`, `--cas-from` or
+    /// `--answer`. The command refuses the others.
     pub fn of(matches: &ArgMatches<'a>) -> Result<Options<'a>, &'static str> {
         let budget = size_of(matches, "budget", 1).ok_or(BAD_BUDGET)?;
         let items = items_named(word_of(matches, "items")).ok_or(BAD_ITEMS)?;
+        let cas_from = word_of(matches, "cas-from");
+        let cas_from = cas_from_named(cas_from).ok_or(BAD_CAS_FROM)?;
         let answer = size_of(matches, "answer", LEAST_ANSWER).ok_or(BAD_ANSWER)?;
         let kind = kind_named(word_of(matches, "store"));
         let service = Service {
             terms: Terms::of(matches),
             answer: answer as usize,
         };
-        let settings = Settings::new(budget, items_for(items, budget), kind, service);
+        let settings = Settings::new(budget, items_for(items, budget), kind, cas_from, service);
         Ok(Options {
             listen: word_of(matches, "listen"),
             settings: settings.ok_or(BAD_BUDGET)?,
@@ -76,6 +82,7 @@ impl Display for Options<'_> {
             budget,
             items,
             kind,
+            cas_from,
             service,
         } = self.settings;
         let Terms {
@@ -90,6 +97,9 @@ impl Display for Options<'_> {
         )?;
         if kind == StoreKind::Lru {
             f.write_str(" store lru")?;
+        }
+        if cas_from != CasFrom::Last(0) {
+            write!(f, " cas-from {cas_from}")?;
         }
         if service.answer != USUAL_ANSWER {
             write!(f, " answer {}", service.answer)?;
@@ -113,6 +123,7 @@ pub fn command<'a>(alloc: Global) -> Result<Command<'a>, AllocError> {
         .arg(budget(alloc))?
         .arg(items(alloc))?
         .arg(store(alloc))?
+        .arg(cas_from(alloc))?
         .arg(answer(alloc))?
         .arg(idle(alloc))?
         .arg(report(alloc))?
@@ -154,6 +165,16 @@ fn store<'a>(alloc: Global) -> Arg<'a> {
         .default_value("table")
         .help(
             "What items are kept in: a table of the server's own, or the crate lru's cache with the standard library's hasher",
+        )
+}
+
+fn cas_from<'a>(alloc: Global) -> Arg<'a> {
+    Arg::new(alloc, "cas-from")
+        .long("cas-from")
+        .value_name("n")
+        .default_value("0")
+        .help(
+            "Give items cas numbers above this one, 0 to 9223372036854775807; or now: above those of any start before, by the clock",
         )
 }
 

@@ -1,7 +1,10 @@
 //! Serving a listener.
 ghost use Rattle.std.specs.Prelude.{◌≡◌, ◌+◌, [], IfOk};
+ghost use Rattle.mc_cache.specs.CacheState.{opening_cache};
+ghost use Rattle.mc_serve.specs.CasFrom.{last_number};
 ghost use Rattle.mc_serve.specs.Chosen.{held_by};
 
+use crate::cas_from::last_number;
 use crate::chosen::ChosenStore;
 use crate::clocks::Seconds;
 use crate::counted::Counted;
@@ -37,21 +40,28 @@ pub fn serve<R: Net + RandomSource + Wait + Eprint, C: Seconds>(
     clock: &mut C,
 ) -> Result<(), ServeError> {
     let counts = Rc::new(alloc, Counts::default()).map_err(|_| ServeError::Memory)?;
-    let server = new_server(rt, alloc, settings, counts.clone()?)?;
+    let start = clock.now();
+    let server = new_server(rt, alloc, settings, counts.clone()?, start)?;
     let service = settings.service;
-    let mut host = Host::new(alloc, server, counts, settings, clock.now())?;
+    let mut host = Host::new(alloc, server, counts, settings, start)?;
     serve_rounds(rt, alloc, listener, service.terms.accept, clock, &mut host)
 }
 
-/// A server without a connection, over an empty cache whose hashes are keyed by random numbers, and whose store counts what it does.
+/// A server without a connection that starts in a second, over an empty cache whose hashes are keyed by random numbers, and whose store
+/// counts what it does.
 fn new_server<R: RandomSource>(
     rt: &R,
     alloc: Global,
     settings: &Settings,
     counts: Rc<Counts>,
-) -> Result<Server<Counted<ChosenStore>>, ServeError> {
+    second: u64,
+) -> Result<Server<Counted<ChosenStore>>, ServeError>
+    ensures cache { let last = last_number settings.now.cas_from second in
+        IfOk result (λ server. server.cache ≡ opening_cache settings.now.budget settings.now.items last) }
+    ensures alone { IfOk result (λ server. server.connections ≡ []) }
+{
     let store = new_store(rt, alloc, settings.kind, settings.items)?;
-    let counter = CasCounter::starting_at(0);
+    let counter = CasCounter::starting_at(last_number(settings.cas_from, second));
     let store = Counted::new(store, counts);
     let cache = Cache::new(alloc, store, settings.budget, settings.items, counter);
     Ok(Server::new(alloc, cache))

@@ -2,6 +2,7 @@
 ghost use Rattle.std.specs.Prelude.{◌≡◌, ◌↔◌, IfSome, IsSome};
 ghost use Rattle.mc_cache.specs.CacheState.{IsWithinBounds};
 
+use crate::cas_from::CasFrom;
 use crate::kinds::StoreKind;
 use mc_cache::is_within_bounds;
 use mc_program::Terms;
@@ -41,6 +42,8 @@ pub struct Settings {
     pub items: usize,
     /// What the items are kept in.
     pub kind: StoreKind,
+    /// Above which number items are counted.
+    pub cas_from: CasFrom,
     /// How clients are served.
     pub service: Service,
     ghost within: { IsWithinBounds budget items },
@@ -48,9 +51,16 @@ pub struct Settings {
 
 impl Settings {
     /// These settings, where the budget and the items are within the bounds of a cache.
-    pub fn new(budget: u64, items: usize, kind: StoreKind, service: Service) -> Option<Settings>
+    pub fn new(
+        budget: u64,
+        items: usize,
+        kind: StoreKind,
+        cas_from: CasFrom,
+        service: Service,
+    ) -> Option<Settings>
         ensures some { IsSome result ↔ IsWithinBounds budget items }
-        ensures are { IfSome result (λ s. (s.budget ≡ budget) × (s.items ≡ items) × (s.kind ≡ kind) × (s.service ≡ service)) }
+        ensures bounds { IfSome result (λ s. (s.budget ≡ budget) × (s.items ≡ items)) }
+        ensures others { IfSome result (λ s. (s.kind ≡ kind) × (s.cas_from ≡ cas_from) × (s.service ≡ service)) }
     {
         if !is_within_bounds(budget, items) {
             return None;
@@ -59,6 +69,7 @@ impl Settings {
             budget,
             items,
             kind,
+            cas_from,
             service,
         })
     }
