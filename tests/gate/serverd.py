@@ -64,6 +64,7 @@ SETTINGS = {
         "listen 127.0.0.1:11211 budget 67108864 items 65536 accept 0 cas-from 9223372036854775807 idle 1",
     ),
     "cas_numbers_from_0": ("--cas-from 0", "listen 127.0.0.1:11211 budget 67108864 items 65536 accept 0"),
+    "a_log_that_was_asked_for": ("--report 1 --log", "listen 127.0.0.1:11211 budget 67108864 items 65536 accept 0 report 1 log"),
     "sizes_in_letters": (
         "--budget 2G --answer 1K",
         "listen 127.0.0.1:11211 budget 2147483648 items 65536 accept 0 answer 1024",

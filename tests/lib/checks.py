@@ -4,6 +4,7 @@ program says to its words, and the count of the checks.
 A check is a function that raises an error where it fails: `Wrong`, where something else came than is wanted.
 """
 
+import os
 import pathlib
 import re
 import resource
@@ -159,6 +160,37 @@ NO_ADDRESSES = ["", "a", ":1", "127.0.0.1:0", "127.0.0.1:65536", "127.0.0.1:01",
 UNKNOWN_HOSTS = ["a" * 64 + ":1", "unknown.invalid:1"]
 
 
+# Why a program cannot listen there.
+CAUSES = {
+    **dict.fromkeys(NO_ADDRESSES, "not <host>:<port>"),
+    **dict.fromkeys(UNKNOWN_HOSTS, "no such host with an IPv4 address"),
+    "192.0.2.1:1": "address not available",
+}
+
+
+def why_it_cannot_listen_is_told(program):
+    """By a second line, with what was given: at a terminal, for the journal, or if --log asks for it."""
+    with socket.create_server((HOST, 0)) as other:
+        for listen, cause in (*CAUSES.items(), (f"{HOST}:{other.getsockname()[1]}", "address in use")):
+            told = f"{program.name}: cannot listen\n{program.name}: {listen}: {cause}\n"
+            want(program.run(f"--listen={listen}", "--log"), (3, "", told))
+    told = f"{program.name}: cannot listen\n{program.name}: a: not <host>:<port>\n"
+    want(program.run("--listen=a", env={**os.environ, "JOURNAL_STREAM": "8:1"}), (3, "", told))
+    want(said_at_a_terminal(program, "--listen=a"), told)
+    told = f"{program.name}: cannot listen\n{program.name}: {HOST}:1: too many open files\n"
+    want(program.run(f"--listen={HOST}:1", "--log", limits=[(resource.RLIMIT_NOFILE, 3)]), (3, "", told))
+
+
+def said_at_a_terminal(program, *words):
+    """What a program that ends by itself says on standard error, if that is a terminal."""
+    ours, terminal = os.openpty()
+    with open(ours, "rb", buffering=0) as screen:
+        with open(terminal, "wb") as stderr:
+            subprocess.run([program.path, *program.words, *words], stdout=subprocess.PIPE, stderr=stderr, timeout=PATIENCE)
+            said = screen.read(KILOBYTE)
+    return said.decode().replace("\r\n", "\n")
+
+
 def checks_of_words(program, settings, refused, text_of_help):
     """Each check of what a program says to its words, by its name."""
     for name, (words, line) in settings.items():
@@ -171,7 +203,7 @@ def checks_of_words(program, settings, refused, text_of_help):
         yield word, version_is_printed, (program, word)
     for listen in NO_ADDRESSES + UNKNOWN_HOSTS:
         yield f"cannot listen at {listen!r}", it_cannot_listen, (program, listen)
-    for check in (no_text_is_refused, output_that_fails_is_told, a_port_in_use_is_told):
+    for check in (no_text_is_refused, output_that_fails_is_told, a_port_in_use_is_told, why_it_cannot_listen_is_told):
         yield check.__name__, check, (program,)
 
 

@@ -18,6 +18,9 @@ import subprocess
 import tempfile
 import time
 
+# With it the programs say more on standard error, as for systemd's journal.
+os.environ.pop("JOURNAL_STREAM", None)
+
 HOST = "127.0.0.1"
 SECONDS_TO_START = 20
 SECONDS_TO_END = 10

@@ -64,15 +64,12 @@ pub fn serve_rounds<R: Net + Wait, C, H: Rounds<R, C>>(
     host: &mut H,
 ) -> Result<(), ServeError> {
     let mut events = Events::with_capacity(alloc, MAX_EVENTS)?;
-    let mut poll = Poll::new(rt).map_err(|_| ServeError::Listen)?;
+    let mut poll = Poll::new(rt)?;
     let mut acceptor = Acceptor::new(listener, accept);
-    acceptor
-        .register(poll.registry(), LISTENER)
-        .map_err(|_| ServeError::Listen)?;
+    acceptor.register(poll.registry(), LISTENER)?;
     for _ in rt.forever() {
         let patience = host.before(rt, poll.registry(), acceptor.backlog());
-        poll.poll(&mut events, patience)
-            .map_err(|_| ServeError::Listen)?;
+        poll.poll(&mut events, patience)?;
         host.begin(rt, clock);
         for event in events.iter() {
             if event.token() == LISTENER {

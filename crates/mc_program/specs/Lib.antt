@@ -1,2 +1,3 @@
 pub mod Sizes
+pub mod Sockets
 pub mod Statuses

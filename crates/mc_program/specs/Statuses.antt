@@ -1,5 +1,5 @@
 -- The exit status of a program where it fails: this project's own.
-use Rattle.std.specs.Prelude.{ℕ}
+use Rattle.std.specs.Prelude.{ℕ, ◌≡◌, List, string_bytes}
 use Rattle.std.specs.declared.io.ErrorKind.{ErrorKind as IoKind}
 use Rattle.std.specs.declared.io.ErrorKind.TheVariants as io
 use Rattle.clap.specs.Values.{kind_of}
@@ -9,11 +9,12 @@ use Rattle.clap.specs.declared.error.kind.ErrorKind.TheVariants.{DisplayVersion,
 use Rattle.mc_program.specs.declared.errors.ServeError.{ServeError}
 use Rattle.mc_program.specs.declared.errors.ServeError.TheVariants.{Listen, Memory}
 use Rattle.mc_program.specs.declared.failures.Failure.{Failure}
+use Rattle.mc_program.specs.declared.failures.Failure.TheVariants as failure
 use Rattle.mc_program.specs.declared.failures.Failure.TheVariants.{NoText, Output, Serve, Words}
 
 -- what it ends with where it cannot serve
 abbrev pub status_of_error : ServeError → ℕ
-status_of_error Listen = 3
+status_of_error (Listen _) = 3
 status_of_error Memory = 4
 
 -- 0 where the words ask for the version, 2 where they are refused or ask for help
@@ -26,7 +27,13 @@ abbrev pub status_of : Failure → ℕ
 status_of Output = 1
 status_of (Words error) = status_of_words (kind_of error)
 status_of (Serve error) = status_of_error error
+status_of (failure.Listen _ _) = 3
 status_of other = 2
+
+-- what is said of a program that cannot serve at a place: the error, or the place and the cause beside it
+abbrev pub Tells : List ℕ → ServeError → Failure → Type 0
+Tells place error (failure.Listen told cause) = (error ≡ Listen cause) × (string_bytes told ≡ place)
+Tells place error other = other ≡ Serve error
 
 -- what an error of the command line is, by its kind: want of memory, or words that are refused
 abbrev pub failure_by_kind : ErrorKind → Error → Failure

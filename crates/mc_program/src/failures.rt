@@ -1,10 +1,10 @@
 //! Why a program ends with another status than 0, or by words that ask for its version.
-ghost use Rattle.std.specs.Prelude.{◌≡◌, MatchResult};
-ghost use Rattle.mc_program.specs.Statuses.{status_of, failure_by};
+ghost use Rattle.std.specs.Prelude.{◌≡◌, MatchResult, false};
+ghost use Rattle.mc_program.specs.Statuses.{Tells, failure_by, status_of, status_of_error};
 ghost use Rattle.mc_program.specs.declared.failures.Failure.TheVariants.{Serve};
 ghost use Rattle.mc_program.specs.declared.errors.ServeError.TheVariants.{Memory};
 
-use crate::errors::ServeError;
+use crate::errors::{ListenError, ServeError};
 use clap::error::ErrorKind;
 use std::alloc::AllocError;
 
@@ -21,9 +21,27 @@ pub enum Failure {
     Output,
     /// The program cannot serve.
     Serve(ServeError),
+    /// The program cannot listen at a place, and its operator is told why.
+    Listen(String, ListenError),
 }
 
 impl Failure {
+    /// The failure of a program that cannot serve at a place. The place, and the cause, are told beside it if its operator reads them
+    /// ([`is_read`](crate::is_read)), and there is memory for that.
+    pub fn at<R: AllocGlobal>(rt: &R, error: ServeError, place: &str, is_read: bool) -> Failure
+        ensures status { status_of result ≡ status_of_error error }
+        ensures told { Tells place.now error result }
+        ensures unread { is_read ≡ false → result ≡ Serve error }
+    {
+        if let ServeError::Listen(cause) = &error
+            && is_read
+            && let Ok(place) = place.to_string(rt.alloc())
+        {
+            return Failure::Listen(place, *cause);
+        }
+        Failure::Serve(error)
+    }
+
     /// The exit status.
     pub fn status(&self) -> u8
         ensures { result ≡ status_of self.now }
@@ -33,6 +51,7 @@ impl Failure {
             Failure::Words(error) if error.kind() == ErrorKind::DisplayVersion => 0,
             Failure::Words(_) | Failure::NoText | Failure::Refused(_) => 2,
             Failure::Serve(error) => error.status(),
+            Failure::Listen(_, _) => 3,
         }
     }
 
@@ -45,6 +64,9 @@ impl Failure {
             Failure::Refused(why) => eprintln!(rt; "{program}: {why}"),
             Failure::Output => eprintln!(rt; "{program}: output failed"),
             Failure::Serve(error) => eprintln!(rt; "{program}: {error}"),
+            Failure::Listen(place, cause) => eprintln!(rt;
+                "{program}: cannot listen\n{program}: {place}: {cause}"
+            ),
         };
     }
 }

@@ -2,7 +2,8 @@
 //!
 //! [`listen`], [`idle`], [`report`] and [`accept`] are options that such programs have alike, and [`number`], [`size`] and [`flag`] make
 //! others. [`size_within`] reads a number of bytes. [`Terms`] are what the words say of all clients, and [`VERSION`] is what `--version`
-//! prints. [`ServeError`] is why a program cannot serve.
+//! prints. [`ServeError`] is why a program cannot serve, and [`ListenError`] why it cannot listen. [`is_read`] says whether its operator
+//! reads standard error.
 //!
 //! The exit status is 0 where the program came to its end, or the words ask for the version. Else it is 1 where standard output cannot
 //! be written, 2 where the words are refused (those that ask for help among them), 3 where it cannot listen, and 4 where there was no
@@ -11,16 +12,20 @@
 
 mod errors;
 mod failures;
+mod operators;
 mod options;
 mod sizes;
+mod sockets;
 mod terms;
 mod version;
 mod words;
 
-pub use errors::ServeError;
+pub use errors::{ListenError, ServeError};
 pub use failures::{Failure, exit_status};
+pub use operators::is_read;
 pub use options::{accept, flag, idle, listen, number, report, size};
 pub use sizes::size_within;
+pub use sockets::SocketError;
 pub use terms::Terms;
 pub use version::VERSION;
 pub use words::read_words;

@@ -25,6 +25,8 @@ pub struct Options<'a> {
     pub ring: Ring,
     /// What to serve with.
     pub settings: ProxySettings,
+    /// Whether its operator is to be told on standard error what is told at a terminal or for the journal.
+    pub log: bool,
     /// Whether to print how many servers and points there are, and end.
     pub check: bool,
 }
@@ -86,6 +88,7 @@ impl<'a> Options<'a> {
                 timeout: matches.get_one::<u64>("timeout").unwrap_or(0),
                 join,
             },
+            log: matches.get_flag("log"),
             check: matches.get_flag("check"),
         })
     }
@@ -132,6 +135,11 @@ pub fn command<'a>(alloc: Global) -> Result<Command<'a>, AllocError> {
             "join-after",
             "n",
             "With which accepted client the server of --join joins; 0 for none",
+        ))?
+        .arg(flag(
+            alloc,
+            "log",
+            "Say on standard error, as at a terminal or for the journal, why it cannot listen",
         ))?
         .arg(flag(
             alloc,

@@ -8,12 +8,13 @@
 ghost use Rattle.std.specs.Prelude.{◌≡◌};
 ghost use Rattle.mc_program.specs.Statuses.{status_of};
 
-use mc_program::{Failure, ServeError, exit_status, read_words};
+use mc_program::{Failure, ServeError, exit_status, is_read, read_words};
 use mc_proxy::MAX_SESSIONS;
-use mc_proxy_serve::{ListError, Options, PROGRAM, command, serve};
+use mc_proxy_serve::{ListError, Options, PROGRAM, ProxySettings, command, serve};
 use mc_ring::Ring;
 use mc_socket::bind;
 use mc_watch::{OWN_FILES, tell_open_files};
+use std::alloc::Global;
 use std::net::Net;
 use std::process::ExitCode;
 use std::random::RandomSource;
@@ -40,18 +41,34 @@ where
         listen,
         ring,
         settings,
+        log,
         check,
     } = Options::of(alloc, &matches).map_err(failure_of)?;
     if check {
         return print_size(rt, &ring);
     }
+    let is_read = is_read(rt, log);
+    let served = listen_and_serve(rt, alloc, listen, &settings, ring);
+    served.map_err(|error| Failure::at(rt, error, listen, is_read))
+}
+
+/// Listens, says so, and serves.
+fn listen_and_serve<R>(
+    rt: &R,
+    alloc: Global,
+    listen: &str,
+    settings: &ProxySettings,
+    ring: Ring,
+) -> Result<(), ServeError>
+where
+    R: Clock + Print + Eprint + Net + RandomSource + Wait,
+{
     let listener = bind(rt, listen)?;
     let others = OWN_FILES.saturating_add(ring.servers().len() as u64);
     tell_open_files(rt, PROGRAM, others, MAX_SESSIONS);
     // Whom the line does not reach is served all the same.
     let _ = println!(rt; "listening {listen}");
-    serve(rt, alloc, listener, &settings, ring)?;
-    Ok(())
+    serve(rt, alloc, listener, settings, ring)
 }
 
 /// Why a word of `--held` is refused.

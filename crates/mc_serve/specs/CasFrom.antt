@@ -8,7 +8,7 @@ use Rattle.mc_serve.specs.declared.cas_from.CasFrom.TheVariants.{Last, Now}
 -- a number below 2^63
 abbrev pub last_of : Option ℕ → Option CasFrom
 last_of None = None
-last_of (Some last) = if nat_lt last (2 ^ 63) then Some (Last last) else None
+last_of (Some number) = if nat_lt number (2 ^ 63) then Some (Last number) else None
 
 -- what a word of `--cas-from` says: `now`, or a number; any other says nothing
 abbrev pub cas_from_named : List ℕ → Option CasFrom
@@ -17,5 +17,5 @@ cas_from_named word = if bytes_eq word (codes "now") then Some Now else last_of 
 -- above which number items are counted, by a server that starts in a second: that which was said, or 2^30 for each second since 1970, up to
 -- 2^63 - 2^30
 abbrev pub last_number : CasFrom → ℕ → ℕ
-last_number (Last last) second = last
+last_number (Last number) second = number
 last_number Now second = min second (2 ^ 33 - 1) * 2 ^ 30

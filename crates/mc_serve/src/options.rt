@@ -37,6 +37,8 @@ pub struct Options<'a> {
     pub listen: &'a str,
     /// What to serve with.
     pub settings: Settings,
+    /// Whether its operator is to be told on standard error what is told at a terminal or for the journal.
+    pub log: bool,
     /// Whether to print the settings and end.
     pub check: bool,
 }
@@ -59,6 +61,7 @@ impl<'a> Options<'a> {
         Ok(Options {
             listen: word_of(matches, "listen"),
             settings: settings.ok_or(BAD_BUDGET)?,
+            log: matches.get_flag("log"),
             check: matches.get_flag("check"),
         })
     }
@@ -110,6 +113,9 @@ impl Display for Options<'_> {
         if report > 0 {
             write!(f, " report {report}")?;
         }
+        if self.log {
+            f.write_str(" log")?;
+        }
         Ok(())
     }
 }
@@ -130,6 +136,11 @@ pub fn command<'a>(alloc: Global) -> Result<Command<'a>, AllocError> {
         .arg(accept(
             alloc,
             "End once so many connections were accepted and all are closed; 0 for never",
+        ))?
+        .arg(flag(
+            alloc,
+            "log",
+            "Say on standard error, as at a terminal or for the journal, why it cannot listen",
         ))?
         .arg(flag(
             alloc,

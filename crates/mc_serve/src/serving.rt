@@ -16,7 +16,7 @@ use mc_cache::Cache;
 use mc_clients::serve_rounds;
 use mc_hasher::SecretState;
 use mc_item::CasCounter;
-use mc_program::ServeError;
+use mc_program::{ListenError, ServeError};
 use mc_server::Server;
 use mc_store::{LruStore, TableStore};
 use mio::net::TcpListener;
@@ -26,6 +26,9 @@ use std::net::Net;
 use std::random::RandomSource;
 use std::rc::Rc;
 use std::sync::Wait;
+
+/// Why a server cannot listen whose hashes have no seed.
+const NO_SEED: ServeError = ServeError::Listen(ListenError::NoSeed);
 
 /// Serves the connections that a listener accepts, over one cache, at the moments that the clock tells. Random numbers key its hashes.
 ///
@@ -79,14 +82,14 @@ fn new_store<R: RandomSource>(
 {
     match kind {
         StoreKind::Table => {
-            let hasher = SecretState::new(rt).map_err(|_| ServeError::Listen)?;
+            let hasher = SecretState::new(rt).map_err(|_| NO_SEED)?;
             let store = TableStore::with_hasher(alloc, items, hasher).map_err(
                 |_| ServeError::Memory,
             )?;
             Ok(ChosenStore::Table(store))
         }
         StoreKind::Lru => {
-            let hasher = RandomState::new(rt).map_err(|_| ServeError::Listen)?;
+            let hasher = RandomState::new(rt).map_err(|_| NO_SEED)?;
             let store = LruStore::with_hasher(alloc, items, hasher).map_err(
                 |_| ServeError::Memory,
             )?;

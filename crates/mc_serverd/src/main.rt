@@ -4,10 +4,11 @@
 //! that of [`mc_program`]. The words are read first, then `--check` is obeyed, then it listens.
 #![tactic(auto)]
 
-use mc_program::{Failure, exit_status, read_words};
+use mc_program::{Failure, ServeError, exit_status, is_read, read_words};
 use mc_serve::{Options, PROGRAM, SystemSeconds, bind, command, serve};
 use mc_server::MAX_CONNECTIONS;
 use mc_watch::{OWN_FILES, tell_open_files};
+use std::alloc::Global;
 use std::net::Net;
 use std::process::ExitCode;
 use std::random::RandomSource;
@@ -34,18 +35,22 @@ where
     if options.check {
         return check(rt, &options);
     }
+    let is_read = is_read(rt, options.log);
+    let served = listen_and_serve(rt, alloc, &options);
+    served.map_err(|error| Failure::at(rt, error, options.listen, is_read))
+}
+
+/// Listens, says so, and serves.
+fn listen_and_serve<R>(rt: &R, alloc: Global, options: &Options<'_>) -> Result<(), ServeError>
+where
+    R: Clock + Print + Eprint + Net + RandomSource + Wait,
+{
     let listener = bind(rt, options.listen)?;
     tell_open_files(rt, PROGRAM, OWN_FILES, MAX_CONNECTIONS);
     // Whom the line does not reach is served all the same.
     let _ = println!(rt; "listening {}", options.listen);
-    serve(
-        rt,
-        alloc,
-        listener,
-        &options.settings,
-        &mut SystemSeconds::new(rt),
-    )?;
-    Ok(())
+    let mut clock = SystemSeconds::new(rt);
+    serve(rt, alloc, listener, &options.settings, &mut clock)
 }
 
 /// Prints the settings.

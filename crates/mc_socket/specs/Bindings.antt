@@ -1,12 +1,20 @@
 -- Which address a program listens at, of those that a look-up gave. All of it is this project's own.
-use Rattle.std.specs.Prelude.{Option, None, Result, Ok, Err, find}
+use Rattle.std.specs.Prelude.{Option, None, Some, Result, Ok, Err, find}
 use Rattle.std.specs.Net.Addr.{is_ipv4}
 use Rattle.std.specs.Net.Socket.{socket_ip}
 use Rattle.std.specs.Net.ToAddrs.{HostAddrs, host_addrs}
 use Rattle.std.specs.declared.net.socket_addr.SocketAddr.{SocketAddr}
 use Rattle.std.specs.declared.io.Error.{Error}
+use Rattle.mc_program.specs.declared.errors.ListenError.TheVariants.{UnknownHost}
+use Rattle.mc_program.specs.declared.errors.ServeError.{ServeError}
+use Rattle.mc_program.specs.declared.errors.ServeError.TheVariants.{Listen}
 
 -- the first IPv4 address of those that were found; none where the look-up failed
 abbrev pub first_ipv4 : Result HostAddrs Error → Option SocketAddr
 first_ipv4 (Ok found) = find (λ address. is_ipv4 (socket_ip address)) (host_addrs found)
 first_ipv4 (Err error) = None
+
+-- where a program listens that was given a host: at its first IPv4 address; without one it cannot, since the host is not known
+abbrev pub address_by : Option SocketAddr → Result SocketAddr ServeError
+address_by (Some address) = Ok address
+address_by None = Err (Listen UnknownHost)
