@@ -23,7 +23,7 @@ PAGES = {
         "Serves clients of memcached's text protocol over one cache in memory. It prints one line, 'listening <host>:<port>', "
         "and serves until it is ended. On standard error it says at the start how many connections it can serve, where the "
         "system allows fewer open files than 1,024 connections need, and that a request was refused whose answer may be larger "
-        "than --answer allows.",
+        "than --answer allows. At a terminal, or for systemd's journal, it also says at the start how much memory it may take.",
         SERVES,
         "mc_proxyd(1), mc_sim(1)",
     ),

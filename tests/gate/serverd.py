@@ -10,6 +10,7 @@ as well is in connections.py.
 
 import contextlib
 import pathlib
+import re
 import resource
 import subprocess
 import sys
@@ -193,6 +194,45 @@ def first_number(words):
     with start(words) as server, server.connected() as client:
         client.sendall(b"ms k 1 c\r\nx\r\nquit\r\n")
         return int(received_to_the_end(client).removeprefix(b"HD c"))
+
+
+# How much memory a server may take, by its words: what it says at its start, if an operator reads it.
+SAID_OF_MEMORY = {
+    "": ["may take 79.1 MB: budget 67.1 MB, 65,536 items", "65,536 items of 120 bytes fill 12.1 MB of 67.1 MB: write --items auto"],
+    "--items auto": ["may take 134.4 MB: budget 67.1 MB, 559,240 items"],
+    "--budget 2000000000 --items 5000000": [
+        "may take 2.7 GB: budget 2.0 GB, 5,000,000 items",
+        "5,000,000 items of 120 bytes fill 920.0 MB of 2.0 GB: write --items auto",
+    ],
+    "--budget 12000000000 --items auto": [
+        "may take 14.7 GB: budget 12.0 GB, 16,777,216 items",
+        "16,777,216 items of 120 bytes fill 3.1 GB of 12.0 GB: a server holds no more: start another one",
+    ],
+    "--budget 4000000000 --items auto": [
+        "may take 6.2 GB: budget 4.0 GB, 16,777,216 items",
+        "16,777,216 items of 120 bytes fill 3.1 GB of 4.0 GB",
+    ],
+    "--budget 18400 --items 100": ["may take 0.0 MB: budget 0.0 MB, 100 items"],
+    "--budget 18401 --items 100": ["may take 0.0 MB: budget 0.0 MB, 100 items", "100 items of 120 bytes fill 0.0 MB of 0.0 MB"],
+}
+
+
+def how_much_memory_is_said_at_the_start():
+    """If it is asked for, and else nothing; with the limit of its addresses, if that is lower. (A control group's is left out here.)"""
+    for words, lines in SAID_OF_MEMORY.items():
+        want((words, said_at_the_start(words + " --log")), (words, lines))
+        want((words, said_at_the_start(words)), (words, []))
+    limits = [(resource.RLIMIT_AS, 2_500_000_000)]
+    want(said_at_the_start("--log --budget 3G", limits)[0], "may take 3.5 GB: budget 3.2 GB, 65,536 items; limit 2.5 GB (ulimit -v)")
+    want(said_at_the_start("--log --budget 2G", limits)[0], "may take 2.3 GB: budget 2.1 GB, 65,536 items")
+
+
+def said_at_the_start(words, limits=()):
+    with start(words, limits) as server:
+        server.process.terminate()
+        said = server.process.stderr.read().decode()
+    said = re.sub(r"; limit [0-9.]+ [MG]B \(control group\)", "", said)
+    return [line.removeprefix("mc_serverd: ") for line in said.splitlines()]
 
 
 def a_server_that_is_full_of_items_says_so():
@@ -387,6 +427,7 @@ def checks():
         items_are_within_their_limits,
         sizes_are_within_their_limits,
         cas_numbers_begin_as_said,
+        how_much_memory_is_said_at_the_start,
         a_server_that_is_full_of_items_says_so,
         more_than_65535_items_are_stored,
         a_slow_reader_is_waited_for,

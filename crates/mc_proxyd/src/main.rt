@@ -72,7 +72,8 @@ where
 }
 
 /// Why a word of `--held` is refused.
-const BAD_HELD: &str = "invalid value for '--held <bytes>': neither in 1..=1099511627776 nor a number of K, M or G up to 1024G";
+const BAD_HELD: &str =
+    "invalid value for '--held <bytes>': neither in 1..=1099511627776 nor a number of K, M or G up to 1024G";
 
 /// How the program ends where the words name no pool.
 fn failure_of(error: ListError) -> Failure

@@ -3,3 +3,4 @@ pub mod CasFrom
 pub mod Chosen
 pub mod Clocks
 pub mod Kinds
+pub mod Memory

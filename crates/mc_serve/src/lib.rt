@@ -5,7 +5,7 @@
 //! and the two sides of a stream, and has the law of one connection. [`command`] and [`Options`] are the command line of
 //! the program [`PROGRAM`].
 //!
-//! On standard error it says, at most once in a second, that a request was refused whose answer may be too large, and, where the
+//! [`tell_memory`] says how much memory a server with its settings may come to take. On standard error [`serve`] says, at most once in a second, that a request was refused whose answer may be too large, and, where the
 //! settings ask for it, what it has done. The store counts what it does, so that no layer between has to.
 //!
 //! [`serve`] waits for its sockets, and may wait for ever; [`bind`] looks a name up, and may wait for that; no other call waits.
@@ -18,10 +18,12 @@ mod chosen;
 mod clocks;
 mod counted;
 mod counts;
+mod groups;
 mod handlers;
 mod hosts;
 mod items;
 mod kinds;
+mod memory;
 mod options;
 mod serving;
 mod settings;
@@ -32,6 +34,7 @@ pub use items::{Advice, Items, USUAL_ITEMS, advice_of, items_for, items_named};
 pub use kinds::{KINDS, StoreKind, kind_named};
 pub use mc_program::ServeError;
 pub use mc_socket::{PIECE_LEN, bind};
+pub use memory::{Limit, filled_by, memory_of, met_limit, tell_memory};
 pub use options::{Options, PROGRAM, command};
 pub use serving::serve;
 pub use settings::{Service, Settings, USUAL_ANSWER};

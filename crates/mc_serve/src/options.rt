@@ -16,16 +16,19 @@ use std::fmt::{Display, Formatter};
 const LEAST_ANSWER: u64 = 1024;
 
 /// Why a word of `--budget` is refused.
-const BAD_BUDGET: &str = "invalid value for '--budget <bytes>': neither in 1..=1099511627776 nor a number of K, M or G up to 1024G";
+const BAD_BUDGET: &str =
+    "invalid value for '--budget <bytes>': neither in 1..=1099511627776 nor a number of K, M or G up to 1024G";
 
 /// Why a word of `--items` is refused.
 const BAD_ITEMS: &str = "invalid value for '--items <n>': neither auto nor in 1..=16777216";
 
 /// Why a word of `--cas-from` is refused.
-const BAD_CAS_FROM: &str = "invalid value for '--cas-from <n>': neither now nor in 0..=9223372036854775807";
+const BAD_CAS_FROM: &str =
+    "invalid value for '--cas-from <n>': neither now nor in 0..=9223372036854775807";
 
 /// Why a word of `--answer` is refused.
-const BAD_ANSWER: &str = "invalid value for '--answer <bytes>': neither in 1024..=1099511627776 nor a number of K, M or G up to 1024G";
+const BAD_ANSWER: &str =
+    "invalid value for '--answer <bytes>': neither in 1024..=1099511627776 nor a number of K, M or G up to 1024G";
 
 /// The program's name.
 pub const PROGRAM: &str = "mc_serverd";
@@ -140,7 +143,7 @@ pub fn command<'a>(alloc: Global) -> Result<Command<'a>, AllocError> {
         .arg(flag(
             alloc,
             "log",
-            "Say on standard error, as at a terminal or for the journal, why it cannot listen",
+            "Say on standard error, as at a terminal or for the journal, why it cannot listen, and how much memory it may take",
         ))?
         .arg(flag(
             alloc,

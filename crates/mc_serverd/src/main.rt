@@ -5,10 +5,11 @@
 #![tactic(auto)]
 
 use mc_program::{Failure, ServeError, exit_status, is_read, read_words};
-use mc_serve::{Options, PROGRAM, SystemSeconds, bind, command, serve};
+use mc_serve::{Options, PROGRAM, SystemSeconds, bind, command, serve, tell_memory};
 use mc_server::MAX_CONNECTIONS;
 use mc_watch::{OWN_FILES, tell_open_files};
 use std::alloc::Global;
+use std::fs::Files;
 use std::net::Net;
 use std::process::ExitCode;
 use std::random::RandomSource;
@@ -26,7 +27,7 @@ fn main(rt: HostRuntime) -> ExitCode {
 /// Reads the words, and then prints the settings or serves.
 fn run<R>(rt: &R) -> Result<(), Failure>
 where
-    R: Env + Clock + Print + Eprint + Net + RandomSource + Wait + AllocGlobal,
+    R: Env + Clock + Files + Print + Eprint + Net + RandomSource + Wait + AllocGlobal,
 {
     let alloc = rt.alloc();
     let words = read_words(rt)?;
@@ -36,16 +37,24 @@ where
         return check(rt, &options);
     }
     let is_read = is_read(rt, options.log);
-    let served = listen_and_serve(rt, alloc, &options);
+    let served = listen_and_serve(rt, alloc, &options, is_read);
     served.map_err(|error| Failure::at(rt, error, options.listen, is_read))
 }
 
-/// Listens, says so, and serves.
-fn listen_and_serve<R>(rt: &R, alloc: Global, options: &Options<'_>) -> Result<(), ServeError>
+/// Listens, says so, and serves. How much memory it may take it says before, if its operator reads it.
+fn listen_and_serve<R>(
+    rt: &R,
+    alloc: Global,
+    options: &Options<'_>,
+    is_read: bool,
+) -> Result<(), ServeError>
 where
-    R: Clock + Print + Eprint + Net + RandomSource + Wait,
+    R: Clock + Files + Print + Eprint + Net + RandomSource + Wait + AllocGlobal,
 {
     let listener = bind(rt, options.listen)?;
+    if is_read {
+        tell_memory(rt, &options.settings);
+    }
     tell_open_files(rt, PROGRAM, OWN_FILES, MAX_CONNECTIONS);
     // Whom the line does not reach is served all the same.
     let _ = println!(rt; "listening {}", options.listen);

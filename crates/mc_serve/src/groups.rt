@@ -1,0 +1,50 @@
+//! The limit of memory that the control groups of a process have.
+
+use mc_watch::earlier as lower;
+use std::fs;
+use std::fs::Files;
+
+/// Where the system says which control groups this process is in: a line for each tree of groups, `<number>:<what it limits>:<group>`.
+const GROUPS: &str = "/proc/self/cgroup";
+
+/// As many groups above each other are looked at.
+const MOST_GROUPS: u32 = 32;
+
+/// The lowest limit of memory, in bytes, of the control groups that this process is in, of either version of Linux; none if there is none,
+/// or the system does not say.
+pub fn group_limit<R: Files + AllocGlobal>(rt: &R) -> Option<u64> {
+    let groups = fs::read_to_string(rt, GROUPS).ok()?;
+    let mut lowest = None;
+    for line in groups.lines() {
+        let limit = if let Some(group) = line.strip_prefix("0::") {
+            limit_above(rt, "/sys/fs/cgroup", group, "memory.max")
+        } else if let Some((_, group)) = line.split_once(":memory:") {
+            limit_above(rt, "/sys/fs/cgroup/memory", group, "memory.limit_in_bytes")
+        } else {
+            None
+        };
+        lowest = lower(lowest, limit);
+    }
+    lowest
+}
+
+/// The lowest limit of a group and of those above it. A limit is in a file of the group's folder.
+fn limit_above<R: Files + AllocGlobal>(rt: &R, tree: &str, group: &str, file: &str) -> Option<u64> {
+    let mut lowest = None;
+    let mut group = group;
+    for _ in 0..MOST_GROUPS {
+        lowest = lower(lowest, limit_of(rt, tree, group, file));
+        let Some((above, _)) = group.rsplit_once('/') else {
+            break;
+        };
+        group = above;
+    }
+    lowest
+}
+
+/// The limit of a group, if it has one.
+fn limit_of<R: Files + AllocGlobal>(rt: &R, tree: &str, group: &str, file: &str) -> Option<u64> {
+    let path = format!(in rt.alloc(); "{tree}{group}/{file}").ok()?;
+    let limit = fs::read_to_string(rt, path.as_str()).ok()?;
+    limit.trim().parse().ok()
+}
