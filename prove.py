@@ -43,6 +43,7 @@ UNKNOWN = 60
 SECONDS = {
     "mc_account": 19,
     "mc_address": 16,
+    "mc_admin": 120,
     "mc_bench": 220,
     "mc_cache": 130,
     "mc_cache_laws": 25,
@@ -57,6 +58,7 @@ SECONDS = {
     "mc_link": 70,
     "mc_numbered": 24,
     "mc_one_map": 28,
+    "mc_operators": 60,
     "mc_pool_laws": 15,
     "mc_pool_play": 130,
     "mc_pool_rows": 5,

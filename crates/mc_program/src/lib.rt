@@ -1,15 +1,16 @@
 //! A program that serves sockets: its words, and how it ends.
 //!
 //! [`listen`], [`idle`], [`report`] and [`accept`] are options that such programs have alike, and [`number`], [`size`] and [`flag`] make
-//! others. [`size_within`] reads a number of bytes. [`Terms`] are what the words say of all clients, and [`VERSION`] is what `--version`
-//! prints. [`ServeError`] is why a program cannot serve, and [`ListenError`] why it cannot listen. [`is_read`] says whether its operator
-//! reads standard error.
+//! others. [`size_within`] reads a number of bytes. [`Terms`] are what the words say of all clients, [`AdminTerms`] what they say of
+//! operators ([`admin`], [`admin_name`]), and [`VERSION`] is what `--version` prints. [`ServeError`] is why a program cannot serve, and
+//! [`ListenError`] why it cannot listen. [`is_read`] says whether its operator reads standard error.
 //!
 //! The exit status is 0 where the program came to its end, or the words ask for the version. Else it is 1 where standard output cannot
 //! be written, 2 where the words are refused (those that ask for help among them), 3 where it cannot listen, and 4 where there was no
 //! memory to start with; standard error says why.
 #![tactic(auto)]
 
+mod admins;
 mod errors;
 mod failures;
 mod operators;
@@ -20,6 +21,7 @@ mod terms;
 mod version;
 mod words;
 
+pub use admins::{AdminTerms, admin, admin_name};
 pub use errors::{ListenError, ServeError};
 pub use failures::{Failure, exit_status};
 pub use operators::is_read;

@@ -1,0 +1,3 @@
+pub mod PageLemmas
+pub mod InboxLemmas
+pub mod HeadLemmas

@@ -1,0 +1,54 @@
+-- Which figures a program shows.
+use Rattle.std.specs.Prelude.{ℕ, ◌+◌, ◌%◌, ◌^◌, Bool, true, false, List, [], ◌∷◌, ◌++◌, Some, None}
+use Rattle.mc_admin.specs.declared.names.Name.{Name}
+use Rattle.mc_admin.specs.declared.names.Name.TheVariants.{Up, Version as VersionName, Uptime, Time, Pid, Threads, CurrConnections, MaxConnections, TotalConnections, RejectedConnections, Requests, BytesRead, BytesWritten, CmdGet, GetHits, GetMisses, CmdSet, CurrItems, TotalItems, Bytes, LimitMaxbytes, LimitItems, Evictions, Expired, ServerUp, ServerLosses, ServerSent, ServerLost, ServerWaiting}
+use Rattle.mc_admin.specs.declared.figures.Figure.{Figure}
+use Rattle.mc_admin.specs.declared.figures.Value.TheVariants.{Number, Version}
+use Rattle.mc_admin.specs.declared.lists.ClientFigures.{ClientFigures}
+use Rattle.mc_admin.specs.declared.lists.StoreFigures.{StoreFigures}
+use Rattle.mc_admin.specs.declared.lists.LinkFigures.{LinkFigures}
+
+-- a number of the program's own, the first of its metric
+abbrev pub own : Name → ℕ → Figure
+own name n = record { name = name; server = None; value = Number n; first = true }
+
+-- one that is not the first of its metric
+abbrev pub further : Name → ℕ → Figure
+further name n = record { name = name; server = None; value = Number n; first = false }
+
+-- the figures of whom a program serves
+abbrev pub client_figures : ClientFigures → List Figure
+client_figures c =
+    own Up 1 ∷ own Pid c.pid ∷ own Uptime c.uptime ∷ own Time c.time
+    ∷ record { name = VersionName; server = None; value = Version; first = true }
+    ∷ own Threads 1 ∷ own CurrConnections c.connected ∷ own MaxConnections c.most ∷ own TotalConnections c.accepted
+    ∷ own RejectedConnections c.refused ∷ own Requests c.requests ∷ own BytesRead c.read ∷ own BytesWritten c.written ∷ []
+
+-- the figures of what a server stores
+-- source: memcached's protocol.txt, "General-purpose statistics": cmd_get is get_hits and get_misses
+abbrev pub store_figures : StoreFigures → List Figure
+store_figures s =
+    own CmdGet ((s.hits + s.misses) % 2 ^ 64) ∷ own GetHits s.hits ∷ further GetMisses s.misses ∷ further CmdSet s.stores
+    ∷ own CurrItems s.items ∷ own TotalItems s.stores ∷ own Bytes s.used ∷ own LimitMaxbytes s.budget
+    ∷ own LimitItems s.most ∷ own Evictions s.evictions ∷ own Expired s.expired ∷ []
+
+-- what a name is of, where it is of a proxy's server
+abbrev pub link_number : Name → LinkFigures → ℕ
+link_number ServerUp l = l.up
+link_number ServerLosses l = l.losses
+link_number ServerSent l = l.sent
+link_number ServerLost l = l.lost
+link_number ServerWaiting l = l.waiting
+link_number _ l = 0
+
+-- a number of each server, of which the first may be the first of its metric
+abbrev pub of_each : Bool → Name → List LinkFigures → List Figure
+of_each first name [] = []
+of_each first name (l ∷ ls) =
+    record { name = name; server = Some l.server; value = Number (link_number name l); first = first } ∷ of_each false name ls
+
+-- the figures of a proxy's servers
+abbrev pub link_figures : List LinkFigures → List Figure
+link_figures ls =
+    of_each true ServerUp ls ++ of_each true ServerLosses ls ++ of_each true ServerSent ls ++ of_each true ServerLost ls
+    ++ of_each true ServerWaiting ls

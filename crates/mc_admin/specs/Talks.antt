@@ -1,0 +1,34 @@
+-- A connection: what came of its request, what was read and is not taken, what is to be sent.
+use Rattle.std.specs.Prelude.{◌≡◌, ℕ, Bool, true, false, List, [], Some, None}
+use Rattle.mc_admin.specs.Requests.{InboxState, fresh_inbox, taking}
+use Rattle.mc_admin.specs.Asked.{Asks, ends}
+use Rattle.mc_admin.specs.Answers.{answer_to}
+use Rattle.mc_admin.specs.declared.asked.Asked.{Asked}
+use Rattle.mc_admin.specs.declared.figures.Sheet.{Sheet}
+use Rattle.mc_admin.specs.declared.hosts.Hosts.{Hosts}
+
+-- a connection
+pub record TalkState : Type 0 where
+  pub inbox : InboxState
+  pub unread : List ℕ
+  pub output : List ℕ
+  pub closing : Bool
+
+-- one to which nothing has come
+abbrev pub fresh_talk : TalkState
+fresh_talk = record { inbox = fresh_inbox; unread = []; output = []; closing = false }
+
+-- A turn: the request takes what was read until it ends. If it has ended, what it asks for is answered, and the next one begins;
+-- after some answers the connection is closed. Source: this project's own.
+abbrev pub Turns : Hosts → Sheet → Bool → TalkState → TalkState → Type 0
+Turns hosts sheet true before after =
+    (asked : Asked) × Asks hosts (taking before.inbox before.unread).0 (Some asked)
+    × (after ≡ record {
+      inbox = fresh_inbox;
+      unread = (taking before.inbox before.unread).1;
+      output = answer_to asked sheet;
+      closing = ends asked;
+    })
+Turns hosts sheet false before after =
+    Asks hosts (taking before.inbox before.unread).0 None
+    × (after ≡ record before { inbox = (taking before.inbox before.unread).0; unread = (taking before.inbox before.unread).1 })

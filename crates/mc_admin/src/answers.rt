@@ -1,0 +1,162 @@
+//! What is answered.
+ghost use Rattle.std.specs.Prelude.{◌≡◌, ◌++◌, IfOk, OnOk, codes};
+ghost use Rattle.http1.specs.Head.{pairs, header_parts};
+ghost use Rattle.mc_admin.specs.Answers.{answer_to, response, fields_of, metrics_type, plain_type, status_of, reason_of, words_of};
+ghost use Rattle.mc_admin.specs.Asked.{ends};
+
+use crate::asked::{Asked, Page, Refusal};
+use crate::errors::AdminError;
+use crate::figures::Sheet;
+use crate::pages::{push_metrics, push_settings, push_stats};
+use http1::Header;
+use http1::head::write_response;
+use itoa::Buffer;
+use std::alloc::Global;
+
+/// What a response has of a text: its media type, as Prometheus's text format 0.0.4 has it.
+const METRICS_TYPE: &[u8] = b"text/plain; version=0.0.4; charset=utf-8";
+
+/// The media type of all other texts.
+const PLAIN_TYPE: &[u8] = b"text/plain; charset=utf-8";
+
+/// The answer to what is asked, by what a program says of itself.
+#[tactic(auto, unfolding(crate::specs::Answers::answer_to))]
+pub fn answer_to(alloc: Global, asked: Asked, sheet: &Sheet<'_>) -> Result<Vec<u8>, AdminError>
+    ensures { IfOk result (λ answer. answer.items ≡ answer_to asked sheet.now) }
+{
+    let mut answer = Vec::new(alloc);
+    match asked {
+        Asked::Stats => push_stats(sheet.figures, &mut answer)?,
+        Asked::Settings => push_settings(sheet.settings, &mut answer)?,
+        Asked::Nothing => answer.extend_from_slice(b"END\r\n")?,
+        Asked::Version => answer.extend_from_slice(b"VERSION 1.6.0\r\n")?,
+        Asked::Quit => {}
+        Asked::Unknown => answer.extend_from_slice(b"ERROR\r\n")?,
+        Asked::TooLong => answer.extend_from_slice(b"CLIENT_ERROR line too long\r\n")?,
+        Asked::Shown(page) => push_page(alloc, page, sheet, &mut answer)?,
+        Asked::Refused(refusal) => push_refusal(refusal, &mut answer)?,
+    }
+    Ok(answer)
+}
+
+/// Puts a page at the end of an answer.
+#[tactic(auto, unfolding(crate::specs::Answers::answer_to))]
+fn push_page(
+    alloc: Global,
+    page: Page,
+    sheet: &Sheet<'_>,
+    answer: &mut Vec<u8>,
+) -> Result<(), AdminError>
+    ensures { OnOk result (answer.new.items ≡ answer.old.items ++ answer_to (Asked.Shown page) sheet.now) }
+{
+    match page {
+        Page::Health => push_response(200, b"OK", PLAIN_TYPE, b"ok\n", answer),
+        Page::Metrics => {
+            let mut metrics = Vec::new(alloc);
+            push_metrics(sheet.figures, &mut metrics)?;
+            push_response(200, b"OK", METRICS_TYPE, metrics.as_slice(), answer)
+        }
+    }
+}
+
+/// Puts a response at the end of an answer.
+#[tactic(auto, unfolding(crate::specs::Answers::response))]
+fn push_response(
+    status: u16,
+    reason: &[u8],
+    media_type: &[u8],
+    body: &[u8],
+    answer: &mut Vec<u8>,
+) -> Result<(), AdminError>
+    ensures { OnOk result (answer.new.items ≡ answer.old.items ++ response status reason.now media_type.now body.now) }
+{
+    let mut digits = Buffer::new();
+    let len = digits.format(body.len() as u64).as_bytes();
+    let fields = fields_of(media_type, len);
+    write_response(answer, 1, status, reason, &fields, &[])?;
+    answer.extend_from_slice(body)?;
+    Ok(())
+}
+
+/// The fields of a response with a body of this type and of so many bytes, in digits.
+fn fields_of<'a>(media_type: &'a [u8], len: &'a [u8]) -> [Header<'a>; 4]
+    ensures { pairs result ≡ fields_of media_type.entry.now len.entry.now }
+{
+    [
+        field(b"content-type", media_type),
+        field(b"content-length", len),
+        field(b"connection", b"close"),
+        field(b"allow", b"GET"),
+    ]
+}
+
+/// A field of a response.
+fn field<'a>(name: &'a [u8], value: &'a [u8]) -> Header<'a>
+    ensures { header_parts result ≡ (name.entry.now, value.entry.now) }
+{
+    Header { name, value }
+}
+
+/// Puts the response of a refusal at the end of an answer.
+fn push_refusal(refusal: Refusal, answer: &mut Vec<u8>) -> Result<(), AdminError>
+    ensures { OnOk result (answer.new.items
+        ≡ answer.old.items ++ response (status_of refusal) (reason_of refusal) plain_type (words_of refusal)) }
+{
+    push_response(
+        status_of(refusal),
+        reason_of(refusal),
+        PLAIN_TYPE,
+        words_of(refusal),
+        answer,
+    )
+}
+
+/// The status of a refusal.
+fn status_of(refusal: Refusal) -> u16
+    ensures { result ≡ status_of refusal }
+{
+    match refusal {
+        Refusal::BadRequest => 400,
+        Refusal::NotFound => 404,
+        Refusal::NotAllowed | Refusal::NoBody => 405,
+        Refusal::Misdirected => 421,
+        Refusal::TooLarge => 431,
+    }
+}
+
+/// Its reason.
+fn reason_of(refusal: Refusal) -> &'static [u8]
+    ensures { result.now ≡ reason_of refusal }
+{
+    match refusal {
+        Refusal::BadRequest => b"Bad Request",
+        Refusal::NotFound => b"Not Found",
+        Refusal::NotAllowed | Refusal::NoBody => b"Method Not Allowed",
+        Refusal::Misdirected => b"Misdirected Request",
+        Refusal::TooLarge => b"Request Header Fields Too Large",
+    }
+}
+
+/// What it says.
+fn words_of(refusal: Refusal) -> &'static [u8]
+    ensures { result.now ≡ words_of refusal }
+{
+    match refusal {
+        Refusal::BadRequest => b"400: not a request of HTTP/1.0 or 1.1 with one Host\n",
+        Refusal::NotFound => b"404: there are /metrics and /healthz\n",
+        Refusal::NotAllowed => b"405: only GET is answered\n",
+        Refusal::NoBody => b"",
+        Refusal::Misdirected => b"421: the Host is none of this listener's: see --admin-name\n",
+        Refusal::TooLarge => b"431: a request has at most 4096 bytes\n",
+    }
+}
+
+/// Whether the connection is closed after what is asked was answered.
+pub fn ends(asked: Asked) -> bool
+    ensures { result ≡ ends asked }
+{
+    match asked {
+        Asked::Stats | Asked::Settings | Asked::Nothing | Asked::Version | Asked::Unknown => false,
+        _ => true,
+    }
+}

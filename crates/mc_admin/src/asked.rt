@@ -1,0 +1,50 @@
+//! What is asked for.
+
+/// What operators are shown by HTTP.
+#[derive(Clone, Copy, Debug, PartialEq, Eq)]
+pub enum Page {
+    /// The figures, as metrics of Prometheus: at `/metrics`.
+    Metrics,
+    /// That the program serves: at `/healthz`.
+    Health,
+}
+
+/// Why a request of HTTP is refused.
+#[derive(Clone, Copy, Debug, PartialEq, Eq)]
+pub enum Refusal {
+    /// 400: it is none of HTTP/1.0 or 1.1, has more fields than are read, or has not the one field `Host` that it must have.
+    BadRequest,
+    /// 404: there is no such page.
+    NotFound,
+    /// 405: its method is not `GET`.
+    NotAllowed,
+    /// 405: its method is `HEAD`, so that the answer has no body.
+    NoBody,
+    /// 421: its `Host` is none of the program's.
+    Misdirected,
+    /// 431: its head has more bytes than are kept.
+    TooLarge,
+}
+
+/// What is asked for, by a line or by a request of HTTP.
+#[derive(Clone, Copy, Debug, PartialEq, Eq)]
+pub enum Asked {
+    /// The figures, as memcached's statistics.
+    Stats,
+    /// The settings.
+    Settings,
+    /// Statistics of which there are none.
+    Nothing,
+    /// The version of the protocol.
+    Version,
+    /// That the connection is closed.
+    Quit,
+    /// Nothing that is known.
+    Unknown,
+    /// The line has more bytes than are kept.
+    TooLong,
+    /// A page.
+    Shown(Page),
+    /// What is refused.
+    Refused(Refusal),
+}

@@ -1,0 +1,31 @@
+//! What operators are shown: what they ask for in a line or a request of HTTP, and what is answered.
+#![tactic(auto)]
+
+mod answers;
+mod asked;
+mod errors;
+mod figures;
+mod heads;
+mod hosts;
+mod inboxes;
+mod laws;
+mod lines;
+mod lists;
+mod names;
+mod pages;
+mod talks;
+
+pub use answers::{answer_to, ends};
+pub use asked::{Asked, Page, Refusal};
+pub use errors::AdminError;
+pub use figures::{Figure, Setting, Sheet, Value};
+pub use hosts::{Hosts, host_of};
+pub use inboxes::{Inbox, Phase, REQUEST_LIMIT};
+pub use laws::{cuts_say_nothing, requests_end};
+pub use lines::asked_of;
+pub use lists::{
+    ClientFigures, LinkFigures, StoreFigures, push_client_figures, push_link_figures,
+    push_store_figures,
+};
+pub use names::Name;
+pub use talks::Talk;

@@ -1,0 +1,58 @@
+//! What a request asks for, once it has ended.
+ghost use Rattle.std.specs.Prelude.{◌≡◌};
+ghost use Rattle.mc_admin.specs.Asked.{Asks, ReadsPage, shown, named, content_of};
+
+use crate::asked::{Asked, Page, Refusal};
+use crate::heads::page_of;
+use crate::hosts::Hosts;
+use crate::inboxes::{Inbox, Phase, without_carriage_return};
+
+/// What a request asks for, where these are the program's own hosts; none until it has ended.
+pub fn asked_of(inbox: &Inbox, hosts: &Hosts<'_>) -> Option<Asked>
+    ensures { Asks hosts.now inbox.now result }
+{
+    match inbox.phase() {
+        Phase::LineEnded => Some(named(content_of(inbox.text()))),
+        Phase::HeadEnded => Some(shown(page_of(inbox.text(), hosts))),
+        Phase::LineTooLong => Some(Asked::TooLong),
+        Phase::HeadTooLarge => Some(Asked::Refused(Refusal::TooLarge)),
+        _ => None,
+    }
+}
+
+/// A page, or its refusal.
+fn shown(page: Result<Page, Refusal>) -> Asked
+    ensures { result ≡ shown page }
+{
+    match page {
+        Ok(page) => Asked::Shown(page),
+        Err(refusal) => Asked::Refused(refusal),
+    }
+}
+
+/// A whole line without its line feed, and without one carriage return in front of that.
+fn content_of(line: &[u8]) -> &[u8]
+    ensures { result.now ≡ content_of line.now }
+{
+    let (content, _) = line.split_at(line.len().saturating_sub(1));
+    without_carriage_return(content)
+}
+
+/// What a line asks for.
+fn named(word: &[u8]) -> Asked
+    ensures { result ≡ named word.now }
+{
+    if word == b"stats".as_slice() {
+        Asked::Stats
+    } else if word == b"stats settings".as_slice() {
+        Asked::Settings
+    } else if word == b"stats items".as_slice() || word == b"stats slabs".as_slice() {
+        Asked::Nothing
+    } else if word == b"version".as_slice() {
+        Asked::Version
+    } else if word == b"quit".as_slice() {
+        Asked::Quit
+    } else {
+        Asked::Unknown
+    }
+}

@@ -1,0 +1,197 @@
+//! Which figures a program shows.
+ghost use Rattle.std.specs.Prelude.{◌≡◌, ◌++◌, true, OnOk};
+ghost use Rattle.mc_admin.specs.Lists.{own, further, client_figures, store_figures, link_number, of_each, link_figures};
+
+use crate::figures::{Figure, Value};
+use crate::names::Name;
+use std::alloc::AllocError;
+
+/// What is known of whom a program serves, and of the program.
+#[derive(Clone, Copy, Debug)]
+pub struct ClientFigures {
+    /// The number of the process.
+    pub pid: u64,
+    /// Seconds since the start.
+    pub uptime: u64,
+    /// Seconds since 1970.
+    pub time: u64,
+    /// Clients that are connected.
+    pub connected: u64,
+    /// The most clients at a time.
+    pub most: u64,
+    /// Clients that were accepted.
+    pub accepted: u64,
+    /// Clients that were closed as they came.
+    pub refused: u64,
+    /// Requests and faulty lines that were taken.
+    pub requests: u64,
+    /// Bytes from clients.
+    pub read: u64,
+    /// Bytes to clients.
+    pub written: u64,
+}
+
+/// What is known of what a server stores.
+#[derive(Clone, Copy, Debug)]
+pub struct StoreFigures {
+    /// Keys of retrievals that an item answered.
+    pub hits: u64,
+    /// Keys of retrievals that no item answered.
+    pub misses: u64,
+    /// Values that were stored.
+    pub stores: u64,
+    /// Items that went to make room.
+    pub evictions: u64,
+    /// Expired items that were taken out or replaced.
+    pub expired: u64,
+    /// Items that are stored.
+    pub items: u64,
+    /// What they cost, in bytes.
+    pub used: u64,
+    /// What items may cost in all, in bytes.
+    pub budget: u64,
+    /// The most items.
+    pub most: u64,
+}
+
+/// What is known of a server of a proxy.
+#[derive(Clone, Copy, Debug)]
+pub struct LinkFigures<'a> {
+    /// Its address.
+    pub server: &'a [u8],
+    /// 1 if its connection is up, else 0.
+    pub up: u64,
+    /// How often its connection was lost.
+    pub losses: u64,
+    /// Commands that were put on it.
+    pub sent: u64,
+    /// Commands of these that had no reply when it was lost.
+    pub lost: u64,
+    /// Commands of these that have no reply yet.
+    pub waiting: u64,
+}
+
+/// Puts the figures of whom a program serves at the end of a list.
+pub fn push_client_figures(
+    clients: &ClientFigures,
+    figures: &mut Vec<Figure<'_>>,
+) -> Result<(), AllocError>
+    ensures { OnOk result (figures.new.items ≡ figures.old.items ++ client_figures clients.now) }
+{
+    let version = Figure {
+        name: Name::Version,
+        server: None,
+        value: Value::Version,
+        first: true,
+    };
+    figures.extend_from_slice(&[
+        own(Name::Up, 1),
+        own(Name::Pid, clients.pid),
+        own(Name::Uptime, clients.uptime),
+        own(Name::Time, clients.time),
+        version,
+        own(Name::Threads, 1),
+        own(Name::CurrConnections, clients.connected),
+        own(Name::MaxConnections, clients.most),
+        own(Name::TotalConnections, clients.accepted),
+        own(Name::RejectedConnections, clients.refused),
+        own(Name::Requests, clients.requests),
+        own(Name::BytesRead, clients.read),
+        own(Name::BytesWritten, clients.written),
+    ])
+}
+
+/// Puts the figures of what a server stores at the end of a list.
+pub fn push_store_figures(
+    store: &StoreFigures,
+    figures: &mut Vec<Figure<'_>>,
+) -> Result<(), AllocError>
+    ensures { OnOk result (figures.new.items ≡ figures.old.items ++ store_figures store.now) }
+{
+    figures.extend_from_slice(&[
+        own(Name::CmdGet, store.hits.wrapping_add(store.misses)),
+        own(Name::GetHits, store.hits),
+        further(Name::GetMisses, store.misses),
+        further(Name::CmdSet, store.stores),
+        own(Name::CurrItems, store.items),
+        own(Name::TotalItems, store.stores),
+        own(Name::Bytes, store.used),
+        own(Name::LimitMaxbytes, store.budget),
+        own(Name::LimitItems, store.most),
+        own(Name::Evictions, store.evictions),
+        own(Name::Expired, store.expired),
+    ])
+}
+
+/// Puts the figures of a proxy's servers at the end of a list.
+pub fn push_link_figures<'a>(
+    links: &[LinkFigures<'a>],
+    figures: &mut Vec<Figure<'a>>,
+) -> Result<(), AllocError>
+    ensures { OnOk result (figures.new.items ≡ figures.old.items ++ link_figures links.now) }
+{
+    push_of_each(Name::ServerUp, links, figures)?;
+    push_of_each(Name::ServerLosses, links, figures)?;
+    push_of_each(Name::ServerSent, links, figures)?;
+    push_of_each(Name::ServerLost, links, figures)?;
+    push_of_each(Name::ServerWaiting, links, figures)
+}
+
+/// Puts a number of each server at the end of a list.
+fn push_of_each<'a>(
+    name: Name,
+    links: &[LinkFigures<'a>],
+    figures: &mut Vec<Figure<'a>>,
+) -> Result<(), AllocError>
+    ensures { OnOk result (figures.new.items ≡ figures.old.items ++ of_each true name links.now) }
+{
+    let mut first = true;
+    for link in links {
+        figures.push(Figure {
+            name,
+            server: Some(link.server),
+            value: Value::Number(link_number(name, link)),
+            first,
+        })?;
+        first = false;
+    }
+    Ok(())
+}
+
+/// A number of the program's own, the first of its metric.
+fn own(name: Name, number: u64) -> Figure<'static>
+    ensures { result ≡ own name number }
+{
+    Figure {
+        name,
+        server: None,
+        value: Value::Number(number),
+        first: true,
+    }
+}
+
+/// One that is not the first of its metric.
+fn further(name: Name, number: u64) -> Figure<'static>
+    ensures { result ≡ further name number }
+{
+    Figure {
+        name,
+        server: None,
+        value: Value::Number(number),
+        first: false,
+    }
+}
+
+/// What a name is of, where it is of a proxy's server.
+fn link_number(name: Name, link: &LinkFigures<'_>) -> u64
+    ensures { result ≡ link_number name link.now }
+{
+    match name {
+        Name::ServerUp => link.up,
+        Name::ServerLosses => link.losses,
+        Name::ServerSent => link.sent,
+        Name::ServerLost => link.lost,
+        Name::ServerWaiting => link.waiting,
+        _ => 0,
+    }
+}

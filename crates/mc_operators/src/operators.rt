@@ -1,0 +1,252 @@
+//! The listener of operators, and their connections.
+ghost use Rattle.std.specs.Prelude.{◌<◌, vec_len};
+
+use crate::budgets::Budget;
+use crate::seats::Seat;
+use mc_admin::{REQUEST_LIMIT, Sheet, host_of};
+use mc_program::{AdminTerms, ServeError};
+use mc_socket::{Acceptor, Backlog, Step, bind};
+use mc_watch::earlier;
+use mio::event::Event;
+use mio::net::TcpStream;
+use mio::{Interest, Registry, Token};
+use slab::Slab;
+use std::alloc::Global;
+use std::net::Net;
+
+/// The most connections of operators.
+pub const MAX_OPERATORS: usize = 16;
+
+/// The token of the listener. A program's own listener has the one after it.
+const LISTENER: usize = usize::MAX - 1;
+
+/// The token of the connection whose key is 0. No other socket has that of a key.
+const FIRST: usize = LISTENER - MAX_OPERATORS;
+
+/// The listener of operators, if there is one, and their connections.
+#[derive(Drop)]
+pub struct Operators {
+    alloc: Global,
+    acceptor: Option<Acceptor>,
+    /// Whether the poll reports the listener.
+    registered: bool,
+    /// The host of the listener, as it was given.
+    listen: Vec<u8>,
+    /// Another name by which a request of HTTP may call the program; empty for none.
+    name: Vec<u8>,
+    seats: Slab<Seat>,
+    /// What reads fill: made once.
+    piece: Vec<u8>,
+    budget: Budget,
+    /// The second of the round.
+    second: u64,
+    /// Whether something may be done for a connection.
+    stirred: bool,
+    ghost reads: { 0 < vec_len piece },
+}
+
+impl Operators {
+    /// No connection yet, at a listener where words ask for one; without one nobody comes. A request of HTTP may call the program by the
+    /// host of the listener, and by another name that the words say.
+    pub fn new<R: Net>(
+        rt: &R,
+        alloc: Global,
+        admin: &AdminTerms<'_>,
+    ) -> Result<Operators, ServeError> {
+        let place = admin.listen.unwrap_or("");
+        Ok(Operators {
+            alloc,
+            acceptor: acceptor_at(rt, admin)?,
+            registered: false,
+            listen: Vec::from_slice(alloc, host_of(place.as_bytes()))?,
+            name: Vec::from_slice(alloc, admin.name.as_bytes())?,
+            seats: Slab::with_capacity(alloc, MAX_OPERATORS)?,
+            piece: Vec::from_elem(alloc, 0, REQUEST_LIMIT)?,
+            budget: Budget::new(),
+            second: 0,
+            stirred: false,
+        })
+    }
+
+    /// How many files it has open at most.
+    pub fn files(&self) -> u64 {
+        if self.acceptor.is_some() {
+            MAX_OPERATORS as u64 + 1
+        } else {
+            0
+        }
+    }
+
+    /// Whether a token is the listener's or a connection's.
+    pub fn has(&self, token: Token) -> bool {
+        let Token(number) = token;
+        number >= FIRST && number <= LISTENER
+    }
+
+    /// Does what is to be done before a round of a second: the listener is registered, connections are accepted, and those are closed
+    /// that have waited for too long.
+    pub fn before(&mut self, registry: &Registry, second: u64) {
+        if second != self.second {
+            self.second = second;
+            self.rest();
+        }
+        self.register(registry);
+        for _ in 0..MAX_OPERATORS {
+            if self.backlog() == Backlog::Nobody || !self.budget.take(second) {
+                return;
+            }
+            let Some(stream) = self.accept() else {
+                return;
+            };
+            self.admit(registry, stream);
+        }
+    }
+
+    /// Has the poll report the listener, where it does not yet.
+    fn register(&mut self, registry: &Registry) {
+        if !self.registered
+            && let Some(acceptor) = &mut self.acceptor
+        {
+            self.registered = acceptor.register(registry, Token(LISTENER)).is_ok();
+        }
+    }
+
+    /// What is known of the connections that wait to be accepted.
+    fn backlog(&self) -> Backlog {
+        match &self.acceptor {
+            Some(acceptor) => acceptor.backlog(),
+            None => Backlog::Nobody,
+        }
+    }
+
+    /// The next connection that waits.
+    fn accept(&mut self) -> Option<TcpStream> {
+        match &mut self.acceptor {
+            Some(acceptor) => acceptor.accept(),
+            None => None,
+        }
+    }
+
+    /// Takes a connection in. One for which there is no place or no memory is closed at once.
+    fn admit(&mut self, registry: &Registry, mut stream: TcpStream) {
+        let key = self.seats.vacant_key();
+        if key >= MAX_OPERATORS {
+            return;
+        }
+        let both = Interest::READABLE | Interest::WRITABLE;
+        if registry
+            .register(&mut stream, Token(FIRST.saturating_add(key)), both)
+            .is_err()
+        {
+            return;
+        }
+        if let Ok(seat) = Seat::new(self.alloc, stream, self.second) {
+            // One for which there is no memory is closed.
+            let _ = self.seats.insert(seat);
+        }
+    }
+
+    /// Notes an event of one of its tokens.
+    pub fn note(&mut self, event: &Event) {
+        let Token(number) = event.token();
+        if number == LISTENER {
+            if let Some(acceptor) = &mut self.acceptor {
+                acceptor.note();
+            }
+            return;
+        }
+        let Some(key) = number.checked_sub(FIRST) else {
+            return;
+        };
+        if let Some(seat) = self.seats.get_mut(key) {
+            seat.note(event);
+            self.stirred = true;
+        }
+    }
+
+    /// Whether something may be done for a connection in this second.
+    pub fn is_stirred(&self) -> bool {
+        self.stirred && self.budget.has(self.second)
+    }
+
+    /// Serves the connections for which something may be done, by what the program says of itself.
+    pub fn serve(&mut self, sheet: &Sheet<'_>) {
+        self.stirred = false;
+        for key in 0..MAX_OPERATORS {
+            self.serve_one(sheet, key);
+        }
+    }
+
+    /// Serves the connection of a key, if something may be done for it.
+    fn serve_one(&mut self, sheet: &Sheet<'_>, key: usize) {
+        let Some(seat) = self.seats.get_mut(key) else {
+            return;
+        };
+        if !seat.stirred {
+            return;
+        }
+        let (listen, name) = (self.listen.as_slice(), self.name.as_slice());
+        let step = seat.serve(
+            listen,
+            name,
+            sheet,
+            &mut self.piece,
+            &mut self.budget,
+            self.second,
+        );
+        match step {
+            Step::GoOn => self.stirred = true,
+            Step::Wait => seat.stirred = false,
+            Step::Close => {
+                let _ = self.seats.try_remove(key);
+            }
+        }
+    }
+
+    /// Closes the connections for which something may be done: there is no memory to say what they ask for.
+    pub fn turn_away(&mut self) {
+        self.stirred = false;
+        for key in 0..MAX_OPERATORS {
+            if self.seats.get(key).is_some_and(|seat| seat.stirred) {
+                let _ = self.seats.try_remove(key);
+            }
+        }
+    }
+
+    /// Whether it goes on in this second, though nothing happens.
+    pub fn goes_on(&self) -> bool {
+        let waits = self.stirred || self.backlog() == Backlog::More;
+        waits && self.budget.has(self.second)
+    }
+
+    /// In which second something is to be done unasked, at the earliest.
+    pub fn due(&self) -> Option<u64> {
+        let waits = self.stirred || self.backlog() != Backlog::Nobody;
+        let next = waits.then_some(self.second.saturating_add(1));
+        self.seats
+            .iter()
+            .fold(next, |due, (_, seat)| earlier(due, Some(seat.due())))
+    }
+
+    /// Closes the connections that have waited for too long.
+    fn rest(&mut self) {
+        for key in 0..MAX_OPERATORS {
+            if self
+                .seats
+                .get(key)
+                .is_some_and(|seat| seat.due() <= self.second)
+            {
+                let _ = self.seats.try_remove(key);
+            }
+        }
+    }
+}
+
+/// The listener that words ask for; none where they ask for none.
+fn acceptor_at<R: Net>(rt: &R, admin: &AdminTerms<'_>) -> Result<Option<Acceptor>, ServeError> {
+    let Some(place) = admin.listen else {
+        return Ok(None);
+    };
+    let listener = bind(rt, place)?;
+    Ok(Some(Acceptor::new(listener, 0)))
+}

@@ -1,0 +1,178 @@
+//! The connection of an operator.
+ghost use Rattle.std.specs.Prelude.{◌<◌, length};
+
+use crate::budgets::Budget;
+use mc_admin::{AdminError, Hosts, REQUEST_LIMIT, Sheet, Talk};
+use mc_socket::{Edge, Input, Step};
+use mc_stream::{Pumped, read_once, write_once};
+use mio::event::Event;
+use mio::net::TcpStream;
+use std::alloc::{AllocError, Global};
+use std::net::Shutdown;
+
+/// After how many seconds a connection is closed that sent nothing, and took nothing of its answer.
+pub const PATIENCE: u64 = 60;
+
+/// For how many seconds a connection is read to its end once its last answer was sent: one that is closed with bytes unread may lose it.
+pub const LINGER: u64 = 2;
+
+/// The most turns of a connection in a round.
+const MAX_TURNS: u32 = 4;
+
+/// The connection of an operator.
+#[derive(Drop)]
+pub struct Seat {
+    stream: TcpStream,
+    /// Its own address, as text.
+    own: String,
+    talk: Talk,
+    edge: Edge,
+    /// Whether its last answer was sent: what comes is dropped.
+    over: bool,
+    /// Whether something may be done for it.
+    pub stirred: bool,
+    /// In which second it sent or took something last, or was over.
+    used: u64,
+}
+
+impl Seat {
+    /// A connection to which nothing has come, by its socket.
+    pub fn new(alloc: Global, stream: TcpStream, second: u64) -> Result<Seat, AdminError> {
+        let own = own_address(alloc, &stream)?;
+        Ok(Seat {
+            stream,
+            own,
+            talk: Talk::new(alloc)?,
+            edge: Edge::new(),
+            over: false,
+            stirred: false,
+            used: second,
+        })
+    }
+
+    /// Notes what an event says.
+    pub fn note(&mut self, event: &Event) {
+        self.edge.note(event);
+        self.stirred = true;
+    }
+
+    /// In which second it is closed, unless it sends or takes something before.
+    pub fn due(&self) -> u64 {
+        let patience = if self.over { LINGER } else { PATIENCE };
+        self.used.saturating_add(patience).saturating_add(1)
+    }
+
+    /// Serves it for some turns, and says what is done with it then. Its own hosts are that of the listener, a name that was given, and
+    /// the address at which it came.
+    pub fn serve(
+        &mut self,
+        listen: &[u8],
+        name: &[u8],
+        sheet: &Sheet<'_>,
+        piece: &mut [u8],
+        budget: &mut Budget,
+        second: u64,
+    ) -> Step
+        requires { 0 < length piece.old }
+    {
+        for _ in 0..MAX_TURNS {
+            if !budget.take(second) {
+                return Step::GoOn;
+            }
+            let step = if self.over {
+                self.read(piece, second)
+            } else if !self.talk.output().is_empty() {
+                self.send(second)
+            } else if self.talk.is_read() {
+                self.read(piece, second)
+            } else {
+                self.answer(listen, name, sheet)
+            };
+            if let Some(step) = step {
+                return step;
+            }
+        }
+        Step::GoOn
+    }
+
+    /// Sends of its answer what the socket takes; nothing is said where it goes on.
+    fn send(&mut self, second: u64) -> Option<Step> {
+        let mut output = &self.stream;
+        let sent = match write_once(&mut output, self.talk.output()) {
+            Ok(sent) => sent,
+            Err(Pumped::Again) => return Some(Step::GoOn),
+            Err(_) => return Some(Step::Close),
+        };
+        if sent == 0 {
+            return Some(Step::Wait);
+        }
+        self.talk.note_sent(sent);
+        self.used = second;
+        if self.talk.is_closing() && self.talk.output().is_empty() {
+            self.over = true;
+            // Where the system refuses it, it is closed all the same.
+            let _ = self.stream.shutdown(Shutdown::Write);
+        }
+        None
+    }
+
+    /// Reads what has come; of one that is over it is dropped. Nothing is said where it goes on.
+    fn read(&mut self, piece: &mut [u8], second: u64) -> Option<Step>
+        requires { 0 < length piece.old }
+    {
+        let mut ended = false;
+        let mut input = Input {
+            stream: &self.stream,
+            edge: self.edge,
+        };
+        let read = read_once(&mut input, piece, &mut ended);
+        self.edge = input.edge;
+        match read {
+            Ok(0) if ended => Some(Step::Close),
+            Ok(0) => Some(Step::Wait),
+            Ok(count) => {
+                let (came, _) = piece.split_at(count);
+                self.take(came, second)
+            }
+            Err(Pumped::Again) => Some(Step::GoOn),
+            Err(_) => Some(Step::Close),
+        }
+    }
+
+    /// Takes in what has come; of one that is over it is dropped.
+    fn take(&mut self, came: &[u8], second: u64) -> Option<Step> {
+        if self.over {
+            return None;
+        }
+        self.used = second;
+        if self.talk.is_read() && self.talk.feed(came).is_ok() {
+            return None;
+        }
+        Some(Step::Close)
+    }
+
+    /// Goes on with what was read. Nothing is said where it goes on.
+    fn answer(&mut self, listen: &[u8], name: &[u8], sheet: &Sheet<'_>) -> Option<Step> {
+        if !self.talk.output().is_empty() {
+            return None;
+        }
+        let hosts = Hosts {
+            listen,
+            name,
+            own: self.own.as_bytes(),
+        };
+        if self.talk.turn(&hosts, sheet).is_err() {
+            return Some(Step::Close);
+        }
+        let is_silent = self.talk.output().is_empty();
+        (is_silent && self.talk.is_closing()).then_some(Step::Close)
+    }
+}
+
+/// The address at which a connection came, as text; empty where the system does not say it.
+fn own_address(alloc: Global, stream: &TcpStream) -> Result<String, AllocError> {
+    match stream.local_addr() {
+        Ok(address) => address.ip().to_string(alloc),
+        Err(_) => Ok(String::new(alloc)),
+    }
+}
