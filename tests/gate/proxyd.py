@@ -14,7 +14,6 @@ import math
 import os
 import pathlib
 import resource
-import select
 import signal
 import socket
 import subprocess
@@ -25,11 +24,15 @@ import time
 sys.path.insert(0, str(pathlib.Path(__file__).resolve().parents[1] / "lib"))
 
 from checks import (
-    PATIENCE, UNKNOWN_HOSTS, Program, asked, checks_of_words, is_served, received, received_to_the_end, settles, tally,
-    want, want_at_most, words_are_refused, wrong_sizes_are_refused,
+    UNKNOWN_HOSTS, Program, asked, checks_of_words, is_served, received, received_to_the_end, settles, tally, want, want_at_most,
+    words_are_refused, wrong_sizes_are_refused,
 )  # fmt: skip
 from connections import checks_of_connections, fields_of, lines_said
-from live_pool import LOST, QUIET, Played, Pool, all_that_comes, answered_in_time, data_segments, nothing_comes, stored
+from links import checks_of_links
+from live_pool import (
+    LOST, QUIET, Played, Pool, all_that_comes, answered_in_time, data_segments, is_asked_and_answers, is_said, nothing_comes,
+    nothing_is_said, stored,
+)  # fmt: skip
 from rings import Ring, hash_of
 from servers import HOST, Proxy, Server, free_port
 from suite import are_built
@@ -238,22 +241,6 @@ def a_proxy_starts_before_its_servers():
             pool.restart(1)
             is_said(proxy, f"{addresses[1]} back")
             asked(client, gets[0] + gets[1], b"END\r\n" * 2)
-
-
-def is_said(proxy, *lines):
-    """Sees that these lines come next on the proxy's standard error."""
-    stream, came, deadline = proxy.process.stderr, b"", time.monotonic() + PATIENCE
-    wanted = b"".join(b"mc_proxyd: %s\n" % line.encode() for line in lines)
-    while len(came) < len(wanted) and select.select([stream], [], [], max(0, deadline - time.monotonic()))[0]:
-        piece = os.read(stream.fileno(), len(wanted) - len(came))
-        if not piece:
-            break
-        came += piece
-    want(came, wanted)
-
-
-def nothing_is_said(proxy):
-    want(select.select([proxy.process.stderr], [], [], QUIET)[0], [])
 
 
 def idle_costs_little(proxy):
@@ -555,15 +542,6 @@ def bytes_that_nobody_awaits_lose_the_link():
         is_asked_and_answers(pool.links[0], client, pool.ring.key(0))
 
 
-def is_asked_and_answers(link, client, key):
-    """A get of a client reaches the server that the check plays, and its reply reaches the client."""
-    _, _, get, shown = stored(key)
-    client.sendall(get)
-    want(received(link, len(get)), get)
-    link.sendall(shown)
-    want(received(client, len(shown)), shown)
-
-
 def half_a_reply_is_no_reply():
     """A server closes in mid-reply, after a whole one: this one counts."""
     with Played() as pool, pool.connected() as client:
@@ -790,6 +768,7 @@ def checks():
         one_who_asks_too_much_waits,
     ):
         yield check.__name__, check, ()
+    yield from checks_of_links()
 
 
 if __name__ == "__main__":

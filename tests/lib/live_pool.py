@@ -1,13 +1,14 @@
 """A proxy in front of servers: of those that are started, or of some that a check plays; and what checks of both ask and await."""
 
 import contextlib
+import os
 import select
 import socket
 import struct
 import subprocess
 import time
 
-from checks import PATIENCE, Wrong, is_served, received_to_the_end, want
+from checks import PATIENCE, Wrong, is_served, received, received_to_the_end, want
 from rings import Ring
 from servers import HOST, Proxy, Server, free_port
 
@@ -89,13 +90,21 @@ class Played(Pool):
             self.stack = self.stack.pop_all()
 
     def lost(self, place, client):
-        """Sees that a link was closed, and takes the next one. A client that is served says that the proxy has seen it too."""
-        try:
-            want(received_to_the_end(self.links[place]), b"")
-        except ConnectionResetError:
-            pass  # There were bytes that the proxy had not read.
+        """Sees that a link was reset, and takes the next one. A client that is served says that the proxy has seen it too."""
+        want(bytes_before_a_reset(self.links[place]), 0)
         self.links[place] = self.stack.enter_context(self.servers[place].accept())
         is_served(client)
+
+
+def bytes_before_a_reset(link):
+    """How many bytes come before a connection is reset. One that ends otherwise is wrong."""
+    count = 0
+    try:
+        while piece := link.recv(1 << 20):
+            count += len(piece)
+    except ConnectionResetError:
+        return count
+    raise Wrong("the connection ended, and was not reset")
 
 
 def nothing_comes(connection):
@@ -133,3 +142,28 @@ def stored(key, value=b"x"):
 def data_segments(connection):
     """How many segments with bytes the system has received on a connection (`tcpi_data_segs_in`)."""
     return struct.unpack_from("I", connection.getsockopt(socket.IPPROTO_TCP, socket.TCP_INFO, 256), 152)[0]
+
+
+def is_said(proxy, *lines):
+    """Sees that these lines come next on the proxy's standard error."""
+    stream, came, deadline = proxy.process.stderr, b"", time.monotonic() + PATIENCE
+    wanted = b"".join(b"mc_proxyd: %s\n" % line.encode() for line in lines)
+    while len(came) < len(wanted) and select.select([stream], [], [], max(0, deadline - time.monotonic()))[0]:
+        piece = os.read(stream.fileno(), len(wanted) - len(came))
+        if not piece:
+            break
+        came += piece
+    want(came, wanted)
+
+
+def nothing_is_said(proxy):
+    want(select.select([proxy.process.stderr], [], [], QUIET)[0], [])
+
+
+def is_asked_and_answers(link, client, key):
+    """A get of a client reaches the server that the check plays, and its reply reaches the client."""
+    _, _, get, shown = stored(key)
+    client.sendall(get)
+    want(received(link, len(get)), get)
+    link.sendall(shown)
+    want(received(client, len(shown)), shown)

@@ -8,7 +8,7 @@ use crate::options::PROGRAM;
 use crate::waits::Waits;
 use mc_proxy::Proxy;
 use mc_proxy_pump::{Pumped, pump_link};
-use mc_socket::{Edge, Input, first_address, keep_alive};
+use mc_socket::{Edge, Input, first_address, keep_alive, reset};
 use mc_watch::{Tally, earlier};
 use mio::event::Event;
 use mio::net::TcpStream;
@@ -257,13 +257,16 @@ impl Upstream {
         self.lose_by(proxy, server, cause);
     }
 
-    /// Lets the connection go for a cause, and loses the link if it is still up.
+    /// Gives the connection up for a cause, and loses the link if it is still up. The connection is reset: a command that is lost and
+    /// undelivered must not reach the server after later ones.
     pub fn lose_by(&mut self, proxy: &mut Proxy, server: usize, cause: Cause) {
         self.waits.lose(proxy.waiting(server));
         self.losses = self.losses.saturating_add(1);
         // A strange reply has lost the link before.
         let _ = proxy.lost(server);
-        self.state = State::Down;
+        if let State::Up(stream) = mem::replace(&mut self.state, State::Down) {
+            reset(stream);
+        }
         self.stirred = false;
         self.unread = 0;
         self.notices.note(Notice::Lost(cause));

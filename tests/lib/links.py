@@ -1,0 +1,73 @@
+"""What a proxy does with its links where a network or a server fails, where descriptors are few, and where servers have names of
+their own. `checks_of_links` gives each check by its name; proxyd.py makes them. `Pool.programs` are the programs that are tried.
+"""
+
+import contextlib
+import resource
+import select
+import signal
+import socket
+import subprocess
+import time
+
+from checks import PATIENCE, asked, is_served, received, want, want_at_most
+from connections import fields_of, lines_said
+from live_pool import (
+    LOST, Played, Pool, answered_in_time, bytes_before_a_reset, is_asked_and_answers, is_said, nothing_comes, stored,
+)  # fmt: skip
+from rings import Ring
+from servers import Proxy, Server
+
+LATE = 0.4  # seconds of a --timeout that a check waits for
+USUAL_TIMEOUT = 1  # seconds of the --timeout that a proxy has without the word
+KEEPALIVE = {  # a second to the first question, between two, their number, and milliseconds in all
+    "a link": (5, 1, 5, 10_000),
+    "a client": (30, 10, 3, 60_000),
+}
+OWN_FILES = 7  # files that a proxy in front of two servers has open beside its clients
+
+
+# Links that are given up.
+
+
+def a_link_that_is_given_up_is_reset():
+    """By a late reply, by a strange one and by an end in the middle of a reply."""
+    with Played(3, ["--timeout", str(int(LATE * 1000))]) as pool, pool.connected() as client:
+        late, strange, ends = pool.links
+        keys = [pool.ring.key(place) for place in range(3)]
+        for link, key in zip(pool.links, keys):
+            get = b"get %s\r\n" % key
+            client.sendall(get)
+            want(received(link, len(get)), get)
+        strange.sendall(b"?\r\n")
+        ends.sendall(b"VALUE ")
+        ends.shutdown(socket.SHUT_WR)
+        want(received(client, 3 * len(LOST)), LOST * 3)
+        for link in (late, strange, ends):
+            want(bytes_before_a_reset(link), 0)
+
+
+def what_is_undelivered_dies_with_its_link():
+    """A server reads nothing, and its link is lost. What it finds in the old connection later ends before the last store, though the
+    proxy had sent all of them; what is stored through the new one comes whole."""
+    with Played(1, ["--timeout", str(int(LATE * 1000))]) as pool, pool.connected() as client:
+        put, told, _, _ = stored(b"a", b"old" * 300_000)
+        client.sendall(put * 5)
+        want(received(client, 5 * len(LOST)), LOST * 5)
+        with pool.servers[0].accept() as link:
+            newer = stored(b"a", b"new")
+            client.sendall(newer[0])
+            want(received(link, len(newer[0])), newer[0])
+            link.sendall(told)
+            want(received(client, len(told)), told)
+            want_at_most(bytes_before_a_reset(pool.links[0]), 4 * len(put))
+            nothing_comes(link)
+
+
+def checks_of_links():
+    """Each of them by its name."""
+    for check in (
+        a_link_that_is_given_up_is_reset,
+        what_is_undelivered_dies_with_its_link,
+    ):
+        yield check.__name__, check, ()
