@@ -64,10 +64,43 @@ def what_is_undelivered_dies_with_its_link():
             nothing_comes(link)
 
 
+# Peers that are gone without a word.
+
+
+def the_system_looks_for_peers():
+    """The times of TCP's keepalive on each connection of the proxy, and how long it waits for a peer that confirms nothing."""
+    with Pool() as pool, pool.connected() as client:
+        is_served(client)
+        names = (socket.TCP_KEEPIDLE, socket.TCP_KEEPINTVL, socket.TCP_KEEPCNT, socket.TCP_USER_TIMEOUT)
+        seen = {"a link": [], "a client": []}
+        for each in pool.connections():
+            what = "a client" if each.getsockname()[1] == pool.port else "a link"
+            want(each.getsockopt(socket.SOL_SOCKET, socket.SO_KEEPALIVE), 1)
+            seen[what].append(tuple(each.getsockopt(socket.IPPROTO_TCP, name) for name in names))
+            each.close()
+        want(seen, {"a link": [KEEPALIVE["a link"]] * 2, "a client": [KEEPALIVE["a client"]]})
+
+
+def a_server_that_takes_nothing_is_gone():
+    """Without --timeout: its system takes no more bytes for ten seconds."""
+    with Played(1, ["--timeout", "0"]) as pool, pool.connected() as client:
+        put, _, _, _ = stored(b"a", b"v" * 1_000_000)
+        begun = time.monotonic()
+        with contextlib.suppress(TimeoutError):
+            client.settimeout(1)
+            client.sendall(put * 7)
+        client.settimeout(2 * PATIENCE)
+        want(received(client, len(LOST)), LOST)
+        want(9 < time.monotonic() - begun < 2 * PATIENCE, True)
+        is_said(pool, f"{pool.servers[0].address} lost: timed out")
+
+
 def checks_of_links():
     """Each of them by its name."""
     for check in (
         a_link_that_is_given_up_is_reset,
         what_is_undelivered_dies_with_its_link,
+        the_system_looks_for_peers,
+        a_server_that_takes_nothing_is_gone,
     ):
         yield check.__name__, check, ()

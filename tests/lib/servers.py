@@ -8,6 +8,7 @@ The port is one that was free a moment ago, on 127.0.0.1, where no host of a net
 A program takes connections from the first line of the block on, and is ended at the end of it.
 """
 
+import ctypes
 import os
 import pathlib
 import random
@@ -22,6 +23,7 @@ import time
 os.environ.pop("JOURNAL_STREAM", None)
 
 HOST = "127.0.0.1"
+PIDFD_GETFD = 438  # pidfd_getfd(2), of which Python has no call
 SECONDS_TO_START = 20
 SECONDS_TO_END = 10
 EPHEMERAL = pathlib.Path("/proc/sys/net/ipv4/ip_local_port_range")
@@ -152,6 +154,20 @@ class Listener:
     def descriptors(self):
         """How many files and sockets it has open."""
         return len(os.listdir(f"/proc/{self.process.pid}/fd"))
+
+    def connections(self):
+        """Its connected sockets, each once more for this process."""
+        process, found = os.pidfd_open(self.process.pid), []
+        for name in os.listdir(f"/proc/{self.process.pid}/fd"):
+            if os.readlink(f"/proc/{self.process.pid}/fd/{name}").startswith("socket:"):
+                copy = socket.socket(fileno=ctypes.CDLL(None).syscall(PIDFD_GETFD, process, int(name), 0))
+                try:
+                    copy.getpeername()
+                    found.append(copy)
+                except OSError:
+                    copy.close()  # It listens.
+        os.close(process)
+        return found
 
     def processor_time(self):
         """Seconds of processor time of all its threads, to the nanosecond, by its own clock (clock_getcpuclockid)."""

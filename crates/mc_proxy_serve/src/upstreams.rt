@@ -2,13 +2,13 @@
 ghost use Rattle.std.specs.Prelude.{◌<◌, length};
 
 use crate::delays::delay_after;
-use crate::limits::{CONNECT_MILLIS, LEAST_DELAY};
+use crate::limits::{CONNECT_MILLIS, LEAST_DELAY, LINK_KEEPALIVE};
 use crate::notices::{Cause, Notice, Notices, tell};
 use crate::options::PROGRAM;
 use crate::waits::Waits;
 use mc_proxy::Proxy;
 use mc_proxy_pump::{Pumped, pump_link};
-use mc_socket::{Edge, Input, first_address, keep_alive, reset};
+use mc_socket::{Edge, Input, first_address, keep_alive_by, reset};
 use mc_watch::{Tally, earlier};
 use mio::event::Event;
 use mio::net::TcpStream;
@@ -53,6 +53,8 @@ pub struct Upstream {
     unread: u64,
     /// How many bytes the replies have at most that its last pump took.
     pub brought: u64,
+    /// Why the system has ended the connection, where it did.
+    failure: Option<Cause>,
 }
 
 impl Upstream {
@@ -72,6 +74,7 @@ impl Upstream {
             losses: 0,
             unread: 0,
             brought: 0,
+            failure: None,
         }
     }
 
@@ -156,7 +159,7 @@ impl Upstream {
         registry.register(&mut stream, token, Interest::READABLE | Interest::WRITABLE)?;
         // A server whose commands may come late is used all the same.
         let _ = stream.set_nodelay(true);
-        keep_alive(&stream);
+        keep_alive_by(&stream, LINK_KEEPALIVE);
         self.edge = Edge::new();
         self.state = State::Connecting(stream);
         Ok(())
@@ -165,12 +168,14 @@ impl Upstream {
     /// Notes what an event says. Of a connection that was begun it tells whether it is there, or has failed.
     pub fn note(&mut self, event: &Event, proxy: &mut Proxy, server: usize) {
         self.edge.note(event);
-        if let State::Connecting(stream) = &self.state {
-            match arrival(stream, event) {
+        match &self.state {
+            State::Connecting(stream) => match arrival(stream, event) {
                 Ok(false) => {}
                 Ok(true) => self.arrive(proxy, server),
                 Err(cause) => self.refuse(cause),
-            }
+            },
+            State::Up(stream) if event.is_error() => self.failure = failure_of(stream),
+            _ => {}
         }
         self.stirred = self.is_up();
     }
@@ -269,6 +274,7 @@ impl Upstream {
         }
         self.stirred = false;
         self.unread = 0;
+        self.failure = None;
         self.notices.note(Notice::Lost(cause));
     }
 
@@ -283,15 +289,20 @@ impl Upstream {
         );
     }
 
-    /// Why its pump has failed: where the link is lost by a strange reply, where not the connection is over, and else there was
-    /// no memory.
+    /// Why its pump has failed: the link is lost by a strange reply, or there was no memory, or the connection is over, of which the
+    /// system may say why.
     fn cause_of_loss(&self, proxy: &Proxy, server: usize) -> Cause {
         match &self.state {
             _ if !proxy.is_up(server) => Cause::Strange,
             State::Up(stream) if !is_over(stream) => Cause::Memory,
-            _ => Cause::Ended,
+            _ => self.failure.unwrap_or(Cause::Ended),
         }
     }
+}
+
+/// Why the system has ended a connection, where it says so.
+fn failure_of(stream: &TcpStream) -> Option<Cause> {
+    stream.take_error().ok()?.map(Cause::from)
 }
 
 /// Whether a connection that was begun is there, by an event of it. The error is why it has failed.

@@ -1,3 +1,4 @@
 pub mod Acceptors
 pub mod Bindings
+pub mod Keeping
 pub mod Steps

@@ -6,8 +6,8 @@
 //! [`Acceptor::accept`] gives the connections, one by one. Of a connection's socket an [`Edge`] keeps what events say
 //! ([`Edge::note`]), and an [`Input`] is the reader over both, which asks the system for nothing that is known not to be there.
 //! [`step_after`] says what is done with a client whose pump ended, and a [`Stopwatch`] how long a program has
-//! served. [`keep_alive`] has the system look for peers that are gone without a word, and [`reset`] gives a connection up.
-//! [`PIECE_LEN`] and [`KEPT_ROOM`] are limits that all who serve sockets share.
+//! served. [`keep_alive`] and [`keep_alive_by`] have the system look for peers that are gone without a word, and [`reset`] gives a
+//! connection up. [`PIECE_LEN`] and [`KEPT_ROOM`] are limits that all who serve sockets share.
 //!
 //! No call waits but [`bind`] and [`first_address`], which look a name up. What a socket carries, and who comes, no contract
 //! says. Proved are that an address is the first IPv4 one of those that a look-up gave, how many an acceptor accepts, that an
@@ -26,7 +26,7 @@ mod stopwatches;
 pub use acceptors::{Acceptor, Backlog};
 pub use binding::{bind, first_address};
 pub use inputs::{Edge, Input};
-pub use keeping::keep_alive;
+pub use keeping::{CLIENT_KEEPALIVE, Keepalive, keep_alive, keep_alive_by};
 pub use limits::{KEPT_ROOM, PIECE_LEN};
 pub use resets::reset;
 pub use steps::{Step, step_after};
