@@ -64,6 +64,22 @@ def what_is_undelivered_dies_with_its_link():
             nothing_comes(link)
 
 
+# Servers that are late.
+
+
+def a_server_that_was_restarted_is_back_soon():
+    """It was away for a moment: of the tries at it the second comes after 0.1 to 0.2 seconds, and the third after 0.2 to 0.4 more."""
+    with Pool() as pool, pool.connected() as client:
+        get = b"get %s\r\n" % pool.ring.key(0)
+        for _ in range(3):
+            asked(client, get, b"END\r\n")
+            time.sleep(1)  # A connection that lasted a second is followed by the next at once.
+            pool.servers[0].stop()
+            time.sleep(0.05)
+            pool.restart(0)
+            answered_in_time(client, get, b"END\r\n", seconds=0.8)
+
+
 # Peers that are gone without a word.
 
 
@@ -100,6 +116,7 @@ def checks_of_links():
     for check in (
         a_link_that_is_given_up_is_reset,
         what_is_undelivered_dies_with_its_link,
+        a_server_that_was_restarted_is_back_soon,
         the_system_looks_for_peers,
         a_server_that_takes_nothing_is_gone,
     ):

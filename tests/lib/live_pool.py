@@ -13,7 +13,7 @@ from rings import Ring
 from servers import HOST, Proxy, Server, free_port
 
 LOST = b"SERVER_ERROR link lost\r\n"
-SECONDS_TO_RETURN = 5  # a lost link is tried again at once, then after 1, after 1 to 2, after 2 to 4 seconds
+SECONDS_TO_RETURN = 5  # a lost link is tried again at once, after 0.1 to 0.2 seconds, and then each time after twice as long
 QUIET = 0.1  # seconds in which nothing comes where nothing is to come
 
 

@@ -1,8 +1,8 @@
 //! A proxy that serves: clients and servers on sockets, over one [`mc_proxy::Proxy`].
 //!
 //! [`serve`] serves the clients that a listener accepts, and keeps a connection to each server of the ring as far as that is
-//! there: each is tried once before the first client is accepted, and while it is down at most once in a second, and less often
-//! the longer it is. Connecting waits for nobody. A connection that is given up is reset. [`ProxySettings`] says when it ends, how long a
+//! there: each is tried once before the first client is accepted, and while it is down again and again, less often the longer it is.
+//! Connecting waits for nobody. A connection that is given up is reset. [`ProxySettings`] says when it ends, how long a
 //! reply may take, when an idle client is closed, how often it says what it has done, and which server joins. Its bodies are
 //! [`mc_proxy_pump::pump_client`] and [`mc_proxy_pump::pump_link`], which have the law of a client's stream and of a
 //! server's. [`command`] and [`Options`] are the command line of [`PROGRAM`].

@@ -8,8 +8,19 @@ pub const MAX_PASSES: u32 = 4;
 /// A connection to a server that is not there after so many milliseconds has failed.
 pub const CONNECT_MILLIS: u64 = 3000;
 
-/// Two connections to a server are begun with at least so many milliseconds between.
-pub const LEAST_DELAY: u64 = 1000;
+/// A server is tried again at least so many milliseconds after its first failure, at most twice as many. So a server that was restarted
+/// is back soon, and those who lost it together come apart.
+pub const FIRST_DELAY: u64 = 100;
+
+/// A server that stays away is tried again at least so many milliseconds after its last failure, at most twice as many.
+pub const LONGEST_DELAY: u64 = 4000;
+
+/// After a connection that came to be, the next one to its server is begun at least so many milliseconds later: a server that ends each
+/// connection at once is asked once in a second.
+pub const NEXT_DELAY: u64 = 1000;
+
+/// What is to be said of a server is said within so many milliseconds: at most one line in a second.
+pub const NOTICE_DELAY: u64 = 1000;
 
 /// How servers are looked for: one is gone after 10 seconds. A packet that is lost on the way is sent again 5 times by then, so that a
 /// network that is cut for a moment loses no link; and while clients use the link, `--timeout` looks for its server sooner.

@@ -15,8 +15,8 @@ use std::sync::Wait;
 
 /// Serves the clients that a listener accepts, over the servers of a ring.
 ///
-/// Each server is tried once before the first client is let in, and while it is down at most once in a second, and less
-/// often the longer that is. It answers once as many clients as the settings say were accepted and all of them are gone; without
+/// Each server is tried once before the first client is let in, and while it is down again and again, less often the longer that
+/// is. It answers once as many clients as the settings say were accepted and all of them are gone; without
 /// such a limit it serves for ever. A client or an upstream that fails is closed, and the others go on. What becomes of servers is
 /// said on standard error; where that fails nothing else changes, and a write to it that waits holds all clients up.
 pub fn serve<R: Net + Clock + RandomSource + Wait + Eprint>(

@@ -2,7 +2,7 @@
 ghost use Rattle.std.specs.Prelude.{◌<◌, length};
 
 use crate::delays::delay_after;
-use crate::limits::{CONNECT_MILLIS, LEAST_DELAY, LINK_KEEPALIVE};
+use crate::limits::{CONNECT_MILLIS, LINK_KEEPALIVE, NEXT_DELAY, NOTICE_DELAY};
 use crate::notices::{Cause, Notice, Notices, tell};
 use crate::options::PROGRAM;
 use crate::waits::Waits;
@@ -135,7 +135,7 @@ impl Upstream {
             State::Connecting(_) => Some(self.begun.saturating_add(CONNECT_MILLIS)),
             State::Down => Some(self.next),
         };
-        let said = now.saturating_add(LEAST_DELAY);
+        let said = now.saturating_add(NOTICE_DELAY);
         earlier(own, self.is_due().then_some(said))
     }
 
@@ -186,7 +186,7 @@ impl Upstream {
             State::Connecting(stream) if proxy.back(server).is_ok() => {
                 self.tried = true;
                 self.failures = 0;
-                self.next = self.begun.saturating_add(LEAST_DELAY);
+                self.next = self.begun.saturating_add(NEXT_DELAY);
                 self.state = State::Up(stream);
                 self.notices.note(Notice::Back);
             }
