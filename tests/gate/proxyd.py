@@ -727,7 +727,7 @@ def checks():
     yield from checks_of_words(PROXY, SETTINGS, REFUSED, HELP)
     for name, words in BAD_LISTS.items():
         yield f"bad server list, {name}", bad_lists_are_told, (words,)
-    yield from checks_of_connections(start, "mc_proxyd", 7, DIALOGUES)
+    yield from checks_of_connections(start, "mc_proxyd", 7, DIALOGUES, "16 open files allow 9")
     for check in (
         no_server_is_refused,
         sizes_are_within_their_limits,

@@ -144,8 +144,8 @@ def served_in_time(program):
                 raise
 
 
-def no_descriptors_are_waited_for(start):
-    """Who cannot be accepted, since the system gives no more descriptors, is served once another is gone."""
+def no_descriptors_are_waited_for(start, name, own, why):
+    """Who cannot be accepted, since the system gives no more descriptors, is served once another is gone. It is said why, once."""
     with start(limits=[(resource.RLIMIT_NOFILE, 16)]) as program:
         clients = [program.connected() for _ in range(20)]
         try:
@@ -153,6 +153,9 @@ def no_descriptors_are_waited_for(start):
             last.sendall(b"version\r\n")
             is_served(clients[0])
             want(select.select([last], [], [], 0.2)[0], [])
+            told = f"{name}: 16 open files: {16 - own} connections can be served at a time"
+            want(lines_said(program, 2), [told, f"{name}: no more clients: {why}"])
+            want(select.select([program.process.stderr], [], [], 1.2)[0], [])
             for client in clients[:-1]:
                 client.close()
             want(received(last, 15), b"VERSION 1.6.0\r\n")
@@ -407,8 +410,9 @@ def idle_clients_are_closed(start):
                 client.close()
 
 
-def checks_of_connections(start, program, own, more_dialogues={}):
-    """Each of them by its name, with all dialogues, of a program of a name that has so many files open itself."""
+def checks_of_connections(start, program, own, more_dialogues={}, full="too many open files"):
+    """Each of them by its name, with all dialogues, of a program of a name that has so many files open itself, and says this where 16 files
+    may be open and it accepts no more clients."""
     for name, (sent, answers) in {**DIALOGUES, **more_dialogues}.items():
         yield f"{name}, whole", a_dialogue_is_answered, (start, sent, answers)
         yield f"{name}, in bytes", a_dialogue_comes_in_bytes, (start, sent, answers)
@@ -420,7 +424,6 @@ def checks_of_connections(start, program, own, more_dialogues={}):
         a_reset_ends_one_connection,
         the_1025th_is_closed_at_once,
         who_sends_without_end_holds_nobody_up,
-        no_descriptors_are_waited_for,
         idle_clients_are_closed,
         who_may_be_a_stranger_is_waited_for,
     ):
@@ -433,3 +436,4 @@ def checks_of_connections(start, program, own, more_dialogues={}):
         yield f"no stranger, {text}", a_text_is_none_of_a_stranger, (start, sent, answer)
     yield strangers_are_told_once_in_a_second.__name__, strangers_are_told_once_in_a_second, (start, program)
     yield few_open_files_are_told.__name__, few_open_files_are_told, (start, program, own)
+    yield no_descriptors_are_waited_for.__name__, no_descriptors_are_waited_for, (start, program, own, full)

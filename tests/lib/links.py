@@ -111,6 +111,48 @@ def a_server_that_takes_nothing_is_gone():
         is_said(pool, f"{pool.servers[0].address} lost: timed out")
 
 
+# Few descriptors.
+
+
+def descriptors_of_links_are_reserved():
+    """Clients that wait for a place do not take that of a lost link: its server is used again while they wait. It is told once."""
+    most = 5
+    with Pool(limits=[(resource.RLIMIT_NOFILE, OWN_FILES + most)]) as pool, contextlib.ExitStack() as stack:
+        files = f"{OWN_FILES + most} open files"
+        is_said(pool, f"{files}: {most} connections can be served at a time")
+        clients = [stack.enter_context(pool.connected()) for _ in range(2 * most)]
+        for client in clients:
+            client.sendall(b"version\r\n")
+        for client in clients[:most]:
+            want(received(client, 15), b"VERSION 1.6.0\r\n")
+        is_said(pool, f"no more clients: {files} allow {most}")
+        gone = pool.servers[0].address
+        for _ in range(2):
+            time.sleep(1.1)  # At most one line in a second is said of it.
+            pool.servers[0].stop()
+            is_said(pool, f"{gone} lost: connection ended", f"{gone} refused: connection refused")
+            time.sleep(0.5)
+            pool.restart(0)
+            is_said(pool, f"{gone} back")
+            asked(clients[0], b"get %s\r\n" % pool.ring.key(0), b"END\r\n")
+        want(select.select(clients[most:], [], [], 0)[0], [])
+        for client in clients[:most]:
+            client.close()
+        for client in clients[most:]:
+            want(received(client, 15), b"VERSION 1.6.0\r\n")
+
+
+def a_link_without_a_descriptor_is_told_so():
+    """Of two servers the second has none left."""
+    with Pool(limits=[(resource.RLIMIT_NOFILE, OWN_FILES - 1)]) as pool:
+        lines = lines_said(pool, 3)
+        want(lines[0], f"mc_proxyd: {OWN_FILES - 1} open files: 0 connections can be served at a time")
+        want(sorted(lines[1:]), sorted([
+            f"mc_proxyd: no more clients: {OWN_FILES - 1} open files allow 0",
+            f"mc_proxyd: {pool.servers[1].address} refused: too many open files",
+        ]))  # fmt: skip
+
+
 def checks_of_links():
     """Each of them by its name."""
     for check in (
@@ -119,5 +161,7 @@ def checks_of_links():
         a_server_that_was_restarted_is_back_soon,
         the_system_looks_for_peers,
         a_server_that_takes_nothing_is_gone,
+        descriptors_of_links_are_reserved,
+        a_link_without_a_descriptor_is_told_so,
     ):
         yield check.__name__, check, ()

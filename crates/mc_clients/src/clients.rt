@@ -4,7 +4,7 @@ ghost use Rattle.std.specs.Prelude.{◌<◌, ◌^◌};
 use crate::handlers::{Client, Handler};
 use crate::reports::Report;
 use crate::strangers::{Refusal, opening};
-use mc_socket::{Edge, KEPT_ROOM, Step};
+use mc_socket::{Backlog, Edge, KEPT_ROOM, Step};
 use mc_stranger::{FirstLine, Opening, Stranger};
 use mc_watch::{Pace, Tally, earlier};
 use mio::event::Event;
@@ -50,10 +50,15 @@ pub struct Clients<K: Drop> {
     turned_away: Option<Refusal>,
     /// When that may be said.
     told: Pace,
+    /// When it may be said that no more are accepted, since the system gives no connection.
+    told_refused: Pace,
 }
 
 /// In how many seconds it is said once, at most, that a stranger was turned away.
 const TOLD_EVERY: u64 = 1;
+
+/// In how many seconds it is said once, at most, that the system gives no connection: this may last for hours.
+const REFUSED_EVERY: u64 = 60;
 
 impl<K: Default + Drop> Clients<K> {
     /// Nobody, with room for so many. A client that is idle for longer than so many seconds is closed; 0 for never.
@@ -72,7 +77,16 @@ impl<K: Default + Drop> Clients<K> {
                 every: TOLD_EVERY,
                 next: 0,
             },
+            told_refused: Pace {
+                every: REFUSED_EVERY,
+                next: 0,
+            },
         })
+    }
+
+    /// How many there are.
+    pub fn len(&self) -> usize {
+        self.seats.len()
     }
 
     /// Whether there is nobody.
@@ -259,6 +273,23 @@ impl<K: Default + Drop> Clients<K> {
         {
             // Where it cannot be said, all are served all the same.
             let _ = eprintln!(rt; "{program}: {refusal}");
+        }
+    }
+
+    /// Says on standard error, as the program of a name and at most once in a minute, that no more clients are accepted since the system
+    /// gives no connection, and why.
+    pub fn tell_refused<R: Eprint>(
+        &mut self,
+        rt: &R,
+        program: &str,
+        backlog: Backlog,
+        second: u64,
+    ) {
+        if let Backlog::Refused(error) = backlog
+            && self.told_refused.comes(second)
+        {
+            // Where it cannot be said, all are served all the same.
+            let _ = eprintln!(rt; "{program}: no more clients: {error}");
         }
     }
 

@@ -1,3 +1,4 @@
 pub mod Causes
 pub mod Delays
 pub mod Lists
+pub mod Rooms

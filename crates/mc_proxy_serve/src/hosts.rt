@@ -6,6 +6,7 @@ use crate::joining::Joining;
 use crate::limits::MAX_PASSES;
 use crate::options::PROGRAM;
 use crate::pools::Pool;
+use crate::rooms::{Room, other_files};
 use crate::settings::ProxySettings;
 use crate::woken::Woken;
 use mc_clients::{Clients, Rounds, patience};
@@ -44,6 +45,7 @@ pub struct Host<'a> {
     /// In which second the clients rested last.
     rested: u64,
     pace: Pace,
+    room: Room,
     ghost within: { second < 2 ^ 63 },
 }
 
@@ -56,6 +58,7 @@ impl<'a> Host<'a> {
         random: u64,
     ) -> Result<Self, ServeError> {
         let pool = Pool::new(alloc, &ring, settings.timeout, random)?;
+        let others = other_files(ring.servers().len(), settings.join.is_some());
         Ok(Host {
             handler: ProxyHandler::new(alloc, ring, settings.held)?,
             clients: Clients::new(alloc, MAX_SESSIONS, settings.terms.idle)?,
@@ -69,12 +72,20 @@ impl<'a> Host<'a> {
             second: 0,
             rested: 0,
             pace: Pace::new(settings.terms.report, 0),
+            room: Room::new(others),
         })
+    }
+
+    /// Whether it serves as many clients as its open files allow, with the one that waits.
+    fn is_full(&self) -> bool {
+        let waiting = usize::from(self.next.is_some());
+        self.room
+            .is_full(self.clients.len().saturating_add(waiting))
     }
 
     /// Whether somebody goes on though nothing happens, or may be let in, where so much is known of those who wait.
     fn goes_on(&self, backlog: Backlog) -> bool {
-        let is_awaited = self.next.is_some() || backlog == Backlog::More;
+        let is_awaited = self.next.is_some() || (backlog == Backlog::More && !self.is_full());
         !self.carried
             || self.clients.goes_on()
             || self.pool.is_stirred()
@@ -213,7 +224,8 @@ impl<'a, R: Net + Clock + Eprint> Rounds<R, Stopwatch> for Host<'a> {
         self.pool.keep(rt, registry, self.now);
         self.pool.tell(rt, self.second);
         self.joining.tell(rt, self.second);
-        let soon = self.clients.is_busy() || backlog == Backlog::Refused || self.joining.is_due();
+        self.clients.tell_refused(rt, PROGRAM, backlog, self.second);
+        let soon = self.clients.is_busy() || backlog.is_refused() || self.joining.is_due();
         patience(self.goes_on(backlog), soon, self.left())
     }
 
@@ -240,7 +252,7 @@ impl<'a, R: Net + Clock + Eprint> Rounds<R, Stopwatch> for Host<'a> {
     }
 
     fn is_open(&self) -> bool {
-        self.pool.is_tried()
+        self.pool.is_tried() && !self.is_full()
     }
 
     /// With the client that the settings name a server joins, and that client is let in once that was tried.
@@ -252,6 +264,9 @@ impl<'a, R: Net + Clock + Eprint> Rounds<R, Stopwatch> for Host<'a> {
 
     fn finish(&mut self, rt: &R, accepted: u64) {
         self.clients.tell(rt, PROGRAM, self.second);
+        if self.is_full() {
+            self.room.tell(rt, self.second);
+        }
         if self.second == self.rested {
             return;
         }

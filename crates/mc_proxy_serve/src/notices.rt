@@ -1,13 +1,14 @@
 //! What a proxy says of its servers on standard error.
 ghost use Rattle.std.specs.Prelude.{◌≡◌, ◌≢◌, Some, None, IfSome, IfNone};
-ghost use Rattle.std.specs.IoError.{error_kind};
+ghost use Rattle.std.specs.IoError.{error_kind, raw_os_error};
+ghost use Rattle.mc_program.specs.Sockets.{socket_error_of};
 ghost use Rattle.mc_proxy_serve.specs.Causes.{cause_by};
 ghost use Rattle.mc_proxy_serve.specs.declared.notices.Cause.TheVariants.{Connect};
 
 use crate::options::PROGRAM;
+use mc_program::SocketError;
 use mc_proxy::ProxyError;
 use std::fmt::{Display, Formatter};
-use std::io::ErrorKind;
 use std::{fmt, io};
 use thiserror::Error;
 
@@ -17,9 +18,9 @@ pub enum Cause {
     /// The system knows no IPv4 address of the host's name.
     #[error("unknown host")]
     UnknownHost,
-    /// The system refused the connection, and calls it so.
+    /// The system refused the connection, or ended it, and calls it so.
     #[error("{0}")]
-    Connect(ErrorKind),
+    Connect(SocketError),
     /// The connection was not there after [`CONNECT_MILLIS`](crate::limits::CONNECT_MILLIS).
     #[error("timed out")]
     TimedOut,
@@ -52,10 +53,10 @@ impl From<ProxyError> for Cause {
 }
 
 impl From<io::Error> for Cause {
-    ghost from_gives = { λ error cause. cause ≡ Connect (error_kind error) };
+    ghost from_gives = { λ error cause. cause ≡ Connect (socket_error_of (raw_os_error error) (error_kind error)) };
 
     fn from(error: io::Error) -> Cause {
-        Cause::Connect(error.kind())
+        Cause::Connect(SocketError::of(&error))
     }
 }
 

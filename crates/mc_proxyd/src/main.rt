@@ -10,10 +10,10 @@ ghost use Rattle.mc_program.specs.Statuses.{status_of};
 
 use mc_program::{Failure, ServeError, exit_status, is_read, read_words};
 use mc_proxy::MAX_SESSIONS;
-use mc_proxy_serve::{ListError, Options, PROGRAM, ProxySettings, command, serve};
+use mc_proxy_serve::{ListError, Options, PROGRAM, ProxySettings, command, other_files, serve};
 use mc_ring::Ring;
 use mc_socket::bind;
-use mc_watch::{OWN_FILES, tell_open_files};
+use mc_watch::tell_open_files;
 use std::alloc::Global;
 use std::net::Net;
 use std::process::ExitCode;
@@ -64,7 +64,7 @@ where
     R: Clock + Print + Eprint + Net + RandomSource + Wait,
 {
     let listener = bind(rt, listen)?;
-    let others = OWN_FILES.saturating_add(ring.servers().len() as u64);
+    let others = other_files(ring.servers().len(), settings.join.is_some());
     tell_open_files(rt, PROGRAM, others, MAX_SESSIONS);
     // Whom the line does not reach is served all the same.
     let _ = println!(rt; "listening {listen}");

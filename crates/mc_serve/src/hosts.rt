@@ -90,9 +90,10 @@ impl<S: Store + Drop> Host<S> {
 }
 
 impl<R: Eprint, C: Seconds, S: Store + Drop> Rounds<R, C> for Host<S> {
-    fn before(&mut self, _rt: &R, _registry: &Registry, backlog: Backlog) -> Option<Duration> {
+    fn before(&mut self, rt: &R, _registry: &Registry, backlog: Backlog) -> Option<Duration> {
+        self.clients.tell_refused(rt, PROGRAM, backlog, self.moment);
         let goes_on = self.clients.goes_on() || backlog == Backlog::More;
-        let soon = self.clients.is_busy() || backlog == Backlog::Refused;
+        let soon = self.clients.is_busy() || backlog.is_refused();
         let due = earlier(self.clients.due(), self.pace.due());
         let left = due.map(|due| due.saturating_sub(self.moment).saturating_mul(1000));
         patience(goes_on, soon, left)

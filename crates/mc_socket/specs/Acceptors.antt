@@ -1,7 +1,7 @@
 -- An acceptor: what contracts see of a listener, and what accepting does to it. All of it is this project's own.
 use Rattle.std.specs.Prelude.{◌≡◌, ◌+◌, ◌-◌, ◌^◌, ◌&&◌, ℕ, Bool, true, false, Option, Some, None, min, nat_lt, nat_le}
 use Rattle.mc_socket.specs.declared.acceptors.Backlog.{Backlog}
-use Rattle.mc_socket.specs.declared.acceptors.Backlog.TheVariants.{Nobody, More}
+use Rattle.mc_socket.specs.declared.acceptors.Backlog.TheVariants.{Nobody, More, Refused}
 
 -- what contracts see of an acceptor
 pub record AcceptorState : Type 0 where
@@ -9,6 +9,11 @@ pub record AcceptorState : Type 0 where
   pub limit : ℕ
   pub accepted : ℕ
   pub backlog : Backlog
+
+-- there may be more who wait, and the system gives no connection now
+abbrev pub is_refused : Backlog → Bool
+is_refused (Refused error) = true
+is_refused _ = false
 
 -- an acceptor that has accepted nobody
 abbrev pub new_acceptor : ℕ → AcceptorState

@@ -1,6 +1,10 @@
 //! A listener, and how many connections it has accepted.
 ghost use Rattle.std.specs.Prelude.{◌≡◌, ◌≢◌, None, Some};
+ghost use Rattle.std.specs.IoError.{error_kind, raw_os_error};
+ghost use Rattle.mc_program.specs.Sockets.{socket_error_of};
+ghost use Rattle.mc_socket.specs.Acceptors.{is_refused};
 
+use mc_program::SocketError;
 use mio::net::{TcpListener, TcpStream};
 use mio::{Interest, Registry, Token};
 use std::io;
@@ -17,8 +21,17 @@ pub enum Backlog {
     Nobody,
     /// There may be more.
     More,
-    /// There may be more, but the system gives none now: it may have no descriptor left.
-    Refused,
+    /// There may be more, but the system gives none now, as if it has no descriptor left.
+    Refused(SocketError),
+}
+
+impl Backlog {
+    /// Whether there may be more, and the system gives none now.
+    pub fn is_refused(self) -> bool
+        ensures { result ≡ is_refused self }
+    {
+        matches!(self, Backlog::Refused(_))
+    }
 }
 
 /// A listener, and how many connections it has accepted. Contracts see its limit, that number, and what is known of those who
@@ -120,7 +133,7 @@ fn next_connection(listener: &TcpListener) -> Result<TcpStream, Backlog> {
         match listener.accept() {
             Ok((stream, _)) => return Ok(stream),
             Err(error) => {
-                if let Some(backlog) = backlog_by(error.kind()) {
+                if let Some(backlog) = backlog_by(&error) {
                     return Err(backlog);
                 }
             }
@@ -129,18 +142,19 @@ fn next_connection(listener: &TcpListener) -> Result<TcpStream, Backlog> {
     Err(Backlog::More)
 }
 
-/// What an accept that failed by an error of a kind says of those who wait; none where it is to be tried again at once, since
+/// What an accept that failed by an error says of those who wait; none where it is to be tried again at once, since
 /// the system interrupted it, or the connection is gone again.
-fn backlog_by(kind: ErrorKind) -> Option<Backlog>
-    ensures nobody { kind ≡ ErrorKind.WouldBlock → result ≡ Some Backlog.Nobody }
-    ensures interrupted { kind ≡ ErrorKind.Interrupted → result ≡ None }
-    ensures aborted { kind ≡ ErrorKind.ConnectionAborted → result ≡ None }
-    ensures refused { kind ≢ ErrorKind.WouldBlock → kind ≢ ErrorKind.Interrupted → kind ≢ ErrorKind.ConnectionAborted
-        → result ≡ Some Backlog.Refused }
+fn backlog_by(error: &io::Error) -> Option<Backlog>
+    ensures nobody { error_kind error.now ≡ ErrorKind.WouldBlock → result ≡ Some Backlog.Nobody }
+    ensures interrupted { error_kind error.now ≡ ErrorKind.Interrupted → result ≡ None }
+    ensures aborted { error_kind error.now ≡ ErrorKind.ConnectionAborted → result ≡ None }
+    ensures refused { error_kind error.now ≢ ErrorKind.WouldBlock → error_kind error.now ≢ ErrorKind.Interrupted
+        → error_kind error.now ≢ ErrorKind.ConnectionAborted
+        → result ≡ Some (Backlog.Refused (socket_error_of (raw_os_error error.now) (error_kind error.now))) }
 {
-    match kind {
+    match error.kind() {
         ErrorKind::WouldBlock => Some(Backlog::Nobody),
         ErrorKind::Interrupted | ErrorKind::ConnectionAborted => None,
-        _ => Some(Backlog::Refused),
+        _ => Some(Backlog::Refused(SocketError::of(error))),
     }
 }
