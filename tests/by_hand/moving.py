@@ -28,6 +28,7 @@ NUTCRACKER = shutil.which("nutcracker", path=os.environ["PATH"] + ":/usr/sbin")
 KEYS = [f"user:{number}".encode() for number in range(1000)]
 TAGGED = [f"{{user:{number}}}:page".encode() for number in range(1000)]
 HASHES = "one_at_a_time crc16 crc32 crc32a fnv1_64 fnv1a_64 fnv1_32 fnv1a_32 hsieh murmur jenkins".split()
+NAMES = [f"cache-{letter}:1" for letter in "abcd"]
 POOL = "pool:\n  listen: {listen}\n  preconnect: true\n{lines}  servers:\n{servers}"
 
 
@@ -39,6 +40,10 @@ def of_its_address(address, place):
     return f"{address}:1 {address}"
 
 
+def of_a_name(address, place):
+    return f"{address}:1 {NAMES[place]}"
+
+
 # A setting: whether its keys stay (None: some do), the lines of its pool, how a server is written, and the keys that are set.
 MD5 = "hash: md5, distribution: ketama"
 SETTINGS = {
@@ -47,6 +52,7 @@ SETTINGS = {
     "host:port:1, in the reverse order": (True, MD5, plain, KEYS),
     "host:port:1 with the name host:port": (True, MD5, of_its_address, KEYS),
     "host:port:3 and 1 with the name host:port": (None, MD5, lambda address, place: f"{address}:{3 - 2 * (place > 0)} {address}", KEYS),
+    "host:port:1 with a name cache-a:1, which mc_proxyd is given too": (True, MD5, of_a_name, KEYS),
     "host:port:1 with a name cache1": (False, MD5, lambda address, place: f"{address}:1 cache{place + 1}", KEYS),
     "weights 3, 1, 1, 1": (None, MD5, lambda address, place: f"{address}:{3 - 2 * (place > 0)}", KEYS),
     "hash_tag {}, keys without a tag": (True, f"{MD5}, hash_tag: \"{{}}\"", plain, KEYS),
@@ -118,11 +124,11 @@ def hits(connection, keys):
     return count
 
 
-def asked(addresses, proxy, keys):
+def asked(addresses, names, proxy, keys):
     """Connections to whom the keys are asked of, each with its keys: the proxy, or their owners by the model."""
     if proxy:
         return [(proxy.connected(), keys)]
-    ring = Ring(addresses)
+    ring = Ring(names)
     owned = [[key for key in keys if ring.owner(key) == place] for place in range(len(addresses))]
     return [(at_address(address), own) for address, own in zip(addresses, owned)]
 
@@ -135,18 +141,18 @@ def empty(addresses):
                 raise RuntimeError(f"{address} was not flushed")
 
 
-def tried(addresses, proxy, stays, lines, text_of, keys, is_reversed):
+def tried(addresses, names, proxy, stays, lines, text_of, keys, is_reversed):
     """The hits of a setting over servers that are empty, and whether they are as wanted."""
     texts = [text_of(address, place) for place, address in enumerate(addresses)]
     with Nutcracker(lines, texts[::-1] if is_reversed else texts) as older:
         empty(addresses)
         if stored(older.connected(), keys) != len(keys):
             raise RuntimeError("nutcracker did not store all keys")
-        found = sum(hits(*each) for each in asked(addresses, proxy, keys))
+        found = sum(hits(*each) for each in asked(addresses, names, proxy, keys))
         if not stays:
             return found, found < (len(keys) if stays is None else len(keys) / 2)
         empty(addresses)
-        back = sum(stored(*each) for each in asked(addresses, proxy, keys))
+        back = sum(stored(*each) for each in asked(addresses, names, proxy, keys))
         return found, found == back == hits(older.connected(), keys) == len(keys)
 
 
@@ -162,10 +168,13 @@ def main(server, proxy_program=None):
         for addresses in (usual, of_11211):
             for address in addresses:
                 stack.enter_context(At(server, address, []))
-            pools[addresses[0]] = stack.enter_context(Proxy(proxy_program, addresses)) if proxy_program else None
+        named = [f"{name}={address}" for name, address in zip(NAMES, usual)]
+        for words in (usual, of_11211, named):
+            pools[words[0]] = stack.enter_context(Proxy(proxy_program, words)) if proxy_program else None
         for name, setting in SETTINGS.items():
             addresses = of_11211 if "11211" in name else usual
-            found, right = tried(addresses, pools[addresses[0]], *setting, "reverse" in name)
+            names, words = (NAMES, named) if setting[2] is of_a_name else (addresses, addresses)
+            found, right = tried(addresses, names, pools[words[0]], *setting, "reverse" in name)
             print(f"{name}: {found} hits of 1,000" + ("" if right else ": FAILED"))
             passed, failed = passed + right, failed + (not right)
     print(f"{passed} passed, {failed} failed")

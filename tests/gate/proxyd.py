@@ -65,6 +65,8 @@ SETTINGS = {
     "words_in_another_order": ("--accept 3 b:2 --listen=a:1 c:3", "servers 3 points 480"),
     "one_that_joins": ("--join b:1 --join-after 1", "servers 1 points 160"),
     "the_longest_host": ("a-Z.9" * 51 + ":65535", "servers 2 points 320"),
+    "names": ("a:1=b:2 --join c:3=b:2 --join-after 1 b:2=127.0.0.1:1", "servers 3 points 480"),
+    "an_address_with_its_own_name": ("b:2=b:2", "servers 2 points 320"),
 }
 
 USAGE = "\n\nUsage: mc_proxyd [OPTIONS] <server>..."
@@ -106,9 +108,18 @@ BAD_LISTS = {
     "an_underscore": ["a_b:1"],
     "a_long_host": ["a" * 256 + ":1"],
     "an_address_of_version_6": ["[::1]:1"],
+    "no_name": ["=a:1"],
+    "no_address": ["a:1="],
+    "two_names": ["a:1=b:1=c:1"],
+    "a_name_without_a_port": ["a=b:1"],
+    "an_address_without_a_port": ["a:1=b"],
+    "the_name_of_another": ["127.0.0.1:1=b:1"],
+    "one_name_twice": ["a:1=b:1", "a:1=c:1"],
     "nobody_joins": ["--join-after", "1"],
     "no_address_joins": ["--join-after", "1", "--join", "a"],
     "one_of_the_list_joins": ["--join-after", "1", "--join", "127.0.0.1:1"],
+    "the_name_of_one_joins": ["--join-after", "1", "--join", "127.0.0.1:1=b:1"],
+    "no_named_address_joins": ["--join-after", "1", "--join", "a:1=b"],
     "a_65th_joins": ["--join-after", "1", "--join", "a:1", *OTHERS[1:]],
 }
 

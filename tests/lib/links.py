@@ -27,6 +27,10 @@ KEEPALIVE = {  # a second to the first question, between two, their number, and 
 OWN_FILES = 7  # files that a proxy in front of two servers has open beside its clients
 
 
+def proxy_in_front(words, addresses):
+    return Proxy(Pool.programs[0], addresses, words, stderr=subprocess.PIPE)
+
+
 # Links that are given up.
 
 
@@ -153,6 +157,50 @@ def a_link_without_a_descriptor_is_told_so():
         ]))  # fmt: skip
 
 
+# Names apart from addresses.
+
+
+def a_server_is_replaced_at_another_address():
+    """Keys are spread by names: a proxy that is started with another address behind one moves no key. The name is in all lines."""
+    names = ["a:1", "cache-b.example:2"]
+    ring = Ring(names)
+    keys = [ring.key(place) for place in (0, 1)]
+    with Server(Pool.programs[1]) as first, Server(Pool.programs[1]) as second, Server(Pool.programs[1]) as other:
+        for servers in ((first, second), (other, second)):
+            words = [f"{name}={server.address}" for name, server in zip(names, servers)]
+            with proxy_in_front(["--report", "1"], words) as proxy, proxy.connected() as client:
+                for server, key in zip(servers, keys):
+                    asked(client, *stored(key, b"at " + server.address.encode())[:2])
+                    with server.connected() as direct:
+                        asked(direct, *stored(key, b"at " + server.address.encode())[2:])
+                told = lines_said(proxy, 3)[1:]
+                want([fields_of(line, "mc_proxyd")["server"] for line in told], names)
+        with proxy_in_front([], words) as proxy, proxy.connected() as client:
+            asked(client, *stored(keys[1], b"at " + second.address.encode())[2:])
+            other.stop()
+            is_said(proxy, f"{names[0]} lost: connection ended", f"{names[0]} refused: connection refused")
+
+
+def a_server_joins_by_its_name():
+    with Server(Pool.programs[1]) as third:
+        with Pool(["--join", f"c:3={third.address}", "--join-after", "1"]) as pool, pool.connected() as client:
+            key = Ring([*(server.address for server in pool.servers), "c:3"]).key(2)
+            asked(client, *stored(key)[:2])
+            with third.connected() as direct:
+                asked(direct, *stored(key)[2:])
+            third.stop()
+            is_said(pool, "c:3 lost: connection ended", "c:3 refused: connection refused")
+
+
+def two_names_may_have_one_address():
+    with Server(Pool.programs[1]) as server:
+        with proxy_in_front([], [f"a:1={server.address}", f"b:1={server.address}"]) as proxy, proxy.connected() as client:
+            for key in (Ring(["a:1", "b:1"]).key(place) for place in (0, 1)):
+                asked(client, *stored(key)[:2])
+                with server.connected() as direct:
+                    asked(direct, *stored(key)[2:])
+
+
 def checks_of_links():
     """Each of them by its name."""
     for check in (
@@ -163,5 +211,8 @@ def checks_of_links():
         a_server_that_takes_nothing_is_gone,
         descriptors_of_links_are_reserved,
         a_link_without_a_descriptor_is_told_so,
+        a_server_is_replaced_at_another_address,
+        a_server_joins_by_its_name,
+        two_names_may_have_one_address,
     ):
         yield check.__name__, check, ()

@@ -2,3 +2,4 @@ pub mod Causes
 pub mod Delays
 pub mod Lists
 pub mod Rooms
+pub mod Servers

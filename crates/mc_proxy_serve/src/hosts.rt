@@ -57,7 +57,7 @@ impl<'a> Host<'a> {
         settings: &'a ProxySettings,
         random: u64,
     ) -> Result<Self, ServeError> {
-        let pool = Pool::new(alloc, &ring, settings.timeout, random)?;
+        let pool = Pool::new(alloc, &ring, settings, random)?;
         let others = other_files(ring.servers().len(), settings.join.is_some());
         Ok(Host {
             handler: ProxyHandler::new(alloc, ring, settings.held)?,

@@ -1,14 +1,14 @@
 //! The server that joins while a proxy runs.
 
 use crate::notices::{Notice, Notices, tell};
+use crate::servers::Server;
 use mc_proxy::ProxyError;
-use mc_ring::Address;
 
 /// The server that joins with a client, and what is to be said of it.
 #[derive(Drop)]
 pub struct Joining<'a> {
     /// The server, and with which client's coming it joins.
-    join: &'a Option<(Address, u64)>,
+    join: &'a Option<(Server, u64)>,
     /// Whether it has joined.
     joined: bool,
     notices: Notices,
@@ -16,7 +16,7 @@ pub struct Joining<'a> {
 
 impl<'a> Joining<'a> {
     /// A server that has not joined.
-    pub fn new(join: &'a Option<(Address, u64)>) -> Self {
+    pub fn new(join: &'a Option<(Server, u64)>) -> Self {
         Joining {
             join,
             joined: false,
@@ -25,7 +25,7 @@ impl<'a> Joining<'a> {
     }
 
     /// The server, where it is to join now that so many clients were accepted.
-    pub fn server(&self, accepted: u64) -> Option<&'a Address> {
+    pub fn server(&self, accepted: u64) -> Option<&'a Server> {
         match self.join {
             Some((server, with)) if !self.joined && accepted >= *with => Some(server),
             _ => None,
@@ -55,7 +55,7 @@ impl<'a> Joining<'a> {
         };
         if let (Some(notice), Ok(server)) = (
             self.notices.take(second),
-            str::from_utf8(server.as_bytes()),
+            str::from_utf8(server.name.as_bytes()),
         ) {
             tell(rt, server, notice);
         }

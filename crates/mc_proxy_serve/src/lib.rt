@@ -6,7 +6,7 @@
 //! reply may take, when an idle client is closed, how often it says what it has done, and which server joins. As many clients are
 //! accepted as leave each server a descriptor ([`other_files`]). Its bodies are
 //! [`mc_proxy_pump::pump_client`] and [`mc_proxy_pump::pump_link`], which have the law of a client's stream and of a
-//! server's. [`command`] and [`Options`] are the command line of [`PROGRAM`].
+//! server's. [`command`] and [`Options`] are the command line of [`PROGRAM`], and a [`Server`] is what a word of it names.
 //!
 //! On standard error it says what becomes of its servers: a line `mc_proxyd: <server> <what>` where that is another than was said
 //! of the server last, and in each second at most one of each. Of a server that is there at first nothing is said.
@@ -23,6 +23,7 @@ mod notices;
 mod options;
 mod pools;
 mod rooms;
+mod servers;
 mod serving;
 mod settings;
 mod upstreams;
@@ -31,5 +32,6 @@ mod woken;
 
 pub use options::{ListError, Options, PROGRAM, command};
 pub use rooms::other_files;
+pub use servers::Server;
 pub use serving::serve;
 pub use settings::ProxySettings;

@@ -3,10 +3,11 @@ ghost use Rattle.std.specs.Prelude.{◌≡◌};
 ghost use Rattle.mc_proxy_serve.specs.Lists.{list_error_by};
 ghost use Rattle.mc_proxy_serve.specs.declared.options.ListError.TheVariants.{Memory};
 
+use crate::servers::Server;
 use crate::settings::ProxySettings;
 use clap::{Arg, ArgMatches, Command};
 use mc_program::{Terms, VERSION, accept, flag, idle, listen, number, report, size, size_within};
-use mc_ring::{Address, Ring, RingError};
+use mc_ring::{Ring, RingError};
 use std::alloc::{AllocError, Global};
 use thiserror::Error;
 
@@ -34,8 +35,8 @@ pub struct Options<'a> {
 /// Why the words name no pool.
 #[derive(Clone, Copy, Debug, PartialEq, Eq, Error)]
 pub enum ListError {
-    /// 1: the servers are none, more than 64, one of them twice, or a text that is no address; or the server that is to join
-    /// is missing, no address, one of them, or one too many.
+    /// 1: the servers are none, more than 64, two of one name, or a word that names none; or the server that is to join is
+    /// missing, has the name of another, is one too many, or its word names none.
     #[error("bad server list")]
     Bad,
     /// 2: no memory.
@@ -71,12 +72,14 @@ impl<'a> Options<'a> {
     pub fn of(alloc: Global, matches: &ArgMatches<'a>) -> Result<Options<'a>, ListError> {
         let held = matches.get_str("held").unwrap_or("");
         let words = matches.get_strs("server").ok_or(ListError::Bad)?;
-        let mut servers = Vec::with_capacity(alloc, words.len())?;
+        let mut names = Vec::with_capacity(alloc, words.len())?;
+        let mut addresses = Vec::with_capacity(alloc, words.len())?;
         for word in words {
-            let server = Address::new(alloc, word.as_bytes())?;
-            servers.push(server).map_err(|_| ListError::Memory)?;
+            let Server { name, address } = Server::new(alloc, word)?;
+            names.push(name).map_err(|_| ListError::Memory)?;
+            addresses.push(address).map_err(|_| ListError::Memory)?;
         }
-        let ring = Ring::new(alloc, servers.as_slice())?;
+        let ring = Ring::new(alloc, names.as_slice())?;
         let after = matches.get_one::<u64>("join-after").unwrap_or(0);
         let join = joining(alloc, &ring, matches.get_str("join"), after)?;
         Ok(Options {
@@ -86,6 +89,7 @@ impl<'a> Options<'a> {
                 terms: Terms::of(matches),
                 held: size_within(held, 1, MOST_HELD).ok_or(ListError::Held)?,
                 timeout: matches.get_one::<u64>("timeout").unwrap_or(0),
+                addresses,
                 join,
             },
             log: matches.get_flag("log"),
@@ -100,13 +104,13 @@ fn joining(
     ring: &Ring,
     join: Option<&str>,
     after: u64,
-) -> Result<Option<(Address, u64)>, ListError> {
+) -> Result<Option<(Server, u64)>, ListError> {
     if after == 0 {
         return Ok(None);
     }
     let word = join.ok_or(ListError::Bad)?;
-    let server = Address::new(alloc, word.as_bytes())?;
-    ring.with_server(alloc, server.clone()?)?;
+    let server = Server::new(alloc, word)?;
+    ring.with_server(alloc, server.name.clone()?)?;
     Ok(Some((server, after)))
 }
 
@@ -170,5 +174,7 @@ fn server<'a>(alloc: Global) -> Arg<'a> {
         .value_name("server")
         .num_args(1..)
         .required(true)
-        .help("The servers, 1 to 64, each <host>:<port>; keys are spread by these texts")
+        .help(
+            "The servers, 1 to 64, each [<name>:<port>=]<host>:<port>; keys are spread by the names, without one by the address",
+        )
 }

@@ -2,6 +2,8 @@
 ghost use Rattle.std.specs.Prelude.{◌<◌, length};
 
 use crate::notices::Cause;
+use crate::servers::Server;
+use crate::settings::ProxySettings;
 use crate::upstreams::Upstream;
 use crate::woken::Woken;
 use mc_proxy::{LINK_MARK, MAX_SESSIONS, Proxy, ProxyError};
@@ -26,15 +28,21 @@ pub struct Pool {
 
 impl Pool {
     /// Upstreams of which none was tried, and a random number to begin with.
-    pub fn new(alloc: Global, ring: &Ring, timeout: u64, random: u64) -> Result<Pool, AllocError> {
+    pub fn new(
+        alloc: Global,
+        ring: &Ring,
+        settings: &ProxySettings,
+        random: u64,
+    ) -> Result<Pool, AllocError> {
         let mut upstreams = Vec::with_capacity(alloc, ring.servers().len())?;
-        for server in ring.servers() {
-            upstreams.push(upstream_to(alloc, server)?)?;
+        for (place, name) in ring.servers().iter().enumerate() {
+            let address = settings.addresses.get(place).unwrap_or(name);
+            upstreams.push(upstream_to(alloc, name, address)?)?;
         }
         Ok(Pool {
             alloc,
             upstreams,
-            timeout,
+            timeout: settings.timeout,
             random,
         })
     }
@@ -93,11 +101,11 @@ impl Pool {
     }
 
     /// Has a server join, that was not tried. At an error nothing has changed.
-    pub fn join(&mut self, proxy: &mut Proxy, server: &Address) -> Result<(), ProxyError> {
-        let upstream = upstream_to(self.alloc, server)?;
-        let address = server.clone()?;
+    pub fn join(&mut self, proxy: &mut Proxy, server: &Server) -> Result<(), ProxyError> {
+        let upstream = upstream_to(self.alloc, &server.name, &server.address)?;
+        let name = server.name.clone()?;
         self.upstreams.reserve(1)?;
-        proxy.join_server(address, false)?;
+        proxy.join_server(name, false)?;
         self.upstreams.push(upstream)?;
         Ok(())
     }
@@ -172,10 +180,11 @@ fn token_of(place: usize) -> Token {
     Token(MAX_SESSIONS.saturating_add(place))
 }
 
-/// An upstream server to which no connection was begun.
-fn upstream_to(alloc: Global, server: &Address) -> Result<Upstream, AllocError> {
-    let address = String::from_utf8_lossy(alloc, server.as_bytes())?;
-    Ok(Upstream::new(alloc, address))
+/// An upstream server of a name and an address, to which no connection was begun.
+fn upstream_to(alloc: Global, name: &Address, address: &Address) -> Result<Upstream, AllocError> {
+    let name = String::from_utf8_lossy(alloc, name.as_bytes())?;
+    let address = String::from_utf8_lossy(alloc, address.as_bytes())?;
+    Ok(Upstream::new(alloc, name, address))
 }
 
 /// The number after a random one: a step of a generator that has each number of 64 bits in turn.

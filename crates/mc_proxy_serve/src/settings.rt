@@ -1,5 +1,6 @@
 //! What a proxy is started with.
 
+use crate::servers::Server;
 use mc_program::Terms;
 use mc_ring::Address;
 
@@ -12,6 +13,8 @@ pub struct ProxySettings {
     pub held: u64,
     /// After how many milliseconds a command without a reply loses its link; 0 for never.
     pub timeout: u64,
+    /// Where the servers of the ring are, in its order. A server that has no address here is where its name says.
+    pub addresses: Vec<Address>,
     /// Which server joins, and with which client's coming: 1 is the first. Where it cannot, it is tried with each later client.
-    pub join: Option<(Address, u64)>,
+    pub join: Option<(Server, u64)>,
 }

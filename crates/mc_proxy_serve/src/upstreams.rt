@@ -31,7 +31,9 @@ enum State {
 /// The server of a place, as a proxy reaches it.
 #[derive(Drop)]
 pub struct Upstream {
-    /// `<host>:<port>`.
+    /// What it is called: `<name>:<port>`.
+    name: String,
+    /// Where it is: `<host>:<port>`.
     address: String,
     state: State,
     /// When a connection was begun last, in milliseconds.
@@ -59,8 +61,9 @@ pub struct Upstream {
 
 impl Upstream {
     /// An upstream server to which no connection was begun.
-    pub fn new(alloc: Global, address: String) -> Upstream {
+    pub fn new(alloc: Global, name: String, address: String) -> Upstream {
         Upstream {
+            name,
             address,
             state: State::Down,
             begun: 0,
@@ -91,7 +94,7 @@ impl Upstream {
     /// Says on standard error what is new of its server, where nothing was said in this second.
     pub fn tell<R: Eprint>(&mut self, rt: &R, second: u64) {
         if let Some(notice) = self.notices.take(second) {
-            tell(rt, self.address.as_str(), notice);
+            tell(rt, self.name.as_str(), notice);
         }
     }
 
@@ -280,7 +283,7 @@ impl Upstream {
 
     /// Says on standard error what became of it, and of the commands that were put on it, of which so many wait.
     pub fn report<R: Eprint>(&self, rt: &R, waiting: usize) {
-        let server = self.address.as_str();
+        let server = self.name.as_str();
         let state = if self.is_up() { "up" } else { "down" };
         let (losses, sent, lost) = (self.losses, self.waits.sent(waiting), self.waits.lost());
         // Where it cannot be said, all are served all the same.
