@@ -279,7 +279,7 @@ def idle_before_an_unknown_server():
 
 def idle_before_a_server_that_was_killed():
     """Also with clients: one that has ended its input while it waits for another server, and one that does nothing."""
-    with Pool() as pool, pool.connected() as client, pool.connected() as half:
+    with Pool(["--timeout", "0"]) as pool, pool.connected() as client, pool.connected() as half:
         keys = [pool.ring.key(place) for place in (0, 1)]
         for key in keys:
             asked(client, *stored(key)[:2])

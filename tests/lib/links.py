@@ -71,6 +71,55 @@ def what_is_undelivered_dies_with_its_link():
 # Servers that are late.
 
 
+def a_server_that_sends_is_not_late():
+    """A reply takes several times as long as a server may be silent, and its bytes come one by one. The next reply stops in the middle: its
+    link is lost once nothing has come for that long."""
+    with Played(1, ["--timeout", str(int(LATE * 1000))]) as pool, pool.connected() as client:
+        [link] = pool.links
+        _, _, get, shown = stored(b"a", b"value")
+        client.sendall(get * 2)
+        want(received(link, 2 * len(get)), get * 2)
+        for byte in shown:
+            link.sendall(bytes([byte]))
+            time.sleep(LATE / 5)
+        want(received(client, len(shown)), shown)
+        link.sendall(shown[:9])
+        begun = time.monotonic()
+        want(received(client, len(LOST)), LOST)
+        want(LATE - 0.01 < time.monotonic() - begun < LATE + 1.5, True)
+        is_said(pool, f"{pool.servers[0].address} lost: no reply in time")
+
+
+def a_hung_server_is_given_up_without_words():
+    """In a second: so long a client of another server's keys is held up at most."""
+    with Pool() as pool, pool.connected() as client, pool.connected() as other:
+        hung, others = (b"get %s\r\n" % pool.ring.key(place) for place in (0, 1))
+        is_served(client)
+        pool.servers[0].process.send_signal(signal.SIGSTOP)
+        begun = time.monotonic()
+        client.sendall(hung + others)
+        asked(other, others, b"END\r\n")
+        want(received(client, len(LOST) + 5), LOST + b"END\r\n")
+        want(USUAL_TIMEOUT - 0.01 < time.monotonic() - begun < USUAL_TIMEOUT + 2, True)
+        pool.servers[0].process.send_signal(signal.SIGCONT)
+        answered_in_time(client, hung, b"END\r\n")
+
+
+def a_proxy_that_stood_still_loses_no_link():
+    """What came meanwhile is taken before anybody is late."""
+    with Played(1, ["--timeout", str(int(LATE * 1000))]) as pool, pool.connected() as client:
+        [link] = pool.links
+        _, _, get, shown = stored(b"a")
+        client.sendall(get)
+        want(received(link, len(get)), get)
+        pool.process.send_signal(signal.SIGSTOP)
+        link.sendall(shown)
+        time.sleep(2 * LATE)
+        pool.process.send_signal(signal.SIGCONT)
+        want(received(client, len(shown)), shown)
+        is_asked_and_answers(link, client, b"a")
+
+
 def a_server_that_was_restarted_is_back_soon():
     """It was away for a moment: of the tries at it the second comes after 0.1 to 0.2 seconds, and the third after 0.2 to 0.4 more."""
     with Pool() as pool, pool.connected() as client:
@@ -206,6 +255,9 @@ def checks_of_links():
     for check in (
         a_link_that_is_given_up_is_reset,
         what_is_undelivered_dies_with_its_link,
+        a_server_that_sends_is_not_late,
+        a_hung_server_is_given_up_without_words,
+        a_proxy_that_stood_still_loses_no_link,
         a_server_that_was_restarted_is_back_soon,
         the_system_looks_for_peers,
         a_server_that_takes_nothing_is_gone,

@@ -3,3 +3,4 @@ pub mod Delays
 pub mod Lists
 pub mod Rooms
 pub mod Servers
+pub mod Waits

@@ -229,11 +229,9 @@ impl<'a, R: Net + Clock + Eprint> Rounds<R, Stopwatch> for Host<'a> {
         patience(self.goes_on(backlog), soon, self.left())
     }
 
-    /// Upstreams on which a reply is late are lost, and clients are told so.
     fn begin(&mut self, rt: &R, clock: &mut Stopwatch) {
         self.now = clock.millis(rt);
         self.second = self.now / 1000;
-        self.give_up();
         self.clients.go_on(&mut self.handler, self.second);
     }
 
@@ -246,8 +244,10 @@ impl<'a, R: Net + Clock + Eprint> Rounds<R, Stopwatch> for Host<'a> {
         }
     }
 
+    /// Upstreams on which a reply is late once all that came was taken are lost, and clients are told so.
     fn carry_on(&mut self, registry: &Registry) {
         self.carry();
+        self.give_up();
         self.let_in(registry);
     }
 

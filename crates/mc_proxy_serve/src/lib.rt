@@ -2,9 +2,9 @@
 //!
 //! [`serve`] serves the clients that a listener accepts, and keeps a connection to each server of the ring as far as that is
 //! there: each is tried once before the first client is accepted, and while it is down again and again, less often the longer it is.
-//! Connecting waits for nobody. A connection that is given up is reset. [`ProxySettings`] says when it ends, how long a
-//! reply may take, when an idle client is closed, how often it says what it has done, and which server joins. As many clients are
-//! accepted as leave each server a descriptor ([`other_files`]). Its bodies are
+//! Connecting waits for nobody. A connection that is given up is reset. [`ProxySettings`] says when it ends, how long a server may be
+//! silent that owes a reply, when an idle client is closed, how often it says what it has done, where the servers are and which one
+//! joins. As many clients are accepted as leave each server a descriptor ([`other_files`]). Its bodies are
 //! [`mc_proxy_pump::pump_client`] and [`mc_proxy_pump::pump_link`], which have the law of a client's stream and of a
 //! server's. [`command`] and [`Options`] are the command line of [`PROGRAM`], and a [`Server`] is what a word of it names.
 //!

@@ -5,6 +5,7 @@ ghost use Rattle.mc_proxy_serve.specs.declared.options.ListError.TheVariants.{Me
 
 use crate::servers::Server;
 use crate::settings::ProxySettings;
+use clap::builder::ValueParser;
 use clap::{Arg, ArgMatches, Command};
 use mc_program::{Terms, VERSION, accept, flag, idle, listen, number, report, size, size_within};
 use mc_ring::{Ring, RingError};
@@ -88,7 +89,7 @@ impl<'a> Options<'a> {
             settings: ProxySettings {
                 terms: Terms::of(matches),
                 held: size_within(held, 1, MOST_HELD).ok_or(ListError::Held)?,
-                timeout: matches.get_one::<u64>("timeout").unwrap_or(0),
+                timeout: matches.get_one::<u64>("timeout").ok_or(ListError::Bad)?,
                 addresses,
                 join,
             },
@@ -121,12 +122,7 @@ pub fn command<'a>(alloc: Global) -> Result<Command<'a>, AllocError> {
         .about("A memcached proxy: spreads keys over servers by libketama's ring")
         .arg(listen(alloc, "127.0.0.1:11212"))?
         .arg(held(alloc))?
-        .arg(number(
-            alloc,
-            "timeout",
-            "milliseconds",
-            "Lose the connection to a server that owes a reply for so long; 0 for never",
-        ))?
+        .arg(timeout(alloc))?
         .arg(idle(alloc))?
         .arg(report(alloc))?
         .arg(accept(
@@ -160,6 +156,17 @@ fn held<'a>(alloc: Global) -> Arg<'a> {
         "268435456",
         "As many bytes of requests and replies kept for a client stop it until it is owed nothing: 1 to 1099511627776, or with K, M or G",
     )
+}
+
+fn timeout<'a>(alloc: Global) -> Arg<'a> {
+    Arg::new(alloc, "timeout")
+        .long("timeout")
+        .value_name("milliseconds")
+        .value_parser(ValueParser::unsigned(0, u64::MAX))
+        .default_value("1000")
+        .help(
+            "Lose the connection to a server that owes a reply and sends nothing for so long; 0 for never",
+        )
 }
 
 fn join<'a>(alloc: Global) -> Arg<'a> {

@@ -20,7 +20,7 @@ use std::net::Net;
 pub struct Pool {
     alloc: Global,
     upstreams: Vec<Upstream>,
-    /// After how many milliseconds a command without a reply loses its link; 0 for never.
+    /// After how many milliseconds a server that owes a reply and sends nothing loses its link; 0 for never.
     timeout: u64,
     /// What says when upstreams that failed are tried again: another number at each try.
     random: u64,
@@ -184,7 +184,7 @@ fn token_of(place: usize) -> Token {
 fn upstream_to(alloc: Global, name: &Address, address: &Address) -> Result<Upstream, AllocError> {
     let name = String::from_utf8_lossy(alloc, name.as_bytes())?;
     let address = String::from_utf8_lossy(alloc, address.as_bytes())?;
-    Ok(Upstream::new(alloc, name, address))
+    Ok(Upstream::new(name, address))
 }
 
 /// The number after a random one: a step of a generator that has each number of 64 bits in turn.

@@ -11,7 +11,7 @@ pub struct ProxySettings {
     pub terms: Terms,
     /// As many bytes kept for one client stop its turns and reads, until it is owed nothing.
     pub held: u64,
-    /// After how many milliseconds a command without a reply loses its link; 0 for never.
+    /// After how many milliseconds a server that owes a reply and sends nothing loses its link; 0 for never.
     pub timeout: u64,
     /// Where the servers of the ring are, in its order. A server that has no address here is where its name says.
     pub addresses: Vec<Address>,

@@ -13,7 +13,6 @@ use mc_watch::{Tally, earlier};
 use mio::event::Event;
 use mio::net::TcpStream;
 use mio::{Interest, Registry, Token};
-use std::alloc::Global;
 use std::mem;
 use std::net::Net;
 
@@ -55,13 +54,15 @@ pub struct Upstream {
     unread: u64,
     /// How many bytes the replies have at most that its last pump took.
     pub brought: u64,
+    /// Whether its last pump read anything.
+    came: bool,
     /// Why the system has ended the connection, where it did.
     failure: Option<Cause>,
 }
 
 impl Upstream {
     /// An upstream server to which no connection was begun.
-    pub fn new(alloc: Global, name: String, address: String) -> Upstream {
+    pub fn new(name: String, address: String) -> Upstream {
         Upstream {
             name,
             address,
@@ -73,10 +74,11 @@ impl Upstream {
             edge: Edge::new(),
             stirred: false,
             notices: Notices::new(Notice::Back),
-            waits: Waits::new(alloc),
+            waits: Waits::new(),
             losses: 0,
             unread: 0,
             brought: 0,
+            came: false,
             failure: None,
         }
     }
@@ -131,7 +133,7 @@ impl Upstream {
     }
 
     /// When something is to be done for it unasked, at the earliest: a connection is to be begun or given up, a reply is late, or
-    /// something is to be said. Nothing of it is late before `timeout` milliseconds; 0 for never.
+    /// something is to be said. A server that sends nothing for `timeout` milliseconds is late; 0 for never.
     pub fn due(&self, now: u64, timeout: u64) -> Option<u64> {
         let own = match self.state {
             State::Up(_) => self.late(timeout),
@@ -142,15 +144,15 @@ impl Upstream {
         earlier(own, self.is_due().then_some(said))
     }
 
-    /// When the reply to the command that waits longest is late.
+    /// When it is late, where it owes a reply.
     fn late(&self, timeout: u64) -> Option<u64> {
         if timeout == 0 {
             return None;
         }
-        Some(self.waits.oldest()?.saturating_add(timeout))
+        self.waits.late(timeout)
     }
 
-    /// Whether a reply is late.
+    /// Whether it owes a reply, and has sent nothing for too long.
     pub fn is_late(&self, now: u64, timeout: u64) -> bool {
         self.is_up() && self.late(timeout).is_some_and(|late| now >= late)
     }
@@ -243,6 +245,7 @@ impl Upstream {
         } else {
             self.waits.lose(fewer);
         }
+        self.came = tally.read > 0;
         self.note_brought(tally.read, fewer > 0);
         pumped
     }
@@ -254,9 +257,9 @@ impl Upstream {
         self.unread = if taken { came } else { unread };
     }
 
-    /// Notes which commands wait at a moment, so that it is known once one has waited for too long.
+    /// Notes how many commands wait after a pump at a moment, so that it is known once its server sends nothing for too long.
     pub fn note_waiting(&mut self, proxy: &Proxy, server: usize, now: u64) {
-        self.waits.note(proxy.waiting(server), now);
+        self.waits.note(proxy.waiting(server), self.came, now);
     }
 
     /// Lets the connection go, whose pump has failed, and loses the link if it is still up.
