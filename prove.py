@@ -101,6 +101,7 @@ SECONDS = {
 SHOWN = {
     "mc_account": "a proxy's links and answers fit together, as one relation",
     "mc_address": "which texts name a server's address",
+    "mc_admin": "what operators are answered, however their bytes are cut",
     "mc_cache": "each command does to the items what the protocol says",
     "mc_cache_laws": "a stored value is what the next get answers",
     "mc_clients": "how many clients there are at most, and which are idle",
@@ -111,6 +112,7 @@ SHOWN = {
     "mc_item": "what an item costs, and that its numbers rise",
     "mc_link": "each reply meets the command that it answers",
     "mc_numbered": "each thing is found by its number",
+    "mc_operators": "how much is done for operators in a second",
     "mc_pool_play": "a pool's script prints what its clients were sent",
     "mc_pool_script": "what each line of a pool's script means",
     "mc_program": "how a program ends, and by which status",

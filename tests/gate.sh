@@ -61,6 +61,7 @@ add tests/gate/refused_scripts.py
 add tests/gate/serverd.py crates/mc_serverd/out/mc_serverd
 add tests/gate/looks.py crates/mc_serverd/out/mc_serverd
 add tests/gate/proxyd.py crates/mc_proxyd/out/mc_proxyd crates/mc_serverd/out/mc_serverd
+add tests/gate/admin.py crates/mc_serverd/out/mc_serverd crates/mc_proxyd/out/mc_proxyd
 add tests/gate/keys_at_owners.py crates/mc_proxyd/out/mc_proxyd crates/mc_serverd/out/mc_serverd
 echo "$passed passed, $failed failed"
 [ "$failed" -eq 0 ]

@@ -78,6 +78,10 @@ SETTINGS = {
         "--budget 1024G --answer 1073741824k",
         "listen 127.0.0.1:11211 budget 1099511627776 items 65536 accept 0 answer 1099511627776",
     ),
+    "a_listener_of_operators": (
+        "--admin-name Watch --admin 127.0.0.1:9150 --report 4",
+        "listen 127.0.0.1:11211 budget 67108864 items 65536 accept 0 report 4 admin 127.0.0.1:9150 admin-name Watch",
+    ),
     "in_another_order": (
         "--report 4 --accept 3 --items 2",
         "listen 127.0.0.1:11211 budget 67108864 items 2 accept 3 report 4",

@@ -1,8 +1,8 @@
 -- What is asked for: by a line, and by a request of HTTP.
-use Rattle.std.specs.Prelude.{◌≡◌, ℕ, ◌≤◌, ◌-◌, ◌==◌, ◌||◌, Bool, true, false, List, [], ◌∷◌, length, take, map, codes, bytes_eq, if◌then◌else◌, Result, Ok, Err, Option, Some, None, IfOk}
+use Rattle.std.specs.Prelude.{◌≡◌, ℕ, ◌≤◌, ◌-◌, ◌==◌, ◌||◌, Bool, true, false, List, [], ◌∷◌, length, take, map, reverse, codes, bytes_eq, if◌then◌else◌, Result, Ok, Err, Option, Some, None, IfOk}
 use Rattle.std.specs.List.{before_first}
 use Rattle.std.specs.Str.Lines.{strip_carriage_return}
-use Rattle.httparse.specs.Grammar.{RequestHead, ReadsRequest, HasNoRequest}
+use Rattle.httparse.specs.Grammar.{RequestHead, ReadsRequest, HasNoRequest, skip_ows}
 use Rattle.httparse.specs.Spans.{name_and_value}
 use Rattle.http1.specs.Fields.{values_named}
 use Rattle.mc_admin.specs.Hosts.{host_of, is_known}
@@ -20,9 +20,14 @@ use Rattle.mc_admin.specs.declared.heads.TheConstants.{FIELD_LIMIT}
 use Rattle.mc_admin.specs.declared.heads.Found.{Found}
 use Rattle.mc_admin.specs.declared.heads.Found.TheVariants.{Absent, One, Several}
 
--- a whole line without its line feed, and without one carriage return in front of that
+-- a text without the spaces and tabs at its end
+abbrev pub without_blanks : List ℕ → List ℕ
+without_blanks text = reverse (skip_ows (reverse text))
+
+-- a whole line without its line feed, without one carriage return in front of that, and without the blanks in front of it, which
+-- libmemcached sends
 abbrev pub content_of : List ℕ → List ℕ
-content_of line = strip_carriage_return (take (length line - 1) line)
+content_of line = without_blanks (strip_carriage_return (take (length line - 1) line))
 
 -- what a line asks for
 -- source: memcached's protocol.txt, "Statistics", "version", "quit"

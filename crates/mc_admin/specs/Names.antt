@@ -83,6 +83,7 @@ labels_of _ = []
 unfoldable pub kind_of : Name → List ℕ
 kind_of Up = codes "gauge"
 kind_of Version = codes "gauge"
+kind_of Uptime = codes "gauge"
 kind_of Time = codes "gauge"
 kind_of Pid = codes "gauge"
 kind_of Threads = codes "gauge"

@@ -1,11 +1,12 @@
 //! What a request asks for, once it has ended.
 ghost use Rattle.std.specs.Prelude.{◌≡◌};
-ghost use Rattle.mc_admin.specs.Asked.{Asks, ReadsPage, shown, named, content_of};
+ghost use Rattle.mc_admin.specs.Asked.{Asks, ReadsPage, shown, named, content_of, without_blanks};
 
 use crate::asked::{Asked, Page, Refusal};
 use crate::heads::page_of;
 use crate::hosts::Hosts;
 use crate::inboxes::{Inbox, Phase, without_carriage_return};
+use httparse::is_space_or_tab;
 
 /// What a request asks for, where these are the program's own hosts; none until it has ended.
 pub fn asked_of(inbox: &Inbox, hosts: &Hosts<'_>) -> Option<Asked>
@@ -30,12 +31,25 @@ fn shown(page: Result<Page, Refusal>) -> Asked
     }
 }
 
-/// A whole line without its line feed, and without one carriage return in front of that.
+/// A whole line without its line feed, without one carriage return in front of that, and without the blanks in front of it.
 fn content_of(line: &[u8]) -> &[u8]
     ensures { result.now ≡ content_of line.now }
 {
     let (content, _) = line.split_at(line.len().saturating_sub(1));
-    without_carriage_return(content)
+    without_blanks(without_carriage_return(content))
+}
+
+/// A text without the spaces and tabs at its end.
+fn without_blanks(text: &[u8]) -> &[u8]
+    ensures { result.now ≡ without_blanks text.now }
+{
+    let mut rest = text;
+    while let [front @ .., last] = rest
+        && is_space_or_tab(*last)
+    {
+        rest = front;
+    }
+    rest
 }
 
 /// What a line asks for.

@@ -164,6 +164,7 @@ impl Name {
         match self {
             Name::Up => b"gauge",
             Name::Version => b"gauge",
+            Name::Uptime => b"gauge",
             Name::Time => b"gauge",
             Name::Pid => b"gauge",
             Name::Threads => b"gauge",

@@ -1,5 +1,6 @@
 //! What a program has done for its clients, as it is said.
 
+use mc_admin::ClientFigures;
 use mc_watch::Tally;
 use std::fmt;
 use std::fmt::{Display, Formatter};
@@ -17,6 +18,24 @@ pub struct Report {
     pub refused: u64,
     /// Requests, and bytes of clients.
     pub tally: Tally,
+}
+
+impl Report {
+    /// The same as figures, of a process of this number at a time in seconds since 1970, which serves so many clients at most.
+    pub fn figures(&self, pid: u64, time: u64, most: usize) -> ClientFigures {
+        ClientFigures {
+            pid,
+            uptime: self.uptime,
+            time,
+            connected: self.connections as u64,
+            most: most as u64,
+            accepted: self.accepted,
+            refused: self.refused,
+            requests: self.tally.requests,
+            read: self.tally.read,
+            written: self.tally.written,
+        }
+    }
 }
 
 impl Display for Report {

@@ -1,6 +1,7 @@
 //! A proxy, its clients, and its upstream servers.
 ghost use Rattle.std.specs.Prelude.{◌<◌, ◌^◌};
 
+use crate::figures::{settings_of, show};
 use crate::handlers::{Held, ProxyHandler};
 use crate::joining::Joining;
 use crate::limits::MAX_PASSES;
@@ -9,7 +10,8 @@ use crate::pools::Pool;
 use crate::rooms::{Room, other_files};
 use crate::settings::ProxySettings;
 use crate::woken::Woken;
-use mc_clients::{Clients, Rounds, patience};
+use mc_clients::{Clients, Report, Rounds, patience};
+use mc_operators::{Operators, process_number, wall_clock};
 use mc_program::ServeError;
 use mc_proxy::MAX_SESSIONS;
 use mc_ring::{Ring, SERVER_LIMIT};
@@ -26,6 +28,9 @@ use std::time::Duration;
 /// A proxy, its clients, and its upstream servers. A client's token is its key; that of an upstream is its server's place after all keys.
 #[derive(Drop)]
 pub struct Host<'a> {
+    alloc: Global,
+    settings: &'a ProxySettings,
+    operators: Operators,
     handler: ProxyHandler,
     clients: Clients<Held>,
     pool: Pool,
@@ -55,11 +60,17 @@ impl<'a> Host<'a> {
         alloc: Global,
         ring: Ring,
         settings: &'a ProxySettings,
+        operators: Operators,
         random: u64,
     ) -> Result<Self, ServeError> {
         let pool = Pool::new(alloc, &ring, settings, random)?;
-        let others = other_files(ring.servers().len(), settings.join.is_some());
+        let others = other_files(ring.servers().len(), settings.join.is_some()).saturating_add(
+            operators.files(),
+        );
         Ok(Host {
+            alloc,
+            settings,
+            operators,
             handler: ProxyHandler::new(alloc, ring, settings.held)?,
             clients: Clients::new(alloc, MAX_SESSIONS, settings.terms.idle)?,
             pool,
@@ -88,6 +99,7 @@ impl<'a> Host<'a> {
         let is_awaited = self.next.is_some() || (backlog == Backlog::More && !self.is_full());
         !self.carried
             || self.clients.goes_on()
+            || self.operators.goes_on()
             || self.pool.is_stirred()
             || (is_awaited && self.pool.is_tried())
     }
@@ -95,6 +107,7 @@ impl<'a> Host<'a> {
     /// In how many milliseconds something is to be done unasked, at the earliest.
     fn left(&self) -> Option<u64> {
         let second = earlier(self.clients.due(), self.pace.due());
+        let second = earlier(second, self.operators.due());
         let millis = second.map(|second| second.saturating_mul(1000));
         let due = earlier(millis, self.pool.due(self.now))?;
         Some(due.saturating_sub(self.now))
@@ -206,11 +219,34 @@ impl<'a> Host<'a> {
         self.joining.note(joined);
     }
 
+    /// What was done for its clients, where so many were accepted.
+    fn done(&self, accepted: u64) -> Report {
+        self.clients
+            .report(self.second, accepted, self.handler.tally)
+    }
+
+    /// Serves operators, where so many clients were accepted.
+    fn show<R: Clock>(&mut self, rt: &R, accepted: u64) {
+        if !self.operators.is_stirred() {
+            return;
+        }
+        let done = self.done(accepted);
+        let clients = done.figures(process_number(), wall_clock(rt), MAX_SESSIONS);
+        let settings = settings_of(self.settings, self.pool.len());
+        let (pool, proxy) = (&self.pool, &self.handler.proxy);
+        show(
+            self.alloc,
+            &mut self.operators,
+            &clients,
+            pool,
+            proxy,
+            &settings,
+        );
+    }
+
     /// Says on standard error what was done, where so many clients were accepted.
     fn report<R: Eprint>(&self, rt: &R, accepted: u64) {
-        let report = self
-            .clients
-            .report(self.second, accepted, self.handler.tally);
+        let report = self.done(accepted);
         // Where it cannot be said, all are served all the same.
         let _ = eprintln!(rt; "{PROGRAM}: {report}");
         self.pool.report(rt, &self.handler.proxy);
@@ -221,6 +257,7 @@ impl<'a, R: Net + Clock + Eprint> Rounds<R, Stopwatch> for Host<'a> {
     /// Tries the upstreams that are down where it is time for them, and says what is new of the servers, of each at most once in a
     /// second.
     fn before(&mut self, rt: &R, registry: &Registry, backlog: Backlog) -> Option<Duration> {
+        self.operators.before(registry, self.second);
         self.pool.keep(rt, registry, self.now);
         self.pool.tell(rt, self.second);
         self.joining.tell(rt, self.second);
@@ -237,7 +274,9 @@ impl<'a, R: Net + Clock + Eprint> Rounds<R, Stopwatch> for Host<'a> {
 
     fn wake(&mut self, event: &Event) {
         let Token(key) = event.token();
-        if key >= MAX_SESSIONS {
+        if self.operators.has(event.token()) {
+            self.operators.note(event);
+        } else if key >= MAX_SESSIONS {
             self.pool.note(&mut self.handler.proxy, event);
         } else {
             self.clients.wake(&mut self.handler, event, self.second);
@@ -263,6 +302,7 @@ impl<'a, R: Net + Clock + Eprint> Rounds<R, Stopwatch> for Host<'a> {
     }
 
     fn finish(&mut self, rt: &R, accepted: u64) {
+        self.show(rt, accepted);
         self.clients.tell(rt, PROGRAM, self.second);
         if self.is_full() {
             self.room.tell(rt, self.second);

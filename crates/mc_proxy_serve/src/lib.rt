@@ -15,6 +15,7 @@
 #![tactic(auto)]
 
 mod delays;
+mod figures;
 mod handlers;
 mod hosts;
 mod joining;
@@ -30,6 +31,7 @@ mod upstreams;
 mod waits;
 mod woken;
 
+pub use mc_operators::Operators;
 pub use options::{ListError, Options, PROGRAM, command};
 pub use rooms::other_files;
 pub use servers::Server;

@@ -7,7 +7,10 @@ use crate::servers::Server;
 use crate::settings::ProxySettings;
 use clap::builder::ValueParser;
 use clap::{Arg, ArgMatches, Command};
-use mc_program::{Terms, VERSION, accept, flag, idle, listen, number, report, size, size_within};
+use mc_program::{
+    AdminTerms, Terms, VERSION, accept, admin, admin_name, flag, idle, listen, number, report,
+    size, size_within,
+};
 use mc_ring::{Ring, RingError};
 use std::alloc::{AllocError, Global};
 use thiserror::Error;
@@ -29,6 +32,8 @@ pub struct Options<'a> {
     pub settings: ProxySettings,
     /// Whether its operator is to be told on standard error what is told at a terminal or for the journal.
     pub log: bool,
+    /// Where operators are answered.
+    pub admin: AdminTerms<'a>,
     /// Whether to print how many servers and points there are, and end.
     pub check: bool,
 }
@@ -94,6 +99,7 @@ impl<'a> Options<'a> {
                 join,
             },
             log: matches.get_flag("log"),
+            admin: AdminTerms::of(matches),
             check: matches.get_flag("check"),
         })
     }
@@ -125,6 +131,8 @@ pub fn command<'a>(alloc: Global) -> Result<Command<'a>, AllocError> {
         .arg(timeout(alloc))?
         .arg(idle(alloc))?
         .arg(report(alloc))?
+        .arg(admin(alloc))?
+        .arg(admin_name(alloc))?
         .arg(accept(
             alloc,
             "End once so many clients were accepted and all are gone; 0 for never",

@@ -6,6 +6,7 @@ use crate::servers::Server;
 use crate::settings::ProxySettings;
 use crate::upstreams::Upstream;
 use crate::woken::Woken;
+use mc_admin::LinkFigures;
 use mc_proxy::{LINK_MARK, MAX_SESSIONS, Proxy, ProxyError};
 use mc_ring::{Address, Ring};
 use mc_socket::{KEPT_ROOM, Step, step_after};
@@ -45,6 +46,11 @@ impl Pool {
             timeout: settings.timeout,
             random,
         })
+    }
+
+    /// How many upstreams there are.
+    pub fn len(&self) -> usize {
+        self.upstreams.len()
     }
 
     /// Whether each upstream was tried.
@@ -91,6 +97,15 @@ impl Pool {
         for (place, upstream) in self.upstreams.iter().enumerate() {
             upstream.report(rt, proxy.waiting(place));
         }
+    }
+
+    /// What became of each upstream, as figures.
+    pub fn figures(&self, proxy: &Proxy) -> Result<Vec<LinkFigures<'_>>, AllocError> {
+        let mut links = Vec::with_capacity(self.alloc, self.upstreams.len())?;
+        for (place, upstream) in self.upstreams.iter().enumerate() {
+            links.push(upstream.figures(proxy.waiting(place)))?;
+        }
+        Ok(links)
     }
 
     /// Says on standard error what is new of the servers, of each at most once in a second.

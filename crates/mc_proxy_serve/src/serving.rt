@@ -3,6 +3,7 @@
 use crate::hosts::Host;
 use crate::settings::ProxySettings;
 use mc_clients::serve_rounds;
+use mc_operators::Operators;
 use mc_program::ServeError;
 use mc_ring::Ring;
 use mc_socket::Stopwatch;
@@ -24,9 +25,10 @@ pub fn serve<R: Net + Clock + RandomSource + Wait + Eprint>(
     alloc: Global,
     listener: TcpListener,
     settings: &ProxySettings,
+    operators: Operators,
     ring: Ring,
 ) -> Result<(), ServeError> {
-    let mut host = Host::new(alloc, ring, settings, random_number(rt))?;
+    let mut host = Host::new(alloc, ring, settings, operators, random_number(rt))?;
     let accept = settings.terms.accept;
     let mut clock = Stopwatch::new(rt);
     serve_rounds(rt, alloc, listener, accept, &mut clock, &mut host)

@@ -6,6 +6,7 @@ use crate::limits::{CONNECT_MILLIS, LINK_KEEPALIVE, NEXT_DELAY, NOTICE_DELAY};
 use crate::notices::{Cause, Notice, Notices, tell};
 use crate::options::PROGRAM;
 use crate::waits::Waits;
+use mc_admin::LinkFigures;
 use mc_proxy::Proxy;
 use mc_proxy_pump::{Pumped, pump_link};
 use mc_socket::{Edge, Input, first_address, keep_alive_by, reset};
@@ -293,6 +294,18 @@ impl Upstream {
         let _ = eprintln!(rt;
             "{PROGRAM}: server={server} state={state} losses={losses} sent={sent} lost={lost} waiting={waiting}"
         );
+    }
+
+    /// What became of it, and of the commands that were put on it, of which so many wait, as figures.
+    pub fn figures(&self, waiting: usize) -> LinkFigures<'_> {
+        LinkFigures {
+            server: self.name.as_bytes(),
+            up: u64::from(self.is_up()),
+            losses: self.losses,
+            sent: self.waits.sent(waiting),
+            lost: self.waits.lost(),
+            waiting: waiting as u64,
+        }
     }
 
     /// Why its pump has failed: the link is lost by a strange reply, or there was no memory, or the connection is over, of which the

@@ -10,7 +10,9 @@ ghost use Rattle.mc_program.specs.Statuses.{status_of};
 
 use mc_program::{Failure, ServeError, exit_status, is_read, read_words};
 use mc_proxy::MAX_SESSIONS;
-use mc_proxy_serve::{ListError, Options, PROGRAM, ProxySettings, command, other_files, serve};
+use mc_proxy_serve::{
+    ListError, Operators, Options, PROGRAM, ProxySettings, command, other_files, serve,
+};
 use mc_ring::Ring;
 use mc_socket::bind;
 use mc_watch::tell_open_files;
@@ -42,13 +44,20 @@ where
         ring,
         settings,
         log,
+        admin,
         check,
     } = Options::of(alloc, &matches).map_err(failure_of)?;
     if check {
         return print_size(rt, &ring);
     }
     let is_read = is_read(rt, log);
-    let served = listen_and_serve(rt, alloc, listen, &settings, ring);
+    let operators = Operators::new(rt, alloc, &admin).map_err(|error| Failure::at(
+        rt,
+        error,
+        admin.listen.unwrap_or(""),
+        is_read,
+    ))?;
+    let served = listen_and_serve(rt, alloc, listen, &settings, operators, ring);
     served.map_err(|error| Failure::at(rt, error, listen, is_read))
 }
 
@@ -58,17 +67,20 @@ fn listen_and_serve<R>(
     alloc: Global,
     listen: &str,
     settings: &ProxySettings,
+    operators: Operators,
     ring: Ring,
 ) -> Result<(), ServeError>
 where
     R: Clock + Print + Eprint + Net + RandomSource + Wait,
 {
     let listener = bind(rt, listen)?;
-    let others = other_files(ring.servers().len(), settings.join.is_some());
+    let others = other_files(ring.servers().len(), settings.join.is_some()).saturating_add(
+        operators.files(),
+    );
     tell_open_files(rt, PROGRAM, others, MAX_SESSIONS);
     // Whom the line does not reach is served all the same.
     let _ = println!(rt; "listening {listen}");
-    serve(rt, alloc, listener, settings, ring)
+    serve(rt, alloc, listener, settings, operators, ring)
 }
 
 /// Why a word of `--held` is refused.

@@ -2,10 +2,10 @@
 ghost use Rattle.std.specs.Prelude.{◌≡◌, ◌<◌, ◌≤◌, ◌^◌, ◌/◌, ℕ};
 ghost use Rattle.mc_serve.specs.Clocks.{moment_after};
 
+use mc_operators::wall_clock;
 use mc_socket::Stopwatch;
 use std::marker::Model;
 use std::rt::Clock;
-use std::time::{SystemTime, UNIX_EPOCH};
 
 /// What tells a server the time.
 pub trait Seconds {
@@ -54,12 +54,4 @@ impl<'a, R: Clock> Seconds for SystemSeconds<'a, R> {
         let passed = self.stopwatch.millis(self.rt) / 1000;
         self.start.saturating_add(passed).min(i64::MAX as u64)
     }
-}
-
-/// The wall clock: whole seconds since 1970; 0 where it is before 1970, or cannot be read.
-fn wall_clock<R: Clock>(rt: &R) -> u64 {
-    let since = SystemTime::now(rt)
-        .ok()
-        .and_then(|time| time.duration_since(UNIX_EPOCH).ok());
-    since.map_or(0, |since| since.as_secs())
 }

@@ -1,5 +1,6 @@
 //! What a store has done.
 
+use mc_admin::StoreFigures;
 use std::cell::Cell;
 use std::fmt;
 use std::fmt::{Display, Formatter};
@@ -58,6 +59,22 @@ impl Counts {
     pub fn hold(&self, items: usize, used: u64) {
         self.items.set(items);
         self.used.set(used);
+    }
+
+    /// What the store has done and holds, where it may hold so much.
+    pub fn figures(&self, budget: u64, most: usize) -> StoreFigures {
+        let (items, used) = self.held();
+        StoreFigures {
+            hits: self.hits.get(),
+            misses: self.misses.get(),
+            stores: self.stores.get(),
+            evictions: self.evictions.get(),
+            expired: self.expired.get(),
+            items: items as u64,
+            used,
+            budget,
+            most: most as u64,
+        }
     }
 
     /// How many items the store holds, and what they cost.

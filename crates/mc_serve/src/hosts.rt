@@ -3,11 +3,13 @@ ghost use Rattle.std.specs.Prelude.{◌<◌, ◌^◌};
 
 use crate::clocks::Seconds;
 use crate::counts::Counts;
+use crate::figures::show;
 use crate::handlers::ServerHandler;
 use crate::items::advice_of;
 use crate::options::PROGRAM;
 use crate::settings::Settings;
-use mc_clients::{Clients, Rounds, patience};
+use mc_clients::{Clients, Report, Rounds, patience};
+use mc_operators::Operators;
 use mc_server::{MAX_CONNECTIONS, Server};
 use mc_socket::Backlog;
 use mc_store::Store;
@@ -22,8 +24,10 @@ use std::time::Duration;
 /// A server, its clients and what it does unasked: once in a second or less often it has clients rest, and says what it has done.
 #[derive(Drop)]
 pub struct Host<S: Store + Drop> {
+    alloc: Global,
     handler: ServerHandler<S>,
     clients: Clients<()>,
+    operators: Operators,
     /// What the server's store has done.
     counts: Rc<Counts>,
     settings: Settings,
@@ -45,14 +49,17 @@ impl<S: Store + Drop> Host<S> {
         server: Server<S>,
         counts: Rc<Counts>,
         settings: &Settings,
+        operators: Operators,
         moment: u64,
     ) -> Result<Self, AllocError>
         requires { moment < 2 ^ 63 }
     {
         let service = settings.service;
         Ok(Host {
+            alloc,
             handler: ServerHandler::new(alloc, server, service.answer)?,
             clients: Clients::new(alloc, MAX_CONNECTIONS, service.terms.idle)?,
+            operators,
             counts,
             settings: *settings,
             advised: false,
@@ -63,10 +70,32 @@ impl<S: Store + Drop> Host<S> {
         })
     }
 
+    /// What it has done for its clients, where so many connections were accepted.
+    fn done(&self, accepted: u64) -> Report {
+        let uptime = self.moment.saturating_sub(self.start);
+        self.clients.report(uptime, accepted, self.handler.tally())
+    }
+
+    /// Serves operators, where so many connections were accepted.
+    fn show(&mut self, accepted: u64) {
+        if !self.operators.is_stirred() {
+            return;
+        }
+        let done = self.done(accepted);
+        let (counts, settings) = (&*self.counts, &self.settings);
+        show(
+            self.alloc,
+            &mut self.operators,
+            &done,
+            counts,
+            settings,
+            self.moment,
+        );
+    }
+
     /// Says on standard error what it has done, and its store, where so many connections were accepted.
     fn report<R: Eprint>(&self, rt: &R, accepted: u64) {
-        let uptime = self.moment.saturating_sub(self.start);
-        let clients = self.clients.report(uptime, accepted, self.handler.tally());
+        let clients = self.done(accepted);
         let counts = &*self.counts;
         // Where it cannot be said, all are served all the same.
         let _ = eprintln!(rt; "{PROGRAM}: {clients} {counts}");
@@ -90,11 +119,15 @@ impl<S: Store + Drop> Host<S> {
 }
 
 impl<R: Eprint, C: Seconds, S: Store + Drop> Rounds<R, C> for Host<S> {
-    fn before(&mut self, rt: &R, _registry: &Registry, backlog: Backlog) -> Option<Duration> {
+    fn before(&mut self, rt: &R, registry: &Registry, backlog: Backlog) -> Option<Duration> {
+        self.operators.before(registry, self.moment);
         self.clients.tell_refused(rt, PROGRAM, backlog, self.moment);
-        let goes_on = self.clients.goes_on() || backlog == Backlog::More;
+        let goes_on = self.clients.goes_on()
+            || self.operators.goes_on()
+            || backlog == Backlog::More;
         let soon = self.clients.is_busy() || backlog.is_refused();
         let due = earlier(self.clients.due(), self.pace.due());
+        let due = earlier(due, self.operators.due());
         let left = due.map(|due| due.saturating_sub(self.moment).saturating_mul(1000));
         patience(goes_on, soon, left)
     }
@@ -106,7 +139,11 @@ impl<R: Eprint, C: Seconds, S: Store + Drop> Rounds<R, C> for Host<S> {
     }
 
     fn wake(&mut self, event: &Event) {
-        self.clients.wake(&mut self.handler, event, self.moment);
+        if self.operators.has(event.token()) {
+            self.operators.note(event);
+        } else {
+            self.clients.wake(&mut self.handler, event, self.moment);
+        }
     }
 
     fn carry_on(&mut self, _registry: &Registry) {}
@@ -121,6 +158,7 @@ impl<R: Eprint, C: Seconds, S: Store + Drop> Rounds<R, C> for Host<S> {
     }
 
     fn finish(&mut self, rt: &R, accepted: u64) {
+        self.show(accepted);
         self.handler.tell(rt, self.moment);
         self.clients.tell(rt, PROGRAM, self.moment);
         if self.moment == self.rested {

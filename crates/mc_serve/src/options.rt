@@ -7,7 +7,10 @@ use crate::settings::{Service, Settings, USUAL_ANSWER};
 use clap::builder::ValueParser;
 use clap::{Arg, ArgMatches, Command};
 use mc_cache::MAX_BUDGET;
-use mc_program::{Terms, VERSION, accept, flag, idle, listen, report, size, size_within};
+use mc_program::{
+    AdminTerms, Terms, VERSION, accept, admin, admin_name, flag, idle, listen, report, size,
+    size_within,
+};
 use std::alloc::{AllocError, Global};
 use std::fmt;
 use std::fmt::{Display, Formatter};
@@ -42,6 +45,8 @@ pub struct Options<'a> {
     pub settings: Settings,
     /// Whether its operator is to be told on standard error what is told at a terminal or for the journal.
     pub log: bool,
+    /// Where operators are answered.
+    pub admin: AdminTerms<'a>,
     /// Whether to print the settings and end.
     pub check: bool,
 }
@@ -65,6 +70,7 @@ impl<'a> Options<'a> {
             listen: word_of(matches, "listen"),
             settings: settings.ok_or(BAD_BUDGET)?,
             log: matches.get_flag("log"),
+            admin: AdminTerms::of(matches),
             check: matches.get_flag("check"),
         })
     }
@@ -119,7 +125,7 @@ impl Display for Options<'_> {
         if self.log {
             f.write_str(" log")?;
         }
-        Ok(())
+        write!(f, "{}", self.admin)
     }
 }
 
@@ -136,6 +142,8 @@ pub fn command<'a>(alloc: Global) -> Result<Command<'a>, AllocError> {
         .arg(answer(alloc))?
         .arg(idle(alloc))?
         .arg(report(alloc))?
+        .arg(admin(alloc))?
+        .arg(admin_name(alloc))?
         .arg(accept(
             alloc,
             "End once so many connections were accepted and all are closed; 0 for never",

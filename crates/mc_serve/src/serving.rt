@@ -16,6 +16,7 @@ use mc_cache::Cache;
 use mc_clients::serve_rounds;
 use mc_hasher::SecretState;
 use mc_item::CasCounter;
+use mc_operators::Operators;
 use mc_program::{ListenError, ServeError};
 use mc_server::Server;
 use mc_store::{LruStore, TableStore};
@@ -34,19 +35,20 @@ const NO_SEED: ServeError = ServeError::Listen(ListenError::NoSeed);
 ///
 /// It answers once as many connections as the settings say were accepted and all of them are closed; without such a
 /// limit it serves for ever. A connection that fails is closed, and the others go on. A round of the poll reads the clock
-/// once. What is said on standard error waits for whoever reads it; where it fails nothing else changes.
+/// once. Operators are served at the end of a round, by what the server has done. What is said on standard error waits for whoever reads it; where it fails nothing else changes.
 pub fn serve<R: Net + RandomSource + Wait + Eprint, C: Seconds>(
     rt: &R,
     alloc: Global,
     listener: TcpListener,
     settings: &Settings,
+    operators: Operators,
     clock: &mut C,
 ) -> Result<(), ServeError> {
     let counts = Rc::new(alloc, Counts::default()).map_err(|_| ServeError::Memory)?;
     let start = clock.now();
     let server = new_server(rt, alloc, settings, counts.clone()?, start)?;
     let service = settings.service;
-    let mut host = Host::new(alloc, server, counts, settings, start)?;
+    let mut host = Host::new(alloc, server, counts, settings, operators, start)?;
     serve_rounds(rt, alloc, listener, service.terms.accept, clock, &mut host)
 }
 

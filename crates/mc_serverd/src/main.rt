@@ -5,7 +5,7 @@
 #![tactic(auto)]
 
 use mc_program::{Failure, ServeError, exit_status, is_read, read_words};
-use mc_serve::{Options, PROGRAM, SystemSeconds, bind, command, serve, tell_memory};
+use mc_serve::{Operators, Options, PROGRAM, SystemSeconds, bind, command, serve, tell_memory};
 use mc_server::MAX_CONNECTIONS;
 use mc_watch::{OWN_FILES, tell_open_files};
 use std::alloc::Global;
@@ -37,7 +37,13 @@ where
         return check(rt, &options);
     }
     let is_read = is_read(rt, options.log);
-    let served = listen_and_serve(rt, alloc, &options, is_read);
+    let operators = Operators::new(rt, alloc, &options.admin).map_err(|error| Failure::at(
+        rt,
+        error,
+        options.admin.listen.unwrap_or(""),
+        is_read,
+    ))?;
+    let served = listen_and_serve(rt, alloc, &options, operators, is_read);
     served.map_err(|error| Failure::at(rt, error, options.listen, is_read))
 }
 
@@ -46,6 +52,7 @@ fn listen_and_serve<R>(
     rt: &R,
     alloc: Global,
     options: &Options<'_>,
+    operators: Operators,
     is_read: bool,
 ) -> Result<(), ServeError>
 where
@@ -55,11 +62,18 @@ where
     if is_read {
         tell_memory(rt, &options.settings);
     }
-    tell_open_files(rt, PROGRAM, OWN_FILES, MAX_CONNECTIONS);
+    let others = OWN_FILES.saturating_add(operators.files());
+    tell_open_files(rt, PROGRAM, others, MAX_CONNECTIONS);
     // Whom the line does not reach is served all the same.
     let _ = println!(rt; "listening {}", options.listen);
-    let mut clock = SystemSeconds::new(rt);
-    serve(rt, alloc, listener, &options.settings, &mut clock)
+    serve(
+        rt,
+        alloc,
+        listener,
+        &options.settings,
+        operators,
+        &mut SystemSeconds::new(rt),
+    )
 }
 
 /// Prints the settings.

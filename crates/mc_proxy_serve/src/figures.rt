@@ -1,0 +1,65 @@
+//! What a proxy says of itself to operators.
+
+use crate::pools::Pool;
+use crate::settings::ProxySettings;
+use mc_admin::{ClientFigures, Setting, Sheet, Value, push_client_figures, push_link_figures};
+use mc_operators::Operators;
+use mc_proxy::{MAX_SESSIONS, Proxy};
+use std::alloc::{AllocError, Global};
+
+/// Serves operators, by what a proxy has done for its clients, what became of its servers, and its settings. Those for whom there is no
+/// memory are turned away.
+pub fn show(
+    alloc: Global,
+    operators: &mut Operators,
+    clients: &ClientFigures,
+    pool: &Pool,
+    proxy: &Proxy,
+    settings: &[Setting<'_>],
+) {
+    let shown = try_show(alloc, operators, clients, pool, proxy, settings);
+    if shown.is_err() {
+        operators.turn_away();
+    }
+}
+
+/// The same, which says whether there was memory.
+fn try_show(
+    alloc: Global,
+    operators: &mut Operators,
+    clients: &ClientFigures,
+    pool: &Pool,
+    proxy: &Proxy,
+    settings: &[Setting<'_>],
+) -> Result<(), AllocError> {
+    let links = pool.figures(proxy)?;
+    let mut figures = Vec::new(alloc);
+    push_client_figures(clients, &mut figures)?;
+    push_link_figures(links.as_slice(), &mut figures)?;
+    operators.serve(&Sheet {
+        figures: figures.as_slice(),
+        settings,
+    });
+    Ok(())
+}
+
+/// The settings of a proxy of so many servers, by memcached's names where it has them.
+pub fn settings_of(settings: &ProxySettings, servers: usize) -> [Setting<'static>; 7] {
+    [
+        setting(b"maxconns", MAX_SESSIONS as u64),
+        setting(b"num_threads", 1),
+        setting(b"idle_timeout", settings.terms.idle),
+        setting(b"servers", servers as u64),
+        setting(b"held", settings.held),
+        setting(b"timeout", settings.timeout),
+        setting(b"report", settings.terms.report),
+    ]
+}
+
+/// A number under its name.
+fn setting(name: &'static [u8], number: u64) -> Setting<'static> {
+    Setting {
+        name,
+        value: Value::Number(number),
+    }
+}

@@ -1,0 +1,375 @@
+#!/usr/bin/env python3
+"""Tries the listener of operators, --admin, of the built mc_serverd and mc_proxyd on sockets: what it shows, what it refuses, and what
+operators who mean ill can do to others.
+
+Usage: admin.py SERVER PROXY
+
+serverd.metrics and proxyd.metrics are what /metrics shows of a server and of a proxy, serverd.stats and serverd.settings what the lines
+`stats` and `stats settings` are answered: of what is another at each run (a process, a time, a port) the value is a word in
+capitals. It prints a line for each check that fails; the last line is 'N passed, M failed'. All that is started is ended with its check.
+"""
+
+import contextlib
+import http.client
+import pathlib
+import re
+import socket
+import sys
+import threading
+import time
+
+sys.path.insert(0, str(pathlib.Path(__file__).resolve().parents[1] / "lib"))
+
+from checks import PATIENCE, Program, Wrong, asked, is_served, received, received_to_the_end, tally, want, want_at_most
+from servers import HOST, Proxy, Server, connected, free_port
+from suite import are_built
+
+HERE = pathlib.Path(__file__).parent
+REQUEST_LIMIT = 4096  # the most bytes of a line or of a head
+MOST = 16  # the most connections
+LINGER = 2  # seconds that a connection is read to its end after its last answer
+PLAIN = "text/plain; charset=utf-8"
+VERSION = b"VERSION 1.6.0\r\n"
+LOAD = (
+    b"set a 0 0 3\r\nabc\r\nset b 0 0 1\r\nx\r\nset c 0 -1 1\r\ny\r\nget a b c none\r\nmg a v\r\nincr n 1\r\nwhat\r\n",
+    b"STORED\r\nSTORED\r\nSTORED\r\nVALUE a 0 3\r\nabc\r\nVALUE b 0 1\r\nx\r\nEND\r\nVA 3\r\nabc\r\nNOT_FOUND\r\nERROR\r\n",
+)
+# What is another at each run, in metrics and in statistics.
+VARYING = [
+    (rb"(wiersbol_process_id|STAT pid) \d+", rb"\1 PID"),
+    (rb"(memcached_uptime_seconds|STAT uptime) \d+", rb"\1 UPTIME"),
+    (rb"(memcached_time_seconds|STAT time) 1\d{9}\b", rb"\1 TIME"),
+]
+
+
+def masked(text, ports=()):
+    for pattern, word in VARYING:
+        text = re.sub(pattern, word, text)
+    for port, name in ports:
+        text = text.replace(b":%d" % port, b":%s" % name)
+    return text.replace(b"\r\n", b"\n").decode()
+
+
+class Admin:
+    """A program with a listener of operators: how it is asked."""
+
+    def __init__(self, port):
+        self.port = port
+
+    def connected(self):
+        return connected(self.port)
+
+    def got(self, path, method="GET", host=None, body=None):
+        """The status, the fields and the body of a request."""
+        client = http.client.HTTPConnection(HOST, self.port, timeout=PATIENCE)
+        try:
+            client.request(method, path, body=body, headers={"Host": host} if host else {})
+            answer = client.getresponse()
+            return answer.status, dict(answer.getheaders()), answer.read()
+        finally:
+            client.close()
+
+    def told(self, text):
+        """All that comes for a text."""
+        with self.connected() as connection:
+            connection.sendall(text)
+            return received_to_the_end(connection)
+
+    def status(self, text):
+        return self.told(text).split(b" ", 2)[1]
+
+
+@contextlib.contextmanager
+def server(program, *words):
+    port = free_port()
+    with Server(program, words=["--admin", f"{HOST}:{port}", *words]) as started:
+        yield started, Admin(port)
+
+
+@contextlib.contextmanager
+def loaded(started):
+    """A client that has sent the load, and stays connected."""
+    with started.connected() as client:
+        asked(client, *LOAD)
+        yield
+
+
+# What is shown.
+
+
+def metrics_are_shown(program):
+    with server(program) as (started, admin), loaded(started):
+        status, fields, body = admin.got("/metrics")
+        want((status, fields["content-type"]), (200, "text/plain; version=0.0.4; charset=utf-8"))
+        want((fields["content-length"], fields["connection"]), (str(len(body)), "close"))
+        want(masked(body), (HERE / "serverd.metrics").read_text())
+
+
+def statistics_are_shown(program):
+    with server(program) as (started, admin), loaded(started):
+        want(masked(admin.told(b"stats\r\nquit\r\n")), (HERE / "serverd.stats").read_text())
+
+
+def settings_are_shown(program):
+    words = "--store lru --idle 7 --report 3600 --answer 2048".split()
+    with server(program, *words) as (_, admin):
+        want(masked(admin.told(b"stats settings\r\nquit\r\n")), (HERE / "serverd.settings").read_text())
+
+
+def it_says_that_it_serves(program):
+    with server(program) as (_, admin):
+        status, fields, body = admin.got("/healthz")
+        want((status, fields["content-type"], body), (200, PLAIN, b"ok\n"))
+        want(admin.got("/healthz?verbose=1")[0], 200)
+
+
+def numbers_grow(program):
+    """What counts since the start: a scrape beside a load."""
+    with server(program) as (started, admin):
+        for total in (1, 2, 3):
+            with loaded(started):
+                lines = admin.got("/metrics")[2].splitlines()
+            shown = dict(line.rsplit(b" ", 1) for line in lines if not line.startswith(b"#"))
+            want(int(shown[b"memcached_items_total"]), 3 * total)
+            want(int(shown[b"memcached_read_bytes_total"]), total * len(LOAD[0]))
+            want(int(shown[b"memcached_written_bytes_total"]), total * len(LOAD[1]))
+            want(int(shown[b"memcached_connections_total"]), total)
+
+
+def a_proxy_shows_its_servers(program, proxy_program):
+    port = free_port()
+    with contextlib.ExitStack() as stack:
+        servers = [stack.enter_context(Server(program)) for _ in range(2)]
+        addresses = [each.address for each in servers]
+        proxy = stack.enter_context(Proxy(proxy_program, addresses, ["--admin", f"{HOST}:{port}"]))
+        admin = Admin(port)
+        with proxy.connected() as client:
+            asked(client, b"set a 0 0 1\r\nx\r\n", b"STORED\r\n")
+            ports = [(each.port, name) for each, name in zip(servers, (b"FIRST", b"SECOND"))]
+            body = masked(admin.got("/metrics")[2], ports)
+            owned = 1 if 'sent_total{server="127.0.0.1:SECOND"} 1' in body else 0
+            names = ("FIRST", "SECOND") if owned == 0 else ("SECOND", "FIRST")
+            ports = [(each.port, name.encode()) for each, name in zip(servers, names)]
+            shown = masked(admin.got("/metrics")[2], ports)
+            want(sorted(shown.splitlines()), sorted((HERE / "proxyd.metrics").read_text().splitlines()))
+            servers[owned].stop()
+            address = servers[owned].address.encode()
+            deadline = time.monotonic() + PATIENCE
+            while b'wiersbol_server_up{server="%s"} 0' % address not in admin.got("/metrics")[2]:
+                want(time.monotonic() < deadline, True)
+                time.sleep(0.05)
+            lines = admin.told(b"stats\r\nquit\r\n").splitlines()
+            for part, number in ((b"up", 0), (b"losses", 1), (b"sent", 1), (b"lost", 0), (b"waiting", 0)):
+                want(b"STAT server:%s:%s %d" % (address, part, number) in lines, True)
+
+
+# What is asked, however it comes.
+
+
+def a_byte_at_a_time(program):
+    with server(program) as (_, admin):
+        for text in (
+            b"version\r\nstats items\r\nversion\nquit\r\n",
+            b"GET /healthz HTTP/1.1\r\nHost: localhost\r\nX-A: b\r\n\r\n",
+            b"GET /healthz HTTP/1.0\n\n",
+        ):
+            whole = admin.told(text)
+            with admin.connected() as connection:
+                for place in range(len(text)):
+                    connection.sendall(text[place : place + 1])
+                    time.sleep(0.001)
+                want(received_to_the_end(connection), whole)
+            want(len(whole) > 0, True)
+
+
+def lines_are_answered_in_order(program):
+    with server(program) as (_, admin):
+        lines = b"version\r\nstats slabs\r\nset a 0 0 1\r\nx\r\nget a\r\nversion\r\n" * 100 + b"quit\r\n"
+        answers = VERSION + b"END\r\n" + b"ERROR\r\n" * 3 + VERSION
+        want(admin.told(lines), answers * 100)
+
+
+def the_cache_is_not_reached(program):
+    with server(program) as (started, admin):
+        want(admin.told(b"set a 0 0 1\r\nx\r\nget a\r\nflush_all\r\nquit\r\n"), b"ERROR\r\n" * 4)
+        with started.connected() as client:
+            asked(client, b"get a\r\nstats\r\nstats settings\r\n", b"END\r\nERROR\r\nERROR\r\n")
+        with started.connected() as client, contextlib.suppress(ConnectionResetError):
+            client.sendall(b"GET /metrics HTTP/1.1\r\nHost: localhost\r\n\r\n")
+            want(received_to_the_end(client), b"")
+
+
+# What is refused.
+
+
+def other_methods_are_refused(program):
+    with server(program) as (_, admin):
+        for method in ("POST", "PUT", "DELETE", "OPTIONS", "PATCH"):
+            status, fields, body = admin.got("/metrics", method, body=b"x" * 10_000)
+            want((status, fields["allow"], body), (405, "GET", b"405: only GET is answered\n"))
+        status, fields, body = admin.got("/metrics", "HEAD")
+        want((status, fields["content-length"], body), (405, "0", b""))
+        want(admin.told(b"HEAD /metrics HTTP/1.1\r\nHost: localhost\r\n\r\n").partition(b"\r\n\r\n")[2], b"")
+
+
+def other_hosts_are_refused(program):
+    with server(program, "--admin-name", "Watch.example") as (_, admin):
+        for host in (HOST, f"{HOST}:{admin.port}", "localhost", "LOCALHOST:1", "watch.EXAMPLE", "watch.example:9"):
+            want((host, admin.got("/metrics", host=host)[0]), (host, 200))
+        for host in ("example.org", f"example.org:{admin.port}", "localhost.example", "127.0.0.2", "[::1]", ":80", "watch.example."):
+            status, _, body = admin.got("/metrics", host=host)
+            want((host, status, b"memcached" in body), (host, 421, False))
+
+
+def heads_that_are_none_are_refused(program):
+    with server(program) as (_, admin):
+        for head, status in (
+            (b"GET /metrics HTTP/1.1\r\n\r\n", b"400"),
+            (b"GET /metrics HTTP/1.1\r\nHost: localhost\r\nHost: localhost\r\n\r\n", b"400"),
+            (b"GET /metrics HTTP/1.0\r\n\r\n", b"200"),
+            (b"GET /metrics HTTP/1.0\r\nHost: example.org\r\n\r\n", b"421"),
+            (b"GET /metrics HTTP/1.2\r\nHost: localhost\r\n\r\n", b"400"),
+            (b"GET /met\x01rics HTTP/1.1\r\nHost: localhost\r\n\r\n", b"400"),
+            (b"GET /metrics HTTP/1.1\r\nHost localhost\r\n\r\n", b"400"),
+            (b"GET /metrics HTTP/1.1\r\nHost: localhost\r\n" + b"A: b\r\n" * 100 + b"\r\n", b"400"),
+            (b"GET / HTTP/1.1\r\nHost: localhost\r\n\r\n", b"404"),
+            (b"GET /metrics/ HTTP/1.1\r\nHost: localhost\r\n\r\n", b"404"),
+            (b"GET http://localhost/metrics HTTP/1.1\r\nHost: localhost\r\n\r\n", b"404"),
+        ):
+            want((head, admin.status(head)), (head, status))
+
+
+def an_endless_head_is_refused(program):
+    with server(program) as (_, admin):
+        head = b"GET /metrics HTTP/1.1\r\nHost: localhost\r\nX: "
+        fitting = head + b"x" * (REQUEST_LIMIT - len(head) - 4) + b"\r\n\r\n"
+        want((len(fitting), admin.status(fitting)), (REQUEST_LIMIT, b"200"))
+        with admin.connected() as connection:
+            connection.sendall(head + b"x" * (REQUEST_LIMIT - len(head)))
+            want(received(connection, 12), b"HTTP/1.1 431")
+        with contextlib.suppress(OSError), admin.connected() as connection:
+            for _ in range(1000):
+                connection.sendall(b"GET / HTTP/1.1\r\n" + b"x" * 100_000)
+            raise Wrong("it takes a head without an end")
+
+
+def an_endless_line_is_refused(program):
+    with server(program) as (_, admin):
+        want(admin.told(b"x" * (REQUEST_LIMIT - 1) + b"\n" + b"quit\r\n"), b"ERROR\r\n")
+        want(admin.told(b"x" * REQUEST_LIMIT), b"CLIENT_ERROR line too long\r\n")
+
+
+# What others meet.
+
+
+def a_17th_connection_is_closed(program):
+    with server(program) as (_, admin), contextlib.ExitStack() as stack:
+        held = [stack.enter_context(admin.connected()) for _ in range(MOST)]
+        for each in held:
+            asked(each, b"version\r\n", VERSION)
+        with admin.connected() as further:
+            want(further.recv(1), b"")
+        held[5].sendall(b"quit\r\n")
+        want(held[5].recv(1), b"")
+        want(admin.got("/healthz")[0], 200)
+        for each in held[:5] + held[6:]:
+            asked(each, b"version\r\n", VERSION)
+
+
+def one_that_goes_on_after_its_answer_is_closed(program):
+    """After its last answer a connection is read to its end, but not for long."""
+    with server(program) as (started, admin), admin.connected() as connection:
+        connection.sendall(b"POST /metrics HTTP/1.1\r\nHost: localhost\r\ncontent-length: 9\r\n\r\n")
+        want(received_to_the_end(connection).partition(b"\r\n\r\n")[2], b"405: only GET is answered\n")
+        before, began = started.descriptors(), time.monotonic()
+        while started.descriptors() == before:
+            want_at_most(time.monotonic() - began, LINGER + 3)
+            time.sleep(0.05)
+
+
+def one_that_does_not_read_holds_up_nobody(program):
+    with server(program) as (started, admin), contextlib.ExitStack() as stack:
+        memory = started.memory()
+        for _ in range(MOST - 1):
+            connection = stack.enter_context(admin.connected())
+            connection.setblocking(False)
+            with contextlib.suppress(BlockingIOError):
+                while True:
+                    connection.send(b"stats\r\n" * 1000)
+        with started.connected() as client:
+            for _ in range(1000):
+                is_served(client)
+        want(admin.got("/healthz")[0], 200)
+        want_at_most(started.memory() - memory, 4_000_000)
+
+
+def a_flood_costs_little(program):
+    """Fifteen who ask without end take a small part of the processor."""
+    with server(program) as (started, admin):
+        over = threading.Event()
+
+        def flood():
+            with contextlib.suppress(OSError), admin.connected() as connection:
+                connection.settimeout(0.01)
+                while not over.is_set():
+                    with contextlib.suppress(TimeoutError):
+                        connection.sendall(b"stats\r\n" * 500)
+                    with contextlib.suppress(TimeoutError):
+                        while connection.recv(1 << 20):
+                            pass
+
+        flooding = [threading.Thread(target=flood) for _ in range(MOST - 1)]
+        for each in flooding:
+            each.start()
+        try:
+            time.sleep(0.5)
+            before = started.processor_time()
+            time.sleep(3)
+            want_at_most(started.processor_time() - before, 0.3)
+            with started.connected() as client:
+                is_served(client)
+        finally:
+            over.set()
+            for each in flooding:
+                each.join()
+
+
+def it_ends_with_its_clients(program):
+    port = free_port()
+    with Server(program, words=["--admin", f"{HOST}:{port}", "--accept", "1"]) as started:
+        with Admin(port).connected() as operator:
+            asked(operator, b"version\r\n", VERSION)
+            with started.connected() as client:
+                is_served(client)
+            want(started.process.wait(PATIENCE), 0)
+
+
+def an_address_that_is_none_is_told(program, *others):
+    asked_for = Program(program)
+    for admin in ("127.0.0.1", "127.0.0.1:0", "x:y", ""):
+        status, output, errors = asked_for.run("--listen", f"{HOST}:{free_port()}", "--admin", admin, *others)
+        want((status, output, "cannot listen" in errors), (3, "", True))
+
+
+def checks_of(program, proxy_program):
+    shown = [metrics_are_shown, statistics_are_shown, settings_are_shown, it_says_that_it_serves, numbers_grow]
+    come = [a_byte_at_a_time, lines_are_answered_in_order, the_cache_is_not_reached]
+    refused = [
+        other_methods_are_refused, other_hosts_are_refused, heads_that_are_none_are_refused, an_endless_head_is_refused,
+        an_endless_line_is_refused,
+    ]  # fmt: skip
+    others = [
+        a_17th_connection_is_closed, one_that_goes_on_after_its_answer_is_closed, one_that_does_not_read_holds_up_nobody,
+        a_flood_costs_little, it_ends_with_its_clients,
+    ]  # fmt: skip
+    for check in shown + come + refused + others:
+        yield check.__name__, check, (program,)
+    yield "an_address_that_is_none_is_told", an_address_that_is_none_is_told, (program,)
+    yield "an_address_of_a_proxy_that_is_none_is_told", an_address_that_is_none_is_told, (proxy_program, "127.0.0.1:1")
+    yield "a_proxy_shows_its_servers", a_proxy_shows_its_servers, (program, proxy_program)
+
+
+if __name__ == "__main__":
+    if len(sys.argv) != 3:
+        sys.exit(__doc__)
+    sys.exit(tally(checks_of(*sys.argv[1:])) if are_built(*sys.argv[1:]) else 1)
