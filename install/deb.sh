@@ -80,6 +80,7 @@ copyright > "$documents/copyright"
 cp "$work/changelog" "$documents/changelog"
 install -m 644 README.md docs/RUNNING.md docs/MOVING.md docs/SCALE.md docs/PROTOCOL.md docs/SCRIPTS.md "$documents"
 find "$root/usr/share/man" "$documents" -type f ! -name copyright -exec gzip -9n {} +
+install -m 644 install/dashboard.json install/alerts.yml "$documents"
 
 # The files that belong to Debian's tools: dependencies, control, settings, sums, and what runs when the package comes and goes.
 mkdir -p "$work/debian" "$root/DEBIAN"
