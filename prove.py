@@ -112,7 +112,7 @@ SHOWN = {
     "mc_item": "what an item costs, and that its numbers rise",
     "mc_link": "each reply meets the command that it answers",
     "mc_numbered": "each thing is found by its number",
-    "mc_operators": "how much is done for operators in a second",
+    "mc_operators": "operators on sockets are served safely",
     "mc_pool_play": "a pool's script prints what its clients were sent",
     "mc_pool_script": "what each line of a pool's script means",
     "mc_program": "how a program ends, and by which status",

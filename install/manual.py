@@ -31,7 +31,8 @@ PAGES = {
         "a memcached proxy that makes one pool of several servers",
         "Serves clients of memcached's text protocol over up to 64 servers, each key by the server that libketama's ring names. "
         "It prints one line, 'listening <host>:<port>', and serves until it is ended. On standard error it says which servers "
-        "are refused, lost and back.",
+        "are refused, lost and back, and that open files allow no more clients. A server may have a name, by which keys are spread and "
+        "it is told: <name>:<port>=<host>:<port>.",
         SERVES,
         "mc_serverd(1), mc_sim(1)",
     ),

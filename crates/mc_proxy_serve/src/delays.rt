@@ -1,5 +1,5 @@
 //! When a server that was not there is tried again.
-ghost use Rattle.std.specs.Prelude.{◌≡◌, ◌≤◌, ◌+◌, ◌*◌};
+ghost use Rattle.std.specs.Prelude.{◌≡◌, ◌≤◌, ◌+◌, ◌*◌, ◌%◌};
 ghost use Rattle.mc_proxy_serve.specs.Delays.{least_delay};
 
 use crate::limits::{FIRST_DELAY, LONGEST_DELAY};
@@ -10,7 +10,7 @@ use crate::limits::{FIRST_DELAY, LONGEST_DELAY};
 pub fn delay_after(failures: u32, random: u64) -> u64
     ensures least { least_delay failures ≤ result }
     ensures most { result ≤ 2 * least_delay failures }
-    ensures spread { random ≤ least_delay failures → result ≡ least_delay failures + random }
+    ensures spread { result ≡ least_delay failures + random % (least_delay failures + 1) }
 {
     let least = least_delay(failures);
     least + random % (least + 1)

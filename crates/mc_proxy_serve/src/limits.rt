@@ -16,7 +16,7 @@ pub const FIRST_DELAY: u64 = 100;
 pub const LONGEST_DELAY: u64 = 4000;
 
 /// After a connection that came to be, the next one to its server is begun at least so many milliseconds later: a server that ends each
-/// connection at once is asked once in a second.
+/// connection at once is asked once in a second. A host that is not known is looked up again so much later than another server is tried.
 pub const NEXT_DELAY: u64 = 1000;
 
 /// What is to be said of a server is said within so many milliseconds: at most one line in a second.

@@ -24,7 +24,7 @@ pub enum Cause {
     /// The connection was not there after [`CONNECT_MILLIS`](crate::limits::CONNECT_MILLIS).
     #[error("timed out")]
     TimedOut,
-    /// The command that waits longest has had no reply for as long as the settings allow.
+    /// The server owes a reply, and has sent nothing for as long as the settings allow.
     #[error("no reply in time")]
     Late,
     /// What came is no reply to the command that waits longest, or no command waited.

@@ -120,10 +120,18 @@ impl Upstream {
                 self.begun = now;
                 self.delay(now, random);
                 if let Err(cause) = self.connect(rt, registry, token) {
+                    self.rest_after(cause);
                     self.refuse(cause);
                 }
             }
             _ => {}
+        }
+    }
+
+    /// Has a host that is not known wait a second more: all clients wait while it is looked up.
+    fn rest_after(&mut self, cause: Cause) {
+        if matches!(cause, Cause::UnknownHost) {
+            self.next = self.next.saturating_add(NEXT_DELAY);
         }
     }
 
