@@ -42,6 +42,10 @@ pub struct Operators {
     second: u64,
     /// Whether something may be done for a connection.
     stirred: bool,
+    /// Whether something may be done for a connection, or one may wait to be accepted.
+    awake: bool,
+    /// In which second a connection has waited for too long, or something is to be done, at the earliest.
+    due: Option<u64>,
     ghost reads: { 0 < vec_len piece },
 }
 
@@ -57,7 +61,7 @@ impl Operators {
         Ok(Operators {
             alloc,
             acceptor: acceptor_at(rt, admin)?,
-            registered: false,
+            registered: admin.listen.is_none(),
             listen: Vec::from_slice(alloc, host_of(place.as_bytes()))?,
             name: Vec::from_slice(alloc, admin.name.as_bytes())?,
             seats: Slab::with_capacity(alloc, MAX_OPERATORS)?,
@@ -65,6 +69,8 @@ impl Operators {
             budget: Budget::new(),
             second: 0,
             stirred: false,
+            awake: false,
+            due: None,
         })
     }
 
@@ -78,21 +84,37 @@ impl Operators {
     }
 
     /// Whether a token is the listener's or a connection's.
+    #[inline(always)]
     pub fn has(&self, token: Token) -> bool {
         let Token(number) = token;
         number >= FIRST && number <= LISTENER
     }
 
     /// Does what is to be done before a round of a second: the listener is registered, connections are accepted, and those are closed
-    /// that have waited for too long.
+    /// that have waited for too long. Where nothing has happened in this second, it costs a test.
+    #[inline(always)]
     pub fn before(&mut self, registry: &Registry, second: u64) {
+        if self.awake || !self.registered || second != self.second {
+            self.prepare(registry, second);
+        }
+    }
+
+    /// Does what is to be done before a round.
+    #[inline(never)]
+    fn prepare(&mut self, registry: &Registry, second: u64) {
         if second != self.second {
             self.second = second;
             self.rest();
         }
         self.register(registry);
+        self.let_in(registry);
+        self.settle();
+    }
+
+    /// Accepts the connections that wait.
+    fn let_in(&mut self, registry: &Registry) {
         for _ in 0..MAX_OPERATORS {
-            if self.backlog() == Backlog::Nobody || !self.budget.take(second) {
+            if self.backlog() == Backlog::Nobody || !self.budget.take(self.second) {
                 return;
             }
             let Some(stream) = self.accept() else {
@@ -100,6 +122,16 @@ impl Operators {
             };
             self.admit(registry, stream);
         }
+    }
+
+    /// Notes what is left to do, and when.
+    fn settle(&mut self) {
+        self.awake = self.stirred || self.backlog() != Backlog::Nobody;
+        let next = self.awake.then_some(self.second.saturating_add(1));
+        self.due = self
+            .seats
+            .iter()
+            .fold(next, |due, (_, seat)| earlier(due, Some(seat.due())));
     }
 
     /// Has the poll report the listener, where it does not yet.
@@ -148,6 +180,7 @@ impl Operators {
 
     /// Notes an event of one of its tokens.
     pub fn note(&mut self, event: &Event) {
+        self.awake = true;
         let Token(number) = event.token();
         if number == LISTENER {
             if let Some(acceptor) = &mut self.acceptor {
@@ -175,6 +208,7 @@ impl Operators {
         for key in 0..MAX_OPERATORS {
             self.serve_one(sheet, key);
         }
+        self.settle();
     }
 
     /// Serves the connection of a key, if something may be done for it.
@@ -211,21 +245,22 @@ impl Operators {
                 let _ = self.seats.try_remove(key);
             }
         }
+        self.settle();
     }
 
     /// Whether it goes on in this second, though nothing happens.
     pub fn goes_on(&self) -> bool {
-        let waits = self.stirred || self.backlog() == Backlog::More;
-        waits && self.budget.has(self.second)
+        self.awake && self.has_work() && self.budget.has(self.second)
+    }
+
+    /// Whether something may be done for a connection, or more wait to be accepted.
+    fn has_work(&self) -> bool {
+        self.stirred || self.backlog() == Backlog::More
     }
 
     /// In which second something is to be done unasked, at the earliest.
     pub fn due(&self) -> Option<u64> {
-        let waits = self.stirred || self.backlog() != Backlog::Nobody;
-        let next = waits.then_some(self.second.saturating_add(1));
-        self.seats
-            .iter()
-            .fold(next, |due, (_, seat)| earlier(due, Some(seat.due())))
+        self.due
     }
 
     /// Closes the connections that have waited for too long.

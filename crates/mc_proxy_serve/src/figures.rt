@@ -15,7 +15,7 @@ pub fn show(
     clients: &ClientFigures,
     pool: &Pool,
     proxy: &Proxy,
-    settings: &[Setting<'_>],
+    settings: &ProxySettings,
 ) {
     let shown = try_show(alloc, operators, clients, pool, proxy, settings);
     if shown.is_err() {
@@ -30,21 +30,22 @@ fn try_show(
     clients: &ClientFigures,
     pool: &Pool,
     proxy: &Proxy,
-    settings: &[Setting<'_>],
+    settings: &ProxySettings,
 ) -> Result<(), AllocError> {
     let links = pool.figures(proxy)?;
     let mut figures = Vec::new(alloc);
     push_client_figures(clients, &mut figures)?;
     push_link_figures(links.as_slice(), &mut figures)?;
+    let settings = settings_of(settings, pool.len());
     operators.serve(&Sheet {
         figures: figures.as_slice(),
-        settings,
+        settings: &settings,
     });
     Ok(())
 }
 
 /// The settings of a proxy of so many servers, by memcached's names where it has them.
-pub fn settings_of(settings: &ProxySettings, servers: usize) -> [Setting<'static>; 7] {
+fn settings_of(settings: &ProxySettings, servers: usize) -> [Setting<'static>; 7] {
     [
         setting(b"maxconns", MAX_SESSIONS as u64),
         setting(b"num_threads", 1),

@@ -1,7 +1,7 @@
 //! A proxy, its clients, and its upstream servers.
 ghost use Rattle.std.specs.Prelude.{◌<◌, ◌^◌};
 
-use crate::figures::{settings_of, show};
+use crate::figures::show;
 use crate::handlers::{Held, ProxyHandler};
 use crate::joining::Joining;
 use crate::limits::MAX_PASSES;
@@ -232,7 +232,6 @@ impl<'a> Host<'a> {
         }
         let done = self.done(accepted);
         let clients = done.figures(process_number(), wall_clock(rt), MAX_SESSIONS);
-        let settings = settings_of(self.settings, self.pool.len());
         let (pool, proxy) = (&self.pool, &self.handler.proxy);
         show(
             self.alloc,
@@ -240,7 +239,7 @@ impl<'a> Host<'a> {
             &clients,
             pool,
             proxy,
-            &settings,
+            self.settings,
         );
     }
 
