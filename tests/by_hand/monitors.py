@@ -1,7 +1,7 @@
 #!/usr/bin/env python3
-"""Has monitors that exist watch the built mc_serverd and mc_proxyd at their listeners of operators (--admin).
+"""Has monitors that exist watch the built mc_serverd, and mc_proxyd if it is named, at its listener of operators (--admin).
 
-Usage: monitors.py SERVER PROXY [--plugins FOLDER]
+Usage: monitors.py SERVER [PROXY] [--plugins FOLDER]
 
 Debian's promtool (package prometheus) checks what /metrics shows, and memcstat (libmemcached-tools) asks for the statistics. Munin's plug-in
 memcached_ (munin-plugins-core, libcache-memcached-perl, libstring-crc32-perl) is run as munin would run it, and collectd (collectd-core)
@@ -105,15 +105,18 @@ def tools(folder):
             print(f"{check.__name__}: it is not here")
 
 
-def main(server_program, proxy_program, folder):
+def main(server_program, folder, proxy_program=None):
+    found = list(tools(folder))
     with contextlib.ExitStack() as stack:
-        ports = [free_port(), free_port()]
-        server = stack.enter_context(Server(server_program, words=["--admin", f"{HOST}:{ports[0]}"]))
-        proxy = stack.enter_context(Proxy(proxy_program, [server.address], ["--admin", f"{HOST}:{ports[1]}"]))
-        client = stack.enter_context(proxy.connected())
+        port, behind = free_port(), free_port()
+        server = stack.enter_context(Server(server_program, words=["--admin", f"{HOST}:{port}"]))
+        client = stack.enter_context(server.connected())
         asked(client, b"set a 0 0 1\r\nx\r\nget a b\r\n", b"STORED\r\nVALUE a 0 1\r\nx\r\nEND\r\n")
-        checks = [(f"{check.__name__} of the server", check, (tool, ports[0])) for check, tool in tools(folder)]
-        checks += [(f"{check.__name__} of the proxy", check, (tool, ports[1])) for check, tool in tools(folder) if check in (promtool, memcstat)]
+        checks = [(f"{check.__name__} of the server", check, (tool, port)) for check, tool in found]
+        if proxy_program:
+            proxy = stack.enter_context(Proxy(proxy_program, [server.address], ["--admin", f"{HOST}:{behind}"]))
+            asked(stack.enter_context(proxy.connected()), b"get a\r\n", b"VALUE a 0 1\r\nx\r\nEND\r\n")
+            checks += [(f"{check.__name__} of the proxy", check, (tool, behind)) for check, tool in found if check in (promtool, memcstat)]
         return tally(checks)
 
 
@@ -124,6 +127,6 @@ if __name__ == "__main__":
         place = words.index("--plugins")
         folder = pathlib.Path(words[place + 1])
         del words[place : place + 2]
-    if len(words) != 2:
+    if len(words) not in (1, 2):
         sys.exit(__doc__)
-    sys.exit(main(*words, folder) if are_built(*words) else 1)
+    sys.exit(main(words[0], folder, *words[1:]) if are_built(*words) else 1)
