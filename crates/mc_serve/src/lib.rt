@@ -5,8 +5,9 @@
 //! and the two sides of a stream, and has the law of one connection. [`command`] and [`Options`] are the command line of
 //! the program [`PROGRAM`].
 //!
-//! [`tell_memory`] says how much memory a server with its settings may come to take. On standard error [`serve`] says, at most once in a second, that a request was refused whose answer may be too large, and, where the
-//! settings ask for it, what it has done. The store counts what it does, so that no layer between has to.
+//! [`tell_memory`] says how much memory a server with its settings may come to take. On standard error [`serve`] says, at most once
+//! in a second, that a request was refused whose answer may be too large, and, where the settings ask for it, what it has done. The
+//! store counts what it does, so that no layer between has to.
 //!
 //! [`serve`] waits for its sockets, and may wait for ever; [`bind`] looks a name up, and may wait for that; no other call waits.
 //! What a socket carries, no contract says. Proved of a client's turn are that its connection alone is pumped, at the moment that
