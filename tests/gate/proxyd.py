@@ -30,8 +30,8 @@ from checks import (
 from connections import checks_of_connections, fields_of, lines_said
 from links import checks_of_links
 from live_pool import (
-    LOST, QUIET, Played, Pool, all_that_comes, answered_in_time, data_segments, is_asked_and_answers, is_said, nothing_comes,
-    nothing_is_said, stored,
+    LOST, QUIET, Played, Pool, all_that_comes, answered_in_time, data_segments, is_asked_and_answers, is_lost_and_refused, is_said,
+    nothing_comes, nothing_is_said, stored,
 )  # fmt: skip
 from rings import Ring, hash_of
 from servers import HOST, Proxy, Server, free_port
@@ -289,7 +289,7 @@ def idle_before_a_server_that_was_killed():
         pool.servers[0].stop()
         asked(client, b"get %s\r\n" % keys[0], LOST)
         gone = pool.servers[0].address
-        is_said(pool, f"{gone} lost: connection ended", f"{gone} refused: connection refused")
+        is_lost_and_refused(pool, gone)
         idle_costs_little(pool)
         nothing_is_said(pool)
         pool.restart(0)

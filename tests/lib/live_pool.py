@@ -66,6 +66,9 @@ class Played(Pool):
         def __init__(self):
             self.port = free_port()
             self.address = f"{HOST}:{self.port}"
+            self.listen()
+
+        def listen(self):
             self.listener = socket.create_server((HOST, self.port))
             self.listener.settimeout(PATIENCE)
 
@@ -154,6 +157,25 @@ def is_said(proxy, *lines):
             break
         came += piece
     want(came, wanted)
+
+
+def is_lost_and_refused(proxy, server):
+    """Sees that a server is said to be lost, and then to refuse. Its system may have taken the next connection in between, while the
+    server's process ended: that one is reset."""
+    line, said = b"", []
+    while f"mc_proxyd: {server} refused: connection refused\n" not in said:
+        stream = proxy.process.stderr
+        if not select.select([stream], [], [], PATIENCE)[0]:
+            break
+        byte = os.read(stream.fileno(), 1)
+        line += byte
+        if byte in (b"\n", b""):
+            said.append(line.decode())
+            line = b""
+    first, *more = said
+    want(first, f"mc_proxyd: {server} lost: connection ended\n")
+    reset = [f"mc_proxyd: {server} {what}: connection reset\n" for what in ("lost", "refused")]
+    want([each for each in more if each not in reset], [f"mc_proxyd: {server} refused: connection refused\n"])
 
 
 def nothing_is_said(proxy):
