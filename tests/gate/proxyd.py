@@ -640,7 +640,7 @@ def who_ends_its_input_is_answered():
 
 def who_is_kept_too_much_for_waits():
     """Until it is owed nothing: no request of it is taken, and it is answered in order, and whole. Others are served."""
-    with Played(2, ["--held", "1000000"]) as pool, pool.connected() as client, pool.connected() as other:
+    with Played(2, ["--held", "1000000", "--timeout", "0"]) as pool, pool.connected() as client, pool.connected() as other:
         mine, others = (pool.ring.key(place) for place in (0, 1))
         _, _, get, shown = stored(mine, b"v" * 1_000_000)
         client.sendall(b"get %s\r\n" % others + get)
@@ -704,7 +704,7 @@ def a_slow_server_that_answers_is_kept():
 
 def a_report_is_said():
     """Each second: what was done for clients, and what became of each server."""
-    with Played(2, ["--report", "1"]) as pool, pool.connected() as client:
+    with Played(2, ["--report", "1", "--timeout", "0"]) as pool, pool.connected() as client:
         keys = [pool.ring.key(place) for place in (0, 1)]
         gets = [b"get %s\r\n" % key for key in keys]
         client.sendall(gets[0] * 3 + gets[1] + b"version\r\n")

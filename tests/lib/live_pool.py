@@ -60,7 +60,8 @@ class Pool:
 
 
 class Played(Pool):
-    """Servers that the check plays, and a proxy in front of them that has connected to each: `links` are their connections."""
+    """Servers that the check plays, and a proxy in front of them that has connected to each: `links` are their connections. It waits for
+    replies for ever, where its words do not say otherwise: a check may take its time."""
 
     class Server:
         def __init__(self):
@@ -84,7 +85,7 @@ class Played(Pool):
         def __exit__(self, *_):
             self.listener.close()
 
-    def __init__(self, count=1, words=()):
+    def __init__(self, count=1, words=("--timeout", "0")):
         self.stack = contextlib.ExitStack()
         with self.stack:
             self.servers = [self.stack.enter_context(Played.Server()) for _ in range(count)]
