@@ -107,21 +107,6 @@ def a_hung_server_is_given_up_without_words():
         answered_in_time(client, hung, b"END\r\n")
 
 
-def a_proxy_that_stood_still_loses_no_link():
-    """What came meanwhile is taken before anybody is late."""
-    with Played(1, ["--timeout", str(int(LATE * 1000))]) as pool, pool.connected() as client:
-        [link] = pool.links
-        _, _, get, shown = stored(b"a")
-        client.sendall(get)
-        want(received(link, len(get)), get)
-        pool.process.send_signal(signal.SIGSTOP)
-        link.sendall(shown)
-        time.sleep(2 * LATE)
-        pool.process.send_signal(signal.SIGCONT)
-        want(received(client, len(shown)), shown)
-        is_asked_and_answers(link, client, b"a")
-
-
 def a_server_that_was_away_is_used_soon():
     """It was away for a moment: of the tries at it the second comes after 0.1 to 0.2 seconds, and the third after 0.2 to 0.4 more."""
     with Played() as pool, pool.connected() as client:
@@ -262,7 +247,6 @@ def checks_of_links():
         what_is_undelivered_dies_with_its_link,
         a_server_that_sends_is_not_late,
         a_hung_server_is_given_up_without_words,
-        a_proxy_that_stood_still_loses_no_link,
         a_server_that_was_away_is_used_soon,
         the_system_looks_for_peers,
         a_server_that_takes_nothing_is_gone,
