@@ -334,12 +334,15 @@ def a_reply_without_memory_is_said():
         client.sendall(get)
         want(received(pool.links[0], len(get)), get)
         allow_memory(pool, pool.memory("VmSize"))
-        with contextlib.suppress(ConnectionResetError, BrokenPipeError):
+        was_reset = False  # What was told once, as an error of a write, a read does not tell again.
+        try:
             pool.links[0].sendall(shown)
+        except (ConnectionResetError, BrokenPipeError):
+            was_reset = True
         want(received(client, len(LOST)), LOST)
         is_said(pool, f"{address} lost: out of memory")
         allow_memory(pool, resource.RLIM_INFINITY)
-        pool.lost(0, client)
+        pool.lost(0, client, was_reset)
         is_said(pool, f"{address} back")
         is_asked_and_answers(pool.links[0], client, b"a")
 

@@ -93,9 +93,11 @@ class Played(Pool):
             self.links = [self.stack.enter_context(server.accept()) for server in self.servers]
             self.stack = self.stack.pop_all()
 
-    def lost(self, place, client):
-        """Sees that a link was reset, and takes the next one. A client that is served says that the proxy has seen it too."""
-        want(bytes_before_a_reset(self.links[place]), 0)
+    def lost(self, place, client, was_reset=False):
+        """Sees that a link was reset, if that was not seen yet, and takes the next one. A client that is served says that the proxy has seen
+        it too."""
+        if not was_reset:
+            want(bytes_before_a_reset(self.links[place]), 0)
         self.links[place] = self.stack.enter_context(self.servers[place].accept())
         is_served(client)
 
