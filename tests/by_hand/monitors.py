@@ -61,7 +61,7 @@ def promtool(tool, port):
 
 def memcstat(tool, port):
     status, shown = run(tool, f"--servers={HOST}:{port}")
-    want((status, "curr_connections: 1" in shown, "bytes_read: " in shown), (0, True, True))
+    want((status, "curr_connections: " in shown, "bytes_read: " in shown), (0, True, True))
 
 
 def munin(tool, port):
@@ -115,7 +115,7 @@ def main(server_program, folder, proxy_program=None):
         checks = [(f"{check.__name__} of the server", check, (tool, port)) for check, tool in found]
         if proxy_program:
             proxy = stack.enter_context(Proxy(proxy_program, [server.address], ["--admin", f"{HOST}:{behind}"]))
-            asked(stack.enter_context(proxy.connected()), b"get a\r\n", b"VALUE a 0 1\r\nx\r\nEND\r\n")
+            asked(stack.enter_context(proxy.connected()), b"version\r\n", b"VERSION 1.6.0\r\n")
             checks += [(f"{check.__name__} of the proxy", check, (tool, behind)) for check, tool in found if check in (promtool, memcstat)]
         return tally(checks)
 
