@@ -22,9 +22,10 @@ PAGES = {
         "a memcached server whose every function is proved",
         "Serves clients of memcached's text protocol over one cache in memory. It prints one line, 'listening <host>:<port>', "
         "and serves until it is ended. On standard error it says at the start how many connections it can serve, where the "
-        "system allows fewer open files than 1,024 connections need, and that a request was refused whose answer may be larger "
-        "than --answer allows. At a terminal, or for systemd's journal, it also says at the start how much memory it may take.",
-        SERVES,
+        "system allows fewer open files than 1,024 connections need, that a request was refused whose answer may be larger "
+        "than --answer allows, and how many were refused memory. At a terminal, or for systemd's journal, it also says at the start "
+        "how much memory it may take.",
+        {**SERVES, 4: "there is no memory to start with, or was none for as long as --memory-exit says"},
         "mc_proxyd(1), mc_sim(1)",
     ),
     "mc_proxyd": (

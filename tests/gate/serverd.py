@@ -19,8 +19,8 @@ import time
 sys.path.insert(0, str(pathlib.Path(__file__).resolve().parents[1] / "lib"))
 
 from checks import (
-    KILOBYTE, MARK, Program, asked, checks_of_words, is_served, received, received_to_the_end, settles, tally, want,
-    want_at_most, wrong_sizes_are_refused,
+    KILOBYTE, MARK, PATIENCE, Program, Wrong, asked, checks_of_words, is_served, received, received_to_the_end, settles, tally,
+    want, want_at_most, wrong_sizes_are_refused,
 )  # fmt: skip
 from connections import checks_of_connections, fields_of, lines_said
 from servers import HOST, Listener, free_port
@@ -82,6 +82,7 @@ SETTINGS = {
         "--admin-name Watch --admin 127.0.0.1:9150 --report 4",
         "listen 127.0.0.1:11211 budget 67108864 items 65536 accept 0 report 4 admin 127.0.0.1:9150 admin-name Watch",
     ),
+    "no_memory_for_a_while": ("--memory-exit 10", "listen 127.0.0.1:11211 budget 67108864 items 65536 accept 0 memory-exit 10"),
     "in_another_order": (
         "--report 4 --accept 3 --items 2",
         "listen 127.0.0.1:11211 budget 67108864 items 2 accept 3 report 4",
@@ -98,6 +99,7 @@ REFUSED = {
     "no_value": (["--listen"], "a value is required for '--listen <host:port>' but none was supplied"),
     "no_seconds": (["--idle", "1s"], "invalid value '1s' for '--idle <seconds>': invalid digit found in string"),
     "seconds_below_0": (["--report=-1"], "invalid value '-1' for '--report <seconds>': invalid digit found in string"),
+    "an_empty_name": (["--admin-name="], "a value is required for '--admin-name <host>' but none was supplied"),
     "an_unknown_store": (["--store", "list"], "invalid value 'list' for '--store <kind>'\n  [possible values: table, lru]"),
     "no_number": (["--accept", "x"], "invalid value 'x' for '--accept <n>': invalid digit found in string"),
     "a_number_below_0": (["--accept=-1"], "invalid value '-1' for '--accept <n>': invalid digit found in string"),
@@ -162,9 +164,10 @@ def start(words="", limits=(), says=True):
 
 
 def no_memory_to_start_is_told():
-    words = ["--listen", f"{HOST}:{free_port()}", "--items", "16777216"]
-    status, _, errors = PROGRAM.run(*words, limits=[(resource.RLIMIT_AS, 100_000 * KILOBYTE)])
-    want((status, errors), (4, "mc_serverd: out of memory\n"))
+    """Whatever is refused at the start, before it says that it listens."""
+    for items, most in (("16777216", 100_000), ("1000000", 60_000)):
+        words = ["--listen", f"{HOST}:{free_port()}", "--items", items]
+        want(PROGRAM.run(*words, limits=[(resource.RLIMIT_AS, most * KILOBYTE)]), (4, "", "mc_serverd: out of memory\n"))
 
 
 def items_are_within_their_limits():
@@ -172,6 +175,14 @@ def items_are_within_their_limits():
     told = "mc_serverd: invalid value for '--items <n>': neither auto nor in 1..=16777216\n"
     for word in ("0", "16777217", "18446744073709551617", "Auto", "auto ", "+1", "1.0", ""):
         want(PROGRAM.run("--check", "--items", word), (2, "", told))
+
+
+def names_of_operators_are_hosts():
+    """A word of --admin-name that is no host is refused."""
+    told = "mc_serverd: invalid value for '--admin-name <host>': not 1 to 255 letters, digits, dots and hyphens\n"
+    for word in ("a b", "a_b", "a:1", "[::1]", "http://a", "a/", "\u00e4", "a" * 256):
+        want((word, PROGRAM.run("--check", "--admin-name", word)), (word, (2, "", told)))
+    want(PROGRAM.run("--check", "--admin-name", "A-1." * 63 + "abc")[0], 0)
 
 
 def sizes_are_within_their_limits():
@@ -324,7 +335,7 @@ def a_report_is_said():
         uptime = int(fields.pop("uptime"))
         want(1 <= uptime <= 8, True)
         wanted = dict(connections=1, accepted=2, refused=0, requests=11, hits=3, misses=2, stores=5, evictions=2, expired=1)
-        wanted |= dict(items=2, bytes=2 * 66, read=len(sent) + 9, written=len(answers) + 15)
+        wanted |= dict(items=2, bytes=2 * 66, read=len(sent) + 9, written=len(answers) + 15, no_memory=0)
         want(fields, {key: str(number) for key, number in wanted.items()})
 
 
@@ -422,6 +433,129 @@ def no_memory_closes_connections_alone():
             is_served(client)
 
 
+# No memory for as long as --memory-exit says.
+
+NO_MEMORY = b"SERVER_ERROR out of memory storing object\r\n"
+LITTLE = 8_000_000  # bytes that a server may take beside those of its start
+REFUSED_LINE = re.compile(r"mc_serverd: out of memory: ([0-9]+) refused")
+
+
+def start_with_little(words):
+    """A server that may take little memory more than it has at its start."""
+    server = start(f"--items 100000 --budget 1G {words}")
+    pages = pathlib.Path(f"/proc/{server.process.pid}/statm").read_text().split()[0]
+    most = int(pages) * resource.getpagesize() + LITTLE
+    resource.prlimit(server.process.pid, resource.RLIMIT_AS, (most, most))
+    return server
+
+
+class Filler:
+    """Stores values under keys that are new each time, on a connection that is made anew if it is closed."""
+
+    def __init__(self, server):
+        self.server, self.client, self.number = server, None, 0
+
+    def is_refused(self, size):
+        """Whether a value of so many bytes is refused, or its connection is closed."""
+        try:
+            if self.client is None:
+                self.client = self.server.connected()
+            self.number += 1
+            self.client.sendall(b"set f%d 0 0 %d\r\n%s\r\n" % (self.number, size, b"v" * size))
+            answer = self.client.recv(100)
+        except OSError:
+            answer = b""
+        if answer == b"STORED\r\n":
+            return False
+        want(answer in (b"", NO_MEMORY), True)
+        if not answer:
+            self.close()
+        return True
+
+    def fill(self, size):
+        """Stores until a hundred in a row are refused."""
+        row, deadline = 0, time.monotonic() + 60
+        while row < 100:
+            row = row + 1 if self.is_refused(size) else 0
+            if time.monotonic() > deadline:
+                raise Wrong("memory does not end")
+
+    def close(self):
+        if self.client is not None:
+            self.client.close()
+        self.client = None
+
+    def __enter__(self):
+        return self
+
+    def __exit__(self, *_):
+        self.close()
+
+
+def no_memory_ends_who_is_asked_to(sizes):
+    """A server that is refused memory and stores nothing ends after the seconds, with its line and its status. Hits meanwhile change
+    nothing. Each second it says how many were refused."""
+    with start_with_little("--memory-exit 3") as server, Filler(server) as filler:
+        with server.connected() as reader:
+            asked(reader, b"set k 0 0 1\r\nx\r\n", b"STORED\r\n")
+            for size in sizes:
+                filler.fill(size)
+            begun = time.monotonic()
+            while server.process.poll() is None and time.monotonic() < begun + 20:
+                filler.is_refused(sizes[-1])
+                with contextlib.suppress(OSError):
+                    reader.sendall(b"get k\r\n")
+                    reader.recv(100)
+        want_at_most(time.monotonic() - begun, 8)
+        status, lines = server.process.wait(PATIENCE), server.process.stderr.read().decode().splitlines()
+    want((status, lines[-1]), (4, "mc_serverd: out of memory for 3 seconds"))
+    want([line for line in lines[:-1] if not REFUSED_LINE.fullmatch(line)], [])
+    want(len(lines) > 2, True)
+
+
+def no_memory_ends_nobody_else():
+    """A server that is not asked to end stays, says each second how many were refused, and counts each."""
+    with start_with_little("--report 1") as server, Filler(server) as filler:
+        filler.fill(5_000)
+        begun = time.monotonic()
+        while time.monotonic() < begun + 5:
+            want(filler.is_refused(100_000), True)
+            time.sleep(0.02)
+        time.sleep(2.2)
+        want(server.process.poll(), None)
+        server.process.terminate()
+        lines = server.process.stderr.read().decode().splitlines()
+    refused = [int(found[1]) for found in map(REFUSED_LINE.fullmatch, lines) if found]
+    want(len(refused) >= 4, True)
+    reported = [line for line in lines if "uptime=" in line]
+    want(fields_of(reported[-1], "mc_serverd")["no_memory"], str(sum(refused)))
+
+
+def a_store_ends_the_row_of_refusals():
+    """A server that can store something now and then stays, however much is refused."""
+    with start_with_little("--memory-exit 2") as server, Filler(server) as filler:
+        with server.connected() as other:
+            asked(other, b"set k 0 0 1\r\nx\r\n", b"STORED\r\n")
+            filler.fill(5_000)
+            begun = time.monotonic()
+            while time.monotonic() < begun + 6:
+                want(filler.is_refused(100_000), True)
+                asked(other, b"delete k\r\nset k 0 0 1\r\nx\r\n", b"DELETED\r\nSTORED\r\n")
+                time.sleep(0.05)
+        want(server.process.poll(), None)
+
+
+def a_shown_value_is_no_refusal():
+    """The line in a value that is shown counts for nothing, if no update in the same output looked a key up and put no item."""
+    with start("--report 1") as server, server.connected() as client:
+        asked(client, b"set k 0 0 43\r\n" + NO_MEMORY + b"\r\n", b"STORED\r\n")
+        for sent in (b"get k\r\n", b"mg k v\r\n", b"gets k\r\nset n 0 0 1\r\nx\r\nadd m 0 0 1\r\nx\r\n"):
+            client.sendall(sent + b"mn\r\n")
+            while not client.recv(1_000).endswith(b"MN\r\n"):
+                pass
+        want(fields_of(lines_said(server, 3)[2], "mc_serverd")["no_memory"], "0")
+
+
 def checks():
     """Each check by its name."""
     yield from checks_of_words(PROGRAM, SETTINGS, REFUSED, HELP)
@@ -439,8 +573,15 @@ def checks():
         a_report_is_said,
         idle_connections_hold_little,
         no_memory_closes_connections_alone,
+        no_memory_ends_nobody_else,
+        a_store_ends_the_row_of_refusals,
+        a_shown_value_is_no_refusal,
+        names_of_operators_are_hosts,
     ):
         yield check.__name__, check, ()
+    for sizes in ((100,), (5_000,), (10_000,), (100, 5_000), (100, 10_000)):
+        name = ", then ".join(map(str, sizes))
+        yield f"no memory ends who is asked to, {name} bytes", no_memory_ends_who_is_asked_to, (sizes,)
     for at, (name, before) in enumerate(BEFORE.items()):
         yield f"each command is counted, {name}", each_command_is_counted, (at, before)
         yield f"commands are counted among many items, {name}", commands_are_counted_among_many_items, (at, before)

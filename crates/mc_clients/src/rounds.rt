@@ -28,6 +28,9 @@ const MOST_PATIENCE: u64 = 3_600_000;
 
 /// What a program on a runtime does in the rounds of its poll, in this order, by a clock.
 pub trait Rounds<R, C> {
+    /// Is told once, before the first round, that all is reserved which the rounds need, and that the listener is registered.
+    fn ready(&mut self, _rt: &R) {}
+
     /// Does what is to be done before a round, and says how long the round waits: for ever where it says nothing. It is told what
     /// is known of the clients that wait at the listener.
     fn before(&mut self, rt: &R, registry: &Registry, backlog: Backlog) -> Option<Duration>;
@@ -52,9 +55,15 @@ pub trait Rounds<R, C> {
 
     /// Whether nobody is served, and nobody waits to be.
     fn is_empty(&self) -> bool;
+
+    /// Why it serves no longer after a round.
+    fn failed(&self) -> Option<ServeError> {
+        None
+    }
 }
 
-/// Goes round until as many clients as are to be accepted have come, and nobody is served any more; with 0 for ever.
+/// Goes round until as many clients as are to be accepted have come, and nobody is served any more; with 0 for ever, or until the host says
+/// why it serves no longer.
 pub fn serve_rounds<R: Net + Wait, C, H: Rounds<R, C>>(
     rt: &R,
     alloc: Global,
@@ -67,6 +76,7 @@ pub fn serve_rounds<R: Net + Wait, C, H: Rounds<R, C>>(
     let mut poll = Poll::new(rt)?;
     let mut acceptor = Acceptor::new(listener, accept);
     acceptor.register(poll.registry(), LISTENER)?;
+    host.ready(rt);
     for _ in rt.forever() {
         let patience = host.before(rt, poll.registry(), acceptor.backlog());
         poll.poll(&mut events, patience)?;
@@ -81,6 +91,9 @@ pub fn serve_rounds<R: Net + Wait, C, H: Rounds<R, C>>(
         host.carry_on(poll.registry());
         let_in::<R, C, H>(rt, poll.registry(), &mut acceptor, host);
         host.finish(rt, acceptor.accepted());
+        if let Some(error) = host.failed() {
+            return Err(error);
+        }
         if acceptor.is_shut() && host.is_empty() {
             return Ok(());
         }

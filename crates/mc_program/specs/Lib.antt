@@ -1,3 +1,4 @@
+pub mod Admins
 pub mod Sizes
 pub mod Sockets
 pub mod Statuses

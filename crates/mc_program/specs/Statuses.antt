@@ -7,15 +7,16 @@ use Rattle.clap.specs.declared.error.Error.{Error}
 use Rattle.clap.specs.declared.error.kind.ErrorKind.{ErrorKind}
 use Rattle.clap.specs.declared.error.kind.ErrorKind.TheVariants.{DisplayVersion, OutOfMemory}
 use Rattle.mc_program.specs.declared.errors.ServeError.{ServeError}
-use Rattle.mc_program.specs.declared.errors.ServeError.TheVariants.{Listen, Memory}
+use Rattle.mc_program.specs.declared.errors.ServeError.TheVariants.{Listen, Memory, MemoryFor}
 use Rattle.mc_program.specs.declared.failures.Failure.{Failure}
 use Rattle.mc_program.specs.declared.failures.Failure.TheVariants as failure
 use Rattle.mc_program.specs.declared.failures.Failure.TheVariants.{NoText, Output, Serve, Words}
 
--- what it ends with where it cannot serve
+-- what it ends with where it cannot serve, or cannot go on
 abbrev pub status_of_error : ServeError → ℕ
 status_of_error (Listen _) = 3
 status_of_error Memory = 4
+status_of_error (MemoryFor _) = 4
 
 -- 0 where the words ask for the version, 2 where they are refused or ask for help
 abbrev pub status_of_words : ErrorKind → ℕ

@@ -1,6 +1,12 @@
 //! Where operators are answered.
+ghost use Rattle.std.specs.Prelude.{◌≡◌, is_ok};
+ghost use Rattle.std.specs.List.{list_all};
+ghost use Rattle.mc_address.specs.Addresses.{is_host, is_host_byte};
+ghost use Rattle.mc_program.specs.Admins.{is_name};
 
+use clap::builder::ValueParser;
 use clap::{Arg, ArgMatches};
+use mc_address::HOST_LIMIT;
 use std::alloc::Global;
 use std::fmt;
 use std::fmt::{Display, Formatter};
@@ -14,6 +20,10 @@ pub struct AdminTerms<'a> {
     pub name: &'a str,
 }
 
+/// Why a word of `--admin-name` is refused.
+const BAD_NAME: &str =
+    "invalid value for '--admin-name <host>': not 1 to 255 letters, digits, dots and hyphens";
+
 impl<'a> AdminTerms<'a> {
     /// What words ask for.
     pub fn of(matches: &ArgMatches<'a>) -> AdminTerms<'a> {
@@ -22,6 +32,38 @@ impl<'a> AdminTerms<'a> {
             name: matches.get_str("admin-name").unwrap_or(""),
         }
     }
+
+    /// An error says why the words are refused: the other name is there, and is no host.
+    pub fn check(&self) -> Result<(), &'static str>
+        ensures { is_ok result ≡ is_name self.now.name.now }
+    {
+        if is_name(self.name.as_bytes()) {
+            Ok(())
+        } else {
+            Err(BAD_NAME)
+        }
+    }
+}
+
+/// Whether a word is empty, or a host.
+fn is_name(word: &[u8]) -> bool
+    ensures { result ≡ is_name word.now }
+{
+    word.is_empty() || is_host(word)
+}
+
+/// Whether a word is a host: 1 to 255 letters, digits, dots and hyphens.
+pub fn is_host(word: &[u8]) -> bool
+    ensures { result ≡ is_host word.now }
+{
+    !word.is_empty() && word.len() <= HOST_LIMIT && has_host_bytes_alone(word)
+}
+
+fn has_host_bytes_alone(word: &[u8]) -> bool
+    ensures { result ≡ list_all is_host_byte word.now }
+{
+    word.iter()
+        .all(|b| b.is_ascii_alphanumeric() || *b == b'.' || *b == b'-')
 }
 
 /// What is not at its default, as it is printed behind other settings.
@@ -52,6 +94,7 @@ pub fn admin_name<'a>(alloc: Global) -> Arg<'a> {
     Arg::new(alloc, "admin-name")
         .long("admin-name")
         .value_name("host")
+        .value_parser(ValueParser::NonEmptyString)
         .help(
             "A name by which a request of HTTP may call --admin, beside its address and localhost",
         )

@@ -35,19 +35,22 @@ pub enum ServeError {
     /// of its sockets or the seed of its hashes.
     #[error("cannot listen")]
     Listen(ListenError),
-    /// 2: no memory to start with. Once a program serves, want of memory closes a stream, and never ends the program.
+    /// 2: no memory to start with. Once a program serves, want of memory closes a stream, and does not end the program.
     #[error("out of memory")]
     Memory,
+    /// 3: a server that serves was refused memory for that many seconds, each time that it needed any, and is to end then.
+    #[error("out of memory for {0} seconds")]
+    MemoryFor(u64),
 }
 
 impl ServeError {
-    /// The exit status of a program that ends by it: 3 where it cannot listen, 4 for want of memory.
+    /// The exit status of a program that ends by it: 3 if it cannot listen, 4 for want of memory.
     pub fn status(&self) -> u8
         ensures { result ≡ status_of_error self.now }
     {
         match self {
             ServeError::Listen(_) => 3,
-            ServeError::Memory => 4,
+            ServeError::Memory | ServeError::MemoryFor(_) => 4,
         }
     }
 }

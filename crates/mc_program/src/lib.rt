@@ -7,7 +7,7 @@
 //!
 //! The exit status is 0 where the program came to its end, or the words ask for the version. Else it is 1 where standard output cannot
 //! be written, 2 where the words are refused (those that ask for help among them), 3 where it cannot listen, and 4 where there was no
-//! memory to start with; standard error says why.
+//! memory to start with, or none for as long as the words say; standard error says why.
 #![tactic(auto)]
 
 mod admins;

@@ -47,6 +47,7 @@ where
         admin,
         check,
     } = Options::of(alloc, &matches).map_err(failure_of)?;
+    admin.check().map_err(Failure::Refused)?;
     if check {
         return print_size(rt, &ring);
     }

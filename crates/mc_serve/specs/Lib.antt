@@ -4,3 +4,5 @@ pub mod Chosen
 pub mod Clocks
 pub mod Kinds
 pub mod Memory
+pub mod Refusals
+pub mod Sides

@@ -1,13 +1,16 @@
 //! What a store has done.
 
+use crate::refusals::{Refusals, refused_in};
 use mc_admin::StoreFigures;
+use mc_request::Fault;
+use memchr::memmem::Finder;
 use std::cell::Cell;
 use std::fmt;
 use std::fmt::{Display, Formatter};
 
-/// What a store has done since it was made, as far as its operator asks. Whoever holds it sets the moment, by which an item is
-/// dead or not. Each number begins again at 0 after 2^64 - 1.
-#[derive(Default, Drop)]
+/// What a store has done since it was made, as far as its operator asks, and how often memory was refused. Whoever holds it sets the
+/// moment, by which an item is dead or not. Each number begins again at 0 after 2^64 - 1.
+#[derive(Drop)]
 pub struct Counts {
     moment: Cell<u64>,
     hits: Cell<u64>,
@@ -17,9 +20,31 @@ pub struct Counts {
     expired: Cell<u64>,
     items: Cell<usize>,
     used: Cell<u64>,
+    /// How many updates looked a key up, and put no new item, since the last output was looked at.
+    looked: Cell<u64>,
+    refusals: Cell<Refusals>,
+    /// What finds the line in an output that says that memory was refused.
+    finder: Finder<'static>,
 }
 
 impl Counts {
+    /// Nothing was done, at the moment 0.
+    pub fn new() -> Counts {
+        Counts {
+            moment: Cell::new(0),
+            hits: Cell::new(0),
+            misses: Cell::new(0),
+            stores: Cell::new(0),
+            evictions: Cell::new(0),
+            expired: Cell::new(0),
+            items: Cell::new(0),
+            used: Cell::new(0),
+            looked: Cell::new(0),
+            refusals: Cell::new(Refusals::new()),
+            finder: Finder::new(Fault::OutOfMemory.line()),
+        }
+    }
+
     /// Sets the moment.
     pub fn come_to(&self, moment: u64) {
         self.moment.set(moment);
@@ -53,6 +78,51 @@ impl Counts {
     /// A dead item was taken out, or another was put in its place.
     pub fn expire(&self) {
         add_one(&self.expired);
+    }
+
+    /// An update looked a key up, or found that it is not held.
+    pub fn look(&self) {
+        add_one(&self.looked);
+    }
+
+    /// The update that looked a key up last put a new item under it.
+    pub fn put(&self) {
+        self.looked.set(self.looked.get().saturating_sub(1));
+    }
+
+    /// So many calls were refused memory.
+    pub fn refuse(&self, count: u64) {
+        let mut refusals = self.refusals.get();
+        refusals.note(count, self.moment.get(), self.stores.get());
+        self.refusals.set(refusals);
+    }
+
+    /// How often memory was refused.
+    pub fn refused(&self) -> u64 {
+        self.refusals.get().count
+    }
+
+    /// Whether memory was refused for so many seconds while no item was stored; with 0 it never was.
+    pub fn is_over(&self, seconds: u64) -> bool {
+        self.refusals.get().is_over(seconds, self.stores.get())
+    }
+
+    /// Looks at an output before it is sent, and counts the requests in it that were refused memory. An update that is refused has looked
+    /// its key up and put no item, so that most outputs cost a test.
+    #[inline(always)]
+    pub fn see(&self, output: &[u8]) {
+        if self.looked.get() > 0 {
+            self.see_updates(output);
+        }
+    }
+
+    /// Counts the requests of an output that were refused memory, where updates looked keys up.
+    #[inline(never)]
+    fn see_updates(&self, output: &[u8]) {
+        let refused = refused_in(output, &self.finder, self.looked.take());
+        if refused > 0 {
+            self.refuse(refused);
+        }
     }
 
     /// The store now holds so many items, which cost so much.
@@ -92,7 +162,8 @@ impl Display for Counts {
         write!(
             f,
             " evictions={evictions} expired={expired} items={items} bytes={bytes}"
-        )
+        )?;
+        write!(f, " no_memory={}", self.refused())
     }
 }
 

@@ -3,20 +3,25 @@ ghost use Rattle.std.specs.Prelude.{◌≡◌, ◌<◌, ◌^◌, None, IsSome, l
 ghost use Rattle.mc_server.specs.ServerState.{connection_at};
 ghost use Rattle.mc_pump.specs.Pumps.{Pumps};
 
+use crate::counts::Counts;
 use crate::options::PROGRAM;
+use crate::sides::{Received, Sent};
 use mc_clients::{Client, Guard, Handler};
 use mc_pump::{Pumped, Watch, pump};
-use mc_server::{AnswerLimit, Server};
+use mc_server::{AnswerLimit, Server, ServerError};
 use mc_socket::{Input, PIECE_LEN, Step, step_after};
 use mc_store::Store;
 use mc_watch::{Seldom, Tally};
 use std::alloc::{AllocError, Global};
 use std::mem;
+use std::rc::Rc;
 
 /// A server, and what its clients share.
 #[derive(Drop)]
 pub struct ServerHandler<S: Store + Drop> {
     server: Server<S>,
+    /// What the server's store has done, and how often memory was refused.
+    counts: Rc<Counts>,
     /// What reads fill: made once.
     piece: Vec<u8>,
     /// How large an answer may be, and what passed of all clients.
@@ -27,10 +32,16 @@ pub struct ServerHandler<S: Store + Drop> {
 }
 
 impl<S: Store + Drop> ServerHandler<S> {
-    /// The handler of a server's clients, whose answers may have so many bytes.
-    pub fn new(alloc: Global, server: Server<S>, answer: usize) -> Result<Self, AllocError> {
+    /// The handler of the clients of a server whose store counts what it does. Their answers may have so many bytes.
+    pub fn new(
+        alloc: Global,
+        server: Server<S>,
+        counts: Rc<Counts>,
+        answer: usize,
+    ) -> Result<Self, AllocError> {
         Ok(ServerHandler {
             server,
+            counts,
             piece: Vec::from_elem(alloc, 0, PIECE_LEN)?,
             watch: Watch::new(AnswerLimit { bytes: answer }),
             too_large: Seldom::new(),
@@ -40,6 +51,15 @@ impl<S: Store + Drop> ServerHandler<S> {
     /// What passed of all clients.
     pub fn tally(&self) -> Tally {
         self.watch.tally
+    }
+
+    /// Notes why a client is closed whose pump failed: its socket has failed, its answer may be too large, or a call was refused memory.
+    fn note_failed(&mut self, socket: bool) {
+        if mem::replace(&mut self.watch.refused, false) {
+            self.too_large.note(self.watch.limit.bytes as u64);
+        } else if !socket {
+            self.counts.refuse(1);
+        }
     }
 
     /// Says on standard error, at most once in a second, that a request was refused whose answer may be too large.
@@ -55,7 +75,15 @@ impl<S: Store + Drop> ServerHandler<S> {
 
 impl<S: Store + Drop> Handler<()> for ServerHandler<S> {
     fn admit(&mut self, _key: usize) -> Option<u64> {
-        self.server.admit().ok()
+        match self.server.admit() {
+            Ok(number) => Some(number),
+            Err(error) => {
+                if matches!(error, ServerError::Memory) {
+                    self.counts.refuse(1);
+                }
+                None
+            }
+        }
     }
 
     fn end(&mut self, number: u64) {
@@ -63,18 +91,18 @@ impl<S: Store + Drop> Handler<()> for ServerHandler<S> {
     }
 
     fn serve(&mut self, client: &mut Client<()>, moment: u64) -> Step {
-        let pumped = pump_client(
+        let (pumped, failed) = pump_client(
             &mut self.server,
+            &self.counts,
             client,
             &mut self.piece,
             moment,
             &mut self.watch,
         );
-        let step = step_after(pumped);
-        if step == Step::Close && mem::replace(&mut self.watch.refused, false) {
-            self.too_large.note(self.watch.limit.bytes as u64);
+        if pumped == Pumped::Failed {
+            self.note_failed(failed);
         }
-        step
+        step_after(pumped)
     }
 
     fn give_back(&mut self, number: u64, room: usize) {
@@ -87,28 +115,36 @@ impl<S: Store + Drop> Handler<()> for ServerHandler<S> {
 }
 
 /// Carries a client's bytes, and serves what comes whole, where the watch allows its answer. Which bytes a socket gives, and which
-/// it takes, is not known.
+/// it takes, is not known. It also says whether the socket has failed.
 fn pump_client<S: Store + Drop>(
     server: &mut Server<S>,
+    counts: &Counts,
     client: &mut Client<()>,
     piece: &mut [u8],
     moment: u64,
     watch: &mut Watch,
-) -> Pumped
+) -> (Pumped, bool)
     requires piece { 0 < length piece.old }
     requires moment { moment < 2 ^ 63 }
-    ensures pumps { IsSome (connection_at server.old client.old.number) → Pumps client.old.number moment result server.old server.new
+    ensures pumps { IsSome (connection_at server.old client.old.number) → Pumps client.old.number moment result.0 server.old server.new
         None None None None client.old.ended client.new.ended }
     ensures number { client.new.number ≡ client.old.number }
 {
     let mut input = Input {
-        stream: Guard {
-            stream: &client.stream,
-            first: client.first,
+        stream: Received {
+            stream: Guard {
+                stream: &client.stream,
+                first: client.first,
+            },
+            failed: false,
         },
         edge: client.edge,
     };
-    let mut output = &client.stream;
+    let mut output = Sent {
+        stream: &client.stream,
+        counts,
+        failed: false,
+    };
     let pumped = pump(
         server,
         client.number,
@@ -120,6 +156,6 @@ fn pump_client<S: Store + Drop>(
         watch,
     );
     client.edge = input.edge;
-    client.first = input.stream.first;
-    pumped
+    client.first = input.stream.stream.first;
+    (pumped, input.stream.failed || output.failed)
 }

@@ -10,6 +10,7 @@ use crate::options::PROGRAM;
 use crate::settings::Settings;
 use mc_clients::{Clients, Report, Rounds, patience};
 use mc_operators::Operators;
+use mc_program::ServeError;
 use mc_server::{MAX_CONNECTIONS, Server};
 use mc_socket::Backlog;
 use mc_store::Store;
@@ -23,8 +24,10 @@ use std::time::Duration;
 
 /// A server, its clients and what it does unasked: once in a second or less often it has clients rest, and says what it has done.
 #[derive(Drop)]
-pub struct Host<S: Store + Drop> {
+pub struct Host<'a, S: Store + Drop> {
     alloc: Global,
+    /// Where it listens, as it says it.
+    listen: &'a str,
     handler: ServerHandler<S>,
     clients: Clients<()>,
     operators: Operators,
@@ -33,6 +36,10 @@ pub struct Host<S: Store + Drop> {
     settings: Settings,
     /// Whether it was said that its items are at their limit while much of its budget is free.
     advised: bool,
+    /// Of how many calls it was said that they were refused memory.
+    told_refused: u64,
+    /// Whether it ends, since it was refused memory for as long as the settings say.
+    ended: bool,
     start: u64,
     /// The moment of the round.
     moment: u64,
@@ -42,10 +49,11 @@ pub struct Host<S: Store + Drop> {
     ghost within: { moment < 2 ^ 63 },
 }
 
-impl<S: Store + Drop> Host<S> {
-    /// A host without a client, over a server whose store counts what it does, from a moment on.
+impl<'a, S: Store + Drop> Host<'a, S> {
+    /// A host without a client, over a server whose store counts what it does, from a moment on. It listens at this host and port.
     pub fn new(
         alloc: Global,
+        listen: &'a str,
         server: Server<S>,
         counts: Rc<Counts>,
         settings: &Settings,
@@ -57,12 +65,15 @@ impl<S: Store + Drop> Host<S> {
         let service = settings.service;
         Ok(Host {
             alloc,
-            handler: ServerHandler::new(alloc, server, service.answer)?,
+            listen,
+            handler: ServerHandler::new(alloc, server, counts.clone()?, service.answer)?,
             clients: Clients::new(alloc, MAX_CONNECTIONS, service.terms.idle)?,
             operators,
             counts,
             settings: *settings,
             advised: false,
+            told_refused: 0,
+            ended: false,
             start: moment,
             moment,
             rested: moment,
@@ -101,6 +112,19 @@ impl<S: Store + Drop> Host<S> {
         let _ = eprintln!(rt; "{PROGRAM}: {clients} {counts}");
     }
 
+    /// Says on standard error how many calls were refused memory since it said so last, and notes whether that ends the server.
+    fn tell_refused<R: Eprint>(&mut self, rt: &R) {
+        let count = self.counts.refused();
+        let refused = count.wrapping_sub(self.told_refused);
+        if refused == 0 {
+            return;
+        }
+        self.told_refused = count;
+        self.ended = self.counts.is_over(self.settings.service.memory_exit);
+        // Where it cannot be said, all are served all the same.
+        let _ = eprintln!(rt; "{PROGRAM}: out of memory: {refused} refused");
+    }
+
     /// Says on standard error, once, that its items are at their limit while more than half of its budget is free, and what to write.
     fn advise<R: Eprint>(&mut self, rt: &R) {
         let (held, used) = self.counts.held();
@@ -118,7 +142,12 @@ impl<S: Store + Drop> Host<S> {
     }
 }
 
-impl<R: Eprint, C: Seconds, S: Store + Drop> Rounds<R, C> for Host<S> {
+impl<R: Print + Eprint, C: Seconds, S: Store + Drop> Rounds<R, C> for Host<'_, S> {
+    fn ready(&mut self, rt: &R) {
+        // Whom the line does not reach is served all the same.
+        let _ = println!(rt; "listening {}", self.listen);
+    }
+
     fn before(&mut self, rt: &R, registry: &Registry, backlog: Backlog) -> Option<Duration> {
         self.operators.before(registry, self.moment);
         self.clients.tell_refused(rt, PROGRAM, backlog, self.moment);
@@ -167,6 +196,7 @@ impl<R: Eprint, C: Seconds, S: Store + Drop> Rounds<R, C> for Host<S> {
         self.rested = self.moment;
         self.clients.rest(&mut self.handler, self.moment);
         self.advise(rt);
+        self.tell_refused(rt);
         if self.pace.comes(self.moment) {
             self.report(rt, accepted);
         }
@@ -174,5 +204,10 @@ impl<R: Eprint, C: Seconds, S: Store + Drop> Rounds<R, C> for Host<S> {
 
     fn is_empty(&self) -> bool {
         self.clients.is_empty()
+    }
+
+    fn failed(&self) -> Option<ServeError> {
+        let seconds = self.settings.service.memory_exit;
+        self.ended.then_some(ServeError::MemoryFor(seconds))
     }
 }

@@ -27,8 +27,10 @@ mod items;
 mod kinds;
 mod memory;
 mod options;
+mod refusals;
 mod serving;
 mod settings;
+mod sides;
 
 pub use cas_from::{CasFrom, cas_from_named, last_number};
 pub use clocks::{Seconds, SystemSeconds};
@@ -39,5 +41,6 @@ pub use mc_program::ServeError;
 pub use mc_socket::{PIECE_LEN, bind};
 pub use memory::{Limit, filled_by, memory_of, met_limit, tell_memory};
 pub use options::{Options, PROGRAM, command};
+pub use refusals::{PAUSE, Refusals, Row, refused_in};
 pub use serving::serve;
 pub use settings::{Service, Settings, USUAL_ANSWER};

@@ -8,7 +8,7 @@ use clap::builder::ValueParser;
 use clap::{Arg, ArgMatches, Command};
 use mc_cache::MAX_BUDGET;
 use mc_program::{
-    AdminTerms, Terms, VERSION, accept, admin, admin_name, flag, idle, listen, report, size,
+    AdminTerms, Terms, VERSION, accept, admin, admin_name, flag, idle, listen, number, report, size,
     size_within,
 };
 use std::alloc::{AllocError, Global};
@@ -52,8 +52,8 @@ pub struct Options<'a> {
 }
 
 impl<'a> Options<'a> {
-    /// What matches of [`command`] ask for. An error says which word is refused, and why: of `--budget`, `--items`, `--cas-from` or
-    /// `--answer`. The command refuses the others.
+    /// What matches of [`command`] ask for. An error says which word is refused, and why: of `--budget`, `--items`, `--cas-from`,
+    /// `--answer` or `--admin-name`. The command refuses the others.
     pub fn of(matches: &ArgMatches<'a>) -> Result<Options<'a>, &'static str> {
         let budget = size_of(matches, "budget", 1).ok_or(BAD_BUDGET)?;
         let items = items_named(word_of(matches, "items")).ok_or(BAD_ITEMS)?;
@@ -64,13 +64,16 @@ impl<'a> Options<'a> {
         let service = Service {
             terms: Terms::of(matches),
             answer: answer as usize,
+            memory_exit: matches.get_one::<u64>("memory-exit").unwrap_or(0),
         };
         let settings = Settings::new(budget, items_for(items, budget), kind, cas_from, service);
+        let admin = AdminTerms::of(matches);
+        admin.check()?;
         Ok(Options {
             listen: word_of(matches, "listen"),
             settings: settings.ok_or(BAD_BUDGET)?,
             log: matches.get_flag("log"),
-            admin: AdminTerms::of(matches),
+            admin,
             check: matches.get_flag("check"),
         })
     }
@@ -122,6 +125,9 @@ impl Display for Options<'_> {
         if report > 0 {
             write!(f, " report {report}")?;
         }
+        if service.memory_exit > 0 {
+            write!(f, " memory-exit {}", service.memory_exit)?;
+        }
         if self.log {
             f.write_str(" log")?;
         }
@@ -142,6 +148,7 @@ pub fn command<'a>(alloc: Global) -> Result<Command<'a>, AllocError> {
         .arg(answer(alloc))?
         .arg(idle(alloc))?
         .arg(report(alloc))?
+        .arg(memory_exit(alloc))?
         .arg(admin(alloc))?
         .arg(admin_name(alloc))?
         .arg(accept(
@@ -198,6 +205,15 @@ fn cas_from<'a>(alloc: Global) -> Arg<'a> {
         .help(
             "Give items cas numbers above this one, 0 to 9223372036854775807; or now: above those of any start before, by the clock",
         )
+}
+
+fn memory_exit<'a>(alloc: Global) -> Arg<'a> {
+    number(
+        alloc,
+        "memory-exit",
+        "seconds",
+        "End with status 4 if for so long each call that needed memory was refused it, and no item was stored; 0 for never",
+    )
 }
 
 fn answer<'a>(alloc: Global) -> Arg<'a> {

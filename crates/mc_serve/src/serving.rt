@@ -33,23 +33,27 @@ const NO_SEED: ServeError = ServeError::Listen(ListenError::NoSeed);
 
 /// Serves the connections that a listener accepts, over one cache, at the moments that the clock tells. Random numbers key its hashes.
 ///
+/// Once all is reserved that it needs at the start, the table of the items too, it prints `listening` and where. Who waits for that line is
+/// served.
+///
 /// It answers once as many connections as the settings say were accepted and all of them are closed; without such a
-/// limit it serves for ever. A connection that fails is closed, and the others go on. A round of the poll reads the clock
-/// once. Operators are served at the end of a round, by what the server has done. What is said on standard error waits for whoever reads
+/// limit it serves for ever, unless the settings say after how many seconds without memory it ends. A connection that fails is closed, and
+/// the others go on. A round of the poll reads the clock once. Operators are served at the end of a round, by what the server has done. What is said on standard error waits for whoever reads
 /// it; where it fails nothing else changes.
-pub fn serve<R: Net + RandomSource + Wait + Eprint, C: Seconds>(
+pub fn serve<R: Net + RandomSource + Wait + Print + Eprint, C: Seconds>(
     rt: &R,
     alloc: Global,
+    listen: &str,
     listener: TcpListener,
     settings: &Settings,
     operators: Operators,
     clock: &mut C,
 ) -> Result<(), ServeError> {
-    let counts = Rc::new(alloc, Counts::default()).map_err(|_| ServeError::Memory)?;
+    let counts = Rc::new(alloc, Counts::new()).map_err(|_| ServeError::Memory)?;
     let start = clock.now();
     let server = new_server(rt, alloc, settings, counts.clone()?, start)?;
     let service = settings.service;
-    let mut host = Host::new(alloc, server, counts, settings, operators, start)?;
+    let mut host = Host::new(alloc, listen, server, counts, settings, operators, start)?;
     serve_rounds(rt, alloc, listener, service.terms.accept, clock, &mut host)
 }
 

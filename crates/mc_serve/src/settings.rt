@@ -17,6 +17,8 @@ pub struct Service {
     pub terms: Terms,
     /// The most bytes that an answer may have: a request whose answer may have more closes its connection.
     pub answer: usize,
+    /// A server that for so many seconds is refused memory and stores nothing ends; 0 for never.
+    pub memory_exit: u64,
 }
 
 impl Service {
@@ -29,6 +31,7 @@ impl Service {
                 report: 0,
             },
             answer: USUAL_ANSWER,
+            memory_exit: 0,
         }
     }
 }

@@ -47,7 +47,7 @@ where
     served.map_err(|error| Failure::at(rt, error, options.listen, is_read))
 }
 
-/// Listens, says so, and serves. How much memory it may take it says before, if its operator reads it.
+/// Listens, and serves. How much memory it may take it says before, if its operator reads it.
 fn listen_and_serve<R>(
     rt: &R,
     alloc: Global,
@@ -64,11 +64,10 @@ where
     }
     let others = OWN_FILES.saturating_add(operators.files());
     tell_open_files(rt, PROGRAM, others, MAX_CONNECTIONS);
-    // Whom the line does not reach is served all the same.
-    let _ = println!(rt; "listening {}", options.listen);
     serve(
         rt,
         alloc,
+        options.listen,
         listener,
         &options.settings,
         operators,

@@ -1,0 +1,97 @@
+//! Calls that are refused memory.
+ghost use Rattle.std.specs.Prelude.{◌≡◌, None};
+ghost use Rattle.mc_serve.specs.Refusals.{goes_on, has_lasted, is_over, noted, refused_in, since_of};
+
+use memchr::memmem::Finder;
+
+/// A row of refusals ends if for more than so many seconds there is none.
+pub const PAUSE: u64 = 10;
+
+/// A row of refusals, between which no item was stored.
+#[derive(Clone, Copy, Debug, PartialEq, Eq)]
+pub struct Row {
+    /// In which second the first was.
+    pub since: u64,
+    /// In which second the last was.
+    pub last: u64,
+    /// How many items had been stored.
+    pub stores: u64,
+}
+
+impl Row {
+    /// Whether a refusal in a second goes on it, once so many items were stored.
+    fn goes_on(self, second: u64, stores: u64) -> bool
+        ensures { result ≡ goes_on self second stores }
+    {
+        self.stores == stores && second.saturating_sub(self.last) <= PAUSE
+    }
+
+    /// Whether it has lasted so many seconds, once so many items were stored.
+    fn has_lasted(self, seconds: u64, stores: u64) -> bool
+        ensures { result ≡ has_lasted self seconds stores }
+    {
+        seconds > 0 && self.stores == stores && self.last.saturating_sub(self.since) >= seconds
+    }
+}
+
+/// In which second the row began that a refusal in a second is of, once so many items were stored.
+fn since_of(row: Option<Row>, second: u64, stores: u64) -> u64
+    ensures { result ≡ since_of row second stores }
+{
+    match row {
+        Some(row) if row.goes_on(second, stores) => row.since,
+        _ => second,
+    }
+}
+
+/// How often calls of a server were refused memory, and for how long none of its items was stored.
+#[derive(Clone, Copy, Debug, PartialEq, Eq)]
+pub struct Refusals {
+    /// How often: it begins again at 0 after 2^64 - 1.
+    pub count: u64,
+    /// The row that the last refusal is of.
+    pub row: Option<Row>,
+}
+
+impl Refusals {
+    /// No call was refused memory.
+    pub fn new() -> Refusals
+        ensures { result ≡ record { count = 0; row = None } }
+    {
+        Refusals {
+            count: 0,
+            row: None,
+        }
+    }
+
+    /// Notes so many refusals in a second, once so many items were stored. It goes on a row if no item was stored since its last refusal,
+    /// and that was at most [`PAUSE`] seconds before.
+    pub fn note(&mut self, count: u64, second: u64, stores: u64)
+        ensures { self.new ≡ noted self.old count second stores }
+    {
+        self.count = self.count.wrapping_add(count);
+        self.row = Some(Row {
+            since: since_of(self.row, second, stores),
+            last: second,
+            stores,
+        });
+    }
+
+    /// Whether calls were refused memory for so many seconds while no item was stored, of which there are so many. With 0 they never were.
+    pub fn is_over(&self, seconds: u64, stores: u64) -> bool
+        ensures { result ≡ is_over self.now.row seconds stores }
+    {
+        match self.row {
+            Some(row) => row.has_lasted(seconds, stores),
+            None => false,
+        }
+    }
+}
+
+/// How many requests an output says were refused memory, by a line that is found in it, if so many looked a key up and put no item.
+pub fn refused_in(output: &[u8], line: &Finder<'_>, looked: u64) -> u64
+    ensures { result ≡ refused_in output.now line.now looked }
+{
+    let lines = line.find_iter(output).count();
+    looked.min(lines as u64)
+}

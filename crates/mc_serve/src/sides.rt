@@ -1,0 +1,78 @@
+//! The two sides of a client's socket, with what is seen there.
+ghost use Rattle.std.specs.Prelude.{◌≡◌};
+ghost use Rattle.std.specs.Io.{ReadsAtMost, WritesAtMost};
+ghost use Rattle.std.specs.Io.KnownBytes.{Keeps, ReadConsumes, WriteAppends};
+ghost use Rattle.std.specs.IoError.{error_kind};
+ghost use Rattle.mc_serve.specs.Sides.{fails_by};
+
+use crate::counts::Counts;
+use std::io;
+use std::io::{ErrorKind, Read, Write};
+
+/// The input of a client, and whether it has failed.
+#[derive(Drop)]
+pub struct Received<R> {
+    /// What gives the bytes.
+    pub stream: R,
+    /// Whether a read failed.
+    pub failed: bool,
+}
+
+impl<R: Read> Read for Received<R> {
+    ghost remaining = { λ side. R.remaining side.stream };
+
+    fn read(&mut self, piece: &mut [u8]) -> io::Result<usize>
+        ensures bound { ReadsAtMost result piece.new }
+        ensures bytes { ReadConsumes (R.remaining self.old.stream) (R.remaining self.new.stream) result piece.new }
+    {
+        let read = self.stream.read(piece);
+        if let Err(error) = &read
+            && fails(error)
+        {
+            self.failed = true;
+        }
+        read
+    }
+}
+
+/// The output of a client, in which is counted what was refused memory, and whether it has failed.
+#[derive(Drop)]
+pub struct Sent<'a, W> {
+    /// What takes the bytes.
+    pub stream: W,
+    /// Where is counted.
+    pub counts: &'a Counts,
+    /// Whether a write failed, or nothing was taken.
+    pub failed: bool,
+}
+
+impl<W: Write> Write for Sent<'_, W> {
+    ghost contents = { λ side. W.contents side.stream };
+
+    fn write(&mut self, output: &[u8]) -> io::Result<usize>
+        ensures bound { WritesAtMost result output.now }
+        ensures bytes { WriteAppends (W.contents self.old.stream) (W.contents self.new.stream) result output.now }
+    {
+        self.counts.see(output);
+        let written = self.stream.write(output);
+        match &written {
+            Ok(count) if *count > 0 => {}
+            Ok(_) => self.failed = true,
+            Err(error) => self.failed = self.failed || fails(error),
+        }
+        written
+    }
+
+    fn flush(&mut self) -> io::Result<()>
+        ensures bytes { Keeps (W.contents self.old.stream) (W.contents self.new.stream) }
+    {
+        self.stream.flush()
+    }
+}
+
+/// Whether a stream whose read or write had this error has failed: one that has nothing to give now, or takes nothing, has not.
+fn fails(error: &io::Error) -> bool
+    ensures { result ≡ fails_by (error_kind error.now) }
+{
+    !matches!(error.kind(), ErrorKind::WouldBlock | ErrorKind::Interrupted)
+}
