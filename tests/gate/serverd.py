@@ -19,8 +19,8 @@ import time
 sys.path.insert(0, str(pathlib.Path(__file__).resolve().parents[1] / "lib"))
 
 from checks import (
-    KILOBYTE, MARK, PATIENCE, Program, Wrong, asked, checks_of_words, is_served, received, received_to_the_end, settles, tally,
-    want, want_at_most, wrong_sizes_are_refused,
+    FORMS, KILOBYTE, MARK, PATIENCE, Program, Wrong, asked, checks_of_words, is_served, plain_lines, received, received_to_the_end,
+    settles, tally, want, want_at_most, wrong_sizes_are_refused,
 )  # fmt: skip
 from connections import checks_of_connections, fields_of, lines_said
 from servers import HOST, Listener, free_port
@@ -66,6 +66,7 @@ SETTINGS = {
     ),
     "cas_numbers_from_0": ("--cas-from 0", "listen 127.0.0.1:11211 budget 67108864 items 65536 accept 0"),
     "a_log_that_was_asked_for": ("--report 1 --log", "listen 127.0.0.1:11211 budget 67108864 items 65536 accept 0 report 1 log"),
+    "a_log_in_json": ("--log=json", "listen 127.0.0.1:11211 budget 67108864 items 65536 accept 0 log json"),
     "sizes_in_letters": (
         "--budget 2G --answer 1K",
         "listen 127.0.0.1:11211 budget 2147483648 items 65536 accept 0 answer 1024",
@@ -99,6 +100,7 @@ REFUSED = {
     "no_value": (["--listen"], "a value is required for '--listen <host:port>' but none was supplied"),
     "no_seconds": (["--idle", "1s"], "invalid value '1s' for '--idle <seconds>': invalid digit found in string"),
     "seconds_below_0": (["--report=-1"], "invalid value '-1' for '--report <seconds>': invalid digit found in string"),
+    "an_unknown_form": (["--log=xml"], "invalid value 'xml' for '--log[=<form>]'\n  [possible values: text, json]"),
     "an_empty_name": (["--admin-name="], "a value is required for '--admin-name <host>' but none was supplied"),
     "an_unknown_store": (["--store", "list"], "invalid value 'list' for '--store <kind>'\n  [possible values: table, lru]"),
     "no_number": (["--accept", "x"], "invalid value 'x' for '--accept <n>': invalid digit found in string"),
@@ -235,17 +237,18 @@ SAID_OF_MEMORY = {
 def how_much_memory_is_said_at_the_start():
     """If it is asked for, and else nothing; with the limit of its addresses, if that is lower. (A control group's is left out here.)"""
     for words, lines in SAID_OF_MEMORY.items():
-        want((words, said_at_the_start(words + " --log")), (words, lines))
+        for form in FORMS[1:]:
+            want((words, said_at_the_start(words, form)), (words, lines))
         want((words, said_at_the_start(words)), (words, []))
     limits = [(resource.RLIMIT_AS, 2_500_000_000)]
-    want(said_at_the_start("--log --budget 3G", limits)[0], "may take 3.5 GB: budget 3.2 GB, 65,536 items; limit 2.5 GB (ulimit -v)")
-    want(said_at_the_start("--log --budget 2G", limits)[0], "may take 2.3 GB: budget 2.1 GB, 65,536 items")
+    want(said_at_the_start("--budget 3G", "--log", limits)[0], "may take 3.5 GB: budget 3.2 GB, 65,536 items; limit 2.5 GB (ulimit -v)")
+    want(said_at_the_start("--budget 2G", "--log", limits)[0], "may take 2.3 GB: budget 2.1 GB, 65,536 items")
 
 
-def said_at_the_start(words, limits=()):
-    with start(words, limits) as server:
+def said_at_the_start(words, form="", limits=()):
+    with start(f"{words} {form}", limits) as server:
         server.process.terminate()
-        said = server.process.stderr.read().decode()
+        said = plain_lines(server.process.stderr.read().decode(), form)
     said = re.sub(r"; limit [0-9.]+ [MG]B \(control group\)", "", said)
     return [line.removeprefix("mc_serverd: ") for line in said.splitlines()]
 

@@ -4,6 +4,8 @@ program says to its words, and the count of the checks.
 A check is a function that raises an error where it fails: `Wrong`, where something else came than is wanted.
 """
 
+import datetime
+import json
 import os
 import pathlib
 import re
@@ -81,6 +83,32 @@ def settles(number):
             return now
         before = now
     raise Wrong("it does not settle")
+
+
+# Lines on standard error.
+
+FORMS = ("", "--log", "--log=text", "--log=json")  # the words that ask for them
+
+
+def plain(line, form):
+    """A line that was said in a form, as it is without it. Its time is that of now, in UTC."""
+    if not form:
+        return line
+    if form == "--log=json":
+        said = json.loads(line)
+        want(list(said), ["time", "program", "text"])
+        told, line = said["time"], f"{said['program']}: {said['text']}"
+    else:
+        told, _, line = line.partition(" ")
+    want(re.fullmatch(r"[0-9]{4}(-[0-9]{2}){2}T[0-9]{2}(:[0-9]{2}){2}Z", told) is not None, True)
+    ago = datetime.datetime.now(datetime.timezone.utc) - datetime.datetime.fromisoformat(told.replace("Z", "+00:00"))
+    want(-1 < ago.total_seconds() < 60, True)
+    return line
+
+
+def plain_lines(text, form):
+    """The same of all lines of a text."""
+    return "".join(plain(line, form) + "\n" for line in text.splitlines())
 
 
 # Words and statuses.
@@ -169,19 +197,26 @@ CAUSES = {
 
 
 def why_it_cannot_listen_is_told(program):
-    """By a second line, with what was given: at a terminal, for the journal, or if --log asks for it."""
+    """By a second line, with what was given: at a terminal, for the journal, or if --log asks for it, which has its forms elsewhere."""
     with socket.create_server((HOST, 0)) as other:
         for listen, cause in (*CAUSES.items(), (f"{HOST}:{other.getsockname()[1]}", "address in use")):
             told = f"{program.name}: cannot listen\n{program.name}: {listen}: {cause}\n"
-            want(program.run(f"--listen={listen}", "--log"), (3, "", told))
+            for form in FORMS[1:]:
+                status, output, said = program.run(f"--listen={listen}", form)
+                want((status, output, plain_lines(said, form)), (3, "", told))
     told = f"{program.name}: cannot listen\n{program.name}: a: not <host>:<port>\n"
-    want(program.run("--listen=a", env={**os.environ, "JOURNAL_STREAM": "8:1"}), (3, "", told))
-    want(said_at_a_terminal(program, "--listen=a"), told)
+    journal = {**os.environ, "JOURNAL_STREAM": "8:1"}
+    for words in ([], ["--log"]):
+        want(program.run("--listen=a", *words, env=journal), (3, "", told))
+        want(said_at_a_terminal(program, "--listen=a", *words), told)
+    status, _, said = program.run("--listen=a", "--log=json", env=journal)
+    want((status, plain_lines(said, "--log=json")), (3, told))
+    want(plain_lines(said_at_a_terminal(program, "--listen=a", "--log=json"), "--log=json"), told)
     # With one file beside its streams it has a listener, and no poll of its sockets.
     listen = f"{HOST}:{free_port()}"
     told = f"{program.name}: cannot listen\n{program.name}: {listen}: too many open files\n"
     status, _, said = program.run(f"--listen={listen}", "--log", limits=[(resource.RLIMIT_NOFILE, 4)])
-    want((status, said[-len(told) :]), (3, told))
+    want((status, plain_lines(said, "--log")[-len(told) :]), (3, told))
 
 
 def said_at_a_terminal(program, *words):

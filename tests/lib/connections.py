@@ -12,7 +12,7 @@ import struct
 import threading
 import time
 
-from checks import KILOBYTE, PATIENCE, Wrong, asked, is_served, received, received_to_the_end, want, want_at_most
+from checks import FORMS, KILOBYTE, PATIENCE, Wrong, asked, is_served, plain, received, received_to_the_end, want, want_at_most
 from servers import HOST
 
 LARGE = 1_000_000  # bytes of a large value
@@ -234,6 +234,25 @@ def few_open_files_are_told(start, name, own):
             want(select.select([program.process.stderr], [], [], 0)[0], [])
 
 
+def lines_have_their_form(start, name, own):
+    """Few open files, no more clients, a stranger and a report: as they are without --log, and with it each with its time, or in JSON."""
+    for form in FORMS:
+        with start(f"--report 1 {form}", limits=[(resource.RLIMIT_NOFILE, 16)]) as program:
+            clients = [program.connected() for _ in range(20)]
+            try:
+                is_served(clients[0])
+                clients[1].sendall(b"\x80")
+                lines = []
+                while not ("uptime=" in "".join(lines) and "refused:" in "".join(lines) and "no more" in "".join(lines)):
+                    lines += [plain(line, form) for line in lines_said(program)]
+            finally:
+                for client in clients:
+                    client.close()
+        want([line for line in lines if not line.startswith(f"{name}: ")], [])
+        want(f"{name}: 16 open files: {16 - own} connections can be served at a time" in lines, True)
+        want(any(line.endswith(f" refused: {BINARY}") for line in lines), True)
+
+
 # Strangers.
 
 HTTP, BINARY, TLS = (
@@ -436,4 +455,5 @@ def checks_of_connections(start, program, own, more_dialogues={}, full="too many
         yield f"no stranger, {text}", a_text_is_none_of_a_stranger, (start, sent, answer)
     yield strangers_are_told_once_in_a_second.__name__, strangers_are_told_once_in_a_second, (start, program)
     yield few_open_files_are_told.__name__, few_open_files_are_told, (start, program, own)
+    yield lines_have_their_form.__name__, lines_have_their_form, (start, program, own)
     yield no_descriptors_are_waited_for.__name__, no_descriptors_are_waited_for, (start, program, own, full)

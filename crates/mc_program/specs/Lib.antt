@@ -1,4 +1,5 @@
 pub mod Admins
+pub mod Logs
 pub mod Sizes
 pub mod Sockets
 pub mod Statuses

@@ -7,6 +7,7 @@ ghost use Rattle.mc_program.specs.declared.errors.ServeError.TheVariants.{Memory
 use crate::errors::{ListenError, ServeError};
 use clap::error::ErrorKind;
 use std::alloc::AllocError;
+use std::io;
 
 /// Why a program ends with another status than 0, or by words that ask for its version.
 #[derive(Debug, Drop)]
@@ -55,7 +56,7 @@ impl Failure {
         }
     }
 
-    /// Says it on standard error, as the program of a name; a text of help, and the version, go to standard output.
+    /// Says it on standard error, as the program of a name, in a line or two; a text of help, and the version, go to standard output.
     pub fn tell<R: Print + Eprint>(&self, rt: &R, program: &str) {
         // Where it cannot be said, the status alone tells it.
         let _ = match self {
@@ -64,11 +65,15 @@ impl Failure {
             Failure::Refused(why) => eprintln!(rt; "{program}: {why}"),
             Failure::Output => eprintln!(rt; "{program}: output failed"),
             Failure::Serve(error) => eprintln!(rt; "{program}: {error}"),
-            Failure::Listen(place, cause) => eprintln!(rt;
-                "{program}: cannot listen\n{program}: {place}: {cause}"
-            ),
+            Failure::Listen(place, cause) => tell_place(rt, program, place, *cause),
         };
     }
+}
+
+/// Says that a program cannot listen at a place, and why.
+fn tell_place<R: Eprint>(rt: &R, program: &str, place: &str, cause: ListenError) -> io::Result<()> {
+    eprintln!(rt; "{program}: cannot listen")?;
+    eprintln!(rt; "{program}: {place}: {cause}")
 }
 
 /// The exit status of a run: 0 where it came to its end, and else that of its failure.

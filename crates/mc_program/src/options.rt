@@ -38,6 +38,21 @@ pub fn accept<'a>(alloc: Global, help: &'a str) -> Arg<'a> {
     number(alloc, "accept", "n", help)
 }
 
+/// What the option of lines may say.
+const LOGS: [&str; 2] = ["text", "json"];
+
+/// The option that says in which form a program says what happens: `--log`, `--log=text` or `--log=json`.
+pub fn log<'a>(alloc: Global, help: &'a str) -> Arg<'a> {
+    Arg::new(alloc, "log")
+        .long("log")
+        .value_name("form")
+        .value_parser(ValueParser::Names(&LOGS))
+        .num_args(0..=1)
+        .require_equals(true)
+        .default_missing_value("text")
+        .help(help)
+}
+
 /// An option that is there or not.
 pub fn flag<'a>(alloc: Global, name: &'a str, help: &'a str) -> Arg<'a> {
     Arg::new(alloc, name)

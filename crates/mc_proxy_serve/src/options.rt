@@ -8,8 +8,8 @@ use crate::settings::ProxySettings;
 use clap::builder::ValueParser;
 use clap::{Arg, ArgMatches, Command};
 use mc_program::{
-    AdminTerms, Terms, VERSION, accept, admin, admin_name, flag, idle, listen, number, report,
-    size, size_within,
+    AdminTerms, Asked, Terms, VERSION, accept, admin, admin_name, flag, idle, listen, log, number,
+    report, size, size_within,
 };
 use mc_ring::{Ring, RingError};
 use std::alloc::{AllocError, Global};
@@ -30,8 +30,8 @@ pub struct Options<'a> {
     pub ring: Ring,
     /// What to serve with.
     pub settings: ProxySettings,
-    /// Whether its operator is to be told on standard error what is told at a terminal or for the journal.
-    pub log: bool,
+    /// In which form its operator is told on standard error what happens.
+    pub log: Asked,
     /// Where operators are answered.
     pub admin: AdminTerms<'a>,
     /// Whether to print how many servers and points there are, and end.
@@ -98,7 +98,7 @@ impl<'a> Options<'a> {
                 addresses,
                 join,
             },
-            log: matches.get_flag("log"),
+            log: Asked::of(matches),
             admin: AdminTerms::of(matches),
             check: matches.get_flag("check"),
         })
@@ -144,10 +144,9 @@ pub fn command<'a>(alloc: Global) -> Result<Command<'a>, AllocError> {
             "n",
             "With which accepted client the server of --join joins; 0 for none",
         ))?
-        .arg(flag(
+        .arg(log(
             alloc,
-            "log",
-            "Say on standard error, as at a terminal or for the journal, why it cannot listen",
+            "Say on standard error, as at a terminal or for the journal, why it cannot listen; each line with its time in UTC, or as a JSON object",
         ))?
         .arg(flag(
             alloc,

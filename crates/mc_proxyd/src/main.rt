@@ -8,7 +8,7 @@
 ghost use Rattle.std.specs.Prelude.{◌≡◌};
 ghost use Rattle.mc_program.specs.Statuses.{status_of};
 
-use mc_program::{Failure, ServeError, exit_status, is_read, read_words};
+use mc_program::{Asked, Failure, Logged, ServeError, exit_status, is_read, read_words};
 use mc_proxy::MAX_SESSIONS;
 use mc_proxy_serve::{
     ListError, Operators, Options, PROGRAM, ProxySettings, command, other_files, serve,
@@ -24,21 +24,23 @@ use std::rt::{Clock, Env};
 use std::sync::Wait;
 
 fn main(rt: HostRuntime) -> ExitCode {
-    let served = run(&rt);
+    let mut asked = Asked::Nothing;
+    let served = run(&rt, &mut asked);
     if let Err(failure) = &served {
-        failure.tell(&rt, PROGRAM);
+        failure.tell(&Logged::new(&rt, PROGRAM, asked), PROGRAM);
     }
     ExitCode::from(exit_status(&served))
 }
 
-/// Reads the words, and then prints how large the ring is, or serves.
-fn run<R>(rt: &R) -> Result<(), Failure>
+/// Reads the words, says in which form they ask for lines, and then prints how large the ring is, or serves.
+fn run<R>(rt: &R, asked: &mut Asked) -> Result<(), Failure>
 where
     R: Env + Clock + Print + Eprint + Net + RandomSource + Wait + AllocGlobal,
 {
     let alloc = rt.alloc();
     let words = read_words(rt)?;
     let matches = command(alloc)?.try_get_matches_from(words.as_slice())?;
+    *asked = Asked::of(&matches);
     let Options {
         listen,
         ring,
@@ -51,14 +53,15 @@ where
     if check {
         return print_size(rt, &ring);
     }
-    let is_read = is_read(rt, log);
+    let is_read = is_read(rt, log.is_any());
     let operators = Operators::new(rt, alloc, &admin).map_err(|error| Failure::at(
         rt,
         error,
         admin.listen.unwrap_or(""),
         is_read,
     ))?;
-    let served = listen_and_serve(rt, alloc, listen, &settings, operators, ring);
+    let logged = Logged::new(rt, PROGRAM, log);
+    let served = listen_and_serve(&logged, alloc, listen, &settings, operators, ring);
     served.map_err(|error| Failure::at(rt, error, listen, is_read))
 }
 

@@ -8,8 +8,8 @@ use clap::builder::ValueParser;
 use clap::{Arg, ArgMatches, Command};
 use mc_cache::MAX_BUDGET;
 use mc_program::{
-    AdminTerms, Terms, VERSION, accept, admin, admin_name, flag, idle, listen, number, report, size,
-    size_within,
+    AdminTerms, Asked, Terms, VERSION, accept, admin, admin_name, flag, idle, listen, log, number,
+    report, size, size_within,
 };
 use std::alloc::{AllocError, Global};
 use std::fmt;
@@ -43,8 +43,8 @@ pub struct Options<'a> {
     pub listen: &'a str,
     /// What to serve with.
     pub settings: Settings,
-    /// Whether its operator is to be told on standard error what is told at a terminal or for the journal.
-    pub log: bool,
+    /// In which form its operator is told on standard error what happens.
+    pub log: Asked,
     /// Where operators are answered.
     pub admin: AdminTerms<'a>,
     /// Whether to print the settings and end.
@@ -72,7 +72,7 @@ impl<'a> Options<'a> {
         Ok(Options {
             listen: word_of(matches, "listen"),
             settings: settings.ok_or(BAD_BUDGET)?,
-            log: matches.get_flag("log"),
+            log: Asked::of(matches),
             admin,
             check: matches.get_flag("check"),
         })
@@ -128,10 +128,7 @@ impl Display for Options<'_> {
         if service.memory_exit > 0 {
             write!(f, " memory-exit {}", service.memory_exit)?;
         }
-        if self.log {
-            f.write_str(" log")?;
-        }
-        write!(f, "{}", self.admin)
+        write!(f, "{}{}", self.log, self.admin)
     }
 }
 
@@ -155,10 +152,9 @@ pub fn command<'a>(alloc: Global) -> Result<Command<'a>, AllocError> {
             alloc,
             "End once so many connections were accepted and all are closed; 0 for never",
         ))?
-        .arg(flag(
+        .arg(log(
             alloc,
-            "log",
-            "Say on standard error, as at a terminal or for the journal, why it cannot listen, and how much memory it may take",
+            "Say on standard error, as at a terminal or for the journal, why it cannot listen, and how much memory it may take; each line with its time in UTC, or as a JSON object",
         ))?
         .arg(flag(
             alloc,

@@ -4,7 +4,7 @@
 //! that of [`mc_program`]. The words are read first, then `--check` is obeyed, then it listens.
 #![tactic(auto)]
 
-use mc_program::{Failure, ServeError, exit_status, is_read, read_words};
+use mc_program::{Asked, Failure, Logged, ServeError, exit_status, is_read, read_words};
 use mc_serve::{Operators, Options, PROGRAM, SystemSeconds, bind, command, serve, tell_memory};
 use mc_server::MAX_CONNECTIONS;
 use mc_watch::{OWN_FILES, tell_open_files};
@@ -17,33 +17,36 @@ use std::rt::{Clock, Env};
 use std::sync::Wait;
 
 fn main(rt: HostRuntime) -> ExitCode {
-    let served = run(&rt);
+    let mut asked = Asked::Nothing;
+    let served = run(&rt, &mut asked);
     if let Err(failure) = &served {
-        failure.tell(&rt, PROGRAM);
+        failure.tell(&Logged::new(&rt, PROGRAM, asked), PROGRAM);
     }
     ExitCode::from(exit_status(&served))
 }
 
-/// Reads the words, and then prints the settings or serves.
-fn run<R>(rt: &R) -> Result<(), Failure>
+/// Reads the words, says in which form they ask for lines, and then prints the settings or serves.
+fn run<R>(rt: &R, asked: &mut Asked) -> Result<(), Failure>
 where
     R: Env + Clock + Files + Print + Eprint + Net + RandomSource + Wait + AllocGlobal,
 {
     let alloc = rt.alloc();
     let words = read_words(rt)?;
     let matches = command(alloc)?.try_get_matches_from(words.as_slice())?;
+    *asked = Asked::of(&matches);
     let options = Options::of(&matches).map_err(Failure::Refused)?;
     if options.check {
         return check(rt, &options);
     }
-    let is_read = is_read(rt, options.log);
+    let is_read = is_read(rt, options.log.is_any());
     let operators = Operators::new(rt, alloc, &options.admin).map_err(|error| Failure::at(
         rt,
         error,
         options.admin.listen.unwrap_or(""),
         is_read,
     ))?;
-    let served = listen_and_serve(rt, alloc, &options, operators, is_read);
+    let logged = Logged::new(rt, PROGRAM, options.log);
+    let served = listen_and_serve(&logged, alloc, &options, operators, is_read);
     served.map_err(|error| Failure::at(rt, error, options.listen, is_read))
 }
 
