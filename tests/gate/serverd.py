@@ -12,6 +12,7 @@ import contextlib
 import pathlib
 import re
 import resource
+import select
 import subprocess
 import sys
 import time
@@ -23,7 +24,7 @@ from checks import (
     settles, tally, want, want_at_most, wrong_sizes_are_refused,
 )  # fmt: skip
 from connections import checks_of_connections, fields_of, lines_said
-from servers import HOST, Listener, free_port
+from servers import HOST, Listener, connected, free_port
 from suite import are_built
 
 HELP = pathlib.Path(__file__).with_name("serverd.help").read_text()
@@ -436,6 +437,43 @@ def no_memory_closes_connections_alone():
             is_served(client)
 
 
+def operators_keep_their_descriptors():
+    """While clients have all that are left for them, operators are answered. That no more are accepted is said, once."""
+    admin = free_port()
+    with start(f"--admin {HOST}:{admin}", [(resource.RLIMIT_NOFILE, 40)]) as server:
+        most = 40 - 5 - 17
+        clients = [server.connected() for _ in range(most + 3)]
+        try:
+            for client in clients[:most]:
+                is_served(client)
+            clients[-1].sendall(b"version\r\n")
+            want(select.select([clients[-1]], [], [], 0.3)[0], [])
+            for _ in range(3):
+                with connected(admin) as operator:
+                    operator.sendall(b"stats\r\n")
+                    want(f"STAT curr_connections {most}\r\n".encode() in until_end(operator), True)
+            told = [f"40 open files: {most} connections can be served at a time", f"no more clients: 40 open files allow {most}"]
+            want(lines_said(server, 2), [f"mc_serverd: {line}" for line in told])
+            want(select.select([server.process.stderr], [], [], 1.2)[0], [])
+            for client in clients[:3]:
+                client.close()
+            want(received(clients[-1], 15), b"VERSION 1.6.0\r\n")
+        finally:
+            for client in clients:
+                client.close()
+
+
+def until_end(connection):
+    """What comes, with its last line END."""
+    came = b""
+    while not came.endswith(b"END\r\n"):
+        piece = connection.recv(65_536)
+        if not piece:
+            break
+        came += piece
+    return came
+
+
 # No memory for as long as --memory-exit says.
 
 NO_MEMORY = b"SERVER_ERROR out of memory storing object\r\n"
@@ -576,6 +614,7 @@ def checks():
         a_report_is_said,
         idle_connections_hold_little,
         no_memory_closes_connections_alone,
+        operators_keep_their_descriptors,
         no_memory_ends_nobody_else,
         a_store_ends_the_row_of_refusals,
         a_shown_value_is_no_refusal,

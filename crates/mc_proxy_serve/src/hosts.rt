@@ -7,10 +7,10 @@ use crate::joining::Joining;
 use crate::limits::MAX_PASSES;
 use crate::options::PROGRAM;
 use crate::pools::Pool;
-use crate::rooms::{Room, other_files};
+use crate::rooms::other_files;
 use crate::settings::ProxySettings;
 use crate::woken::Woken;
-use mc_clients::{Clients, Report, Rounds, patience};
+use mc_clients::{Clients, Report, Room, Rounds, patience};
 use mc_operators::{Operators, process_number, wall_clock};
 use mc_program::ServeError;
 use mc_proxy::MAX_SESSIONS;
@@ -261,6 +261,9 @@ impl<'a, R: Net + Clock + Eprint> Rounds<R, Stopwatch> for Host<'a> {
         self.pool.tell(rt, self.second);
         self.joining.tell(rt, self.second);
         self.clients.tell_refused(rt, PROGRAM, backlog, self.second);
+        if backlog != Backlog::Nobody && self.is_full() {
+            self.room.tell(rt, PROGRAM, self.second);
+        }
         let soon = self.clients.is_busy() || backlog.is_refused() || self.joining.is_due();
         patience(self.goes_on(backlog), soon, self.left())
     }
@@ -303,9 +306,6 @@ impl<'a, R: Net + Clock + Eprint> Rounds<R, Stopwatch> for Host<'a> {
     fn finish(&mut self, rt: &R, accepted: u64) {
         self.show(rt, accepted);
         self.clients.tell(rt, PROGRAM, self.second);
-        if self.is_full() {
-            self.room.tell(rt, self.second);
-        }
         if self.second == self.rested {
             return;
         }

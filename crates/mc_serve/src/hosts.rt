@@ -8,13 +8,13 @@ use crate::handlers::ServerHandler;
 use crate::items::advice_of;
 use crate::options::PROGRAM;
 use crate::settings::Settings;
-use mc_clients::{Clients, Report, Rounds, patience};
+use mc_clients::{Clients, Report, Room, Rounds, patience};
 use mc_operators::Operators;
 use mc_program::ServeError;
 use mc_server::{MAX_CONNECTIONS, Server};
 use mc_socket::Backlog;
 use mc_store::Store;
-use mc_watch::{Pace, earlier};
+use mc_watch::{OWN_FILES, Pace, earlier};
 use mio::Registry;
 use mio::event::Event;
 use mio::net::TcpStream;
@@ -46,6 +46,8 @@ pub struct Host<'a, S: Store + Drop> {
     /// When the clients rested last.
     rested: u64,
     pace: Pace,
+    /// How many clients its open files allow beside operators; any number where there are none of these.
+    room: Option<Room>,
     ghost within: { moment < 2 ^ 63 },
 }
 
@@ -63,6 +65,12 @@ impl<'a, S: Store + Drop> Host<'a, S> {
         requires { moment < 2 ^ 63 }
     {
         let service = settings.service;
+        let files = operators.files();
+        let room = if files > 0 {
+            Some(Room::new(OWN_FILES.saturating_add(files)))
+        } else {
+            None
+        };
         Ok(Host {
             alloc,
             listen,
@@ -78,6 +86,7 @@ impl<'a, S: Store + Drop> Host<'a, S> {
             moment,
             rested: moment,
             pace: Pace::new(service.terms.report, moment),
+            room,
         })
     }
 
@@ -102,6 +111,21 @@ impl<'a, S: Store + Drop> Host<'a, S> {
             settings,
             self.moment,
         );
+    }
+
+    /// Whether it serves as many clients as its open files allow.
+    fn is_full(&self) -> bool {
+        self.room
+            .is_some_and(|room| room.is_full(self.clients.len()))
+    }
+
+    /// Says on standard error, at most once in a minute, that it serves as many clients as its open files allow, if it does.
+    fn tell_full<R: Eprint>(&mut self, rt: &R) {
+        if self.is_full()
+            && let Some(room) = &mut self.room
+        {
+            room.tell(rt, PROGRAM, self.moment);
+        }
     }
 
     /// Says on standard error what it has done, and its store, where so many connections were accepted.
@@ -151,9 +175,12 @@ impl<R: Print + Eprint, C: Seconds, S: Store + Drop> Rounds<R, C> for Host<'_, S
     fn before(&mut self, rt: &R, registry: &Registry, backlog: Backlog) -> Option<Duration> {
         self.operators.before(registry, self.moment);
         self.clients.tell_refused(rt, PROGRAM, backlog, self.moment);
+        if backlog != Backlog::Nobody {
+            self.tell_full(rt);
+        }
         let goes_on = self.clients.goes_on()
             || self.operators.goes_on()
-            || backlog == Backlog::More;
+            || (backlog == Backlog::More && !self.is_full());
         let soon = self.clients.is_busy() || backlog.is_refused();
         let due = earlier(self.clients.due(), self.pace.due());
         let due = earlier(due, self.operators.due());
@@ -178,7 +205,7 @@ impl<R: Print + Eprint, C: Seconds, S: Store + Drop> Rounds<R, C> for Host<'_, S
     fn carry_on(&mut self, _registry: &Registry) {}
 
     fn is_open(&self) -> bool {
-        true
+        !self.is_full()
     }
 
     fn admit(&mut self, _rt: &R, registry: &Registry, stream: TcpStream, _accepted: u64) {
