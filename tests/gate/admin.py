@@ -39,6 +39,7 @@ VARYING = [
     (rb"(wiersbol_process_id|STAT pid) \d+", rb"\1 PID"),
     (rb"(memcached_uptime_seconds|STAT uptime) \d+", rb"\1 UPTIME"),
     (rb"(memcached_time_seconds|STAT time) 1\d{9}\b", rb"\1 TIME"),
+    (rb"(process_resident_memory_bytes|STAT resident_bytes) [1-9]\d{6,}\b", rb"\1 MEMORY"),
 ]
 
 
@@ -121,6 +122,16 @@ def it_says_that_it_serves(program):
         status, fields, body = admin.got("/healthz")
         want((status, fields["content-type"], body), (200, PLAIN, b"ok\n"))
         want(admin.got("/healthz?verbose=1")[0], 200)
+
+
+def memory_is_that_of_the_process(program):
+    """What it says of its memory is what the system says, before and after it stored 20 MB."""
+    with server(program) as (started, admin), started.connected() as client:
+        for _ in range(2):
+            shown = dict(line.rsplit(b" ", 1) for line in admin.got("/metrics")[2].splitlines())
+            want_at_most(abs(int(shown[b"process_resident_memory_bytes"]) - started.memory()), 1_000_000)
+            for place in range(20):
+                asked(client, b"set %d 0 0 1000000\r\n%s\r\n" % (place, b"x" * 1_000_000), b"STORED\r\n")
 
 
 def numbers_grow(program):
@@ -352,7 +363,7 @@ def an_address_that_is_none_is_told(program, *others):
 
 
 def checks_of(program, proxy_program):
-    shown = [metrics_are_shown, statistics_are_shown, settings_are_shown, it_says_that_it_serves, numbers_grow]
+    shown = [metrics_are_shown, statistics_are_shown, settings_are_shown, it_says_that_it_serves, memory_is_that_of_the_process, numbers_grow]
     come = [a_byte_at_a_time, lines_are_answered_in_order, the_cache_is_not_reached]
     refused = [
         other_methods_are_refused, other_hosts_are_refused, heads_that_are_none_are_refused, an_endless_head_is_refused,

@@ -11,7 +11,7 @@ use crate::rooms::{Room, other_files};
 use crate::settings::ProxySettings;
 use crate::woken::Woken;
 use mc_clients::{Clients, Report, Rounds, patience};
-use mc_operators::{Operators, process_number, wall_clock};
+use mc_operators::{Operators, process_number, resident_memory, wall_clock};
 use mc_program::ServeError;
 use mc_proxy::MAX_SESSIONS;
 use mc_ring::{Ring, SERVER_LIMIT};
@@ -21,6 +21,7 @@ use mio::event::Event;
 use mio::net::TcpStream;
 use mio::{Registry, Token};
 use std::alloc::Global;
+use std::fs::Files;
 use std::net::Net;
 use std::rt::Clock;
 use std::time::Duration;
@@ -226,12 +227,13 @@ impl<'a> Host<'a> {
     }
 
     /// Serves operators, where so many clients were accepted.
-    fn show<R: Clock>(&mut self, rt: &R, accepted: u64) {
+    fn show<R: Clock + Files>(&mut self, rt: &R, accepted: u64) {
         if !self.operators.is_stirred() {
             return;
         }
         let done = self.done(accepted);
-        let clients = done.figures(process_number(), wall_clock(rt), MAX_SESSIONS);
+        let (pid, time, resident) = (process_number(), wall_clock(rt), resident_memory(rt));
+        let clients = done.figures(pid, time, resident, MAX_SESSIONS);
         let (pool, proxy) = (&self.pool, &self.handler.proxy);
         show(
             self.alloc,
@@ -252,7 +254,7 @@ impl<'a> Host<'a> {
     }
 }
 
-impl<'a, R: Net + Clock + Eprint> Rounds<R, Stopwatch> for Host<'a> {
+impl<'a, R: Net + Clock + Files + Eprint> Rounds<R, Stopwatch> for Host<'a> {
     /// Tries the upstreams that are down where it is time for them, and says what is new of the servers, of each at most once in a
     /// second.
     fn before(&mut self, rt: &R, registry: &Registry, backlog: Backlog) -> Option<Duration> {

@@ -70,6 +70,7 @@ impl Counts {
             stores: self.stores.get(),
             evictions: self.evictions.get(),
             expired: self.expired.get(),
+            no_memory: 0,
             items: items as u64,
             used,
             budget,

@@ -18,6 +18,7 @@ use mio::Registry;
 use mio::event::Event;
 use mio::net::TcpStream;
 use std::alloc::{AllocError, Global};
+use std::fs::Files;
 use std::rc::Rc;
 use std::time::Duration;
 
@@ -77,13 +78,14 @@ impl<S: Store + Drop> Host<S> {
     }
 
     /// Serves operators, where so many connections were accepted.
-    fn show(&mut self, accepted: u64) {
+    fn show<R: Files>(&mut self, rt: &R, accepted: u64) {
         if !self.operators.is_stirred() {
             return;
         }
         let done = self.done(accepted);
         let (counts, settings) = (&*self.counts, &self.settings);
         show(
+            rt,
             self.alloc,
             &mut self.operators,
             &done,
@@ -118,7 +120,7 @@ impl<S: Store + Drop> Host<S> {
     }
 }
 
-impl<R: Eprint, C: Seconds, S: Store + Drop> Rounds<R, C> for Host<S> {
+impl<R: Eprint + Files, C: Seconds, S: Store + Drop> Rounds<R, C> for Host<S> {
     fn before(&mut self, rt: &R, registry: &Registry, backlog: Backlog) -> Option<Duration> {
         self.operators.before(registry, self.moment);
         self.clients.tell_refused(rt, PROGRAM, backlog, self.moment);
@@ -158,7 +160,7 @@ impl<R: Eprint, C: Seconds, S: Store + Drop> Rounds<R, C> for Host<S> {
     }
 
     fn finish(&mut self, rt: &R, accepted: u64) {
-        self.show(accepted);
+        self.show(rt, accepted);
         self.handler.tell(rt, self.moment);
         self.clients.tell(rt, PROGRAM, self.moment);
         if self.moment == self.rested {
