@@ -9,7 +9,9 @@ serverd.metrics and proxyd.metrics are what /metrics shows of a server and of a 
 capitals. It prints a line for each check that fails; the last line is 'N passed, M failed'. All that is started is ended with its check.
 """
 
+import base64
 import contextlib
+import hashlib
 import http.client
 import pathlib
 import re
@@ -134,6 +136,25 @@ def memory_is_that_of_the_process(program):
                 asked(client, b"set %d 0 0 1000000\r\n%s\r\n" % (place, b"x" * 1_000_000), b"STORED\r\n")
 
 
+def a_page_is_shown(program):
+    """A browser may run the script of the page and use its style, and nothing else: their sums are those that it is sent."""
+    with server(program) as (_, admin):
+        status, fields, body = admin.got("/")
+        want((status, fields["content-type"], fields["x-content-type-options"]), (200, "text/html; charset=utf-8", "nosniff"))
+        want((fields["content-length"], fields["connection"]), (str(len(body)), "close"))
+        policy = dict(part.strip().split(" ", 1) for part in fields["content-security-policy"].split(";"))
+        want((policy["default-src"], policy["connect-src"], policy["frame-ancestors"]), ("'none'", "'self'", "'none'"))
+        for tag in ("script", "style"):
+            [text] = re.findall(rb"<%s>(.*?)</%s>" % (tag.encode(), tag.encode()), body, re.DOTALL)
+            summed = base64.b64encode(hashlib.sha256(text).digest()).decode()
+            want((tag, policy[f"{tag}-src"]), (tag, f"'sha256-{summed}'"))
+        want_at_most(len(body), 6_500)
+        want((b"http:" in body, b"https:" in body, b"innerHTML" in body), (False, False, False))
+        want(admin.got("/?once=1")[2], body)
+        for name in re.findall(rb"\b(?:memcached|wiersbol|process)_[a-z_]+[a-z]", body):
+            want((name, name.startswith(b"wiersbol_server") or name in admin.got("/metrics")[2]), (name, True))
+
+
 def numbers_grow(program):
     """What counts since the start: a scrape beside a load."""
     with server(program) as (started, admin):
@@ -243,7 +264,7 @@ def heads_that_are_none_are_refused(program):
             (b"GET /met\x01rics HTTP/1.1\r\nHost: localhost\r\n\r\n", b"400"),
             (b"GET /metrics HTTP/1.1\r\nHost localhost\r\n\r\n", b"400"),
             (b"GET /metrics HTTP/1.1\r\nHost: localhost\r\n" + b"A: b\r\n" * 100 + b"\r\n", b"400"),
-            (b"GET / HTTP/1.1\r\nHost: localhost\r\n\r\n", b"404"),
+            (b"GET /favicon.ico HTTP/1.1\r\nHost: localhost\r\n\r\n", b"404"),
             (b"GET /metrics/ HTTP/1.1\r\nHost: localhost\r\n\r\n", b"404"),
             (b"GET http://localhost/metrics HTTP/1.1\r\nHost: localhost\r\n\r\n", b"404"),
         ):
@@ -363,7 +384,10 @@ def an_address_that_is_none_is_told(program, *others):
 
 
 def checks_of(program, proxy_program):
-    shown = [metrics_are_shown, statistics_are_shown, settings_are_shown, it_says_that_it_serves, memory_is_that_of_the_process, numbers_grow]
+    shown = [
+        metrics_are_shown, statistics_are_shown, settings_are_shown, it_says_that_it_serves, memory_is_that_of_the_process, a_page_is_shown,
+        numbers_grow,
+    ]  # fmt: skip
     come = [a_byte_at_a_time, lines_are_answered_in_order, the_cache_is_not_reached]
     refused = [
         other_methods_are_refused, other_hosts_are_refused, heads_that_are_none_are_refused, an_endless_head_is_refused,

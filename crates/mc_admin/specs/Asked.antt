@@ -10,7 +10,7 @@ use Rattle.mc_admin.specs.Requests.{InboxState}
 use Rattle.mc_admin.specs.declared.asked.Asked.{Asked}
 use Rattle.mc_admin.specs.declared.asked.Asked.TheVariants.{Stats, Settings, Nothing, Version, Quit, Unknown, TooLong, Shown, Refused}
 use Rattle.mc_admin.specs.declared.asked.Page.{Page}
-use Rattle.mc_admin.specs.declared.asked.Page.TheVariants.{Metrics, Health}
+use Rattle.mc_admin.specs.declared.asked.Page.TheVariants.{Overview, Metrics, Health}
 use Rattle.mc_admin.specs.declared.asked.Refusal.{Refusal}
 use Rattle.mc_admin.specs.declared.asked.Refusal.TheVariants.{BadRequest, NotFound, NotAllowed, NoBody, Misdirected, TooLarge}
 use Rattle.mc_admin.specs.declared.hosts.Hosts.{Hosts}
@@ -43,7 +43,8 @@ named word =
 -- the page at a path
 abbrev pub page_at : List ℕ → Result Page Refusal
 page_at path =
-    if bytes_eq path (codes "/metrics") then Ok Metrics
+    if bytes_eq path (codes "/") then Ok Overview
+    else if bytes_eq path (codes "/metrics") then Ok Metrics
     else if bytes_eq path (codes "/healthz") then Ok Health
     else Err NotFound
 

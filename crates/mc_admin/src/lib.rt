@@ -12,6 +12,7 @@ mod laws;
 mod lines;
 mod lists;
 mod names;
+mod overview;
 mod pages;
 mod talks;
 
