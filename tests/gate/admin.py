@@ -15,6 +15,7 @@ import hashlib
 import http.client
 import pathlib
 import re
+import signal
 import socket
 import sys
 import threading
@@ -32,6 +33,7 @@ MOST = 16  # the most connections
 LINGER = 2  # seconds that a connection is read to its end after its last answer
 PLAIN = "text/plain; charset=utf-8"
 VERSION = b"VERSION 1.6.0\r\n"
+NAMES_OF_A_CLIENT = ["addr", "listen_addr", "state", "secs_since_last_cmd", "age", "bytes_read", "bytes_written"]
 LOAD = (
     b"set a 0 0 3\r\nabc\r\nset b 0 0 1\r\nx\r\nset c 0 -1 1\r\ny\r\nget a b c none\r\nmg a v\r\nincr n 1\r\nwhat\r\n",
     b"STORED\r\nSTORED\r\nSTORED\r\nVALUE a 0 3\r\nabc\r\nVALUE b 0 1\r\nx\r\nEND\r\nVA 3\r\nabc\r\nNOT_FOUND\r\nERROR\r\n",
@@ -195,6 +197,103 @@ def a_proxy_shows_its_servers(program, proxy_program):
                 want(b"STAT server:%s:%s %d" % (address, part, number) in lines, True)
 
 
+# Who is connected.
+
+
+def listed(answer):
+    """What `stats conns` says of each client, by its place: names with values, in the order of the lines."""
+    *lines, end = answer.splitlines(keepends=True)
+    want(end, b"END\r\n")
+    clients = {}
+    for line in lines:
+        word, name, value = line.decode().removesuffix("\r\n").split(" ")
+        place, _, name = name.partition(":")
+        want(word, "STAT")
+        clients.setdefault(int(place), []).append((name, value))
+    want(list(clients), sorted(clients))
+    for place, said in clients.items():
+        want((place, [name for name, _ in said]), (place, NAMES_OF_A_CLIENT))
+    return {place: dict(said) for place, said in clients.items()}
+
+
+def address_of(connection):
+    return "tcp:{}:{}".format(*connection.getsockname())
+
+
+def clients_are_listed(program):
+    with server(program) as (started, admin):
+        want(admin.told(b"stats conns\r\nquit\r\n"), b"END\r\n")
+        with started.connected() as client, started.connected() as silent:
+            asked(client, *LOAD)
+            is_served(client)
+            first, second = listed(admin.told(b"stats conns\r\nquit\r\n")).values()
+            came = f"tcp:{started.address}"
+            want((first["addr"], first["listen_addr"], first["state"]), (address_of(client), came, "conn_waiting"))
+            want((second["addr"], second["listen_addr"], second["state"]), (address_of(silent), came, "conn_waiting"))
+            version = b"version\r\n", VERSION
+            passed = [str(len(LOAD[side]) + len(version[side])) for side in (0, 1)]
+            want(([first["bytes_read"], first["bytes_written"]], [second["bytes_read"], second["bytes_written"]]), (passed, ["0", "0"]))
+            time.sleep(2.1)
+            is_served(client)
+            first, second = listed(admin.told(b"stats conns\r\nquit\r\n")).values()
+            want((int(first["secs_since_last_cmd"]) <= 1, int(second["secs_since_last_cmd"]) >= 2), (True, True))
+            want(int(first["age"]) >= 2, True)
+
+
+def a_client_that_does_not_read_is_seen(program):
+    with server(program) as (started, admin), started.connected() as client:
+        asked(client, b"set a 0 0 1000000\r\n%s\r\n" % (b"x" * 1_000_000), b"STORED\r\n")
+        client.sendall(b"get a\r\n" * 100)
+        time.sleep(0.5)
+        [seen] = listed(admin.told(b"stats conns\r\nquit\r\n")).values()
+        want((seen["state"], int(seen["bytes_written"]) > 100_000), ("conn_mwrite", True))
+
+
+def many_clients_are_listed_in_parts(program):
+    with server(program) as (started, admin), contextlib.ExitStack() as stack:
+        clients = [stack.enter_context(started.connected()) for _ in range(100)]
+        for each in clients:
+            is_served(each)
+        for each in clients[10:20] + clients[64:65]:
+            each.close()
+        time.sleep(0.2)
+        left = clients[:10] + clients[20:64] + clients[65:]
+        answer = admin.told(b"version\r\nstats conns\r\nversion\r\nstats conns\r\nquit\r\n")
+        want(answer.startswith(VERSION) and answer.count(VERSION) == 2, True)
+        for part in answer.split(VERSION)[1:]:
+            want([each["addr"] for each in listed(part).values()], [address_of(each) for each in left])
+
+
+def those_who_list_wait_for_each_other(program):
+    """Fifteen who ask at once who is connected are each told all."""
+    with server(program) as (started, admin), contextlib.ExitStack() as stack:
+        clients = [stack.enter_context(started.connected()) for _ in range(70)]
+        for each in clients:
+            is_served(each)
+        operators = [stack.enter_context(admin.connected()) for _ in range(MOST - 1)]
+        for each in operators:
+            each.sendall(b"stats conns\r\nquit\r\n")
+        for each in operators:
+            want(len(listed(received_to_the_end(each))), len(clients))
+
+
+def a_proxy_lists_its_clients(program, proxy_program):
+    port = free_port()
+    with Server(program) as behind, Proxy(proxy_program, [behind.address], ["--admin", f"{HOST}:{port}", "--timeout", "0"]) as proxy:
+        with proxy.connected() as client, proxy.connected() as waiting:
+            asked(client, b"set a 0 0 1\r\nx\r\n", b"STORED\r\n")
+            is_served(waiting)
+            behind.process.send_signal(signal.SIGSTOP)
+            try:
+                waiting.sendall(b"get a\r\n")
+                time.sleep(0.3)
+                first, second = listed(Admin(port).told(b"stats conns\r\nquit\r\n")).values()
+            finally:
+                behind.process.send_signal(signal.SIGCONT)
+            want((first["addr"], first["state"], first["bytes_read"], first["bytes_written"]), (address_of(client), "conn_waiting", "16", "8"))
+            want((second["addr"], second["state"], second["bytes_read"]), (address_of(waiting), "conn_io_queue", "16"))
+
+
 # What is asked, however it comes.
 
 
@@ -335,9 +434,11 @@ def one_that_does_not_read_holds_up_nobody(program):
         want_at_most(started.memory() - memory, 4_000_000)
 
 
-def a_flood_costs_little(program):
+def a_flood_costs_little(program, line, clients):
     """Fifteen who ask without end take a small part of the processor."""
-    with server(program) as (started, admin):
+    with server(program) as (started, admin), contextlib.ExitStack() as stack:
+        for _ in range(clients):
+            is_served(stack.enter_context(started.connected()))
         over = threading.Event()
 
         def flood():
@@ -345,7 +446,7 @@ def a_flood_costs_little(program):
                 connection.settimeout(0.01)
                 while not over.is_set():
                     with contextlib.suppress(TimeoutError):
-                        connection.sendall(b"stats\r\n" * 500)
+                        connection.sendall(line * 500)
                     with contextlib.suppress(TimeoutError):
                         while connection.recv(1 << 20):
                             pass
@@ -395,13 +496,19 @@ def checks_of(program, proxy_program):
     ]  # fmt: skip
     others = [
         a_17th_connection_is_closed, one_that_goes_on_after_its_answer_is_closed, one_that_does_not_read_holds_up_nobody,
-        a_flood_costs_little, it_ends_with_its_clients,
+        it_ends_with_its_clients,
     ]  # fmt: skip
-    for check in shown + come + refused + others:
+    clients = [
+        clients_are_listed, a_client_that_does_not_read_is_seen, many_clients_are_listed_in_parts, those_who_list_wait_for_each_other,
+    ]  # fmt: skip
+    for check in shown + clients + come + refused + others:
         yield check.__name__, check, (program,)
+    yield "a_flood_costs_little", a_flood_costs_little, (program, b"stats\r\n", 0)
+    yield "a_flood_of_lists_costs_little", a_flood_costs_little, (program, b"stats conns\r\n", 500)
     yield "an_address_that_is_none_is_told", an_address_that_is_none_is_told, (program,)
     yield "an_address_of_a_proxy_that_is_none_is_told", an_address_that_is_none_is_told, (proxy_program, "127.0.0.1:1")
     yield "a_proxy_shows_its_servers", a_proxy_shows_its_servers, (program, proxy_program)
+    yield "a_proxy_lists_its_clients", a_proxy_lists_its_clients, (program, proxy_program)
 
 
 if __name__ == "__main__":

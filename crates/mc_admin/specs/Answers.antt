@@ -1,10 +1,12 @@
 -- What is answered.
-use Rattle.std.specs.Prelude.{ℕ, List, [], ◌∷◌, ◌++◌, length, codes, decimal}
+use Rattle.std.specs.Prelude.{ℕ, Bool, true, false, List, [], ◌∷◌, ◌++◌, length, codes, decimal, Option, Some, None, is_some}
 use Rattle.http1.specs.Fields.{Header}
 use Rattle.http1.specs.Head.{response_text}
 use Rattle.mc_admin.specs.Pages.{stats_text, settings_text, metrics_text, end_line}
+use Rattle.mc_admin.specs.Conns.{part_text}
+use Rattle.mc_admin.specs.declared.conns.Part.{Part}
 use Rattle.mc_admin.specs.declared.asked.Asked.{Asked}
-use Rattle.mc_admin.specs.declared.asked.Asked.TheVariants.{Stats, Settings, Nothing, Version, Quit, Unknown, TooLong, Shown, Refused}
+use Rattle.mc_admin.specs.declared.asked.Asked.TheVariants.{Stats, Settings, Conns, Nothing, Version, Quit, Unknown, TooLong, Shown, Refused}
 use Rattle.mc_admin.specs.declared.asked.Page.TheVariants.{Overview, Metrics, Health}
 use Rattle.mc_admin.specs.declared.asked.Refusal.{Refusal}
 use Rattle.mc_admin.specs.declared.asked.Refusal.TheVariants.{BadRequest, NotFound, NotAllowed, NoBody, Misdirected, TooLarge}
@@ -80,6 +82,7 @@ overview_fields = (codes "content-security-policy", policy_text) ∷ (codes "x-c
 unfoldable pub answer_to : Asked → Sheet → List ℕ
 answer_to Stats sheet = stats_text sheet.figures.now
 answer_to Settings sheet = settings_text sheet.settings.now
+answer_to Conns sheet = part_text sheet.part
 answer_to Nothing sheet = end_line
 answer_to Version sheet = codes "VERSION 1.6.0\r\n"
 answer_to Quit sheet = []
@@ -89,3 +92,13 @@ answer_to (Shown Overview) sheet = response 200 (codes "OK") html_type overview_
 answer_to (Shown Metrics) sheet = response 200 (codes "OK") metrics_type [] (metrics_text sheet.figures.now)
 answer_to (Shown Health) sheet = response 200 (codes "OK") plain_type [] (codes "ok\n")
 answer_to (Refused refusal) sheet = response (status_of refusal) (reason_of refusal) plain_type [] (words_of refusal)
+
+-- a further part comes after this one, or the first one is not given yet
+abbrev pub has_next : Option Part → Bool
+has_next None = true
+has_next (Some part) = is_some part.next
+
+-- the same request is answered further by the next turn: a list of clients comes in parts
+abbrev pub is_listed_on : Asked → Sheet → Bool
+is_listed_on Conns sheet = has_next sheet.part
+is_listed_on _ sheet = false

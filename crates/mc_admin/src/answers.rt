@@ -1,10 +1,11 @@
 //! What is answered.
 ghost use Rattle.std.specs.Prelude.{◌≡◌, ◌++◌, [], IfOk, OnOk, codes};
 ghost use Rattle.http1.specs.Head.{pairs, header_parts};
-ghost use Rattle.mc_admin.specs.Answers.{answer_to, response, fields_of, overview_fields, metrics_type, plain_type, status_of, reason_of, words_of};
+ghost use Rattle.mc_admin.specs.Answers.{answer_to, is_listed_on, response, fields_of, overview_fields, metrics_type, plain_type, status_of, reason_of, words_of};
 ghost use Rattle.mc_admin.specs.Asked.{ends};
 
 use crate::asked::{Asked, Page, Refusal};
+use crate::conns::push_part;
 use crate::errors::AdminError;
 use crate::figures::Sheet;
 use crate::overview::{overview, policy};
@@ -32,6 +33,7 @@ pub fn answer_to(alloc: Global, asked: Asked, sheet: &Sheet<'_>) -> Result<Vec<u
     match asked {
         Asked::Stats => push_stats(sheet.figures, &mut answer)?,
         Asked::Settings => push_settings(sheet.settings, &mut answer)?,
+        Asked::Conns => push_part(sheet.part, &mut answer)?,
         Asked::Nothing => answer.extend_from_slice(b"END\r\n")?,
         Asked::Version => answer.extend_from_slice(b"VERSION 1.6.0\r\n")?,
         Asked::Quit => {}
@@ -181,7 +183,19 @@ pub fn ends(asked: Asked) -> bool
     ensures { result ≡ ends asked }
 {
     match asked {
-        Asked::Stats | Asked::Settings | Asked::Nothing | Asked::Version | Asked::Unknown => false,
+        Asked::Stats | Asked::Settings | Asked::Conns => false,
+        Asked::Nothing | Asked::Version | Asked::Unknown => false,
         _ => true,
+    }
+}
+
+/// Whether the next turn answers the same request further: a list of clients comes in parts.
+pub fn is_listed_on(asked: Asked, sheet: &Sheet<'_>) -> bool
+    ensures { result ≡ is_listed_on asked sheet.now }
+{
+    match (asked, sheet.part) {
+        (Asked::Conns, Some(part)) => part.next.is_some(),
+        (Asked::Conns, None) => true,
+        _ => false,
     }
 }

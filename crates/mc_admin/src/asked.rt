@@ -35,6 +35,8 @@ pub enum Asked {
     Stats,
     /// The settings.
     Settings,
+    /// Who is connected.
+    Conns,
     /// Statistics of which there are none.
     Nothing,
     /// The version of the protocol.

@@ -46,6 +46,8 @@ pub struct Operators {
     awake: bool,
     /// In which second a connection has waited for too long, or something is to be done, at the earliest.
     due: Option<u64>,
+    /// The key of the connection to which clients are listed in this round, or were last.
+    listed: usize,
     ghost reads: { 0 < vec_len piece },
 }
 
@@ -71,6 +73,7 @@ impl Operators {
             stirred: false,
             awake: false,
             due: None,
+            listed: 0,
         })
     }
 
@@ -202,6 +205,19 @@ impl Operators {
         self.stirred && self.budget.has(self.second)
     }
 
+    /// From which place on clients are to be listed for this round, if a connection has asked who is connected: one a round, each in turn.
+    /// What `serve` is given next is for it alone.
+    pub fn listing(&mut self) -> Option<usize> {
+        let after = self.listed.saturating_add(1);
+        for key in (after..MAX_OPERATORS).chain(0..after) {
+            if let Some(from) = self.seats.get(key).and_then(|seat| seat.listing()) {
+                self.listed = key;
+                return Some(from);
+            }
+        }
+        None
+    }
+
     /// Serves the connections for which something may be done, by what the program says of itself.
     pub fn serve(&mut self, sheet: &Sheet<'_>) {
         self.stirred = false;
@@ -220,10 +236,14 @@ impl Operators {
             return;
         }
         let (listen, name) = (self.listen.as_slice(), self.name.as_slice());
+        let mut own = *sheet;
+        if key != self.listed {
+            own.part = None;
+        }
         let step = seat.serve(
             listen,
             name,
-            sheet,
+            &own,
             &mut self.piece,
             &mut self.budget,
             self.second,

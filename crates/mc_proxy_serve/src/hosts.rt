@@ -10,7 +10,7 @@ use crate::pools::Pool;
 use crate::rooms::{Room, other_files};
 use crate::settings::ProxySettings;
 use crate::woken::Woken;
-use mc_clients::{Clients, Report, Rounds, patience};
+use mc_clients::{Clients, Listed, Report, Rounds, patience};
 use mc_operators::{Operators, process_number, resident_memory, wall_clock};
 use mc_program::ServeError;
 use mc_proxy::MAX_SESSIONS;
@@ -20,7 +20,7 @@ use mc_watch::{Pace, earlier};
 use mio::event::Event;
 use mio::net::TcpStream;
 use mio::{Registry, Token};
-use std::alloc::Global;
+use std::alloc::{AllocError, Global};
 use std::fs::Files;
 use std::net::Net;
 use std::rt::Clock;
@@ -226,11 +226,30 @@ impl<'a> Host<'a> {
             .report(self.second, accepted, self.handler.tally)
     }
 
+    /// The clients that an operator is to be told of next, if one has asked.
+    fn listed(&mut self) -> Result<Option<Listed>, AllocError> {
+        let Some(from) = self.operators.listing() else {
+            return Ok(None);
+        };
+        let listed = self.clients.listed(
+            &self.handler,
+            self.alloc,
+            from,
+            self.second,
+            b"conn_io_queue",
+        )?;
+        Ok(Some(listed))
+    }
+
     /// Serves operators, where so many clients were accepted.
     fn show<R: Clock + Files>(&mut self, rt: &R, accepted: u64) {
         if !self.operators.is_stirred() {
             return;
         }
+        let Ok(listed) = self.listed() else {
+            self.operators.turn_away();
+            return;
+        };
         let done = self.done(accepted);
         let (pid, time, resident) = (process_number(), wall_clock(rt), resident_memory(rt));
         let clients = done.figures(pid, time, resident, MAX_SESSIONS);
@@ -238,6 +257,7 @@ impl<'a> Host<'a> {
         show(
             self.alloc,
             &mut self.operators,
+            &listed,
             &clients,
             pool,
             proxy,

@@ -4,25 +4,26 @@ use crate::counts::Counts;
 use crate::kinds::StoreKind;
 use crate::settings::Settings;
 use mc_admin::{Setting, Sheet, Value, push_client_figures, push_store_figures};
-use mc_clients::Report;
+use mc_clients::{Listed, Report};
 use mc_operators::{Operators, process_number, resident_memory};
 use mc_server::MAX_CONNECTIONS;
 use mc_text::VALUE_LIMIT;
 use std::alloc::{AllocError, Global};
 use std::fs::Files;
 
-/// Serves operators, by what a server has done for its clients, what its store has done, and its settings. Those for whom there is no
-/// memory are turned away.
+/// Serves operators, by the clients that one of them is told of next, what a server has done for its clients, what its store has done,
+/// and its settings. Those for whom there is no memory are turned away.
 pub fn show<R: Files>(
     rt: &R,
     alloc: Global,
     operators: &mut Operators,
+    listed: &Option<Listed>,
     done: &Report,
     counts: &Counts,
     settings: &Settings,
     moment: u64,
 ) {
-    let shown = try_show(rt, alloc, operators, done, counts, settings, moment);
+    let shown = try_show(rt, alloc, operators, listed, done, counts, settings, moment);
     if shown.is_err() {
         operators.turn_away();
     }
@@ -33,6 +34,7 @@ fn try_show<R: Files>(
     rt: &R,
     alloc: Global,
     operators: &mut Operators,
+    listed: &Option<Listed>,
     done: &Report,
     counts: &Counts,
     settings: &Settings,
@@ -48,6 +50,7 @@ fn try_show<R: Files>(
     operators.serve(&Sheet {
         figures: figures.as_slice(),
         settings: &settings,
+        part: listed.as_ref().map(|listed| listed.part()),
     });
     Ok(())
 }

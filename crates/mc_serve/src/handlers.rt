@@ -37,11 +37,6 @@ impl<S: Store + Drop> ServerHandler<S> {
         })
     }
 
-    /// What passed of all clients.
-    pub fn tally(&self) -> Tally {
-        self.watch.tally
-    }
-
     /// Says on standard error, at most once in a second, that a request was refused whose answer may be too large.
     pub fn tell<R: Eprint>(&mut self, rt: &R, moment: u64) {
         if let Some(bytes) = self.too_large.take(moment) {
@@ -83,6 +78,10 @@ impl<S: Store + Drop> Handler<()> for ServerHandler<S> {
 
     fn owes(&self, number: u64) -> bool {
         !self.server.output(number).is_empty()
+    }
+
+    fn tally(&self) -> Tally {
+        self.watch.tally
     }
 }
 

@@ -8,7 +8,7 @@ use crate::handlers::ServerHandler;
 use crate::items::advice_of;
 use crate::options::PROGRAM;
 use crate::settings::Settings;
-use mc_clients::{Clients, Report, Rounds, patience};
+use mc_clients::{Clients, Handler, Listed, Report, Rounds, patience};
 use mc_operators::Operators;
 use mc_server::{MAX_CONNECTIONS, Server};
 use mc_socket::Backlog;
@@ -77,17 +77,37 @@ impl<S: Store + Drop> Host<S> {
         self.clients.report(uptime, accepted, self.handler.tally())
     }
 
+    /// The clients that an operator is to be told of next, if one has asked.
+    fn listed(&mut self) -> Result<Option<Listed>, AllocError> {
+        let Some(from) = self.operators.listing() else {
+            return Ok(None);
+        };
+        let listed = self.clients.listed(
+            &self.handler,
+            self.alloc,
+            from,
+            self.moment,
+            b"conn_mwrite",
+        )?;
+        Ok(Some(listed))
+    }
+
     /// Serves operators, where so many connections were accepted.
     fn show<R: Files>(&mut self, rt: &R, accepted: u64) {
         if !self.operators.is_stirred() {
             return;
         }
+        let Ok(listed) = self.listed() else {
+            self.operators.turn_away();
+            return;
+        };
         let done = self.done(accepted);
         let (counts, settings) = (&*self.counts, &self.settings);
         show(
             rt,
             self.alloc,
             &mut self.operators,
+            &listed,
             &done,
             counts,
             settings,
