@@ -30,6 +30,7 @@ from suite import are_built
 HERE = pathlib.Path(__file__).parent
 REQUEST_LIMIT = 4096  # the most bytes of a line or of a head
 MOST = 16  # the most connections
+QUIET = 5  # seconds after which a connection makes room for another
 LINGER = 2  # seconds that a connection is read to its end after its last answer
 PLAIN = "text/plain; charset=utf-8"
 VERSION = b"VERSION 1.6.0\r\n"
@@ -407,6 +408,21 @@ def a_17th_connection_is_closed(program):
             asked(each, b"version\r\n", VERSION)
 
 
+def a_quiet_one_makes_room(program):
+    """The one that has been quiet longest makes room for a 17th connection, and no other does."""
+    with server(program) as (_, admin), contextlib.ExitStack() as stack:
+        held = [stack.enter_context(admin.connected()) for _ in range(MOST)]
+        for each in held:
+            asked(each, b"version\r\n", VERSION)
+        time.sleep(QUIET + 2)
+        for each in held[:3] + held[4:]:
+            asked(each, b"version\r\n", VERSION)
+        want(admin.got("/healthz")[0], 200)
+        want(held[3].recv(1), b"")
+        for each in held[:3] + held[4:]:
+            asked(each, b"version\r\n", VERSION)
+
+
 def one_that_goes_on_after_its_answer_is_closed(program):
     """After its last answer a connection is read to its end, but not for long."""
     with server(program) as (started, admin), admin.connected() as connection:
@@ -495,7 +511,7 @@ def checks_of(program, proxy_program):
         an_endless_line_is_refused,
     ]  # fmt: skip
     others = [
-        a_17th_connection_is_closed, one_that_goes_on_after_its_answer_is_closed, one_that_does_not_read_holds_up_nobody,
+        a_17th_connection_is_closed, a_quiet_one_makes_room, one_that_goes_on_after_its_answer_is_closed, one_that_does_not_read_holds_up_nobody,
         it_ends_with_its_clients,
     ]  # fmt: skip
     clients = [

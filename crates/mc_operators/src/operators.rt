@@ -2,7 +2,7 @@
 ghost use Rattle.std.specs.Prelude.{◌<◌, vec_len};
 
 use crate::budgets::Budget;
-use crate::seats::Seat;
+use crate::seats::{QUIET, Seat};
 use mc_admin::{REQUEST_LIMIT, Sheet, host_of};
 use mc_program::{AdminTerms, ServeError};
 use mc_socket::{Acceptor, Backlog, Step, bind};
@@ -162,8 +162,28 @@ impl Operators {
         }
     }
 
+    /// Makes a place if all are taken: closes the connection that has been quiet longest, if that is for more than [`QUIET`] seconds.
+    fn make_room(&mut self) {
+        if self.seats.len() < MAX_OPERATORS {
+            return;
+        }
+        let longest = self.seats.iter().fold(None, |longest, (key, seat)| {
+            let used = seat.used();
+            match longest {
+                Some((_, least)) if least <= used => longest,
+                _ => Some((key, used)),
+            }
+        });
+        if let Some((key, used)) = longest
+            && self.second.saturating_sub(used) > QUIET
+        {
+            let _ = self.seats.try_remove(key);
+        }
+    }
+
     /// Takes a connection in. One for which there is no place or no memory is closed at once.
     fn admit(&mut self, registry: &Registry, mut stream: TcpStream) {
+        self.make_room();
         let key = self.seats.vacant_key();
         if key >= MAX_OPERATORS {
             return;

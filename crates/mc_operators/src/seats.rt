@@ -13,6 +13,9 @@ use std::net::Shutdown;
 /// After how many seconds a connection is closed that sent nothing, and took nothing of its answer.
 pub const PATIENCE: u64 = 60;
 
+/// A connection that sent nothing, and took nothing, for more seconds makes room for another one, if all places are taken.
+pub const QUIET: u64 = 5;
+
 /// For how many seconds a connection is read to its end once its last answer was sent: one that is closed with bytes unread may lose it.
 pub const LINGER: u64 = 2;
 
@@ -57,6 +60,11 @@ impl Seat {
     pub fn note(&mut self, event: &Event) {
         self.edge.note(event);
         self.stirred = true;
+    }
+
+    /// In which second it sent or took something last, or was over.
+    pub fn used(&self) -> u64 {
+        self.used
     }
 
     /// In which second it is closed, unless it sends or takes something before.
