@@ -9,10 +9,13 @@ serverd.metrics and proxyd.metrics are what /metrics shows of a server and of a 
 capitals. It prints a line for each check that fails; the last line is 'N passed, M failed'. All that is started is ended with its check.
 """
 
+import base64
 import contextlib
+import hashlib
 import http.client
 import pathlib
 import re
+import signal
 import socket
 import sys
 import threading
@@ -27,9 +30,11 @@ from suite import are_built
 HERE = pathlib.Path(__file__).parent
 REQUEST_LIMIT = 4096  # the most bytes of a line or of a head
 MOST = 16  # the most connections
+QUIET = 5  # seconds after which a connection makes room for another
 LINGER = 2  # seconds that a connection is read to its end after its last answer
 PLAIN = "text/plain; charset=utf-8"
 VERSION = b"VERSION 1.6.0\r\n"
+NAMES_OF_A_CLIENT = ["addr", "listen_addr", "state", "secs_since_last_cmd", "age", "bytes_read", "bytes_written"]
 LOAD = (
     b"set a 0 0 3\r\nabc\r\nset b 0 0 1\r\nx\r\nset c 0 -1 1\r\ny\r\nget a b c none\r\nmg a v\r\nincr n 1\r\nwhat\r\n",
     b"STORED\r\nSTORED\r\nSTORED\r\nVALUE a 0 3\r\nabc\r\nVALUE b 0 1\r\nx\r\nEND\r\nVA 3\r\nabc\r\nNOT_FOUND\r\nERROR\r\n",
@@ -39,6 +44,7 @@ VARYING = [
     (rb"(wiersbol_process_id|STAT pid) \d+", rb"\1 PID"),
     (rb"(memcached_uptime_seconds|STAT uptime) \d+", rb"\1 UPTIME"),
     (rb"(memcached_time_seconds|STAT time) 1\d{9}\b", rb"\1 TIME"),
+    (rb"(process_resident_memory_bytes|STAT resident_bytes) [1-9]\d{6,}\b", rb"\1 MEMORY"),
 ]
 
 
@@ -123,6 +129,35 @@ def it_says_that_it_serves(program):
         want(admin.got("/healthz?verbose=1")[0], 200)
 
 
+def memory_is_that_of_the_process(program):
+    """What it says of its memory is what the system says, before and after it stored 20 MB."""
+    with server(program) as (started, admin), started.connected() as client:
+        for _ in range(2):
+            shown = dict(line.rsplit(b" ", 1) for line in admin.got("/metrics")[2].splitlines())
+            want_at_most(abs(int(shown[b"process_resident_memory_bytes"]) - started.memory()), 1_000_000)
+            for place in range(20):
+                asked(client, b"set %d 0 0 1000000\r\n%s\r\n" % (place, b"x" * 1_000_000), b"STORED\r\n")
+
+
+def a_page_is_shown(program):
+    """A browser may run the script of the page and use its style, and nothing else: their sums are those that it is sent."""
+    with server(program) as (_, admin):
+        status, fields, body = admin.got("/")
+        want((status, fields["content-type"], fields["x-content-type-options"]), (200, "text/html; charset=utf-8", "nosniff"))
+        want((fields["content-length"], fields["connection"]), (str(len(body)), "close"))
+        policy = dict(part.strip().split(" ", 1) for part in fields["content-security-policy"].split(";"))
+        want((policy["default-src"], policy["connect-src"], policy["frame-ancestors"]), ("'none'", "'self'", "'none'"))
+        for tag in ("script", "style"):
+            [text] = re.findall(rb"<%s>(.*?)</%s>" % (tag.encode(), tag.encode()), body, re.DOTALL)
+            summed = base64.b64encode(hashlib.sha256(text).digest()).decode()
+            want((tag, policy[f"{tag}-src"]), (tag, f"'sha256-{summed}'"))
+        want_at_most(len(body), 6_500)
+        want((b"http:" in body, b"https:" in body, b"innerHTML" in body), (False, False, False))
+        want(admin.got("/?once=1")[2], body)
+        for name in re.findall(rb"\b(?:memcached|wiersbol|process)_[a-z_]+[a-z]", body):
+            want((name, name.startswith(b"wiersbol_server") or name in admin.got("/metrics")[2]), (name, True))
+
+
 def numbers_grow(program):
     """What counts since the start: a scrape beside a load."""
     with server(program) as (started, admin):
@@ -161,6 +196,103 @@ def a_proxy_shows_its_servers(program, proxy_program):
             lines = admin.told(b"stats\r\nquit\r\n").splitlines()
             for part, number in ((b"up", 0), (b"losses", 1), (b"sent", 1), (b"lost", 0), (b"waiting", 0)):
                 want(b"STAT server:%s:%s %d" % (address, part, number) in lines, True)
+
+
+# Who is connected.
+
+
+def listed(answer):
+    """What `stats conns` says of each client, by its place: names with values, in the order of the lines."""
+    *lines, end = answer.splitlines(keepends=True)
+    want(end, b"END\r\n")
+    clients = {}
+    for line in lines:
+        word, name, value = line.decode().removesuffix("\r\n").split(" ")
+        place, _, name = name.partition(":")
+        want(word, "STAT")
+        clients.setdefault(int(place), []).append((name, value))
+    want(list(clients), sorted(clients))
+    for place, said in clients.items():
+        want((place, [name for name, _ in said]), (place, NAMES_OF_A_CLIENT))
+    return {place: dict(said) for place, said in clients.items()}
+
+
+def address_of(connection):
+    return "tcp:{}:{}".format(*connection.getsockname())
+
+
+def clients_are_listed(program):
+    with server(program) as (started, admin):
+        want(admin.told(b"stats conns\r\nquit\r\n"), b"END\r\n")
+        with started.connected() as client, started.connected() as silent:
+            asked(client, *LOAD)
+            is_served(client)
+            first, second = listed(admin.told(b"stats conns\r\nquit\r\n")).values()
+            came = f"tcp:{started.address}"
+            want((first["addr"], first["listen_addr"], first["state"]), (address_of(client), came, "conn_waiting"))
+            want((second["addr"], second["listen_addr"], second["state"]), (address_of(silent), came, "conn_waiting"))
+            version = b"version\r\n", VERSION
+            passed = [str(len(LOAD[side]) + len(version[side])) for side in (0, 1)]
+            want(([first["bytes_read"], first["bytes_written"]], [second["bytes_read"], second["bytes_written"]]), (passed, ["0", "0"]))
+            time.sleep(2.1)
+            is_served(client)
+            first, second = listed(admin.told(b"stats conns\r\nquit\r\n")).values()
+            want((int(first["secs_since_last_cmd"]) <= 1, int(second["secs_since_last_cmd"]) >= 2), (True, True))
+            want(int(first["age"]) >= 2, True)
+
+
+def a_client_that_does_not_read_is_seen(program):
+    with server(program) as (started, admin), started.connected() as client:
+        asked(client, b"set a 0 0 1000000\r\n%s\r\n" % (b"x" * 1_000_000), b"STORED\r\n")
+        client.sendall(b"get a\r\n" * 100)
+        time.sleep(0.5)
+        [seen] = listed(admin.told(b"stats conns\r\nquit\r\n")).values()
+        want((seen["state"], int(seen["bytes_written"]) > 100_000), ("conn_mwrite", True))
+
+
+def many_clients_are_listed_in_parts(program):
+    with server(program) as (started, admin), contextlib.ExitStack() as stack:
+        clients = [stack.enter_context(started.connected()) for _ in range(100)]
+        for each in clients:
+            is_served(each)
+        for each in clients[10:20] + clients[64:65]:
+            each.close()
+        time.sleep(0.2)
+        left = clients[:10] + clients[20:64] + clients[65:]
+        answer = admin.told(b"version\r\nstats conns\r\nversion\r\nstats conns\r\nquit\r\n")
+        want(answer.startswith(VERSION) and answer.count(VERSION) == 2, True)
+        for part in answer.split(VERSION)[1:]:
+            want([each["addr"] for each in listed(part).values()], [address_of(each) for each in left])
+
+
+def those_who_list_wait_for_each_other(program):
+    """Fifteen who ask at once who is connected are each told all."""
+    with server(program) as (started, admin), contextlib.ExitStack() as stack:
+        clients = [stack.enter_context(started.connected()) for _ in range(70)]
+        for each in clients:
+            is_served(each)
+        operators = [stack.enter_context(admin.connected()) for _ in range(MOST - 1)]
+        for each in operators:
+            each.sendall(b"stats conns\r\nquit\r\n")
+        for each in operators:
+            want(len(listed(received_to_the_end(each))), len(clients))
+
+
+def a_proxy_lists_its_clients(program, proxy_program):
+    port = free_port()
+    with Server(program) as behind, Proxy(proxy_program, [behind.address], ["--admin", f"{HOST}:{port}", "--timeout", "0"]) as proxy:
+        with proxy.connected() as client, proxy.connected() as waiting:
+            asked(client, b"set a 0 0 1\r\nx\r\n", b"STORED\r\n")
+            is_served(waiting)
+            behind.process.send_signal(signal.SIGSTOP)
+            try:
+                waiting.sendall(b"get a\r\n")
+                time.sleep(0.3)
+                first, second = listed(Admin(port).told(b"stats conns\r\nquit\r\n")).values()
+            finally:
+                behind.process.send_signal(signal.SIGCONT)
+            want((first["addr"], first["state"], first["bytes_read"], first["bytes_written"]), (address_of(client), "conn_waiting", "16", "8"))
+            want((second["addr"], second["state"], second["bytes_read"]), (address_of(waiting), "conn_io_queue", "16"))
 
 
 # What is asked, however it comes.
@@ -232,7 +364,7 @@ def heads_that_are_none_are_refused(program):
             (b"GET /met\x01rics HTTP/1.1\r\nHost: localhost\r\n\r\n", b"400"),
             (b"GET /metrics HTTP/1.1\r\nHost localhost\r\n\r\n", b"400"),
             (b"GET /metrics HTTP/1.1\r\nHost: localhost\r\n" + b"A: b\r\n" * 100 + b"\r\n", b"400"),
-            (b"GET / HTTP/1.1\r\nHost: localhost\r\n\r\n", b"404"),
+            (b"GET /favicon.ico HTTP/1.1\r\nHost: localhost\r\n\r\n", b"404"),
             (b"GET /metrics/ HTTP/1.1\r\nHost: localhost\r\n\r\n", b"404"),
             (b"GET http://localhost/metrics HTTP/1.1\r\nHost: localhost\r\n\r\n", b"404"),
         ):
@@ -276,6 +408,21 @@ def a_17th_connection_is_closed(program):
             asked(each, b"version\r\n", VERSION)
 
 
+def a_quiet_one_makes_room(program):
+    """The one that has been quiet longest makes room for a 17th connection, and no other does."""
+    with server(program) as (_, admin), contextlib.ExitStack() as stack:
+        held = [stack.enter_context(admin.connected()) for _ in range(MOST)]
+        for each in held:
+            asked(each, b"version\r\n", VERSION)
+        time.sleep(QUIET + 2)
+        for each in held[:3] + held[4:]:
+            asked(each, b"version\r\n", VERSION)
+        want(admin.got("/healthz")[0], 200)
+        want(held[3].recv(1), b"")
+        for each in held[:3] + held[4:]:
+            asked(each, b"version\r\n", VERSION)
+
+
 def one_that_goes_on_after_its_answer_is_closed(program):
     """After its last answer a connection is read to its end, but not for long."""
     with server(program) as (started, admin), admin.connected() as connection:
@@ -303,9 +450,11 @@ def one_that_does_not_read_holds_up_nobody(program):
         want_at_most(started.memory() - memory, 4_000_000)
 
 
-def a_flood_costs_little(program):
+def a_flood_costs_little(program, line, clients):
     """Fifteen who ask without end take a small part of the processor."""
-    with server(program) as (started, admin):
+    with server(program) as (started, admin), contextlib.ExitStack() as stack:
+        for _ in range(clients):
+            is_served(stack.enter_context(started.connected()))
         over = threading.Event()
 
         def flood():
@@ -313,7 +462,7 @@ def a_flood_costs_little(program):
                 connection.settimeout(0.01)
                 while not over.is_set():
                     with contextlib.suppress(TimeoutError):
-                        connection.sendall(b"stats\r\n" * 500)
+                        connection.sendall(line * 500)
                     with contextlib.suppress(TimeoutError):
                         while connection.recv(1 << 20):
                             pass
@@ -352,21 +501,30 @@ def an_address_that_is_none_is_told(program, *others):
 
 
 def checks_of(program, proxy_program):
-    shown = [metrics_are_shown, statistics_are_shown, settings_are_shown, it_says_that_it_serves, numbers_grow]
+    shown = [
+        metrics_are_shown, statistics_are_shown, settings_are_shown, it_says_that_it_serves, memory_is_that_of_the_process, a_page_is_shown,
+        numbers_grow,
+    ]  # fmt: skip
     come = [a_byte_at_a_time, lines_are_answered_in_order, the_cache_is_not_reached]
     refused = [
         other_methods_are_refused, other_hosts_are_refused, heads_that_are_none_are_refused, an_endless_head_is_refused,
         an_endless_line_is_refused,
     ]  # fmt: skip
     others = [
-        a_17th_connection_is_closed, one_that_goes_on_after_its_answer_is_closed, one_that_does_not_read_holds_up_nobody,
-        a_flood_costs_little, it_ends_with_its_clients,
+        a_17th_connection_is_closed, a_quiet_one_makes_room, one_that_goes_on_after_its_answer_is_closed, one_that_does_not_read_holds_up_nobody,
+        it_ends_with_its_clients,
     ]  # fmt: skip
-    for check in shown + come + refused + others:
+    clients = [
+        clients_are_listed, a_client_that_does_not_read_is_seen, many_clients_are_listed_in_parts, those_who_list_wait_for_each_other,
+    ]  # fmt: skip
+    for check in shown + clients + come + refused + others:
         yield check.__name__, check, (program,)
+    yield "a_flood_costs_little", a_flood_costs_little, (program, b"stats\r\n", 0)
+    yield "a_flood_of_lists_costs_little", a_flood_costs_little, (program, b"stats conns\r\n", 500)
     yield "an_address_that_is_none_is_told", an_address_that_is_none_is_told, (program,)
     yield "an_address_of_a_proxy_that_is_none_is_told", an_address_that_is_none_is_told, (proxy_program, "127.0.0.1:1")
     yield "a_proxy_shows_its_servers", a_proxy_shows_its_servers, (program, proxy_program)
+    yield "a_proxy_lists_its_clients", a_proxy_lists_its_clients, (program, proxy_program)
 
 
 if __name__ == "__main__":

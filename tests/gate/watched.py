@@ -28,7 +28,7 @@ DEFINITION = CRATES / "mc_admin/specs/Names.antt"
 FIRE = TOP / "tests/by_hand/alerts_fire.yml"
 DEFINED = re.compile(r'^metric_name \w+ = codes "(\w+)"$', re.MULTILINE)
 LABELS = re.compile(r'(\w+)=\\"([^"\\]*)\\"')
-NAME = re.compile(r"\b(?:memcached|wiersbol)_[a-z_]+")
+NAME = re.compile(r"\b(?:memcached|wiersbol|process)_[a-z_]+")
 SELECTED = re.compile(r'(\w+)=~?"([^"]*)"')
 OF_PROMETHEUS = {"instance", "job", "server"}  # labels that have any value
 UNSHOWN = {"memcached_up", "memcached_version", "memcached_time_seconds", "wiersbol_process_id", "wiersbol_threads"}

@@ -8,9 +8,9 @@ use Rattle.http1.specs.Fields.{values_named}
 use Rattle.mc_admin.specs.Hosts.{host_of, is_known}
 use Rattle.mc_admin.specs.Requests.{InboxState}
 use Rattle.mc_admin.specs.declared.asked.Asked.{Asked}
-use Rattle.mc_admin.specs.declared.asked.Asked.TheVariants.{Stats, Settings, Nothing, Version, Quit, Unknown, TooLong, Shown, Refused}
+use Rattle.mc_admin.specs.declared.asked.Asked.TheVariants.{Stats, Settings, Conns, Nothing, Version, Quit, Unknown, TooLong, Shown, Refused}
 use Rattle.mc_admin.specs.declared.asked.Page.{Page}
-use Rattle.mc_admin.specs.declared.asked.Page.TheVariants.{Metrics, Health}
+use Rattle.mc_admin.specs.declared.asked.Page.TheVariants.{Overview, Metrics, Health}
 use Rattle.mc_admin.specs.declared.asked.Refusal.{Refusal}
 use Rattle.mc_admin.specs.declared.asked.Refusal.TheVariants.{BadRequest, NotFound, NotAllowed, NoBody, Misdirected, TooLarge}
 use Rattle.mc_admin.specs.declared.hosts.Hosts.{Hosts}
@@ -35,6 +35,7 @@ abbrev pub named : List ℕ → Asked
 named word =
     if bytes_eq word (codes "stats") then Stats
     else if bytes_eq word (codes "stats settings") then Settings
+    else if bytes_eq word (codes "stats conns") then Conns
     else if bytes_eq word (codes "stats items") || bytes_eq word (codes "stats slabs") then Nothing
     else if bytes_eq word (codes "version") then Version
     else if bytes_eq word (codes "quit") then Quit
@@ -43,7 +44,8 @@ named word =
 -- the page at a path
 abbrev pub page_at : List ℕ → Result Page Refusal
 page_at path =
-    if bytes_eq path (codes "/metrics") then Ok Metrics
+    if bytes_eq path (codes "/") then Ok Overview
+    else if bytes_eq path (codes "/metrics") then Ok Metrics
     else if bytes_eq path (codes "/healthz") then Ok Health
     else Err NotFound
 
@@ -97,6 +99,7 @@ Asks hosts s r = asks_in s.phase hosts s.text r
 abbrev pub ends : Asked → Bool
 ends Stats = false
 ends Settings = false
+ends Conns = false
 ends Nothing = false
 ends Version = false
 ends Unknown = false

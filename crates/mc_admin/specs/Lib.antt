@@ -1,6 +1,7 @@
 pub mod Names
 pub mod Pages
 pub mod Lists
+pub mod Conns
 pub mod Requests
 pub mod Hosts
 pub mod Asked

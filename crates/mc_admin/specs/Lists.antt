@@ -1,7 +1,7 @@
 -- Which figures a program shows.
-use Rattle.std.specs.Prelude.{ℕ, ◌+◌, ◌%◌, ◌^◌, Bool, true, false, List, [], ◌∷◌, ◌++◌, Some, None}
+use Rattle.std.specs.Prelude.{ℕ, ◌+◌, ◌%◌, ◌^◌, Bool, true, false, List, [], ◌∷◌, ◌++◌, Option, Some, None}
 use Rattle.mc_admin.specs.declared.names.Name.{Name}
-use Rattle.mc_admin.specs.declared.names.Name.TheVariants.{Up, Version as VersionName, Uptime, Time, Pid, Threads, CurrConnections, MaxConnections, TotalConnections, RejectedConnections, Requests, BytesRead, BytesWritten, CmdGet, GetHits, GetMisses, CmdSet, CurrItems, TotalItems, Bytes, LimitMaxbytes, LimitItems, Evictions, Expired, ServerUp, ServerLosses, ServerSent, ServerLost, ServerWaiting}
+use Rattle.mc_admin.specs.declared.names.Name.TheVariants.{Up, Version as VersionName, Uptime, Time, Pid, Threads, CurrConnections, MaxConnections, TotalConnections, RejectedConnections, Requests, BytesRead, BytesWritten, Resident, CmdGet, GetHits, GetMisses, CmdSet, CurrItems, TotalItems, Bytes, LimitMaxbytes, LimitItems, Evictions, Expired, NoMemory, ServerUp, ServerLosses, ServerSent, ServerLost, ServerWaiting}
 use Rattle.mc_admin.specs.declared.figures.Figure.{Figure}
 use Rattle.mc_admin.specs.declared.figures.Value.TheVariants.{Number, Version}
 use Rattle.mc_admin.specs.declared.lists.ClientFigures.{ClientFigures}
@@ -16,21 +16,42 @@ own name n = record { name = name; server = None; value = Number n; first = true
 abbrev pub further : Name → ℕ → Figure
 further name n = record { name = name; server = None; value = Number n; first = false }
 
--- the figures of whom a program serves
-abbrev pub client_figures : ClientFigures → List Figure
-client_figures c =
+-- the memory of the process, if the system says it
+abbrev pub resident_figures : Option ℕ → List Figure
+resident_figures None = []
+resident_figures (Some bytes) = own Resident bytes ∷ []
+
+-- the figures of a process
+unfoldable pub process_figures : ClientFigures → List Figure
+process_figures c =
     own Up 1 ∷ own Pid c.pid ∷ own Uptime c.uptime ∷ own Time c.time
-    ∷ record { name = VersionName; server = None; value = Version; first = true }
-    ∷ own Threads 1 ∷ own CurrConnections c.connected ∷ own MaxConnections c.most ∷ own TotalConnections c.accepted
+    ∷ record { name = VersionName; server = None; value = Version; first = true } ∷ own Threads 1 ∷ []
+
+-- the figures of its clients, and of what passed of them
+unfoldable pub traffic_figures : ClientFigures → List Figure
+traffic_figures c =
+    own CurrConnections c.connected ∷ own MaxConnections c.most ∷ own TotalConnections c.accepted
     ∷ own RejectedConnections c.refused ∷ own Requests c.requests ∷ own BytesRead c.read ∷ own BytesWritten c.written ∷ []
 
--- the figures of what a server stores
+-- the figures of whom a program serves
+abbrev pub client_figures : ClientFigures → List Figure
+client_figures c = process_figures c ++ traffic_figures c ++ resident_figures c.resident
+
+-- the figures of commands
 -- source: memcached's protocol.txt, "General-purpose statistics": cmd_get is get_hits and get_misses
+unfoldable pub command_figures : StoreFigures → List Figure
+command_figures s =
+    own CmdGet ((s.hits + s.misses) % 2 ^ 64) ∷ own GetHits s.hits ∷ further GetMisses s.misses ∷ further CmdSet s.stores ∷ []
+
+-- the figures of items, and of what went
+unfoldable pub item_figures : StoreFigures → List Figure
+item_figures s =
+    own CurrItems s.items ∷ own TotalItems s.stores ∷ own Bytes s.used ∷ own LimitMaxbytes s.budget ∷ own LimitItems s.most
+    ∷ own Evictions s.evictions ∷ own Expired s.expired ∷ own NoMemory s.no_memory ∷ []
+
+-- the figures of what a server stores
 abbrev pub store_figures : StoreFigures → List Figure
-store_figures s =
-    own CmdGet ((s.hits + s.misses) % 2 ^ 64) ∷ own GetHits s.hits ∷ further GetMisses s.misses ∷ further CmdSet s.stores
-    ∷ own CurrItems s.items ∷ own TotalItems s.stores ∷ own Bytes s.used ∷ own LimitMaxbytes s.budget
-    ∷ own LimitItems s.most ∷ own Evictions s.evictions ∷ own Expired s.expired ∷ []
+store_figures s = command_figures s ++ item_figures s
 
 -- what a name is of, where it is of a proxy's server
 abbrev pub link_number : Name → LinkFigures → ℕ

@@ -1,7 +1,7 @@
 -- What a figure is called: in memcached's statistics, and as a metric of Prometheus.
 use Rattle.std.specs.Prelude.{ℕ, List, [], codes}
 use Rattle.mc_admin.specs.declared.names.Name.{Name}
-use Rattle.mc_admin.specs.declared.names.Name.TheVariants.{Up, Version, Uptime, Time, Pid, Threads, CurrConnections, MaxConnections, TotalConnections, RejectedConnections, Requests, BytesRead, BytesWritten, CmdGet, GetHits, GetMisses, CmdSet, CurrItems, TotalItems, Bytes, LimitMaxbytes, LimitItems, Evictions, Expired, ServerUp, ServerLosses, ServerSent, ServerLost, ServerWaiting}
+use Rattle.mc_admin.specs.declared.names.Name.TheVariants.{Up, Version, Uptime, Time, Pid, Threads, CurrConnections, MaxConnections, TotalConnections, RejectedConnections, Requests, BytesRead, BytesWritten, Resident, CmdGet, GetHits, GetMisses, CmdSet, CurrItems, TotalItems, Bytes, LimitMaxbytes, LimitItems, Evictions, Expired, NoMemory, ServerUp, ServerLosses, ServerSent, ServerLost, ServerWaiting}
 
 -- its name among the statistics
 -- source: memcached's protocol.txt, "General-purpose statistics", where that has it; of the others this project's own
@@ -19,6 +19,7 @@ stat_name RejectedConnections = codes "rejected_connections"
 stat_name Requests = codes "requests"
 stat_name BytesRead = codes "bytes_read"
 stat_name BytesWritten = codes "bytes_written"
+stat_name Resident = codes "resident_bytes"
 stat_name CmdGet = codes "cmd_get"
 stat_name GetHits = codes "get_hits"
 stat_name GetMisses = codes "get_misses"
@@ -30,6 +31,7 @@ stat_name LimitMaxbytes = codes "limit_maxbytes"
 stat_name LimitItems = codes "limit_items"
 stat_name Evictions = codes "evictions"
 stat_name Expired = codes "expired"
+stat_name NoMemory = codes "no_memory"
 stat_name ServerUp = codes "up"
 stat_name ServerLosses = codes "losses"
 stat_name ServerSent = codes "sent"
@@ -37,7 +39,8 @@ stat_name ServerLost = codes "lost"
 stat_name ServerWaiting = codes "waiting"
 
 -- its metric
--- source: memcached_exporter, where that has it; of the others this project's own
+-- source: memcached_exporter, where that has it; of the process's memory Prometheus, "Writing client libraries"; of the others this
+-- project's own
 unfoldable pub metric_name : Name → List ℕ
 metric_name Up = codes "memcached_up"
 metric_name Version = codes "memcached_version"
@@ -52,6 +55,7 @@ metric_name RejectedConnections = codes "memcached_connections_rejected_total"
 metric_name Requests = codes "wiersbol_requests_total"
 metric_name BytesRead = codes "memcached_read_bytes_total"
 metric_name BytesWritten = codes "memcached_written_bytes_total"
+metric_name Resident = codes "process_resident_memory_bytes"
 metric_name CmdGet = codes "wiersbol_retrievals_total"
 metric_name GetHits = codes "memcached_commands_total"
 metric_name GetMisses = codes "memcached_commands_total"
@@ -63,6 +67,7 @@ metric_name LimitMaxbytes = codes "memcached_limit_bytes"
 metric_name LimitItems = codes "wiersbol_limit_items"
 metric_name Evictions = codes "memcached_items_evicted_total"
 metric_name Expired = codes "wiersbol_items_expired_total"
+metric_name NoMemory = codes "wiersbol_memory_refused_total"
 metric_name ServerUp = codes "wiersbol_server_up"
 metric_name ServerLosses = codes "wiersbol_server_losses_total"
 metric_name ServerSent = codes "wiersbol_server_sent_total"
@@ -89,6 +94,7 @@ kind_of Pid = codes "gauge"
 kind_of Threads = codes "gauge"
 kind_of CurrConnections = codes "gauge"
 kind_of MaxConnections = codes "gauge"
+kind_of Resident = codes "gauge"
 kind_of CurrItems = codes "gauge"
 kind_of Bytes = codes "gauge"
 kind_of LimitMaxbytes = codes "gauge"
@@ -112,6 +118,7 @@ help_of RejectedConnections = codes "Clients that were closed as they came."
 help_of Requests = codes "Requests and faulty lines that were taken."
 help_of BytesRead = codes "Bytes from clients."
 help_of BytesWritten = codes "Bytes to clients."
+help_of Resident = codes "The memory of the process, in bytes."
 help_of CmdGet = codes "Keys of retrievals."
 help_of GetHits = codes "Keys of retrievals, by outcome, and values that were stored."
 help_of GetMisses = codes "Keys of retrievals, by outcome, and values that were stored."
@@ -123,6 +130,7 @@ help_of LimitMaxbytes = codes "What items may cost in all, in bytes."
 help_of LimitItems = codes "The most items."
 help_of Evictions = codes "Items that went to make room."
 help_of Expired = codes "Expired items that were taken out or replaced."
+help_of NoMemory = codes "Times that the system gave no memory for a request."
 help_of ServerUp = codes "Whether the connection to the server is up."
 help_of ServerLosses = codes "How often the connection to the server was lost."
 help_of ServerSent = codes "Commands that were put on the connection to the server."

@@ -1,8 +1,8 @@
 -- A connection: what came of its request, what was read and is not taken, what is to be sent.
-use Rattle.std.specs.Prelude.{◌≡◌, ℕ, Bool, true, false, List, [], Some, None}
+use Rattle.std.specs.Prelude.{◌≡◌, ℕ, Bool, true, false, List, [], Option, Some, None}
 use Rattle.mc_admin.specs.Requests.{InboxState, fresh_inbox, taking}
 use Rattle.mc_admin.specs.Asked.{Asks, ends}
-use Rattle.mc_admin.specs.Answers.{answer_to}
+use Rattle.mc_admin.specs.Answers.{answer_to, is_listed_on}
 use Rattle.mc_admin.specs.declared.asked.Asked.{Asked}
 use Rattle.mc_admin.specs.declared.figures.Sheet.{Sheet}
 use Rattle.mc_admin.specs.declared.hosts.Hosts.{Hosts}
@@ -18,17 +18,22 @@ pub record TalkState : Type 0 where
 abbrev pub fresh_talk : TalkState
 fresh_talk = record { inbox = fresh_inbox; unread = []; output = []; closing = false }
 
--- A turn: the request takes what was read until it ends. If it has ended, what it asks for is answered, and the next one begins;
--- after some answers the connection is closed. Source: this project's own.
-abbrev pub Turns : Hosts → Sheet → Bool → TalkState → TalkState → Type 0
-Turns hosts sheet true before after =
-    (asked : Asked) × Asks hosts (taking before.inbox before.unread).0 (Some asked)
+-- what is left of a request that was answered: all of it while it is answered further, else nothing
+abbrev pub left_by : Bool → InboxState → InboxState
+left_by true inbox = inbox
+left_by false inbox = fresh_inbox
+
+-- A turn: the request takes what was read until it ends. If it has ended, what it asks for is answered, and the next one begins, unless
+-- this one is answered further; after some answers the connection is closed. Source: this project's own.
+abbrev pub Turns : Hosts → Sheet → Option Asked → TalkState → TalkState → Type 0
+Turns hosts sheet (Some asked) before after =
+    Asks hosts (taking before.inbox before.unread).0 (Some asked)
     × (after ≡ record {
-      inbox = fresh_inbox;
+      inbox = left_by (is_listed_on asked sheet) (taking before.inbox before.unread).0;
       unread = (taking before.inbox before.unread).1;
       output = answer_to asked sheet;
       closing = ends asked;
     })
-Turns hosts sheet false before after =
+Turns hosts sheet None before after =
     Asks hosts (taking before.inbox before.unread).0 None
     × (after ≡ record before { inbox = (taking before.inbox before.unread).0; unread = (taking before.inbox before.unread).1 })

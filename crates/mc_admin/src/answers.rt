@@ -1,12 +1,14 @@
 //! What is answered.
-ghost use Rattle.std.specs.Prelude.{◌≡◌, ◌++◌, IfOk, OnOk, codes};
+ghost use Rattle.std.specs.Prelude.{◌≡◌, ◌++◌, [], IfOk, OnOk, codes};
 ghost use Rattle.http1.specs.Head.{pairs, header_parts};
-ghost use Rattle.mc_admin.specs.Answers.{answer_to, response, fields_of, metrics_type, plain_type, status_of, reason_of, words_of};
+ghost use Rattle.mc_admin.specs.Answers.{answer_to, is_listed_on, response, fields_of, overview_fields, metrics_type, plain_type, status_of, reason_of, words_of};
 ghost use Rattle.mc_admin.specs.Asked.{ends};
 
 use crate::asked::{Asked, Page, Refusal};
+use crate::conns::push_part;
 use crate::errors::AdminError;
 use crate::figures::Sheet;
+use crate::overview::{overview, policy};
 use crate::pages::{push_metrics, push_settings, push_stats};
 use http1::Header;
 use http1::head::write_response;
@@ -19,6 +21,9 @@ const METRICS_TYPE: &[u8] = b"text/plain; version=0.0.4; charset=utf-8";
 /// The media type of all other texts.
 const PLAIN_TYPE: &[u8] = b"text/plain; charset=utf-8";
 
+/// The media type of the page for people.
+const HTML_TYPE: &[u8] = b"text/html; charset=utf-8";
+
 /// The answer to what is asked, by what a program says of itself.
 #[tactic(auto, unfolding(crate::specs::Answers::answer_to))]
 pub fn answer_to(alloc: Global, asked: Asked, sheet: &Sheet<'_>) -> Result<Vec<u8>, AdminError>
@@ -28,6 +33,7 @@ pub fn answer_to(alloc: Global, asked: Asked, sheet: &Sheet<'_>) -> Result<Vec<u
     match asked {
         Asked::Stats => push_stats(sheet.figures, &mut answer)?,
         Asked::Settings => push_settings(sheet.settings, &mut answer)?,
+        Asked::Conns => push_part(sheet.part, &mut answer)?,
         Asked::Nothing => answer.extend_from_slice(b"END\r\n")?,
         Asked::Version => answer.extend_from_slice(b"VERSION 1.6.0\r\n")?,
         Asked::Quit => {}
@@ -50,30 +56,40 @@ fn push_page(
     ensures { OnOk result (answer.new.items ≡ answer.old.items ++ answer_to (Asked.Shown page) sheet.now) }
 {
     match page {
-        Page::Health => push_response(200, b"OK", PLAIN_TYPE, b"ok\n", answer),
+        Page::Overview => push_response(
+            200,
+            b"OK",
+            HTML_TYPE,
+            &overview_fields(),
+            overview(),
+            answer,
+        ),
+        Page::Health => push_response(200, b"OK", PLAIN_TYPE, &[], b"ok\n", answer),
         Page::Metrics => {
             let mut metrics = Vec::new(alloc);
             push_metrics(sheet.figures, &mut metrics)?;
-            push_response(200, b"OK", METRICS_TYPE, metrics.as_slice(), answer)
+            push_response(200, b"OK", METRICS_TYPE, &[], metrics.as_slice(), answer)
         }
     }
 }
 
-/// Puts a response at the end of an answer.
+/// Puts a response with further fields at the end of an answer.
 #[tactic(auto, unfolding(crate::specs::Answers::response))]
 fn push_response(
     status: u16,
     reason: &[u8],
     media_type: &[u8],
+    further: &[Header<'_>],
     body: &[u8],
     answer: &mut Vec<u8>,
 ) -> Result<(), AdminError>
-    ensures { OnOk result (answer.new.items ≡ answer.old.items ++ response status reason.now media_type.now body.now) }
+    ensures { OnOk result (answer.new.items
+        ≡ answer.old.items ++ response status reason.now media_type.now (pairs further.now) body.now) }
 {
     let mut digits = Buffer::new();
     let len = digits.format(body.len() as u64).as_bytes();
     let fields = fields_of(media_type, len);
-    write_response(answer, 1, status, reason, &fields, &[])?;
+    write_response(answer, 1, status, reason, &fields, further)?;
     answer.extend_from_slice(body)?;
     Ok(())
 }
@@ -90,6 +106,16 @@ fn fields_of<'a>(media_type: &'a [u8], len: &'a [u8]) -> [Header<'a>; 4]
     ]
 }
 
+/// The fields that the page for people has beside those of any response.
+fn overview_fields() -> [Header<'static>; 2]
+    ensures { pairs result ≡ overview_fields }
+{
+    [
+        field(b"content-security-policy", policy()),
+        field(b"x-content-type-options", b"nosniff"),
+    ]
+}
+
 /// A field of a response.
 fn field<'a>(name: &'a [u8], value: &'a [u8]) -> Header<'a>
     ensures { header_parts result ≡ (name.entry.now, value.entry.now) }
@@ -100,12 +126,13 @@ fn field<'a>(name: &'a [u8], value: &'a [u8]) -> Header<'a>
 /// Puts the response of a refusal at the end of an answer.
 fn push_refusal(refusal: Refusal, answer: &mut Vec<u8>) -> Result<(), AdminError>
     ensures { OnOk result (answer.new.items
-        ≡ answer.old.items ++ response (status_of refusal) (reason_of refusal) plain_type (words_of refusal)) }
+        ≡ answer.old.items ++ response (status_of refusal) (reason_of refusal) plain_type [] (words_of refusal)) }
 {
     push_response(
         status_of(refusal),
         reason_of(refusal),
         PLAIN_TYPE,
+        &[],
         words_of(refusal),
         answer,
     )
@@ -143,7 +170,7 @@ fn words_of(refusal: Refusal) -> &'static [u8]
 {
     match refusal {
         Refusal::BadRequest => b"400: not a request of HTTP/1.0 or 1.1 with one Host\n",
-        Refusal::NotFound => b"404: there are /metrics and /healthz\n",
+        Refusal::NotFound => b"404: there are /, /metrics and /healthz\n",
         Refusal::NotAllowed => b"405: only GET is answered\n",
         Refusal::NoBody => b"",
         Refusal::Misdirected => b"421: the Host is none of this listener's: see --admin-name\n",
@@ -156,7 +183,19 @@ pub fn ends(asked: Asked) -> bool
     ensures { result ≡ ends asked }
 {
     match asked {
-        Asked::Stats | Asked::Settings | Asked::Nothing | Asked::Version | Asked::Unknown => false,
+        Asked::Stats | Asked::Settings | Asked::Conns => false,
+        Asked::Nothing | Asked::Version | Asked::Unknown => false,
         _ => true,
+    }
+}
+
+/// Whether the next turn answers the same request further: a list of clients comes in parts.
+pub fn is_listed_on(asked: Asked, sheet: &Sheet<'_>) -> bool
+    ensures { result ≡ is_listed_on asked sheet.now }
+{
+    match (asked, sheet.part) {
+        (Asked::Conns, Some(part)) => part.next.is_some(),
+        (Asked::Conns, None) => true,
+        _ => false,
     }
 }

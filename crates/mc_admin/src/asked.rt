@@ -3,6 +3,8 @@
 /// What operators are shown by HTTP.
 #[derive(Clone, Copy, Debug, PartialEq, Eq)]
 pub enum Page {
+    /// The figures, for people in a browser: at `/`.
+    Overview,
     /// The figures, as metrics of Prometheus: at `/metrics`.
     Metrics,
     /// That the program serves: at `/healthz`.
@@ -33,6 +35,8 @@ pub enum Asked {
     Stats,
     /// The settings.
     Settings,
+    /// Who is connected.
+    Conns,
     /// Statistics of which there are none.
     Nothing,
     /// The version of the protocol.

@@ -1,5 +1,6 @@
 //! Figures: numbers under their names.
 
+use crate::conns::Part;
 use crate::names::Name;
 
 /// What stands behind a name.
@@ -42,4 +43,6 @@ pub struct Sheet<'a> {
     pub figures: &'a [Figure<'a>],
     /// What `stats settings` lists.
     pub settings: &'a [Setting<'a>],
+    /// What `stats conns` lists next; none as long as nobody has asked.
+    pub part: Option<Part<'a>>,
 }

@@ -113,7 +113,9 @@ fn page_of_target(target: &[u8]) -> Result<Page, Refusal>
 fn page_at(path: &[u8]) -> Result<Page, Refusal>
     ensures { result ≡ page_at path.now }
 {
-    if path == b"/metrics".as_slice() {
+    if path == b"/".as_slice() {
+        Ok(Page::Overview)
+    } else if path == b"/metrics".as_slice() {
         Ok(Page::Metrics)
     } else if path == b"/healthz".as_slice() {
         Ok(Page::Health)

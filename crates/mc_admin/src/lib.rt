@@ -3,6 +3,7 @@
 
 mod answers;
 mod asked;
+mod conns;
 mod errors;
 mod figures;
 mod heads;
@@ -12,11 +13,13 @@ mod laws;
 mod lines;
 mod lists;
 mod names;
+mod overview;
 mod pages;
 mod talks;
 
-pub use answers::{answer_to, ends};
+pub use answers::{answer_to, ends, is_listed_on};
 pub use asked::{Asked, Page, Refusal};
+pub use conns::{Conn, Part};
 pub use errors::AdminError;
 pub use figures::{Figure, Setting, Sheet, Value};
 pub use hosts::{Hosts, host_of};

@@ -60,6 +60,8 @@ fn named(word: &[u8]) -> Asked
         Asked::Stats
     } else if word == b"stats settings".as_slice() {
         Asked::Settings
+    } else if word == b"stats conns".as_slice() {
+        Asked::Conns
     } else if word == b"stats items".as_slice() || word == b"stats slabs".as_slice() {
         Asked::Nothing
     } else if word == b"version".as_slice() {

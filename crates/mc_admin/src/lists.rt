@@ -1,6 +1,6 @@
 //! Which figures a program shows.
 ghost use Rattle.std.specs.Prelude.{◌≡◌, ◌++◌, true, OnOk};
-ghost use Rattle.mc_admin.specs.Lists.{own, further, client_figures, store_figures, link_number, of_each, link_figures};
+ghost use Rattle.mc_admin.specs.Lists.{own, further, client_figures, process_figures, traffic_figures, resident_figures, store_figures, command_figures, item_figures, link_number, of_each, link_figures};
 
 use crate::figures::{Figure, Value};
 use crate::names::Name;
@@ -29,6 +29,8 @@ pub struct ClientFigures {
     pub read: u64,
     /// Bytes to clients.
     pub written: u64,
+    /// The memory of the process, in bytes; none if the system does not say.
+    pub resident: Option<u64>,
 }
 
 /// What is known of what a server stores.
@@ -44,6 +46,8 @@ pub struct StoreFigures {
     pub evictions: u64,
     /// Expired items that were taken out or replaced.
     pub expired: u64,
+    /// How often the system gave no memory for a request.
+    pub no_memory: u64,
     /// Items that are stored.
     pub items: u64,
     /// What they cost, in bytes.
@@ -57,7 +61,7 @@ pub struct StoreFigures {
 /// What is known of a server of a proxy.
 #[derive(Clone, Copy, Debug)]
 pub struct LinkFigures<'a> {
-    /// Its address.
+    /// Its name, or its address without one.
     pub server: &'a [u8],
     /// 1 if its connection is up, else 0.
     pub up: u64,
@@ -78,19 +82,37 @@ pub fn push_client_figures(
 ) -> Result<(), AllocError>
     ensures { OnOk result (figures.new.items ≡ figures.old.items ++ client_figures clients.now) }
 {
-    let version = Figure {
-        name: Name::Version,
-        server: None,
-        value: Value::Version,
-        first: true,
-    };
-    figures.extend_from_slice(&[
+    figures.extend_from_slice(&process_figures(clients))?;
+    figures.extend_from_slice(&traffic_figures(clients))?;
+    push_resident(clients.resident, figures)
+}
+
+/// The figures of a process.
+#[tactic(auto, unfolding(crate::specs::Lists::process_figures))]
+fn process_figures(clients: &ClientFigures) -> [Figure<'static>; 6]
+    ensures { result ≡ process_figures clients.now }
+{
+    [
         own(Name::Up, 1),
         own(Name::Pid, clients.pid),
         own(Name::Uptime, clients.uptime),
         own(Name::Time, clients.time),
-        version,
+        Figure {
+            name: Name::Version,
+            server: None,
+            value: Value::Version,
+            first: true,
+        },
         own(Name::Threads, 1),
+    ]
+}
+
+/// The figures of its clients, and of what passed of them.
+#[tactic(auto, unfolding(crate::specs::Lists::traffic_figures))]
+fn traffic_figures(clients: &ClientFigures) -> [Figure<'static>; 7]
+    ensures { result ≡ traffic_figures clients.now }
+{
+    [
         own(Name::CurrConnections, clients.connected),
         own(Name::MaxConnections, clients.most),
         own(Name::TotalConnections, clients.accepted),
@@ -98,7 +120,18 @@ pub fn push_client_figures(
         own(Name::Requests, clients.requests),
         own(Name::BytesRead, clients.read),
         own(Name::BytesWritten, clients.written),
-    ])
+    ]
+}
+
+/// Puts the memory of the process at the end of a list, if the system says it.
+fn push_resident(resident: Option<u64>, figures: &mut Vec<Figure<'_>>) -> Result<(), AllocError>
+    ensures { OnOk result (figures.new.items ≡ figures.old.items ++ resident_figures resident) }
+{
+    let Some(bytes) = resident else {
+        return Ok(());
+    };
+    figures.push(own(Name::Resident, bytes))?;
+    Ok(())
 }
 
 /// Puts the figures of what a server stores at the end of a list.
@@ -108,11 +141,29 @@ pub fn push_store_figures(
 ) -> Result<(), AllocError>
     ensures { OnOk result (figures.new.items ≡ figures.old.items ++ store_figures store.now) }
 {
-    figures.extend_from_slice(&[
+    figures.extend_from_slice(&command_figures(store))?;
+    figures.extend_from_slice(&item_figures(store))
+}
+
+/// The figures of commands.
+#[tactic(auto, unfolding(crate::specs::Lists::command_figures))]
+fn command_figures(store: &StoreFigures) -> [Figure<'static>; 4]
+    ensures { result ≡ command_figures store.now }
+{
+    [
         own(Name::CmdGet, store.hits.wrapping_add(store.misses)),
         own(Name::GetHits, store.hits),
         further(Name::GetMisses, store.misses),
         further(Name::CmdSet, store.stores),
+    ]
+}
+
+/// The figures of items, and of what went.
+#[tactic(auto, unfolding(crate::specs::Lists::item_figures))]
+fn item_figures(store: &StoreFigures) -> [Figure<'static>; 8]
+    ensures { result ≡ item_figures store.now }
+{
+    [
         own(Name::CurrItems, store.items),
         own(Name::TotalItems, store.stores),
         own(Name::Bytes, store.used),
@@ -120,7 +171,8 @@ pub fn push_store_figures(
         own(Name::LimitItems, store.most),
         own(Name::Evictions, store.evictions),
         own(Name::Expired, store.expired),
-    ])
+        own(Name::NoMemory, store.no_memory),
+    ]
 }
 
 /// Puts the figures of a proxy's servers at the end of a list.

@@ -31,6 +31,8 @@ pub enum Name {
     BytesRead,
     /// Bytes to clients.
     BytesWritten,
+    /// The memory of the process, in bytes.
+    Resident,
     /// Keys of retrievals.
     CmdGet,
     /// Keys of retrievals that an item answered.
@@ -53,6 +55,8 @@ pub enum Name {
     Evictions,
     /// Expired items that were taken out or replaced.
     Expired,
+    /// How often the system gave no memory for a request.
+    NoMemory,
     /// Whether a proxy's connection to a server is up: 1 or 0.
     ServerUp,
     /// How often the connection to a server was lost.
@@ -85,6 +89,7 @@ impl Name {
             Name::Requests => b"requests",
             Name::BytesRead => b"bytes_read",
             Name::BytesWritten => b"bytes_written",
+            Name::Resident => b"resident_bytes",
             Name::CmdGet => b"cmd_get",
             Name::GetHits => b"get_hits",
             Name::GetMisses => b"get_misses",
@@ -96,6 +101,7 @@ impl Name {
             Name::LimitItems => b"limit_items",
             Name::Evictions => b"evictions",
             Name::Expired => b"expired",
+            Name::NoMemory => b"no_memory",
             Name::ServerUp => b"up",
             Name::ServerLosses => b"losses",
             Name::ServerSent => b"sent",
@@ -123,6 +129,7 @@ impl Name {
             Name::Requests => b"wiersbol_requests_total",
             Name::BytesRead => b"memcached_read_bytes_total",
             Name::BytesWritten => b"memcached_written_bytes_total",
+            Name::Resident => b"process_resident_memory_bytes",
             Name::CmdGet => b"wiersbol_retrievals_total",
             Name::GetHits => b"memcached_commands_total",
             Name::GetMisses => b"memcached_commands_total",
@@ -134,6 +141,7 @@ impl Name {
             Name::LimitItems => b"wiersbol_limit_items",
             Name::Evictions => b"memcached_items_evicted_total",
             Name::Expired => b"wiersbol_items_expired_total",
+            Name::NoMemory => b"wiersbol_memory_refused_total",
             Name::ServerUp => b"wiersbol_server_up",
             Name::ServerLosses => b"wiersbol_server_losses_total",
             Name::ServerSent => b"wiersbol_server_sent_total",
@@ -170,6 +178,7 @@ impl Name {
             Name::Threads => b"gauge",
             Name::CurrConnections => b"gauge",
             Name::MaxConnections => b"gauge",
+            Name::Resident => b"gauge",
             Name::CurrItems => b"gauge",
             Name::Bytes => b"gauge",
             Name::LimitMaxbytes => b"gauge",
@@ -199,6 +208,7 @@ impl Name {
             Name::Requests => b"Requests and faulty lines that were taken.",
             Name::BytesRead => b"Bytes from clients.",
             Name::BytesWritten => b"Bytes to clients.",
+            Name::Resident => b"The memory of the process, in bytes.",
             Name::CmdGet => b"Keys of retrievals.",
             Name::GetHits => b"Keys of retrievals, by outcome, and values that were stored.",
             Name::GetMisses => b"Keys of retrievals, by outcome, and values that were stored.",
@@ -210,6 +220,7 @@ impl Name {
             Name::LimitItems => b"The most items.",
             Name::Evictions => b"Items that went to make room.",
             Name::Expired => b"Expired items that were taken out or replaced.",
+            Name::NoMemory => b"Times that the system gave no memory for a request.",
             Name::ServerUp => b"Whether the connection to the server is up.",
             Name::ServerLosses => b"How often the connection to the server was lost.",
             Name::ServerSent => b"Commands that were put on the connection to the server.",

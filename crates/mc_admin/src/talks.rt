@@ -1,7 +1,8 @@
 //! A connection of an operator, without its socket.
 ghost use Rattle.std.specs.Prelude.{◌≤◌, length, vec_len, vec_capacity};
 
-use crate::answers::{answer_to, ends};
+use crate::answers::{answer_to, ends, is_listed_on};
+use crate::asked::Asked;
 use crate::errors::AdminError;
 use crate::figures::Sheet;
 use crate::hosts::Hosts;
@@ -94,22 +95,28 @@ impl Talk {
         Ok(())
     }
 
-    /// Goes on with what was read, until a request is answered, and says whether one was. No answer waits to be sent.
-    pub fn turn(&mut self, hosts: &Hosts<'_>, sheet: &Sheet<'_>) -> Result<bool, AdminError>
+    /// Goes on with what was read, until a request is answered, and says what that asked for, if one was. No answer waits to be sent.
+    pub fn turn(
+        &mut self,
+        hosts: &Hosts<'_>,
+        sheet: &Sheet<'_>,
+    ) -> Result<Option<Asked>, AdminError>
         requires { self.old.output ≡ [] }
-        ensures { IfOk result (λ answered. Turns hosts.now sheet.now answered self.old self.new) }
+        ensures { IfOk result (λ asked. Turns hosts.now sheet.now asked self.old self.new) }
     {
         let (_, unread) = self.piece.as_slice().split_at(self.taken);
         let taken = self.inbox.take(unread);
         self.taken += taken;
         let Some(asked) = asked_of(&self.inbox, hosts) else {
-            return Ok(false);
+            return Ok(None);
         };
         self.answer = answer_to(self.alloc, asked, sheet)?;
         self.sent = 0;
         self.closing = ends(asked);
-        self.inbox.clear();
-        Ok(true)
+        if !is_listed_on(asked, sheet) {
+            self.inbox.clear();
+        }
+        Ok(Some(asked))
     }
 
     /// Notes that so many bytes of the output were sent.

@@ -1,6 +1,7 @@
 //! The clients of a host, who of them goes on, and who is idle.
 ghost use Rattle.std.specs.Prelude.{◌<◌, ◌^◌};
 
+use crate::conns::{Known, LIST_LEN, Listed, conn_of};
 use crate::handlers::{Client, Handler};
 use crate::reports::Report;
 use crate::strangers::{Refusal, opening};
@@ -26,6 +27,35 @@ struct Seat<K> {
     busy: bool,
     /// In which second its socket was reported last, or it was owed something.
     used: u64,
+    /// In which second it came.
+    since: u64,
+    /// Bytes that were read from it.
+    read: u64,
+    /// Bytes that were written to it.
+    written: u64,
+}
+
+impl<K: Drop> Seat<K> {
+    /// Notes what passed of it, of what passed of all clients before and after its turn.
+    #[inline(always)]
+    fn pass(&mut self, before: Tally, after: Tally) {
+        let read = after.read.wrapping_sub(before.read);
+        let written = after.written.wrapping_sub(before.written);
+        self.read = self.read.wrapping_add(read);
+        self.written = self.written.wrapping_add(written);
+    }
+
+    /// What is known of it at a moment, at a place.
+    fn known(&self, place: usize, is_owed: bool, moment: u64) -> Known {
+        Known {
+            place,
+            is_owed,
+            quiet: moment.saturating_sub(self.used),
+            age: moment.saturating_sub(self.since),
+            read: self.read,
+            written: self.written,
+        }
+    }
 }
 
 /// The clients of a host. The token of a client's socket is its key.
@@ -130,6 +160,32 @@ impl<K: Default + Drop> Clients<K> {
         self.seats.get_mut(key).map(|seat| &mut seat.client)
     }
 
+    /// Lists clients from a place on, at most [`LIST_LEN`], at a moment. One that is owed something is in the state `owed`.
+    pub fn listed<H: Handler<K>>(
+        &self,
+        handler: &H,
+        alloc: Global,
+        from: usize,
+        moment: u64,
+        owed: &'static [u8],
+    ) -> Result<Listed, AllocError> {
+        let mut conns = Vec::with_capacity(alloc, LIST_LEN)?;
+        for place in from..self.most {
+            let Some(seat) = self.seats.get(place) else {
+                continue;
+            };
+            if conns.len() == LIST_LEN {
+                return Ok(Listed {
+                    conns,
+                    next: Some(place),
+                });
+            }
+            let known = seat.known(place, handler.owes(seat.client.number), moment);
+            conns.push(conn_of(alloc, &seat.client.stream, known, owed)?)?;
+        }
+        Ok(Listed { conns, next: None })
+    }
+
     /// Takes a client in at a moment. One for whom there is no place or no memory is closed at once.
     pub fn admit<H: Handler<K>>(
         &mut self,
@@ -174,6 +230,9 @@ impl<K: Default + Drop> Clients<K> {
             queued: false,
             busy: false,
             used: moment,
+            since: moment,
+            read: 0,
+            written: 0,
         };
         if registered.is_err() || self.seats.insert(seat).is_err() {
             handler.end(number);
@@ -240,7 +299,10 @@ impl<K: Default + Drop> Clients<K> {
         }
         self.busy = true;
         seat.busy = true;
-        match handler.serve(&mut seat.client, moment) {
+        let before = handler.tally();
+        let step = handler.serve(&mut seat.client, moment);
+        seat.pass(before, handler.tally());
+        match step {
             Step::GoOn => {
                 let was_queued = mem::replace(&mut seat.queued, true);
                 if !was_queued && self.queue.push(key).is_err() {

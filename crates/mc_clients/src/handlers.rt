@@ -3,6 +3,7 @@ ghost use Rattle.std.specs.Prelude.{◌≡◌, ◌<◌, ◌^◌};
 
 use mc_socket::{Edge, Step};
 use mc_stranger::FirstLine;
+use mc_watch::Tally;
 use mio::net::TcpStream;
 
 /// A client of a program on sockets: its socket, and what is known of it.
@@ -40,4 +41,7 @@ pub trait Handler<K> {
 
     /// Whether a client is owed something.
     fn owes(&self, number: u64) -> bool;
+
+    /// What passed of all clients.
+    fn tally(&self) -> Tally;
 }

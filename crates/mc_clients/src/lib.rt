@@ -4,7 +4,8 @@
 //! as many as a round does, and has what implements [`Rounds`] do the rest. [`Clients`] are those who were let in, as
 //! [`Client`]s, with the queue of those that go on though nothing happens, and with what is known of how long each was idle.
 //! What serves them is a [`Handler`]: it admits a client, carries its bytes and says what is done with it then. [`patience`] says
-//! how long a round waits, and a [`Report`] what was done. A [`Room`] is how many clients the open files of a program allow.
+//! how long a round waits, and a [`Report`] what was done. A [`Room`] is how many clients the open files of a program allow, and a
+//! [`Listed`] who is connected, at most [`LIST_LEN`] clients at a time.
 //!
 //! A client is served once its first bytes are known not to be a stranger's ([`mc_stranger::opening_of`]), and read through a [`Guard`],
 //! which reads no line that shows a stranger ([`mc_stranger::FirstLine`]). A stranger is closed, and that is said on standard error
@@ -16,6 +17,7 @@
 #![tactic(auto)]
 
 mod clients;
+mod conns;
 mod guards;
 mod handlers;
 mod reports;
@@ -24,6 +26,7 @@ mod rounds;
 mod strangers;
 
 pub use clients::Clients;
+pub use conns::{LIST_LEN, Listed};
 pub use guards::Guard;
 pub use handlers::{Client, Handler};
 pub use reports::Report;

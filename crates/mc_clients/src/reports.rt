@@ -21,8 +21,15 @@ pub struct Report {
 }
 
 impl Report {
-    /// The same as figures, of a process of this number at a time in seconds since 1970, which serves so many clients at most.
-    pub fn figures(&self, pid: u64, time: u64, most: usize) -> ClientFigures {
+    /// The same as figures, of a process of this number at a time in seconds since 1970, which takes so much memory and serves so many
+    /// clients at most.
+    pub fn figures(
+        &self,
+        pid: u64,
+        time: u64,
+        resident: Option<u64>,
+        most: usize,
+    ) -> ClientFigures {
         ClientFigures {
             pid,
             uptime: self.uptime,
@@ -34,6 +41,7 @@ impl Report {
             requests: self.tally.requests,
             read: self.tally.read,
             written: self.tally.written,
+            resident,
         }
     }
 }

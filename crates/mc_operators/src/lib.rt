@@ -6,11 +6,12 @@
 //!
 //! Nobody else waits for them: all that is done for operators in a second is a bounded number of steps ([`STEPS`]), each an accept, a
 //! read, an answer or a write. What is kept of a connection is bounded. One that has sent nothing, or taken nothing, for
-//! [`PATIENCE`] seconds is closed, and one that was answered for the last time is read to its end, for at most [`LINGER`] seconds.
+//! [`PATIENCE`] seconds is closed, after [`QUIET`] seconds if another wants its place, and one that was answered for the last time is read to its end, for at most [`LINGER`] seconds.
 //!
-//! [`process_number`] and [`wall_clock`] are what the system says of the process.
+//! [`process_number`], [`wall_clock`] and [`resident_memory`] are what the system says of the process.
 //!
-//! No call waits but [`Operators::new`], which looks a name up. What a socket carries, no contract says: what a connection is answered is that of [`mc_admin::Talk`].
+//! No call waits but [`Operators::new`], which looks a name up. What a socket carries, no contract says: what a connection is answered is
+//! that of [`mc_admin::Talk`].
 #![tactic(auto)]
 
 mod budgets;
@@ -20,5 +21,5 @@ mod seats;
 
 pub use budgets::STEPS;
 pub use operators::{MAX_OPERATORS, Operators};
-pub use processes::{process_number, wall_clock};
-pub use seats::{LINGER, PATIENCE};
+pub use processes::{process_number, resident_memory, wall_clock};
+pub use seats::{LINGER, PATIENCE, QUIET};

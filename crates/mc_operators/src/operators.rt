@@ -2,7 +2,7 @@
 ghost use Rattle.std.specs.Prelude.{◌<◌, vec_len};
 
 use crate::budgets::Budget;
-use crate::seats::Seat;
+use crate::seats::{QUIET, Seat};
 use mc_admin::{REQUEST_LIMIT, Sheet, host_of};
 use mc_program::{AdminTerms, ServeError};
 use mc_socket::{Acceptor, Backlog, Step, bind};
@@ -46,6 +46,8 @@ pub struct Operators {
     awake: bool,
     /// In which second a connection has waited for too long, or something is to be done, at the earliest.
     due: Option<u64>,
+    /// The key of the connection to which clients are listed in this round, or were last.
+    listed: usize,
     ghost reads: { 0 < vec_len piece },
 }
 
@@ -71,6 +73,7 @@ impl Operators {
             stirred: false,
             awake: false,
             due: None,
+            listed: 0,
         })
     }
 
@@ -159,8 +162,28 @@ impl Operators {
         }
     }
 
+    /// Makes a place if all are taken: closes the connection that has been quiet longest, if that is for more than [`QUIET`] seconds.
+    fn make_room(&mut self) {
+        if self.seats.len() < MAX_OPERATORS {
+            return;
+        }
+        let longest = self.seats.iter().fold(None, |longest, (key, seat)| {
+            let used = seat.used();
+            match longest {
+                Some((_, least)) if least <= used => longest,
+                _ => Some((key, used)),
+            }
+        });
+        if let Some((key, used)) = longest
+            && self.second.saturating_sub(used) > QUIET
+        {
+            let _ = self.seats.try_remove(key);
+        }
+    }
+
     /// Takes a connection in. One for which there is no place or no memory is closed at once.
     fn admit(&mut self, registry: &Registry, mut stream: TcpStream) {
+        self.make_room();
         let key = self.seats.vacant_key();
         if key >= MAX_OPERATORS {
             return;
@@ -202,6 +225,19 @@ impl Operators {
         self.stirred && self.budget.has(self.second)
     }
 
+    /// From which place on clients are to be listed for this round, if a connection has asked who is connected: one a round, each in turn.
+    /// What `serve` is given next is for it alone.
+    pub fn listing(&mut self) -> Option<usize> {
+        let after = self.listed.saturating_add(1);
+        for key in (after..MAX_OPERATORS).chain(0..after) {
+            if let Some(from) = self.seats.get(key).and_then(|seat| seat.listing()) {
+                self.listed = key;
+                return Some(from);
+            }
+        }
+        None
+    }
+
     /// Serves the connections for which something may be done, by what the program says of itself.
     pub fn serve(&mut self, sheet: &Sheet<'_>) {
         self.stirred = false;
@@ -220,10 +256,14 @@ impl Operators {
             return;
         }
         let (listen, name) = (self.listen.as_slice(), self.name.as_slice());
+        let mut own = *sheet;
+        if key != self.listed {
+            own.part = None;
+        }
         let step = seat.serve(
             listen,
             name,
-            sheet,
+            &own,
             &mut self.piece,
             &mut self.budget,
             self.second,

@@ -2,7 +2,7 @@
 ghost use Rattle.std.specs.Prelude.{◌<◌, length};
 
 use crate::budgets::Budget;
-use mc_admin::{AdminError, Hosts, REQUEST_LIMIT, Sheet, Talk};
+use mc_admin::{AdminError, Asked, Hosts, REQUEST_LIMIT, Sheet, Talk};
 use mc_socket::{Edge, Input, Step};
 use mc_stream::{Pumped, read_once, write_once};
 use mio::event::Event;
@@ -12,6 +12,9 @@ use std::net::Shutdown;
 
 /// After how many seconds a connection is closed that sent nothing, and took nothing of its answer.
 pub const PATIENCE: u64 = 60;
+
+/// A connection that sent nothing, and took nothing, for more seconds makes room for another one, if all places are taken.
+pub const QUIET: u64 = 5;
 
 /// For how many seconds a connection is read to its end once its last answer was sent: one that is closed with bytes unread may lose it.
 pub const LINGER: u64 = 2;
@@ -31,6 +34,8 @@ pub struct Seat {
     over: bool,
     /// Whether something may be done for it.
     pub stirred: bool,
+    /// From which place on clients are listed to it next, if it has asked who is connected.
+    listing: Option<usize>,
     /// In which second it sent or took something last, or was over.
     used: u64,
 }
@@ -46,6 +51,7 @@ impl Seat {
             edge: Edge::new(),
             over: false,
             stirred: false,
+            listing: None,
             used: second,
         })
     }
@@ -56,14 +62,28 @@ impl Seat {
         self.stirred = true;
     }
 
+    /// In which second it sent or took something last, or was over.
+    pub fn used(&self) -> u64 {
+        self.used
+    }
+
     /// In which second it is closed, unless it sends or takes something before.
     pub fn due(&self) -> u64 {
         let patience = if self.over { LINGER } else { PATIENCE };
         self.used.saturating_add(patience).saturating_add(1)
     }
 
+    /// From which place on clients are to be listed to it, if it has asked who is connected and all before was sent.
+    pub fn listing(&self) -> Option<usize> {
+        if self.stirred && self.talk.output().is_empty() {
+            self.listing
+        } else {
+            None
+        }
+    }
+
     /// Serves it for some turns, and says what is done with it then. Its own hosts are that of the listener, a name that was given, and
-    /// the address at which it came.
+    /// the address at which it came. One that waits for a part of a list of clients goes on once it is given one.
     pub fn serve(
         &mut self,
         listen: &[u8],
@@ -75,18 +95,20 @@ impl Seat {
     ) -> Step
         requires { 0 < length piece.old }
     {
+        let mut sheet = *sheet;
         for _ in 0..MAX_TURNS {
-            if !budget.take(second) {
+            let is_listed = self.listing().is_some();
+            if (is_listed && sheet.part.is_none()) || !budget.take(second) {
                 return Step::GoOn;
             }
             let step = if self.over {
                 self.read(piece, second)
             } else if !self.talk.output().is_empty() {
                 self.send(second)
-            } else if self.talk.is_read() {
+            } else if !is_listed && self.talk.is_read() {
                 self.read(piece, second)
             } else {
-                self.answer(listen, name, sheet)
+                self.answer(listen, name, &mut sheet)
             };
             if let Some(step) = step {
                 return step;
@@ -152,7 +174,7 @@ impl Seat {
     }
 
     /// Goes on with what was read. Nothing is said where it goes on.
-    fn answer(&mut self, listen: &[u8], name: &[u8], sheet: &Sheet<'_>) -> Option<Step> {
+    fn answer(&mut self, listen: &[u8], name: &[u8], sheet: &mut Sheet<'_>) -> Option<Step> {
         if !self.talk.output().is_empty() {
             return None;
         }
@@ -161,8 +183,14 @@ impl Seat {
             name,
             own: self.own.as_bytes(),
         };
-        if self.talk.turn(&hosts, sheet).is_err() {
+        let Ok(asked) = self.talk.turn(&hosts, sheet) else {
             return Some(Step::Close);
+        };
+        if asked == Some(Asked::Conns) {
+            self.listing = match sheet.part.take() {
+                Some(part) => part.next,
+                None => Some(0),
+            };
         }
         let is_silent = self.talk.output().is_empty();
         (is_silent && self.talk.is_closing()).then_some(Step::Close)

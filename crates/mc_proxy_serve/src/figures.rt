@@ -3,21 +3,23 @@
 use crate::pools::Pool;
 use crate::settings::ProxySettings;
 use mc_admin::{ClientFigures, Setting, Sheet, Value, push_client_figures, push_link_figures};
+use mc_clients::Listed;
 use mc_operators::Operators;
 use mc_proxy::{MAX_SESSIONS, Proxy};
 use std::alloc::{AllocError, Global};
 
-/// Serves operators, by what a proxy has done for its clients, what became of its servers, and its settings. Those for whom there is no
-/// memory are turned away.
+/// Serves operators, by the clients that one of them is told of next, what a proxy has done for its clients, what became of its servers,
+/// and its settings. Those for whom there is no memory are turned away.
 pub fn show(
     alloc: Global,
     operators: &mut Operators,
+    listed: &Option<Listed>,
     clients: &ClientFigures,
     pool: &Pool,
     proxy: &Proxy,
     settings: &ProxySettings,
 ) {
-    let shown = try_show(alloc, operators, clients, pool, proxy, settings);
+    let shown = try_show(alloc, operators, listed, clients, pool, proxy, settings);
     if shown.is_err() {
         operators.turn_away();
     }
@@ -27,6 +29,7 @@ pub fn show(
 fn try_show(
     alloc: Global,
     operators: &mut Operators,
+    listed: &Option<Listed>,
     clients: &ClientFigures,
     pool: &Pool,
     proxy: &Proxy,
@@ -40,6 +43,7 @@ fn try_show(
     operators.serve(&Sheet {
         figures: figures.as_slice(),
         settings: &settings,
+        part: listed.as_ref().map(|listed| listed.part()),
     });
     Ok(())
 }

@@ -141,4 +141,8 @@ impl Handler<Held> for ProxyHandler {
     fn owes(&self, number: u64) -> bool {
         is_owed(&self.proxy, number)
     }
+
+    fn tally(&self) -> Tally {
+        self.tally
+    }
 }

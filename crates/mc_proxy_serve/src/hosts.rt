@@ -10,8 +10,8 @@ use crate::pools::Pool;
 use crate::rooms::other_files;
 use crate::settings::ProxySettings;
 use crate::woken::Woken;
-use mc_clients::{Clients, Report, Room, Rounds, patience};
-use mc_operators::{Operators, process_number, wall_clock};
+use mc_clients::{Clients, Listed, Report, Room, Rounds, patience};
+use mc_operators::{Operators, process_number, resident_memory, wall_clock};
 use mc_program::ServeError;
 use mc_proxy::MAX_SESSIONS;
 use mc_ring::{Ring, SERVER_LIMIT};
@@ -20,7 +20,8 @@ use mc_watch::{Pace, earlier};
 use mio::event::Event;
 use mio::net::TcpStream;
 use mio::{Registry, Token};
-use std::alloc::Global;
+use std::alloc::{AllocError, Global};
+use std::fs::Files;
 use std::net::Net;
 use std::rt::Clock;
 use std::time::Duration;
@@ -225,17 +226,38 @@ impl<'a> Host<'a> {
             .report(self.second, accepted, self.handler.tally)
     }
 
+    /// The clients that an operator is to be told of next, if one has asked.
+    fn listed(&mut self) -> Result<Option<Listed>, AllocError> {
+        let Some(from) = self.operators.listing() else {
+            return Ok(None);
+        };
+        let listed = self.clients.listed(
+            &self.handler,
+            self.alloc,
+            from,
+            self.second,
+            b"conn_io_queue",
+        )?;
+        Ok(Some(listed))
+    }
+
     /// Serves operators, where so many clients were accepted.
-    fn show<R: Clock>(&mut self, rt: &R, accepted: u64) {
+    fn show<R: Clock + Files>(&mut self, rt: &R, accepted: u64) {
         if !self.operators.is_stirred() {
             return;
         }
+        let Ok(listed) = self.listed() else {
+            self.operators.turn_away();
+            return;
+        };
         let done = self.done(accepted);
-        let clients = done.figures(process_number(), wall_clock(rt), MAX_SESSIONS);
+        let (pid, time, resident) = (process_number(), wall_clock(rt), resident_memory(rt));
+        let clients = done.figures(pid, time, resident, MAX_SESSIONS);
         let (pool, proxy) = (&self.pool, &self.handler.proxy);
         show(
             self.alloc,
             &mut self.operators,
+            &listed,
             &clients,
             pool,
             proxy,
@@ -252,7 +274,7 @@ impl<'a> Host<'a> {
     }
 }
 
-impl<'a, R: Net + Clock + Eprint> Rounds<R, Stopwatch> for Host<'a> {
+impl<'a, R: Net + Clock + Files + Eprint> Rounds<R, Stopwatch> for Host<'a> {
     /// Tries the upstreams that are down where it is time for them, and says what is new of the servers, of each at most once in a
     /// second.
     fn before(&mut self, rt: &R, registry: &Registry, backlog: Backlog) -> Option<Duration> {

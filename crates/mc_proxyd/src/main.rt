@@ -17,6 +17,7 @@ use mc_ring::Ring;
 use mc_socket::bind;
 use mc_watch::tell_open_files;
 use std::alloc::Global;
+use std::fs::Files;
 use std::net::Net;
 use std::process::ExitCode;
 use std::random::RandomSource;
@@ -35,7 +36,7 @@ fn main(rt: HostRuntime) -> ExitCode {
 /// Reads the words, says in which form they ask for lines, and then prints how large the ring is, or serves.
 fn run<R>(rt: &R, asked: &mut Asked) -> Result<(), Failure>
 where
-    R: Env + Clock + Print + Eprint + Net + RandomSource + Wait + AllocGlobal,
+    R: Env + Clock + Files + Print + Eprint + Net + RandomSource + Wait + AllocGlobal,
 {
     let alloc = rt.alloc();
     let words = read_words(rt)?;
@@ -75,7 +76,7 @@ fn listen_and_serve<R>(
     ring: Ring,
 ) -> Result<(), ServeError>
 where
-    R: Clock + Print + Eprint + Net + RandomSource + Wait,
+    R: Clock + Files + Print + Eprint + Net + RandomSource + Wait,
 {
     let listener = bind(rt, listen)?;
     let others = other_files(ring.servers().len(), settings.join.is_some()).saturating_add(

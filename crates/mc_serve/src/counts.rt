@@ -140,6 +140,7 @@ impl Counts {
             stores: self.stores.get(),
             evictions: self.evictions.get(),
             expired: self.expired.get(),
+            no_memory: self.refused(),
             items: items as u64,
             used,
             budget,

@@ -4,38 +4,44 @@ use crate::counts::Counts;
 use crate::kinds::StoreKind;
 use crate::settings::Settings;
 use mc_admin::{Setting, Sheet, Value, push_client_figures, push_store_figures};
-use mc_clients::Report;
-use mc_operators::{Operators, process_number};
+use mc_clients::{Listed, Report};
+use mc_operators::{Operators, process_number, resident_memory};
 use mc_server::MAX_CONNECTIONS;
 use mc_text::VALUE_LIMIT;
 use std::alloc::{AllocError, Global};
+use std::fs::Files;
 
-/// Serves operators, by what a server has done for its clients, what its store has done, and its settings. Those for whom there is no
-/// memory are turned away.
-pub fn show(
+/// Serves operators, by the clients that one of them is told of next, what a server has done for its clients, what its store has done,
+/// and its settings. Those for whom there is no memory are turned away.
+pub fn show<R: Files>(
+    rt: &R,
     alloc: Global,
     operators: &mut Operators,
+    listed: &Option<Listed>,
     done: &Report,
     counts: &Counts,
     settings: &Settings,
     moment: u64,
 ) {
-    let shown = try_show(alloc, operators, done, counts, settings, moment);
+    let shown = try_show(rt, alloc, operators, listed, done, counts, settings, moment);
     if shown.is_err() {
         operators.turn_away();
     }
 }
 
 /// The same, which says whether there was memory.
-fn try_show(
+fn try_show<R: Files>(
+    rt: &R,
     alloc: Global,
     operators: &mut Operators,
+    listed: &Option<Listed>,
     done: &Report,
     counts: &Counts,
     settings: &Settings,
     moment: u64,
 ) -> Result<(), AllocError> {
-    let clients = done.figures(process_number(), moment, MAX_CONNECTIONS);
+    let resident = resident_memory(rt);
+    let clients = done.figures(process_number(), moment, resident, MAX_CONNECTIONS);
     let store = counts.figures(settings.budget, settings.items);
     let mut figures = Vec::new(alloc);
     push_client_figures(&clients, &mut figures)?;
@@ -44,6 +50,7 @@ fn try_show(
     operators.serve(&Sheet {
         figures: figures.as_slice(),
         settings: &settings,
+        part: listed.as_ref().map(|listed| listed.part()),
     });
     Ok(())
 }

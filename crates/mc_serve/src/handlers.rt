@@ -48,11 +48,6 @@ impl<S: Store + Drop> ServerHandler<S> {
         })
     }
 
-    /// What passed of all clients.
-    pub fn tally(&self) -> Tally {
-        self.watch.tally
-    }
-
     /// Notes why a client is closed whose pump failed: its socket has failed, its answer may be too large, or a call was refused memory.
     fn note_failed(&mut self, socket: bool) {
         if mem::replace(&mut self.watch.refused, false) {
@@ -111,6 +106,10 @@ impl<S: Store + Drop> Handler<()> for ServerHandler<S> {
 
     fn owes(&self, number: u64) -> bool {
         !self.server.output(number).is_empty()
+    }
+
+    fn tally(&self) -> Tally {
+        self.watch.tally
     }
 }
 

@@ -8,7 +8,7 @@ use crate::handlers::ServerHandler;
 use crate::items::advice_of;
 use crate::options::PROGRAM;
 use crate::settings::Settings;
-use mc_clients::{Clients, Report, Room, Rounds, patience};
+use mc_clients::{Clients, Handler, Listed, Report, Room, Rounds, patience};
 use mc_operators::Operators;
 use mc_program::ServeError;
 use mc_server::{MAX_CONNECTIONS, Server};
@@ -19,6 +19,7 @@ use mio::Registry;
 use mio::event::Event;
 use mio::net::TcpStream;
 use std::alloc::{AllocError, Global};
+use std::fs::Files;
 use std::rc::Rc;
 use std::time::Duration;
 
@@ -96,16 +97,37 @@ impl<'a, S: Store + Drop> Host<'a, S> {
         self.clients.report(uptime, accepted, self.handler.tally())
     }
 
+    /// The clients that an operator is to be told of next, if one has asked.
+    fn listed(&mut self) -> Result<Option<Listed>, AllocError> {
+        let Some(from) = self.operators.listing() else {
+            return Ok(None);
+        };
+        let listed = self.clients.listed(
+            &self.handler,
+            self.alloc,
+            from,
+            self.moment,
+            b"conn_mwrite",
+        )?;
+        Ok(Some(listed))
+    }
+
     /// Serves operators, where so many connections were accepted.
-    fn show(&mut self, accepted: u64) {
+    fn show<R: Files>(&mut self, rt: &R, accepted: u64) {
         if !self.operators.is_stirred() {
             return;
         }
+        let Ok(listed) = self.listed() else {
+            self.operators.turn_away();
+            return;
+        };
         let done = self.done(accepted);
         let (counts, settings) = (&*self.counts, &self.settings);
         show(
+            rt,
             self.alloc,
             &mut self.operators,
+            &listed,
             &done,
             counts,
             settings,
@@ -166,7 +188,7 @@ impl<'a, S: Store + Drop> Host<'a, S> {
     }
 }
 
-impl<R: Print + Eprint, C: Seconds, S: Store + Drop> Rounds<R, C> for Host<'_, S> {
+impl<R: Print + Eprint + Files, C: Seconds, S: Store + Drop> Rounds<R, C> for Host<'_, S> {
     fn ready(&mut self, rt: &R) {
         // Whom the line does not reach is served all the same.
         let _ = println!(rt; "listening {}", self.listen);
@@ -214,7 +236,7 @@ impl<R: Print + Eprint, C: Seconds, S: Store + Drop> Rounds<R, C> for Host<'_, S
     }
 
     fn finish(&mut self, rt: &R, accepted: u64) {
-        self.show(accepted);
+        self.show(rt, accepted);
         self.handler.tell(rt, self.moment);
         self.clients.tell(rt, PROGRAM, self.moment);
         if self.moment == self.rested {

@@ -1,0 +1,80 @@
+//! Who is connected, as operators are told.
+
+use mc_admin::{Conn, Part};
+use mio::net::TcpStream;
+use std::alloc::{AllocError, Global};
+use std::io;
+use std::net::SocketAddr;
+
+/// The most clients of a part of the list.
+pub const LIST_LEN: usize = 32;
+
+/// What stands for an address that the system does not say.
+const UNKNOWN: &str = "unknown";
+
+/// The state of a client that is owed nothing, in memcached's words.
+const WAITING: &[u8] = b"conn_waiting";
+
+/// Some of the clients that are connected, by their places.
+#[derive(Drop)]
+pub struct Listed {
+    /// The clients.
+    pub conns: Vec<Conn>,
+    /// From which place on the others are; none if these are the last.
+    pub next: Option<usize>,
+}
+
+impl Listed {
+    /// The same, as an answer has it.
+    pub fn part(&self) -> Part<'_> {
+        Part {
+            conns: self.conns.as_slice(),
+            next: self.next,
+        }
+    }
+}
+
+/// What is known of a client beside its socket.
+#[derive(Clone, Copy, Debug)]
+pub struct Known {
+    /// Its place.
+    pub place: usize,
+    /// Whether it is owed something.
+    pub is_owed: bool,
+    /// Seconds since its socket had something, or it was owed something.
+    pub quiet: u64,
+    /// Seconds since it came.
+    pub age: u64,
+    /// Bytes that were read from it.
+    pub read: u64,
+    /// Bytes that were written to it.
+    pub written: u64,
+}
+
+/// What is told of a client: what is known of it, and its addresses, which the system is asked for now. One that is owed something is in the
+/// state `owed`.
+pub fn conn_of(
+    alloc: Global,
+    stream: &TcpStream,
+    known: Known,
+    owed: &'static [u8],
+) -> Result<Conn, AllocError> {
+    Ok(Conn {
+        place: known.place as u64,
+        peer: text_of(alloc, stream.peer_addr())?,
+        own: text_of(alloc, stream.local_addr())?,
+        state: if known.is_owed { owed } else { WAITING },
+        quiet: known.quiet,
+        age: known.age,
+        read: known.read,
+        written: known.written,
+    })
+}
+
+/// An address as text.
+fn text_of(alloc: Global, address: io::Result<SocketAddr>) -> Result<String, AllocError> {
+    match address {
+        Ok(address) => address.to_string(alloc),
+        Err(_) => String::from_str(alloc, UNKNOWN),
+    }
+}
