@@ -6,7 +6,8 @@
 //!
 //! Nobody else waits for them: all that is done for operators in a second is a bounded number of steps ([`STEPS`]), each an accept, a
 //! read, an answer or a write. What is kept of a connection is bounded. One that has sent nothing, or taken nothing, for
-//! [`PATIENCE`] seconds is closed, after [`QUIET`] seconds if another wants its place, and one that was answered for the last time is read to its end, for at most [`LINGER`] seconds.
+//! [`PATIENCE`] seconds is closed, after [`QUIET`] seconds if another wants its place, and one that was answered for the last time is read
+//! to its end, for at most [`LINGER`] seconds.
 //!
 //! [`process_number`], [`wall_clock`] and [`resident_memory`] are what the system says of the process.
 //!

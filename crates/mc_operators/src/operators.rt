@@ -105,6 +105,11 @@ impl Operators {
     /// Does what is to be done before a round.
     #[inline(never)]
     fn prepare(&mut self, registry: &Registry, second: u64) {
+        for key in 0..MAX_OPERATORS {
+            if let Some(seat) = self.seats.get_mut(key) {
+                seat.settle(second);
+            }
+        }
         if second != self.second {
             self.second = second;
             self.rest();
@@ -238,13 +243,15 @@ impl Operators {
         None
     }
 
-    /// Serves the connections for which something may be done, by what the program says of itself.
+    /// Serves the connections for which something may be done, by what the program says of itself. The second of the round is known to the
+    /// next one, which notes it of those that sent or took something.
     pub fn serve(&mut self, sheet: &Sheet<'_>) {
         self.stirred = false;
         for key in 0..MAX_OPERATORS {
             self.serve_one(sheet, key);
         }
         self.settle();
+        self.awake = true;
     }
 
     /// Serves the connection of a key, if something may be done for it.

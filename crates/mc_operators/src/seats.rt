@@ -8,6 +8,7 @@ use mc_stream::{Pumped, read_once, write_once};
 use mio::event::Event;
 use mio::net::TcpStream;
 use std::alloc::{AllocError, Global};
+use std::mem;
 use std::net::Shutdown;
 
 /// After how many seconds a connection is closed that sent nothing, and took nothing of its answer.
@@ -38,6 +39,8 @@ pub struct Seat {
     listing: Option<usize>,
     /// In which second it sent or took something last, or was over.
     used: u64,
+    /// Whether that was in this round: the round has waited since that second.
+    fresh: bool,
 }
 
 impl Seat {
@@ -53,6 +56,7 @@ impl Seat {
             stirred: false,
             listing: None,
             used: second,
+            fresh: false,
         })
     }
 
@@ -65,6 +69,13 @@ impl Seat {
     /// In which second it sent or took something last, or was over.
     pub fn used(&self) -> u64 {
         self.used
+    }
+
+    /// Notes in which second the round was in which it sent or took something, if that was the last one.
+    pub fn settle(&mut self, second: u64) {
+        if mem::replace(&mut self.fresh, false) {
+            self.used = second;
+        }
     }
 
     /// In which second it is closed, unless it sends or takes something before.
@@ -130,6 +141,7 @@ impl Seat {
         }
         self.talk.note_sent(sent);
         self.used = second;
+        self.fresh = true;
         if self.talk.is_closing() && self.talk.output().is_empty() {
             self.over = true;
             // Where the system refuses it, it is closed all the same.
@@ -167,6 +179,7 @@ impl Seat {
             return None;
         }
         self.used = second;
+        self.fresh = true;
         if self.talk.is_read() && self.talk.feed(came).is_ok() {
             return None;
         }

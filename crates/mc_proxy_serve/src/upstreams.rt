@@ -9,13 +9,13 @@ use crate::waits::Waits;
 use mc_admin::LinkFigures;
 use mc_proxy::Proxy;
 use mc_proxy_pump::{Pumped, pump_link};
-use mc_socket::{Edge, Input, first_address, keep_alive_by, reset};
+use mc_socket::{Edge, Input, first_address, keep_alive_by, reset, spelled_address};
 use mc_watch::{Tally, earlier};
 use mio::event::Event;
 use mio::net::TcpStream;
 use mio::{Interest, Registry, Token};
 use std::mem;
-use std::net::Net;
+use std::net::{Net, SocketAddr};
 
 /// How far the connection to a server is.
 #[derive(Drop)]
@@ -168,7 +168,7 @@ impl Upstream {
 
     /// Begins a connection to the first IPv4 address that the server's host has. The error is why it could not.
     fn connect<R: Net>(&mut self, rt: &R, registry: &Registry, token: Token) -> Result<(), Cause> {
-        let address = first_address(rt, self.address.as_str()).ok_or(Cause::UnknownHost)?;
+        let address = address_of(rt, self.address.as_str()).ok_or(Cause::UnknownHost)?;
         let mut stream = TcpStream::connect(rt, address)?;
         registry.register(&mut stream, token, Interest::READABLE | Interest::WRITABLE)?;
         // A server whose commands may come late is used all the same.
@@ -324,6 +324,14 @@ impl Upstream {
             State::Up(stream) if !is_over(stream) => Cause::Memory,
             _ => self.failure.unwrap_or(Cause::Ended),
         }
+    }
+}
+
+/// The address of a server: the one that its text spells, or else the first IPv4 address of its host, which is looked up.
+fn address_of<R: Net>(rt: &R, place: &str) -> Option<SocketAddr> {
+    match spelled_address(place) {
+        Some(address) => Some(address),
+        None => first_address(rt, place),
     }
 }
 

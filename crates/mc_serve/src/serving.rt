@@ -39,8 +39,8 @@ const NO_SEED: ServeError = ServeError::Listen(ListenError::NoSeed);
 ///
 /// It answers once as many connections as the settings say were accepted and all of them are closed; without such a
 /// limit it serves for ever, unless the settings say after how many seconds without memory it ends. A connection that fails is closed, and
-/// the others go on. A round of the poll reads the clock once. Operators are served at the end of a round, by what the server has done. What is said on standard error waits for whoever reads
-/// it; where it fails nothing else changes.
+/// the others go on. A round of the poll reads the clock once. Operators are served at the end of a round, by what the server has done. What
+/// is said on standard error waits for whoever reads it; where it fails nothing else changes.
 pub fn serve<R: Net + RandomSource + Wait + Files + Print + Eprint, C: Seconds>(
     rt: &R,
     alloc: Global,

@@ -1,5 +1,6 @@
 //! Where to listen, and where a peer is.
 ghost use Rattle.std.specs.Prelude.{◌≡◌, true, false, Result, IfErr, IfOk, IfSome, IsErrOf};
+ghost use Rattle.mc_socket.specs.Bindings.{Spells};
 ghost use Rattle.std.specs.Net.Addr.{is_ipv4};
 ghost use Rattle.std.specs.Net.Socket.{socket_ip};
 ghost use Rattle.std.specs.Net.ToAddrs.{HostAddrs, GivesAddrOfText};
@@ -15,7 +16,7 @@ use mc_address::is_address;
 use mc_program::{ListenError, ServeError};
 use mio::net::TcpListener;
 use std::io;
-use std::net::{HostAddrs, Net, SocketAddr, ToSocketAddrs};
+use std::net::{HostAddrs, Net, SocketAddr, SocketAddrV4, ToSocketAddrs};
 
 /// Listens at a host and a port, `<host>:<port>`, by the first IPv4 address that the host has.
 ///
@@ -55,6 +56,15 @@ pub fn first_address<R: Net>(rt: &R, place: &str) -> Option<SocketAddr>
     ensures first { (found : Result HostAddrs Error) × GivesAddrOfText place.now found × (result ≡ first_ipv4 found) }
 {
     first_ipv4(place.to_socket_addrs(rt))
+}
+
+/// The address that a text spells, `<IPv4 address>:<port>`; none where it spells none, as where it has a host's name. Nothing is looked
+/// up: of a text that spells an address [`first_address`] gives the same.
+pub fn spelled_address(place: &str) -> Option<SocketAddr>
+    ensures { Spells place.now result }
+{
+    let address = place.parse::<SocketAddrV4>().ok()?;
+    Some(SocketAddr::V4(address))
 }
 
 /// The first IPv4 address of those that a look-up gave.
