@@ -547,6 +547,7 @@ def no_memory_ends_who_is_asked_to(sizes):
                 with contextlib.suppress(OSError):
                     reader.sendall(b"get k\r\n")
                     reader.recv(100)
+                time.sleep(0.005)
         want_at_most(time.monotonic() - begun, 8)
         status, lines = server.process.wait(PATIENCE), server.process.stderr.read().decode().splitlines()
     want((status, lines[-1]), (4, "mc_serverd: out of memory for 3 seconds"))
