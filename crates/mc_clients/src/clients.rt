@@ -1,7 +1,7 @@
 //! The clients of a host, who of them goes on, and who is idle.
 ghost use Rattle.std.specs.Prelude.{◌<◌, ◌^◌};
 
-use crate::conns::{Known, LIST_LEN, Listed, conn_of};
+use crate::conns::{Known, LIST_LEN, Listed, Owed, conn_of};
 use crate::handlers::{Client, Handler};
 use crate::reports::Report;
 use crate::strangers::{Refusal, opening};
@@ -160,14 +160,14 @@ impl<K: Default + Drop> Clients<K> {
         self.seats.get_mut(key).map(|seat| &mut seat.client)
     }
 
-    /// Lists clients from a place on, at most [`LIST_LEN`], at a moment. One that is owed something is in the state `owed`.
+    /// Lists clients from a place on, at most [`LIST_LEN`], at a moment. One that is owed something waits for that.
     pub fn listed<H: Handler<K>>(
         &self,
         handler: &H,
         alloc: Global,
         from: usize,
         moment: u64,
-        owed: &'static [u8],
+        owed: Owed,
     ) -> Result<Listed, AllocError> {
         let mut conns = Vec::with_capacity(alloc, LIST_LEN)?;
         for place in from..self.most {

@@ -15,6 +15,25 @@ const UNKNOWN: &str = "unknown";
 /// The state of a client that is owed nothing, in memcached's words.
 const WAITING: &[u8] = b"conn_waiting";
 
+/// What a client waits for that is owed something.
+#[derive(Clone, Copy)]
+pub enum Owed {
+    /// It has answers to take.
+    Answers,
+    /// It waits for a server's reply, or has answers to take.
+    Replies,
+}
+
+impl Owed {
+    /// The state of a client that waits for it, in memcached's words.
+    fn state(self) -> &'static [u8] {
+        match self {
+            Owed::Answers => b"conn_mwrite",
+            Owed::Replies => b"conn_io_queue",
+        }
+    }
+}
+
 /// Some of the clients that are connected, by their places.
 #[derive(Drop)]
 pub struct Listed {
@@ -51,19 +70,19 @@ pub struct Known {
     pub written: u64,
 }
 
-/// What is told of a client: what is known of it, and its addresses, which the system is asked for now. One that is owed something is in the
-/// state `owed`.
+/// What is told of a client: what is known of it, and its addresses, which the system is asked for now. One that is owed something waits for
+/// that.
 pub fn conn_of(
     alloc: Global,
     stream: &TcpStream,
     known: Known,
-    owed: &'static [u8],
+    owed: Owed,
 ) -> Result<Conn, AllocError> {
     Ok(Conn {
         place: known.place as u64,
         peer: text_of(alloc, stream.peer_addr())?,
         own: text_of(alloc, stream.local_addr())?,
-        state: if known.is_owed { owed } else { WAITING },
+        state: if known.is_owed { owed.state() } else { WAITING },
         quiet: known.quiet,
         age: known.age,
         read: known.read,

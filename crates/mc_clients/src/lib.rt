@@ -26,7 +26,7 @@ mod rounds;
 mod strangers;
 
 pub use clients::Clients;
-pub use conns::{LIST_LEN, Listed};
+pub use conns::{LIST_LEN, Listed, Owed};
 pub use guards::Guard;
 pub use handlers::{Client, Handler};
 pub use reports::Report;

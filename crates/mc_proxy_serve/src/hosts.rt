@@ -10,7 +10,7 @@ use crate::pools::Pool;
 use crate::rooms::other_files;
 use crate::settings::ProxySettings;
 use crate::woken::Woken;
-use mc_clients::{Clients, Listed, Report, Room, Rounds, patience};
+use mc_clients::{Clients, Listed, Owed, Report, Room, Rounds, patience};
 use mc_operators::{Operators, process_number, resident_memory, wall_clock};
 use mc_program::ServeError;
 use mc_proxy::MAX_SESSIONS;
@@ -236,7 +236,7 @@ impl<'a> Host<'a> {
             self.alloc,
             from,
             self.second,
-            b"conn_io_queue",
+            Owed::Replies,
         )?;
         Ok(Some(listed))
     }

@@ -8,7 +8,7 @@ use crate::handlers::ServerHandler;
 use crate::items::advice_of;
 use crate::options::PROGRAM;
 use crate::settings::Settings;
-use mc_clients::{Clients, Handler, Listed, Report, Room, Rounds, patience};
+use mc_clients::{Clients, Handler, Listed, Owed, Report, Room, Rounds, patience};
 use mc_operators::Operators;
 use mc_program::ServeError;
 use mc_server::{MAX_CONNECTIONS, Server};
@@ -107,7 +107,7 @@ impl<'a, S: Store + Drop> Host<'a, S> {
             self.alloc,
             from,
             self.moment,
-            b"conn_mwrite",
+            Owed::Answers,
         )?;
         Ok(Some(listed))
     }
