@@ -1,6 +1,5 @@
 -- Calls of a server that are refused memory. Source: this project's own.
-use Rattle.std.specs.Prelude.{ℕ, ◌+◌, ◌-◌, ◌%◌, ◌^◌, ◌==◌, ◌&&◌, nat_lt, nat_le, min, Bool, false, List, length, Option, Some, None, if◌then◌else◌}
-use Rattle.memchr.specs.Find.{matches}
+use Rattle.std.specs.Prelude.{ℕ, ◌+◌, ◌-◌, ◌%◌, ◌^◌, ◌==◌, ◌&&◌, nat_lt, nat_le, Bool, false, Option, Some, None, if◌then◌else◌}
 use Rattle.mc_serve.specs.declared.refusals.Refusals.{Refusals}
 use Rattle.mc_serve.specs.declared.refusals.Row.{Row}
 use Rattle.mc_serve.specs.declared.refusals.TheConstants.{PAUSE}
@@ -30,8 +29,3 @@ has_lasted row seconds stores = nat_lt 0 seconds && (row.stores == stores) && na
 abbrev pub is_over : Option Row → (seconds stores : ℕ) → Bool
 is_over None seconds stores = false
 is_over (Some row) seconds stores = has_lasted row seconds stores
-
--- How many requests an output says were refused memory, by a line: as often as it has the line, but for no more than so many, which looked a
--- key up and put no item. A value that is shown may have the line in it.
-abbrev pub refused_in : (output line : List ℕ) → (looked : ℕ) → ℕ
-refused_in output line looked = min looked (length (matches output line 0))

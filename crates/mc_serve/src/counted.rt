@@ -54,9 +54,7 @@ impl<S: Store + Drop> Store for Counted<S> {
         self.store.peek(key)
     }
 
-    /// Updates call this, retrievals do not.
     fn find(&self, key: &[u8], guess: u32) -> Option<(u32, &Body)> {
-        self.counts.look();
         self.store.find(key, guess)
     }
 
@@ -123,17 +121,14 @@ impl<S: Store + Drop> Store for Counted<S> {
         // A body with the number 0 is lent for a moment, while the held one is written to.
         let is_stored = body.cas > 0;
         let replaced = self.store.replace_by(key, guess, body);
-        match &replaced {
-            Ok(before) => {
-                if self.is_dead(before) {
-                    self.counts.expire();
-                }
-                if is_stored {
-                    self.counts.store();
-                    self.note_held();
-                }
+        if let Ok(before) = &replaced {
+            if self.is_dead(before) {
+                self.counts.expire();
             }
-            Err(_) => self.counts.look(),
+            if is_stored {
+                self.counts.store();
+                self.note_held();
+            }
         }
         replaced
     }
@@ -141,7 +136,6 @@ impl<S: Store + Drop> Store for Counted<S> {
     fn put_front(&mut self, key: Key, body: Body) -> Result<(), (Key, Body)> {
         let put = self.store.put_front(key, body);
         if put.is_ok() {
-            self.counts.put();
             self.counts.store();
             self.note_held();
         }

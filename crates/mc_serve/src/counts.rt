@@ -1,9 +1,7 @@
 //! What a store has done.
 
-use crate::refusals::{Refusals, refused_in};
+use crate::refusals::Refusals;
 use mc_admin::StoreFigures;
-use mc_request::Fault;
-use memchr::memmem::Finder;
 use std::cell::Cell;
 use std::fmt;
 use std::fmt::{Display, Formatter};
@@ -20,11 +18,7 @@ pub struct Counts {
     expired: Cell<u64>,
     items: Cell<usize>,
     used: Cell<u64>,
-    /// How many updates looked a key up, and put no new item, since the last output was looked at.
-    looked: Cell<u64>,
     refusals: Cell<Refusals>,
-    /// What finds the line in an output that says that memory was refused.
-    finder: Finder<'static>,
 }
 
 impl Counts {
@@ -39,9 +33,7 @@ impl Counts {
             expired: Cell::new(0),
             items: Cell::new(0),
             used: Cell::new(0),
-            looked: Cell::new(0),
             refusals: Cell::new(Refusals::new()),
-            finder: Finder::new(Fault::OutOfMemory.line()),
         }
     }
 
@@ -80,16 +72,6 @@ impl Counts {
         add_one(&self.expired);
     }
 
-    /// An update looked a key up, or found that it is not held.
-    pub fn look(&self) {
-        add_one(&self.looked);
-    }
-
-    /// The update that looked a key up last put a new item under it.
-    pub fn put(&self) {
-        self.looked.set(self.looked.get().saturating_sub(1));
-    }
-
     /// So many calls were refused memory.
     pub fn refuse(&self, count: u64) {
         let mut refusals = self.refusals.get();
@@ -105,24 +87,6 @@ impl Counts {
     /// Whether memory was refused for so many seconds while no item was stored; with 0 it never was.
     pub fn is_over(&self, seconds: u64) -> bool {
         self.refusals.get().is_over(seconds, self.stores.get())
-    }
-
-    /// Looks at an output before it is sent, and counts the requests in it that were refused memory. An update that is refused has looked
-    /// its key up and put no item, so that most outputs cost a test.
-    #[inline(always)]
-    pub fn see(&self, output: &[u8]) {
-        if self.looked.get() > 0 {
-            self.see_updates(output);
-        }
-    }
-
-    /// Counts the requests of an output that were refused memory, where updates looked keys up.
-    #[inline(never)]
-    fn see_updates(&self, output: &[u8]) {
-        let refused = refused_in(output, &self.finder, self.looked.take());
-        if refused > 0 {
-            self.refuse(refused);
-        }
     }
 
     /// The store now holds so many items, which cost so much.

@@ -88,7 +88,6 @@ impl<S: Store + Drop> Handler<()> for ServerHandler<S> {
     fn serve(&mut self, client: &mut Client<()>, moment: u64) -> Step {
         let (pumped, failed) = pump_client(
             &mut self.server,
-            &mut self.counts,
             client,
             &mut self.piece,
             moment,
@@ -117,7 +116,6 @@ impl<S: Store + Drop> Handler<()> for ServerHandler<S> {
 /// it takes, is not known. It also says whether the socket has failed.
 fn pump_client<S: Store + Drop>(
     server: &mut Server<S>,
-    counts: &mut Rc<Counts>,
     client: &mut Client<()>,
     piece: &mut [u8],
     moment: u64,
@@ -141,7 +139,6 @@ fn pump_client<S: Store + Drop>(
     };
     let mut output = Sent {
         stream: &client.stream,
-        counts: &**counts,
         failed: false,
     };
     let pumped = pump(

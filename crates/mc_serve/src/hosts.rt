@@ -52,6 +52,19 @@ pub struct Host<'a, S: Store + Drop> {
     ghost within: { moment < 2 ^ 63 },
 }
 
+/// How many files are kept open beside those of operators: a further one is accepted by it, and the memory of the process read.
+const SPARE_FILES: u64 = 1;
+
+/// How many clients are served, so that operators have so many files; any number where there are no operators, or the system allows too few
+/// files for a client beside them.
+fn room_beside(operators: u64) -> Option<Room> {
+    let others = OWN_FILES
+        .saturating_add(SPARE_FILES)
+        .saturating_add(operators);
+    let room = Room::new(others);
+    (operators > 0 && !room.is_full(0)).then_some(room)
+}
+
 impl<'a, S: Store + Drop> Host<'a, S> {
     /// A host without a client, over a server whose store counts what it does, from a moment on. It listens at this host and port.
     pub fn new(
@@ -66,12 +79,7 @@ impl<'a, S: Store + Drop> Host<'a, S> {
         requires { moment < 2 ^ 63 }
     {
         let service = settings.service;
-        let files = operators.files();
-        let room = if files > 0 {
-            Some(Room::new(OWN_FILES.saturating_add(files)))
-        } else {
-            None
-        };
+        let room = room_beside(operators.files());
         Ok(Host {
             alloc,
             listen,

@@ -1,11 +1,9 @@
 //! Calls that are refused memory.
 ghost use Rattle.std.specs.Prelude.{◌≡◌, None};
-ghost use Rattle.mc_serve.specs.Refusals.{goes_on, has_lasted, is_over, noted, refused_in, since_of};
-
-use memchr::memmem::Finder;
+ghost use Rattle.mc_serve.specs.Refusals.{goes_on, has_lasted, is_over, noted, since_of};
 
 /// A row of refusals ends if for more than so many seconds there is none.
-pub const PAUSE: u64 = 10;
+pub const PAUSE: u64 = 2;
 
 /// A row of refusals, between which no item was stored.
 #[derive(Clone, Copy, Debug, PartialEq, Eq)]
@@ -86,12 +84,4 @@ impl Refusals {
             None => false,
         }
     }
-}
-
-/// How many requests an output says were refused memory, by a line that is found in it, if so many looked a key up and put no item.
-pub fn refused_in(output: &[u8], line: &Finder<'_>, looked: u64) -> u64
-    ensures { result ≡ refused_in output.now line.now looked }
-{
-    let lines = line.find_iter(output).count();
-    looked.min(lines as u64)
 }

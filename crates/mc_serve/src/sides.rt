@@ -5,7 +5,6 @@ ghost use Rattle.std.specs.Io.KnownBytes.{Keeps, ReadConsumes, WriteAppends};
 ghost use Rattle.std.specs.IoError.{error_kind};
 ghost use Rattle.mc_serve.specs.Sides.{fails_by};
 
-use crate::counts::Counts;
 use std::io;
 use std::io::{ErrorKind, Read, Write};
 
@@ -35,25 +34,22 @@ impl<R: Read> Read for Received<R> {
     }
 }
 
-/// The output of a client, in which is counted what was refused memory, and whether it has failed.
+/// The output of a client, and whether it has failed.
 #[derive(Drop)]
-pub struct Sent<'a, W> {
+pub struct Sent<W> {
     /// What takes the bytes.
     pub stream: W,
-    /// Where is counted.
-    pub counts: &'a Counts,
     /// Whether a write failed, or nothing was taken.
     pub failed: bool,
 }
 
-impl<W: Write> Write for Sent<'_, W> {
+impl<W: Write> Write for Sent<W> {
     ghost contents = { λ side. W.contents side.stream };
 
     fn write(&mut self, output: &[u8]) -> io::Result<usize>
         ensures bound { WritesAtMost result output.now }
         ensures bytes { WriteAppends (W.contents self.old.stream) (W.contents self.new.stream) result output.now }
     {
-        self.counts.see(output);
         let written = self.stream.write(output);
         match &written {
             Ok(count) if *count > 0 => {}
