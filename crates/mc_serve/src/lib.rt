@@ -41,6 +41,6 @@ pub use mc_program::ServeError;
 pub use mc_socket::{PIECE_LEN, bind};
 pub use memory::{Limit, filled_by, memory_of, met_limit, tell_memory};
 pub use options::{Options, PROGRAM, command};
-pub use refusals::{PAUSE, Refusals, Row, refused_in};
+pub use refusals::{PAUSE, Refusals, Row};
 pub use serving::serve;
 pub use settings::{Service, Settings, USUAL_ANSWER};
