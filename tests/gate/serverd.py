@@ -533,6 +533,10 @@ class Filler:
         self.close()
 
 
+# a value for whose bytes there is no memory as they come
+LARGE = 1_000_000
+
+
 def no_memory_ends_who_is_asked_to(sizes):
     """A server that is refused memory and stores nothing ends after the seconds, with its line and its status. Hits meanwhile change
     nothing. Each second it says how many were refused."""
@@ -543,7 +547,7 @@ def no_memory_ends_who_is_asked_to(sizes):
                 filler.fill(size)
             begun = time.monotonic()
             while server.process.poll() is None and time.monotonic() < begun + 20:
-                filler.is_refused(sizes[-1])
+                filler.is_refused(LARGE)
                 with contextlib.suppress(OSError):
                     reader.sendall(b"get k\r\n")
                     reader.recv(100)
@@ -561,7 +565,7 @@ def no_memory_ends_nobody_else():
         filler.fill(5_000)
         begun = time.monotonic()
         while time.monotonic() < begun + 5:
-            want(filler.is_refused(100_000), True)
+            want(filler.is_refused(LARGE), True)
             time.sleep(0.02)
         time.sleep(2.2)
         want(server.process.poll(), None)
@@ -581,21 +585,10 @@ def a_store_ends_the_row_of_refusals():
             filler.fill(5_000)
             begun = time.monotonic()
             while time.monotonic() < begun + 6:
-                want(filler.is_refused(100_000), True)
+                want(filler.is_refused(LARGE), True)
                 asked(other, b"delete k\r\nset k 0 0 1\r\nx\r\n", b"DELETED\r\nSTORED\r\n")
                 time.sleep(0.05)
         want(server.process.poll(), None)
-
-
-def a_shown_value_is_no_refusal():
-    """The line in a value that is shown counts for nothing, if no update in the same output looked a key up and put no item."""
-    with start("--report 1") as server, server.connected() as client:
-        asked(client, b"set k 0 0 43\r\n" + NO_MEMORY + b"\r\n", b"STORED\r\n")
-        for sent in (b"get k\r\n", b"mg k v\r\n", b"gets k\r\nset n 0 0 1\r\nx\r\nadd m 0 0 1\r\nx\r\n"):
-            client.sendall(sent + b"mn\r\n")
-            while not client.recv(1_000).endswith(b"MN\r\n"):
-                pass
-        want(fields_of(lines_said(server, 3)[2], "mc_serverd")["no_memory"], "0")
 
 
 def checks():
@@ -618,7 +611,6 @@ def checks():
         operators_keep_their_descriptors,
         no_memory_ends_nobody_else,
         a_store_ends_the_row_of_refusals,
-        a_shown_value_is_no_refusal,
         names_of_operators_are_hosts,
     ):
         yield check.__name__, check, ()
