@@ -441,7 +441,7 @@ def operators_keep_their_descriptors():
     """While clients have all that are left for them, operators are answered. That no more are accepted is said, once."""
     admin = free_port()
     with start(f"--admin {HOST}:{admin}", [(resource.RLIMIT_NOFILE, 40)]) as server:
-        most = 40 - 5 - 17
+        most = 40 - 5 - 18
         clients = [server.connected() for _ in range(most + 3)]
         try:
             for client in clients[:most]:

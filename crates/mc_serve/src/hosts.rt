@@ -55,13 +55,20 @@ pub struct Host<'a, S: Store + Drop> {
 /// How many files are kept open beside those of operators: a further one is accepted by it, and the memory of the process read.
 const SPARE_FILES: u64 = 1;
 
+/// How many files a server has open at most beside its clients, where operators have so many: its own, these, and one to spare.
+pub fn other_files(operators: u64) -> u64 {
+    if operators == 0 {
+        return OWN_FILES;
+    }
+    OWN_FILES
+        .saturating_add(SPARE_FILES)
+        .saturating_add(operators)
+}
+
 /// How many clients are served, so that operators have so many files; any number where there are no operators, or the system allows too few
 /// files for a client beside them.
 fn room_beside(operators: u64) -> Option<Room> {
-    let others = OWN_FILES
-        .saturating_add(SPARE_FILES)
-        .saturating_add(operators);
-    let room = Room::new(others);
+    let room = Room::new(other_files(operators));
     (operators > 0 && !room.is_full(0)).then_some(room)
 }
 

@@ -34,6 +34,7 @@ mod sides;
 
 pub use cas_from::{CasFrom, cas_from_named, last_number};
 pub use clocks::{Seconds, SystemSeconds};
+pub use hosts::other_files;
 pub use items::{Advice, Items, USUAL_ITEMS, advice_of, items_for, items_named};
 pub use kinds::{KINDS, StoreKind, kind_named};
 pub use mc_operators::Operators;

@@ -5,9 +5,11 @@
 #![tactic(auto)]
 
 use mc_program::{Asked, Failure, Logged, ServeError, exit_status, is_read, read_words};
-use mc_serve::{Operators, Options, PROGRAM, SystemSeconds, bind, command, serve, tell_memory};
+use mc_serve::{
+    Operators, Options, PROGRAM, SystemSeconds, bind, command, other_files, serve, tell_memory,
+};
 use mc_server::MAX_CONNECTIONS;
-use mc_watch::{OWN_FILES, tell_open_files};
+use mc_watch::tell_open_files;
 use std::alloc::Global;
 use std::fs::Files;
 use std::net::Net;
@@ -65,8 +67,7 @@ where
     if is_read {
         tell_memory(rt, &options.settings);
     }
-    let others = OWN_FILES.saturating_add(operators.files());
-    tell_open_files(rt, PROGRAM, others, MAX_CONNECTIONS);
+    tell_open_files(rt, PROGRAM, other_files(operators.files()), MAX_CONNECTIONS);
     serve(
         rt,
         alloc,
