@@ -10,6 +10,7 @@ import os
 import pathlib
 import re
 import resource
+import select
 import socket
 import subprocess
 import sys
@@ -225,7 +226,9 @@ def said_at_a_terminal(program, *words):
     with open(ours, "rb", buffering=0) as screen:
         with open(terminal, "wb") as stderr:
             subprocess.run([program.path, *program.words, *words], stdout=subprocess.PIPE, stderr=stderr, timeout=PATIENCE)
-            said = screen.read(KILOBYTE)
+            said = b""
+            while select.select([screen], [], [], 0.3)[0]:
+                said += screen.read(KILOBYTE)
     return said.decode().replace("\r\n", "\n")
 
 
