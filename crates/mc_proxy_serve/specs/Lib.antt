@@ -1,6 +1,10 @@
 pub mod Causes
+pub mod Changes
 pub mod Delays
+pub mod Files
 pub mod Lists
+pub mod Lookups
 pub mod Rooms
 pub mod Servers
+pub mod Turns
 pub mod Waits

@@ -5,6 +5,8 @@ use crate::figures::show;
 use crate::handlers::{Held, ProxyHandler};
 use crate::joining::Joining;
 use crate::limits::MAX_PASSES;
+use crate::listings::Listing;
+use crate::lookups::Lookups;
 use crate::options::PROGRAM;
 use crate::pools::Pool;
 use crate::rooms::other_files;
@@ -36,6 +38,8 @@ pub struct Host<'a> {
     clients: Clients<Held>,
     pool: Pool,
     joining: Joining<'a>,
+    /// The file that lists the servers, if there is one.
+    listing: Option<Listing<'a>>,
     /// The client that waits until each upstream was tried.
     next: Option<TcpStream>,
     /// The sessions whose commands were answered in this pass.
@@ -56,18 +60,25 @@ pub struct Host<'a> {
 }
 
 impl<'a> Host<'a> {
-    /// A host without a client, whose upstreams were not tried. A random number says when upstreams that failed are tried again.
+    /// A host without a client, whose upstreams were not tried, and what looks their hosts up. A random number says when upstreams that
+    /// failed are tried again.
     pub fn new(
         alloc: Global,
         ring: Ring,
         settings: &'a ProxySettings,
         operators: Operators,
+        lookups: Option<Lookups>,
         random: u64,
     ) -> Result<Self, ServeError> {
-        let pool = Pool::new(alloc, &ring, settings, random)?;
-        let others = other_files(ring.servers().len(), settings.join.is_some()).saturating_add(
-            operators.files(),
-        );
+        let pool = Pool::new(alloc, &ring, settings, lookups, random)?;
+        let others = other_files(ring.servers().len(), settings).saturating_add(operators.files());
+        let listing = match &settings.list {
+            Some(path) => {
+                let addresses = settings.addresses.as_slice();
+                Some(Listing::new(alloc, path.as_str(), &ring, addresses)?)
+            }
+            None => None,
+        };
         Ok(Host {
             alloc,
             settings,
@@ -76,6 +87,7 @@ impl<'a> Host<'a> {
             clients: Clients::new(alloc, MAX_SESSIONS, settings.terms.idle)?,
             pool,
             joining: Joining::new(&settings.join),
+            listing,
             next: None,
             woken: Woken::with_capacity(alloc, MAX_SESSIONS)?,
             freed: Vec::with_capacity(alloc, SERVER_LIMIT)?,
@@ -110,7 +122,8 @@ impl<'a> Host<'a> {
         let second = earlier(self.clients.due(), self.pace.due());
         let second = earlier(second, self.operators.due());
         let millis = second.map(|second| second.saturating_mul(1000));
-        let due = earlier(millis, self.pool.due(self.now))?;
+        let looked = self.listing.as_ref().map(|listing| listing.due());
+        let due = earlier(earlier(millis, looked), self.pool.due(self.now))?;
         Some(due.saturating_sub(self.now))
     }
 
@@ -213,11 +226,22 @@ impl<'a> Host<'a> {
         let Some(server) = self.joining.server(accepted) else {
             return;
         };
-        let joined = self.pool.join(&mut self.handler.proxy, server);
+        let joined = self.pool.join(&mut self.handler.proxy, server, true);
         if joined.is_ok() {
             self.pool.keep(rt, registry, self.now);
         }
         self.joining.note(joined);
+    }
+
+    /// Looks at the file that lists the servers, if there is one, and has the pool follow it. Clients are told of a link that is lost.
+    fn look<R: Files + Eprint>(&mut self, rt: &R) {
+        let Some(listing) = &mut self.listing else {
+            return;
+        };
+        if listing.look(rt, &mut self.pool, &mut self.handler.proxy, self.now) {
+            self.carried = false;
+            self.serve_all();
+        }
     }
 
     /// What was done for its clients, where so many were accepted.
@@ -275,10 +299,11 @@ impl<'a> Host<'a> {
 }
 
 impl<'a, R: Net + Clock + Files + Eprint> Rounds<R, Stopwatch> for Host<'a> {
-    /// Tries the upstreams that are down where it is time for them, and says what is new of the servers, of each at most once in a
-    /// second.
+    /// Follows the list of servers, tries the upstreams that are down where it is time for them, and says what is new of the servers, of
+    /// each at most once in a second.
     fn before(&mut self, rt: &R, registry: &Registry, backlog: Backlog) -> Option<Duration> {
         self.operators.before(registry, self.second);
+        self.look(rt);
         self.pool.keep(rt, registry, self.now);
         self.pool.tell(rt, self.second);
         self.joining.tell(rt, self.second);

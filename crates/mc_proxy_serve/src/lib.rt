@@ -2,35 +2,46 @@
 //!
 //! [`serve`] serves the clients that a listener accepts, and keeps a connection to each server of the ring as far as that is
 //! there: each is tried once before the first client is accepted, and while it is down again and again, less often the longer it is.
-//! Connecting waits for nobody. A connection that is given up is reset. [`ProxySettings`] says when it ends, how long a server may be
-//! silent that owes a reply, when an idle client is closed, how often it says what it has done, where the servers are and which one
-//! joins. As many clients are accepted as leave each server a descriptor ([`other_files`]). Its bodies are
+//! Nobody waits for a connection, nor for a look-up of a host: that has a thread of its own. A connection that is given up is reset.
+//! [`ProxySettings`] says when it ends, how long a server may be silent that owes a reply, when an idle client is closed, how often it
+//! says what it has done, where the servers are, which one joins and which file lists them. A line that is appended to that file joins,
+//! and another address behind a name is taken over. As many clients are accepted as leave each server a descriptor ([`other_files`]). Its bodies are
 //! [`mc_proxy_pump::pump_client`] and [`mc_proxy_pump::pump_link`], which have the law of a client's stream and of a
 //! server's. [`command`] and [`Options`] are the command line of [`PROGRAM`], and a [`Server`] is what a word of it names.
 //!
 //! On standard error it says what becomes of its servers: a line `mc_proxyd: <server> <what>` where that is another than was said
 //! of the server last, and in each second at most one of each. Of a server that is there at first nothing is said.
 //!
-//! [`serve`] waits for its sockets, and may wait for ever; no other call does. What a socket carries, no contract says.
+//! [`serve`] waits for its sockets, and may wait for ever; no other call does. What a socket or a file carries, what a look-up finds and
+//! that a thread begins, no contract says.
 #![tactic(auto)]
 
+mod changes;
 mod delays;
 mod figures;
 mod handlers;
 mod hosts;
 mod joining;
 mod limits;
+mod listings;
+mod lists;
+mod looks;
+mod lookups;
 mod notices;
 mod options;
 mod pools;
+mod questions;
+mod resolving;
 mod rooms;
 mod servers;
 mod serving;
 mod settings;
+mod turns;
 mod upstreams;
 mod waits;
 mod woken;
 
+pub use lists::Mistake;
 pub use mc_operators::Operators;
 pub use options::{ListError, Options, PROGRAM, command};
 pub use rooms::other_files;

@@ -1,11 +1,35 @@
 //! The limits of a proxy that serves.
 
+use mc_proxy::MAX_SESSIONS;
+use mc_ring::SERVER_LIMIT;
 use mc_socket::Keepalive;
+use mio::Token;
+
+/// The most bytes of a file that lists servers: 64 KiB.
+pub const LIST_LIMIT: usize = 65_536;
+
+/// A file that lists servers is looked at once in so many milliseconds.
+pub const LOOK_MILLIS: u64 = 1000;
+
+/// What is new in it is taken if it is still there so many milliseconds later.
+pub const SETTLE_MILLIS: u64 = 250;
+
+/// The most changes that one list makes: each server has one address that changes, and joins once.
+pub const MAX_CHANGES: usize = 2 * SERVER_LIMIT;
 
 /// How often a round carries what came for clients and for servers, before it looks at its sockets again.
 pub const MAX_PASSES: u32 = 4;
 
-/// A connection to a server that is not there after so many milliseconds has failed.
+/// By this token a poll is reported that a look-up has come back. It is after those of clients and of servers.
+pub const LOOKED_UP: Token = Token(MAX_SESSIONS + SERVER_LIMIT);
+
+/// How many files the list of servers has open while it is read.
+pub const LISTING_FILES: u64 = 1;
+
+/// How many files look-ups have open to wake the loop.
+pub const WAKING_FILES: u64 = 1;
+
+/// A connection to a server that is not there after so many milliseconds has failed. The look-up of its host counts.
 pub const CONNECT_MILLIS: u64 = 3000;
 
 /// A server is tried again at least so many milliseconds after its first failure, at most twice as many. So a server that was restarted

@@ -3,11 +3,13 @@ ghost use Rattle.std.specs.Prelude.{◌≡◌, ◌≢◌, Some, None, IfSome, If
 ghost use Rattle.std.specs.IoError.{error_kind, raw_os_error};
 ghost use Rattle.mc_program.specs.Sockets.{socket_error_of};
 ghost use Rattle.mc_proxy_serve.specs.Causes.{cause_by};
-ghost use Rattle.mc_proxy_serve.specs.declared.notices.Cause.TheVariants.{Connect};
+ghost use Rattle.mc_proxy_serve.specs.declared.notices.Cause.TheVariants.{Connect, Memory};
 
+use crate::lists::Mistake;
 use crate::options::PROGRAM;
 use mc_program::SocketError;
 use mc_proxy::ProxyError;
+use std::alloc::{AllocError, AllocFailed};
 use std::fmt::{Display, Formatter};
 use std::{fmt, io};
 use thiserror::Error;
@@ -18,7 +20,10 @@ pub enum Cause {
     /// The system knows no IPv4 address of the host's name.
     #[error("unknown host")]
     UnknownHost,
-    /// The system refused the connection, or ended it, and calls it so.
+    /// The look-up of the host had not come back after [`CONNECT_MILLIS`](crate::limits::CONNECT_MILLIS).
+    #[error("look-up timed out")]
+    LookUp,
+    /// The system refused the connection, or ended it, or gives no thread for a look-up, and calls it so.
     #[error("{0}")]
     Connect(SocketError),
     /// The connection was not there after [`CONNECT_MILLIS`](crate::limits::CONNECT_MILLIS).
@@ -36,6 +41,9 @@ pub enum Cause {
     /// No memory for what came, or for one more server.
     #[error("out of memory")]
     Memory,
+    /// A list has the server at another address.
+    #[error("address changed")]
+    Moved,
     /// The ring has the server already, or as many as it may have.
     #[error("no place in the ring")]
     NoPlace,
@@ -52,6 +60,22 @@ impl From<ProxyError> for Cause {
     }
 }
 
+impl From<AllocError> for Cause {
+    ghost from_gives = { λ _ cause. cause ≡ Memory };
+
+    fn from(_e: AllocError) -> Cause {
+        Cause::Memory
+    }
+}
+
+impl<T: Drop> From<AllocFailed<T>> for Cause {
+    ghost from_gives = { λ _ cause. cause ≡ Memory };
+
+    fn from(_e: AllocFailed<T>) -> Cause {
+        Cause::Memory
+    }
+}
+
 impl From<io::Error> for Cause {
     ghost from_gives = { λ error cause. cause ≡ Connect (socket_error_of (raw_os_error error) (error_kind error)) };
 
@@ -60,7 +84,8 @@ impl From<io::Error> for Cause {
     }
 }
 
-/// What became of a server, as it is said: `back`, `refused: <cause>`, `lost: <cause>`, `joined`, `not joined: <cause>`.
+/// What became of a server, as it is said: `back`, `refused: <cause>`, `lost: <cause>`, `joined`, `not joined: <cause>`,
+/// `stays: <why>`, `not taken: <mistake>`.
 #[derive(Clone, Copy, Debug, PartialEq, Eq)]
 pub enum Notice {
     /// It is connected.
@@ -73,6 +98,10 @@ pub enum Notice {
     Joined,
     /// It could not join the ring.
     NotJoined(Cause),
+    /// It stays, though a list does not have it at this place, counted from 0.
+    Stays(u64),
+    /// What is said is of a list of servers: it changes nothing.
+    NotTaken(Mistake),
 }
 
 impl Display for Notice {
@@ -83,6 +112,14 @@ impl Display for Notice {
             Notice::Lost(cause) => write!(f, "lost: {cause}"),
             Notice::Joined => f.write_str("joined"),
             Notice::NotJoined(cause) => write!(f, "not joined: {cause}"),
+            Notice::Stays(place) => {
+                let number = place.saturating_add(1);
+                write!(
+                    f,
+                    "stays: a list is not taken whose server {number} is another"
+                )
+            }
+            Notice::NotTaken(mistake) => write!(f, "not taken: {mistake}"),
         }
     }
 }

@@ -3,6 +3,7 @@ ghost use Rattle.std.specs.Prelude.{◌≡◌};
 ghost use Rattle.mc_proxy_serve.specs.Lists.{list_error_by};
 ghost use Rattle.mc_proxy_serve.specs.declared.options.ListError.TheVariants.{Memory};
 
+use crate::lists::{Mistake, servers_in, text_of};
 use crate::servers::Server;
 use crate::settings::ProxySettings;
 use clap::builder::ValueParser;
@@ -13,6 +14,7 @@ use mc_program::{
 };
 use mc_ring::{Ring, RingError};
 use std::alloc::{AllocError, Global};
+use std::fs::Files;
 use thiserror::Error;
 
 /// The most bytes that may be kept for one client: 1 TiB.
@@ -51,6 +53,9 @@ pub enum ListError {
     /// 3: the word of `--held` is no number of bytes, or is outside its limits.
     #[error("bad number of bytes")]
     Held,
+    /// 4: the file of `--servers` has a mistake.
+    #[error("{0}")]
+    File(Mistake),
 }
 
 impl From<AllocError> for ListError {
@@ -74,14 +79,21 @@ impl From<RingError> for ListError {
 }
 
 impl<'a> Options<'a> {
-    /// What matches of [`command`] ask for.
-    pub fn of(alloc: Global, matches: &ArgMatches<'a>) -> Result<Options<'a>, ListError> {
+    /// What matches of [`command`] ask for. The file that they name is read.
+    pub fn of<R: Files>(
+        rt: &R,
+        alloc: Global,
+        matches: &ArgMatches<'a>,
+    ) -> Result<Options<'a>, ListError> {
         let held = matches.get_str("held").unwrap_or("");
-        let words = matches.get_strs("server").ok_or(ListError::Bad)?;
-        let mut names = Vec::with_capacity(alloc, words.len())?;
-        let mut addresses = Vec::with_capacity(alloc, words.len())?;
-        for word in words {
-            let Server { name, address } = Server::new(alloc, word)?;
+        let list = matches.get_str("servers");
+        let servers = match list {
+            Some(path) => listed(rt, alloc, path)?,
+            None => named(alloc, matches.get_strs("server").ok_or(ListError::Bad)?)?,
+        };
+        let mut names = Vec::with_capacity(alloc, servers.len())?;
+        let mut addresses = Vec::with_capacity(alloc, servers.len())?;
+        for Server { name, address } in servers {
             names.push(name).map_err(|_| ListError::Memory)?;
             addresses.push(address).map_err(|_| ListError::Memory)?;
         }
@@ -96,12 +108,41 @@ impl<'a> Options<'a> {
                 held: size_within(held, 1, MOST_HELD).ok_or(ListError::Held)?,
                 timeout: matches.get_one::<u64>("timeout").ok_or(ListError::Bad)?,
                 addresses,
+                list: owned(alloc, list)?,
                 join,
             },
             log: Asked::of(matches),
             admin: AdminTerms::of(matches),
             check: matches.get_flag("check"),
         })
+    }
+}
+
+/// The servers that a file lists. The error is its mistake.
+fn listed<R: Files>(rt: &R, alloc: Global, path: &str) -> Result<Vec<Server>, ListError> {
+    let servers = text_of(rt, alloc, path).and_then(|text| servers_in(alloc, text.as_str()));
+    servers.map_err(|mistake| match mistake {
+        Mistake::Memory => ListError::Memory,
+        _ => ListError::File(mistake),
+    })
+}
+
+/// The servers of words.
+fn named(alloc: Global, words: &[&str]) -> Result<Vec<Server>, ListError> {
+    let mut servers = Vec::with_capacity(alloc, words.len())?;
+    for word in words {
+        servers
+            .push(Server::new(alloc, word)?)
+            .map_err(|_| ListError::Memory)?;
+    }
+    Ok(servers)
+}
+
+/// A text of one's own, where there is one.
+fn owned(alloc: Global, text: Option<&str>) -> Result<Option<String>, AllocError> {
+    match text {
+        Some(text) => Ok(Some(text.to_string(alloc)?)),
+        None => Ok(None),
     }
 }
 
@@ -137,6 +178,7 @@ pub fn command<'a>(alloc: Global) -> Result<Command<'a>, AllocError> {
             alloc,
             "End once so many clients were accepted and all are gone; 0 for never",
         ))?
+        .arg(servers(alloc)?)?
         .arg(join(alloc))?
         .arg(number(
             alloc,
@@ -153,7 +195,7 @@ pub fn command<'a>(alloc: Global) -> Result<Command<'a>, AllocError> {
             "check",
             "Print how many servers and points there are and end, without listening",
         ))?
-        .arg(server(alloc))
+        .arg(server(alloc)?)
 }
 
 fn held<'a>(alloc: Global) -> Arg<'a> {
@@ -183,12 +225,23 @@ fn join<'a>(alloc: Global) -> Arg<'a> {
         .help("A server that joins while the proxy runs: see --join-after")
 }
 
-fn server<'a>(alloc: Global) -> Arg<'a> {
+fn servers<'a>(alloc: Global) -> Result<Arg<'a>, AllocError> {
+    Arg::new(alloc, "servers")
+        .long("servers")
+        .value_name("file")
+        .help(
+            "A file with the servers, one a line, in place of words; what is appended to it joins while the proxy runs",
+        )
+        .conflicts_with("server")?
+        .conflicts_with("join")
+}
+
+fn server<'a>(alloc: Global) -> Result<Arg<'a>, AllocError> {
     Arg::new(alloc, "server")
         .value_name("server")
         .num_args(1..)
-        .required(true)
         .help(
             "The servers, 1 to 64, each [<name>:<port>=]<host>:<port>; keys are spread by the names, without one by the address",
         )
+        .required_unless_present("servers")
 }

@@ -1,6 +1,7 @@
 //! The upstream servers of a ring.
 ghost use Rattle.std.specs.Prelude.{◌<◌, length};
 
+use crate::lookups::Lookups;
 use crate::notices::Cause;
 use crate::servers::Server;
 use crate::settings::ProxySettings;
@@ -21,6 +22,8 @@ use std::net::Net;
 pub struct Pool {
     alloc: Global,
     upstreams: Vec<Upstream>,
+    /// What looks hosts up; none where no server may have a host's name.
+    lookups: Option<Lookups>,
     /// After how many milliseconds a server that owes a reply and sends nothing loses its link; 0 for never.
     timeout: u64,
     /// What says when upstreams that failed are tried again: another number at each try.
@@ -28,11 +31,12 @@ pub struct Pool {
 }
 
 impl Pool {
-    /// Upstreams of which none was tried, and a random number to begin with.
+    /// Upstreams of which none was tried, what looks their hosts up, and a random number to begin with.
     pub fn new(
         alloc: Global,
         ring: &Ring,
         settings: &ProxySettings,
+        lookups: Option<Lookups>,
         random: u64,
     ) -> Result<Pool, AllocError> {
         let mut upstreams = Vec::with_capacity(alloc, ring.servers().len())?;
@@ -43,6 +47,7 @@ impl Pool {
         Ok(Pool {
             alloc,
             upstreams,
+            lookups,
             timeout: settings.timeout,
             random,
         })
@@ -70,12 +75,13 @@ impl Pool {
         self.upstreams.iter().any(|upstream| upstream.stirred)
     }
 
-    /// Tries the upstreams that are down where it is time for them.
+    /// Tries the upstreams that are down where it is time for them, and goes on with the tries whose look-ups have come back.
     pub fn keep<R: Net>(&mut self, rt: &R, registry: &Registry, now: u64) {
         let mut random = self.random;
+        let lookups = &mut self.lookups;
         for (place, upstream) in self.upstreams.iter_mut().enumerate() {
             random = next_random(random);
-            upstream.keep(rt, registry, token_of(place), now, random >> 32);
+            upstream.keep(rt, registry, lookups, token_of(place), now, random >> 32);
         }
         self.random = random;
     }
@@ -115,14 +121,36 @@ impl Pool {
         }
     }
 
-    /// Has a server join, that was not tried. At an error nothing has changed.
-    pub fn join(&mut self, proxy: &mut Proxy, server: &Server) -> Result<(), ProxyError> {
-        let upstream = upstream_to(self.alloc, &server.name, &server.address)?;
+    /// Has a server join that was not tried. If it is awaited, new clients wait until it was. At an error nothing has changed.
+    pub fn join(
+        &mut self,
+        proxy: &mut Proxy,
+        server: &Server,
+        awaited: bool,
+    ) -> Result<(), ProxyError> {
+        let mut upstream = upstream_to(self.alloc, &server.name, &server.address)?;
+        upstream.tried = !awaited;
         let name = server.name.clone()?;
         self.upstreams.reserve(1)?;
         proxy.join_server(name, false)?;
         self.upstreams.push(upstream)?;
         Ok(())
+    }
+
+    /// Has the server of a place be at another address from a moment on. The result says whether its link was lost by that. At an error
+    /// nothing has changed.
+    pub fn relocate(
+        &mut self,
+        proxy: &mut Proxy,
+        place: usize,
+        address: &Address,
+        now: u64,
+    ) -> Result<bool, AllocError> {
+        let address = String::from_utf8_lossy(self.alloc, address.as_bytes())?;
+        match self.upstreams.get_mut(place) {
+            Some(upstream) => Ok(upstream.relocate(proxy, place, address, now)),
+            None => Ok(false),
+        }
     }
 
     /// Notes what an event says of the upstream whose token it has.

@@ -8,7 +8,7 @@ use mc_ring::Address;
 use std::alloc::Global;
 
 /// A server of a pool. Its name stays while its machine is replaced by another at another address: then no key moves.
-#[derive(Debug, Drop)]
+#[derive(Clone, Debug, Drop)]
 pub struct Server {
     /// The text by which keys are spread, and by which the server is named in what the program says.
     pub name: Address,

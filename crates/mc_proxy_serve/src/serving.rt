@@ -1,6 +1,8 @@
 //! Serving a listener.
 
 use crate::hosts::Host;
+use crate::lookups::Lookups;
+use crate::resolving::begin_lookups;
 use crate::settings::ProxySettings;
 use mc_clients::serve_rounds;
 use mc_operators::Operators;
@@ -10,26 +12,59 @@ use mc_socket::Stopwatch;
 use mio::net::TcpListener;
 use std::alloc::Global;
 use std::fs::Files;
+use std::net;
 use std::net::Net;
 use std::random::RandomSource;
 use std::rt::Clock;
 use std::sync::Wait;
+use std::thread::Threads;
 
 /// Serves the clients that a listener accepts, over the servers of a ring.
 ///
 /// Each server is tried once before the first client is let in, and while it is down again and again, less often the longer that
 /// is. It answers once as many clients as the settings say were accepted and all of them are gone; without
 /// such a limit it serves for ever. A client or an upstream that fails is closed, and the others go on. What becomes of servers is
-/// said on standard error; where that fails nothing else changes, and a write to it that waits holds all clients up.
-pub fn serve<R: Net + Clock + Files + RandomSource + Wait + Eprint>(
+/// said on standard error by `rt`; where that fails nothing else changes, and a write to it that waits holds all clients up.
+///
+/// Hosts' names are looked up in threads of `system`, where a server may have one ([`ProxySettings::may_look_up`]): one thread that begins the
+/// others, and one for each look-up that is under way, at most one a server. At the end it joins the first and no other. The error
+/// is `Memory` too where the system gives no first thread.
+pub fn serve<S, R>(
+    system: &S,
     rt: &R,
     alloc: Global,
     listener: TcpListener,
     settings: &ProxySettings,
     operators: Operators,
     ring: Ring,
+) -> Result<(), ServeError>
+where
+    S: Net<Listener = net::TcpListener, Stream = net::TcpStream>,
+    S: Threads + Wait + Copy + Send + 'static,
+    R: Net + Clock + Files + RandomSource + Wait + Eprint,
+{
+    if !settings.may_look_up() {
+        return serve_with(rt, alloc, listener, settings, operators, ring, None);
+    }
+    let (lookups, resolver) = begin_lookups(system, alloc)?;
+    let lookups = Some(lookups);
+    let served = serve_with(rt, alloc, listener, settings, operators, ring, lookups);
+    resolver.end(system);
+    served
+}
+
+/// The same, with what looks hosts up.
+fn serve_with<R: Net + Clock + Files + RandomSource + Wait + Eprint>(
+    rt: &R,
+    alloc: Global,
+    listener: TcpListener,
+    settings: &ProxySettings,
+    operators: Operators,
+    ring: Ring,
+    lookups: Option<Lookups>,
 ) -> Result<(), ServeError> {
-    let mut host = Host::new(alloc, ring, settings, operators, random_number(rt))?;
+    let random = random_number(rt);
+    let mut host = Host::new(alloc, ring, settings, operators, lookups, random)?;
     let accept = settings.terms.accept;
     let mut clock = Stopwatch::new(rt);
     serve_rounds(rt, alloc, listener, accept, &mut clock, &mut host)

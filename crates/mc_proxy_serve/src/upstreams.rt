@@ -3,13 +3,15 @@ ghost use Rattle.std.specs.Prelude.{◌<◌, length};
 
 use crate::delays::delay_after;
 use crate::limits::{CONNECT_MILLIS, LINK_KEEPALIVE, NEXT_DELAY, NOTICE_DELAY};
+use crate::lookups::{Lookup, Lookups, Next, next_by};
 use crate::notices::{Cause, Notice, Notices, tell};
 use crate::options::PROGRAM;
+use crate::turns::{Stage, Turn, turn_by};
 use crate::waits::Waits;
 use mc_admin::LinkFigures;
 use mc_proxy::Proxy;
 use mc_proxy_pump::{Pumped, pump_link};
-use mc_socket::{Edge, Input, first_address, keep_alive_by, reset, spelled_address};
+use mc_socket::{Edge, Input, keep_alive_by, reset, spelled_address};
 use mc_watch::{Tally, earlier};
 use mio::event::Event;
 use mio::net::TcpStream;
@@ -22,6 +24,8 @@ use std::net::{Net, SocketAddr};
 enum State {
     /// There is none.
     Down,
+    /// There is none, and a try waits for the look-up of the server's host.
+    Asking,
     /// It was begun, and no event has told how it went.
     Connecting(TcpStream),
     /// It is there, and the proxy's link is up.
@@ -36,13 +40,15 @@ pub struct Upstream {
     /// Where it is: `<host>:<port>`.
     address: String,
     state: State,
-    /// When a connection was begun last, in milliseconds.
+    /// The look-up of its host that was begun last, where no try has taken its answer.
+    lookup: Option<Lookup>,
+    /// When it was tried last, in milliseconds.
     begun: u64,
-    /// When the next one may be begun.
+    /// When it may be tried next.
     next: u64,
-    /// How many connections failed in a row.
+    /// How many tries failed in a row.
     failures: u32,
-    /// Whether the first connection that was begun came to be, or failed.
+    /// Whether the first connection came to be, or the first try failed; also where nobody waits for that.
     pub tried: bool,
     edge: Edge,
     /// Whether its socket may have something for it: only where it is up.
@@ -68,6 +74,7 @@ impl Upstream {
             name,
             address,
             state: State::Down,
+            lookup: None,
             begun: 0,
             next: 0,
             failures: 0,
@@ -101,34 +108,88 @@ impl Upstream {
         }
     }
 
-    /// Begins a connection where there is none and it is time for one; one that is not there after [`CONNECT_MILLIS`] is dropped
-    /// first. A random number says when the next is begun where this one fails.
+    /// How far its connection is.
+    fn stage(&self) -> Stage {
+        match &self.state {
+            State::Down => Stage::Down,
+            State::Asking => Stage::Asking,
+            State::Connecting(_) => Stage::Connecting,
+            State::Up(_) => Stage::Up,
+        }
+    }
+
+    /// Tries the server where it is down and it is time for that, goes on with a try that waits for a look-up, and gives one up that takes
+    /// longer than [`CONNECT_MILLIS`]. Nobody waits for either. A random number says when the next is begun where this one fails.
     pub fn keep<R: Net>(
         &mut self,
         rt: &R,
         registry: &Registry,
+        lookups: &mut Option<Lookups>,
         token: Token,
         now: u64,
         random: u64,
     ) {
-        match self.state {
-            State::Connecting(_) if now >= self.begun.saturating_add(CONNECT_MILLIS) => {
-                self.delay(now, random);
-                self.refuse(Cause::TimedOut);
-            }
-            State::Down if now >= self.next => {
+        match turn_by(self.stage(), self.begun, self.next, now) {
+            Turn::Rest => {}
+            Turn::Begin => {
                 self.begun = now;
                 self.delay(now, random);
-                if let Err(cause) = self.connect(rt, registry, token) {
-                    self.rest_after(cause);
-                    self.refuse(cause);
-                }
+                self.go_on(rt, registry, lookups, token);
             }
-            _ => {}
+            Turn::GoOn => self.go_on(rt, registry, lookups, token),
+            Turn::GiveUp(cause) => {
+                self.delay(now, random);
+                self.refuse(cause);
+            }
         }
     }
 
-    /// Has a host that is not known wait a second more: all clients wait while it is looked up.
+    /// Goes on with a try, as far as its server's address is known.
+    fn go_on<R: Net>(
+        &mut self,
+        rt: &R,
+        registry: &Registry,
+        lookups: &mut Option<Lookups>,
+        token: Token,
+    ) {
+        if let Err(cause) = self.try_on(rt, registry, lookups, token) {
+            self.rest_after(cause);
+            self.refuse(cause);
+        }
+    }
+
+    /// The same. The error is why it has failed.
+    fn try_on<R: Net>(
+        &mut self,
+        rt: &R,
+        registry: &Registry,
+        lookups: &mut Option<Lookups>,
+        token: Token,
+    ) -> Result<(), Cause> {
+        if let Some(address) = spelled_address(self.address.as_str()) {
+            return self.connect(rt, registry, token, address);
+        }
+        let known = self.lookup.as_ref().map(|lookup| lookup.known());
+        match next_by(known) {
+            Next::Ask => {
+                let lookups = lookups.as_mut().ok_or(Cause::UnknownHost)?;
+                self.lookup = Some(lookups.begin(registry, self.address.as_str())?);
+                self.state = State::Asking;
+            }
+            Next::Wait => self.state = State::Asking,
+            Next::Connect(address) => {
+                self.lookup = None;
+                self.connect(rt, registry, token, address)?;
+            }
+            Next::Fail(cause) => {
+                self.lookup = None;
+                return Err(cause);
+            }
+        }
+        Ok(())
+    }
+
+    /// Has a host that is not known wait a second more, so that those who know it are asked less.
     fn rest_after(&mut self, cause: Cause) {
         if matches!(cause, Cause::UnknownHost) {
             self.next = self.next.saturating_add(NEXT_DELAY);
@@ -146,7 +207,7 @@ impl Upstream {
     pub fn due(&self, now: u64, timeout: u64) -> Option<u64> {
         let own = match self.state {
             State::Up(_) => self.late(timeout),
-            State::Connecting(_) => Some(self.begun.saturating_add(CONNECT_MILLIS)),
+            State::Asking | State::Connecting(_) => Some(self.begun.saturating_add(CONNECT_MILLIS)),
             State::Down => Some(self.next),
         };
         let said = now.saturating_add(NOTICE_DELAY);
@@ -166,9 +227,14 @@ impl Upstream {
         self.is_up() && self.late(timeout).is_some_and(|late| now >= late)
     }
 
-    /// Begins a connection to the first IPv4 address that the server's host has. The error is why it could not.
-    fn connect<R: Net>(&mut self, rt: &R, registry: &Registry, token: Token) -> Result<(), Cause> {
-        let address = address_of(rt, self.address.as_str()).ok_or(Cause::UnknownHost)?;
+    /// Begins a connection to an address of the server. The error is why it could not.
+    fn connect<R: Net>(
+        &mut self,
+        rt: &R,
+        registry: &Registry,
+        token: Token,
+        address: SocketAddr,
+    ) -> Result<(), Cause> {
         let mut stream = TcpStream::connect(rt, address)?;
         registry.register(&mut stream, token, Interest::READABLE | Interest::WRITABLE)?;
         // A server whose commands may come late is used all the same.
@@ -293,6 +359,29 @@ impl Upstream {
         self.notices.note(Notice::Lost(cause));
     }
 
+    /// Has its server be at another address from a moment on, at which it is tried. The connection to the old one is lost; the result says
+    /// whether there was one. The look-up of the old one is given up.
+    pub fn relocate(
+        &mut self,
+        proxy: &mut Proxy,
+        server: usize,
+        address: String,
+        now: u64,
+    ) -> bool {
+        let was_up = self.is_up();
+        if was_up {
+            self.lose_by(proxy, server, Cause::Moved);
+        }
+        if let Some(lookup) = &mut self.lookup {
+            lookup.give_up();
+        }
+        self.state = State::Down;
+        self.address = address;
+        self.failures = 0;
+        self.next = now;
+        was_up
+    }
+
     /// Says on standard error what became of it, and of the commands that were put on it, of which so many wait.
     pub fn report<R: Eprint>(&self, rt: &R, waiting: usize) {
         let server = self.name.as_str();
@@ -324,14 +413,6 @@ impl Upstream {
             State::Up(stream) if !is_over(stream) => Cause::Memory,
             _ => self.failure.unwrap_or(Cause::Ended),
         }
-    }
-}
-
-/// The address of a server: the one that its text spells, or else the first IPv4 address of its host, which is looked up.
-fn address_of<R: Net>(rt: &R, place: &str) -> Option<SocketAddr> {
-    match spelled_address(place) {
-        Some(address) => Some(address),
-        None => first_address(rt, place),
     }
 }
 

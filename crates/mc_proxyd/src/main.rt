@@ -8,21 +8,23 @@
 ghost use Rattle.std.specs.Prelude.{◌≡◌};
 ghost use Rattle.mc_program.specs.Statuses.{status_of};
 
+use clap::ArgMatches;
 use mc_program::{Asked, Failure, Logged, ServeError, exit_status, is_read, read_words};
 use mc_proxy::MAX_SESSIONS;
 use mc_proxy_serve::{
-    ListError, Operators, Options, PROGRAM, ProxySettings, command, other_files, serve,
+    ListError, Mistake, Operators, Options, PROGRAM, ProxySettings, command, other_files, serve,
 };
 use mc_ring::Ring;
 use mc_socket::bind;
 use mc_watch::tell_open_files;
 use std::alloc::Global;
 use std::fs::Files;
-use std::net::Net;
+use std::net::{Net, TcpListener, TcpStream};
 use std::process::ExitCode;
 use std::random::RandomSource;
 use std::rt::{Clock, Env};
 use std::sync::Wait;
+use std::thread::Threads;
 
 fn main(rt: HostRuntime) -> ExitCode {
     let mut asked = Asked::Nothing;
@@ -36,7 +38,9 @@ fn main(rt: HostRuntime) -> ExitCode {
 /// Reads the words, says in which form they ask for lines, and then prints how large the ring is, or serves.
 fn run<R>(rt: &R, asked: &mut Asked) -> Result<(), Failure>
 where
-    R: Env + Clock + Files + Print + Eprint + Net + RandomSource + Wait + AllocGlobal,
+    R: Net<Listener = TcpListener, Stream = TcpStream>,
+    R: Env + Clock + Files + Print + Eprint + RandomSource + Wait + Threads + AllocGlobal,
+    R: Copy + Send + 'static,
 {
     let alloc = rt.alloc();
     let words = read_words(rt)?;
@@ -49,7 +53,7 @@ where
         log,
         admin,
         check,
-    } = Options::of(alloc, &matches).map_err(failure_of)?;
+    } = Options::of(rt, alloc, &matches).map_err(|error| refusal_of(rt, &matches, error))?;
     admin.check().map_err(Failure::Refused)?;
     if check {
         return print_size(rt, &ring);
@@ -62,12 +66,13 @@ where
         is_read,
     ))?;
     let logged = Logged::new(rt, PROGRAM, log);
-    let served = listen_and_serve(&logged, alloc, listen, &settings, operators, ring);
+    let served = listen_and_serve(rt, &logged, alloc, listen, &settings, operators, ring);
     served.map_err(|error| Failure::at(rt, error, listen, is_read))
 }
 
-/// Listens, says so, and serves.
-fn listen_and_serve<R>(
+/// Listens, says so by `rt`, and serves. Names are looked up in threads of `system`.
+fn listen_and_serve<S, R>(
+    system: &S,
     rt: &R,
     alloc: Global,
     listen: &str,
@@ -76,30 +81,45 @@ fn listen_and_serve<R>(
     ring: Ring,
 ) -> Result<(), ServeError>
 where
+    S: Net<Listener = TcpListener, Stream = TcpStream>,
+    S: Threads + Wait + Copy + Send + 'static,
     R: Clock + Files + Print + Eprint + Net + RandomSource + Wait,
 {
     let listener = bind(rt, listen)?;
-    let others = other_files(ring.servers().len(), settings.join.is_some()).saturating_add(
-        operators.files(),
-    );
+    let others = other_files(ring.servers().len(), settings).saturating_add(operators.files());
     tell_open_files(rt, PROGRAM, others, MAX_SESSIONS);
     // Whom the line does not reach is served all the same.
     let _ = println!(rt; "listening {listen}");
-    serve(rt, alloc, listener, settings, operators, ring)
+    serve(system, rt, alloc, listener, settings, operators, ring)
 }
 
 /// Why a word of `--held` is refused.
 const BAD_HELD: &str =
     "invalid value for '--held <bytes>': neither in 1..=1099511627776 nor a number of K, M or G up to 1024G";
 
+/// How the program ends where the words name no pool. The mistake of a file is said beside it.
+fn refusal_of<R: Env + Clock + Eprint + AllocGlobal>(
+    rt: &R,
+    matches: &ArgMatches<'_>,
+    error: ListError,
+) -> Failure {
+    if let (ListError::File(mistake), Some(path)) = (error, matches.get_str("servers")) {
+        let rt = &Logged::new(rt, PROGRAM, Asked::of(matches));
+        // Where it cannot be said, the status says that the list is bad.
+        let _ = eprintln!(rt; "{PROGRAM}: {path}: {mistake}");
+    }
+    failure_of(error)
+}
+
 /// How the program ends where the words name no pool.
 fn failure_of(error: ListError) -> Failure
     ensures bad { error ≡ ListError.Bad → status_of result ≡ 2 }
+    ensures file { (mistake : Mistake) → error ≡ ListError.File mistake → status_of result ≡ 2 }
     ensures held { error ≡ ListError.Held → status_of result ≡ 2 }
     ensures memory { error ≡ ListError.Memory → result ≡ Failure.Serve ServeError.Memory }
 {
     match error {
-        ListError::Bad => Failure::Refused("bad server list"),
+        ListError::Bad | ListError::File(_) => Failure::Refused("bad server list"),
         ListError::Held => Failure::Refused(BAD_HELD),
         ListError::Memory => Failure::Serve(ServeError::Memory),
     }

@@ -1,0 +1,191 @@
+//! The file that lists the servers of a proxy, while that runs.
+
+use crate::changes::{Change, change_by};
+use crate::limits::MAX_CHANGES;
+use crate::lists::{Mistake, servers_in, text_of};
+use crate::looks::Looks;
+use crate::notices::{Notice, tell};
+use crate::pools::Pool;
+use crate::servers::Server;
+use mc_proxy::Proxy;
+use mc_ring::{Address, Ring};
+use std::alloc::{AllocError, Global};
+use std::fs::Files;
+
+/// The file that lists the servers of a proxy, and the servers that there are.
+#[derive(Drop)]
+pub struct Listing<'a> {
+    alloc: Global,
+    /// Where the file is.
+    path: &'a str,
+    /// The servers that there are, by their places.
+    servers: Vec<Server>,
+    /// What the last look has found, if there was one.
+    found: Option<Result<String, Mistake>>,
+    looks: Looks,
+}
+
+impl<'a> Listing<'a> {
+    /// A file that was not looked at, and the servers of a ring at their addresses.
+    pub fn new(
+        alloc: Global,
+        path: &'a str,
+        ring: &Ring,
+        addresses: &[Address],
+    ) -> Result<Listing<'a>, AllocError> {
+        let mut servers = Vec::with_capacity(alloc, ring.servers().len())?;
+        for (place, name) in ring.servers().iter().enumerate() {
+            let address = addresses.get(place).unwrap_or(name);
+            servers.push(Server {
+                name: name.clone()?,
+                address: address.clone()?,
+            })?;
+        }
+        Ok(Listing {
+            alloc,
+            path,
+            servers,
+            found: None,
+            looks: Looks::new(),
+        })
+    }
+
+    /// When it is looked at next, in milliseconds.
+    pub fn due(&self) -> u64 {
+        self.looks.due()
+    }
+
+    /// Looks at the file where it is time for that, and has the pool follow what is new in it: addresses are taken over, and servers join. A
+    /// list that would take a server out, or give one another name, changes nothing, as does one with a mistake: that is said once. The
+    /// result says whether a link was lost.
+    pub fn look<R: Files + Eprint>(
+        &mut self,
+        rt: &R,
+        pool: &mut Pool,
+        proxy: &mut Proxy,
+        now: u64,
+    ) -> bool {
+        if now < self.looks.due() {
+            return false;
+        }
+        let found = text_of(rt, self.alloc, self.path);
+        let same = self.was_found(&found);
+        let take = self.looks.note(same, now);
+        self.found = Some(found);
+        take && self.take(rt, pool, proxy, now)
+    }
+
+    /// Whether the last look has found the same.
+    fn was_found(&self, found: &Result<String, Mistake>) -> bool {
+        match (&self.found, found) {
+            (Some(Ok(before)), Ok(text)) => before.as_str() == text.as_str(),
+            (Some(Err(before)), Err(mistake)) => before == mistake,
+            _ => false,
+        }
+    }
+
+    /// Has the pool follow what the last look has found. The result says whether a link was lost.
+    fn take<R: Eprint>(&mut self, rt: &R, pool: &mut Pool, proxy: &mut Proxy, now: u64) -> bool {
+        let list = match &self.found {
+            Some(Ok(text)) => servers_in(self.alloc, text.as_str()),
+            Some(Err(mistake)) => Err(*mistake),
+            None => return false,
+        };
+        match list {
+            Ok(list) => self.follow(rt, pool, proxy, list.as_slice(), now),
+            Err(mistake) => {
+                self.refuse(rt, mistake);
+                false
+            }
+        }
+    }
+
+    /// Says that the list is not taken. It is tried again where there was no memory for it.
+    fn refuse<R: Eprint>(&mut self, rt: &R, mistake: Mistake) {
+        if mistake == Mistake::Memory {
+            self.looks.again();
+        }
+        tell(rt, self.path, Notice::NotTaken(mistake));
+    }
+
+    /// Does what a list changes, one thing after the other. The result says whether a link was lost.
+    fn follow<R: Eprint>(
+        &mut self,
+        rt: &R,
+        pool: &mut Pool,
+        proxy: &mut Proxy,
+        list: &[Server],
+        now: u64,
+    ) -> bool {
+        let mut lost = false;
+        for _ in 0..MAX_CHANGES {
+            let done = match change_by(self.servers.as_slice(), list) {
+                Change::Nothing => break,
+                Change::Missing(place) => {
+                    self.keep(rt, place);
+                    break;
+                }
+                Change::Moved(place) => self.relocate(pool, proxy, list, place, now),
+                Change::Joined(place) => self.join(rt, pool, proxy, list, place),
+            };
+            match done {
+                Ok(was_up) => lost |= was_up,
+                Err(mistake) => {
+                    self.refuse(rt, mistake);
+                    break;
+                }
+            }
+        }
+        lost
+    }
+
+    /// Says that the server of a place stays, though the list has it not there.
+    fn keep<R: Eprint>(&self, rt: &R, place: usize) {
+        if let Some(server) = self.servers.get(place)
+            && let Ok(name) = str::from_utf8(server.name.as_bytes())
+        {
+            tell(rt, name, Notice::Stays(place as u64));
+        }
+    }
+
+    /// Takes the address of the server of a place over from a list. The result says whether its link was lost by that.
+    fn relocate(
+        &mut self,
+        pool: &mut Pool,
+        proxy: &mut Proxy,
+        list: &[Server],
+        place: usize,
+        now: u64,
+    ) -> Result<bool, Mistake> {
+        let (Some(server), Some(line)) = (self.servers.get_mut(place), list.get(place)) else {
+            return Ok(false);
+        };
+        let address = line.address.clone()?;
+        let was_up = pool.relocate(proxy, place, &line.address, now)?;
+        server.address = address;
+        Ok(was_up)
+    }
+
+    /// Has the server join that a list has at a place. No link is lost by that, and no client waits for it.
+    fn join<R: Eprint>(
+        &mut self,
+        rt: &R,
+        pool: &mut Pool,
+        proxy: &mut Proxy,
+        list: &[Server],
+        place: usize,
+    ) -> Result<bool, Mistake> {
+        let Some(line) = list.get(place) else {
+            return Ok(false);
+        };
+        let server = line.clone()?;
+        self.servers.reserve(1)?;
+        pool.join(proxy, &server, false)
+            .map_err(|_| Mistake::Memory)?;
+        if let Ok(name) = str::from_utf8(server.name.as_bytes()) {
+            tell(rt, name, Notice::Joined);
+        }
+        self.servers.push(server)?;
+        Ok(false)
+    }
+}

@@ -1,0 +1,54 @@
+//! When a file is looked at that may change, and when what it has is taken.
+ghost use Rattle.std.specs.Prelude.{◌≡◌, ◌&&◌, ◌+◌, ◌-◌, ◌^◌, false, min, not, if◌then◌else◌};
+
+use crate::limits::{LOOK_MILLIS, SETTLE_MILLIS};
+
+/// When a file is looked at that may change, and whether what was found last is taken. What a look finds that is new is taken once another
+/// look, [`SETTLE_MILLIS`] later, has found the same: so a file that is being written is let be.
+#[derive(Clone, Copy, Debug)]
+pub struct Looks {
+    /// When it is looked at next, in milliseconds.
+    next: u64,
+    /// Whether what was found last is taken.
+    taken: bool,
+}
+
+impl Looks {
+    /// Nothing was found, and a look is due.
+    pub fn new() -> Looks
+        ensures next { result.next ≡ 0 }
+    {
+        Looks {
+            next: 0,
+            taken: true,
+        }
+    }
+
+    /// When the next look is due.
+    pub fn due(&self) -> u64
+        ensures { result ≡ self.now.next }
+    {
+        self.next
+    }
+
+    /// Notes a look at a moment, and whether it has found the same as the one before. The result says whether that is to be taken now.
+    pub fn note(&mut self, same: bool, now: u64) -> bool
+        ensures take { result ≡ (same && not self.old.taken) }
+        ensures taken { self.new.taken ≡ same }
+        ensures next { self.new.next ≡ min (now + (if same then LOOK_MILLIS else SETTLE_MILLIS)) (2 ^ 64 - 1) }
+    {
+        let pause = if same { LOOK_MILLIS } else { SETTLE_MILLIS };
+        self.next = now.saturating_add(pause);
+        let take = same && !self.taken;
+        self.taken = same;
+        take
+    }
+
+    /// Has what was found last be taken again at the next look: it could not be taken whole.
+    pub fn again(&mut self)
+        ensures taken { self.new.taken ≡ false }
+        ensures next { self.new.next ≡ self.old.next }
+    {
+        self.taken = false;
+    }
+}
