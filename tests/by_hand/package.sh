@@ -221,6 +221,11 @@ inside() {
         settings_reach mc_serverd@.service 11213 'listen 127.0.0.1:11213 budget 2000000 items 1000 accept 0'
     echo 'SERVERS=127.0.0.1:11211 127.0.0.1:11213' >> "$root${settings[1]}"
     check 'the settings file of a proxy reaches it' settings_reach mc_proxyd.service '' 'servers 2 points 320'
+    printf '%s\n' 127.0.0.1:11211 '# and two more' 127.0.0.1:11213 127.0.0.1:11214 > "$root/etc/servers"
+    echo 'SERVERS=--servers /etc/servers' >> "$root${settings[1]}"
+    check 'a file of servers reaches it too' settings_reach mc_proxyd.service '' 'servers 3 points 480'
+    rm "$root/etc/servers"
+    sed -i '$d' "$root${settings[1]}"
     sed -i '$d' "$root${settings[1]}"
 
     check 'dpkg upgrades it' installer dpkg -i /root/newer.deb

@@ -29,6 +29,7 @@ from checks import (
 )  # fmt: skip
 from connections import checks_of_connections, fields_of, lines_said
 from links import checks_of_links
+from lists import checks_of_lists
 from live_pool import (
     LOST, QUIET, Played, Pool, all_that_comes, answered_in_time, data_segments, is_asked_and_answers, is_lost_and_refused, is_said,
     nothing_comes, nothing_is_said, stored,
@@ -69,7 +70,7 @@ SETTINGS = {
     "an_address_with_its_own_name": ("b:2=b:2", "servers 2 points 320"),
 }
 
-USAGE = "\n\nUsage: mc_proxyd [OPTIONS] <server>..."
+USAGE = "\n\nUsage: mc_proxyd [OPTIONS] [server]..."
 UNKNOWN = "unexpected argument '--bind' found\n\n  tip: to pass '--bind' as a value, use '-- --bind'\n\nUsage: mc_proxyd <server>..."
 
 # Words that are refused, and why.
@@ -783,6 +784,7 @@ def checks():
     ):
         yield check.__name__, check, ()
     yield from checks_of_links()
+    yield from checks_of_lists()
 
 
 if __name__ == "__main__":

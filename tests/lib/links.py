@@ -10,6 +10,7 @@ import socket
 import subprocess
 import time
 
+import lookups
 from checks import PATIENCE, asked, is_served, received, want, want_at_most
 from connections import fields_of, lines_said
 from live_pool import (
@@ -192,6 +193,13 @@ def a_link_without_a_descriptor_is_told_so():
         want(lines_said(pool, 2), [told, f"mc_proxyd: {pool.servers[1].address} refused: too many open files"])
 
 
+# Names that are looked up.
+
+
+def a_silent_name_server_holds_up_nobody():
+    lookups.in_a_network_of_its_own(*map(str, Pool.programs))
+
+
 # Names apart from addresses.
 
 
@@ -248,6 +256,7 @@ def checks_of_links():
         a_server_that_takes_nothing_is_gone,
         descriptors_of_links_are_reserved,
         a_link_without_a_descriptor_is_told_so,
+        a_silent_name_server_holds_up_nobody,
         a_server_is_replaced_at_another_address,
         a_server_joins_by_its_name,
         two_names_may_have_one_address,

@@ -1,0 +1,394 @@
+"""What a proxy does with a file that lists its servers (--servers), at its start and while it runs. `checks_of_lists` gives each check by its
+name; proxyd.py makes them. `Pool.programs` are the programs that are tried.
+"""
+
+import contextlib
+import os
+import pathlib
+import resource
+import subprocess
+import tempfile
+import time
+
+from checks import PATIENCE, Program, Wrong, asked, is_served, received, want, want_at_most
+from live_pool import LOST, Pool, is_said, nothing_is_said, stored
+from rings import Ring
+from servers import HOST, Proxy, Server
+
+SECONDS_TO_TAKE = 1.25  # a look each second, and another after a quarter
+LOOKS = 2.6  # seconds in which a file is looked at at least twice
+MOST_BYTES = 65536  # of a file
+
+GOOD = {
+    "one": "127.0.0.1:1\n",
+    "comments_and_blank_lines": "# all\n\n127.0.0.1:1 # the first\n   \n\t127.0.0.1:2\t#\n#",
+    "carriage_returns": "127.0.0.1:1\r\n\r\n# x\r\n127.0.0.1:2\r\n",
+    "names": "a:1=127.0.0.1:1\nb:1=127.0.0.1:1\n",
+    "no_text_in_a_comment": b"127.0.0.1:1 # \xff\n",
+    "the_most": "".join(f"10.0.0.{number}:1\n" for number in range(64)),
+}
+
+BAD = {
+    "none": ("", "no server"),
+    "comments_alone": ("# 127.0.0.1:1\n", "no server"),
+    "a_bad_line": ("a:1\n\nb\n", "line 3 is no [<name>:<port>=]<host>:<port>"),
+    "two_on_a_line": ("a:1 b:1\n", "line 1 is no [<name>:<port>=]<host>:<port>"),
+    "no_text": (b"a:1\n\xff:1\n", "line 2 is no [<name>:<port>=]<host>:<port>"),
+    "a_zero_byte": (b"a:1\n\0\n", "line 2 is no [<name>:<port>=]<host>:<port>"),
+    "one_twice": ("a:1\n# b\na:1\n", "line 3 has the name of an earlier one"),
+    "a_name_twice": ("a:1=b:1\na:1=c:1\n", "line 2 has the name of an earlier one"),
+    "no_line_end": ("a:1\nb:1", "line 2 has no line end"),
+    "65": ("".join(f"10.0.0.{number}:1\n" for number in range(65)), "line 65 is one too many: at most 64 servers"),
+    "too_long": ("a:1\n" + "#" * MOST_BYTES, f"longer than {MOST_BYTES} bytes"),
+}
+
+
+class Listed:
+    """Servers, a file that lists them, and a proxy that is given it."""
+
+    def __init__(self, count=2, words=(), **limits):
+        self.stack = contextlib.ExitStack()
+        with self.stack:
+            self.file = pathlib.Path(self.stack.enter_context(tempfile.TemporaryDirectory())) / "servers"
+            self.servers = [self.new_server() for _ in range(count)]
+            self.names = [server.address for server in self.servers]
+            self.write(self.text())
+            self.proxy = self.enter_proxy(words, **limits)
+            self.stack = self.stack.pop_all()
+
+    def new_server(self):
+        return self.stack.enter_context(Server(Pool.programs[1]))
+
+    def enter_proxy(self, words=(), **limits):
+        words = ["--servers", str(self.file), *words]
+        return self.stack.enter_context(Proxy(Pool.programs[0], [], words, stderr=subprocess.PIPE, **limits))
+
+    def text(self):
+        return "".join(f"{name}\n" for name in self.names)
+
+    def write(self, text):
+        """In one step, as an editor does that renames."""
+        new = self.file.with_name("new")
+        new.write_text(text)
+        new.rename(self.file)
+
+    def append(self, text):
+        with self.file.open("a") as file:
+            file.write(text)
+
+    def __enter__(self):
+        return self
+
+    def __exit__(self, *_):
+        self.stack.close()
+
+    def is_said(self, line):
+        is_said(self.proxy, line)
+
+    def is_not_taken(self, mistake):
+        self.is_said(f"{self.file} not taken: {mistake}")
+
+
+def keys_are_at_owners(listed, client, servers, names):
+    """By the ring of these names: each server has its own key, seen without the proxy."""
+    ring = Ring(names)
+    for place, server in enumerate(servers):
+        put, told, get, shown = stored(ring.key(place), b"of %d" % place)
+        answered(client, put, told)
+        with server.connected() as direct:
+            asked(direct, get, shown)
+
+
+def answered(client, text, answer):
+    """An answer, or that of a link which is not there yet."""
+    deadline = time.monotonic() + PATIENCE
+    while True:
+        client.sendall(text)
+        came = received(client, min(len(answer), len(LOST)))
+        if not LOST.startswith(came[:12]):
+            return want(came + received(client, len(answer) - len(came)), answer)
+        received(client, len(LOST) - len(came))
+        if time.monotonic() > deadline:
+            raise Wrong("the link stays lost")
+        time.sleep(0.02)
+
+
+# At the start.
+
+
+def a_list_is_read(text):
+    count = len([line for line in (text if isinstance(text, bytes) else text.encode()).split(b"\n") if line.strip() and line.strip()[:1] != b"#"])
+    with tempfile.NamedTemporaryFile() as file:
+        file.write(text if isinstance(text, bytes) else text.encode())
+        file.flush()
+        want(Program(Pool.programs[0]).run("--servers", file.name, "--check"), (0, f"servers {count} points {160 * count}\n", ""))
+
+
+def a_list_is_refused(text, mistake):
+    with tempfile.NamedTemporaryFile() as file:
+        file.write(text if isinstance(text, bytes) else text.encode())
+        file.flush()
+        told = f"mc_proxyd: {file.name}: {mistake}\nmc_proxyd: bad server list\n"
+        for check in ([], ["--check"]):
+            want(Program(Pool.programs[0]).run("--servers", file.name, *check), (2, "", told))
+
+
+def what_is_no_file_is_refused():
+    with tempfile.TemporaryDirectory() as folder:
+        pipe = os.path.join(folder, "pipe")
+        os.mkfifo(pipe)
+        for path, mistake in ((folder, "not a file"), (pipe, "not a file"), (pipe + "x", "entity not found")):
+            told = f"mc_proxyd: {path}: {mistake}\nmc_proxyd: bad server list\n"
+            want(Program(Pool.programs[0]).run("--servers", path), (2, "", told))
+
+
+def a_list_and_words_are_refused():
+    for words, other in ((["a:1"], "[server]..."), (["--join", "a:1"], "--join <host:port>")):
+        status, _, said = Program(Pool.programs[0]).run("--servers", "/dev/null", *words)
+        want((status, said.split("\n")[0]), (2, f"error: the argument '--servers <file>' cannot be used with '{other}'"))
+
+
+# While it runs.
+
+
+def a_line_that_is_appended_joins():
+    """Within a second or so, while a client asks all along: no answer is wrong, and then each key is at its owner in the wider ring."""
+    with Listed() as listed, listed.proxy.connected() as client:
+        third = listed.new_server()
+        wider = Ring([*listed.names, third.address])
+        keys = [key for place in range(2) for key in Ring(listed.names).keys(place, 20)]
+        moved = {key for key in keys if wider.owner(key) == 2}
+        want(0 < len(moved) < len(keys), True)
+        for key in keys:
+            asked(client, *stored(key)[:2])
+        listed.append(f"{third.address} # the third\n")
+        begun, missed = time.monotonic(), set()
+        while not moved <= missed and time.monotonic() < begun + PATIENCE:
+            for key in keys:
+                _, _, get, shown = stored(key)
+                client.sendall(get)
+                came = received(client, 5)
+                if came == shown[:5]:
+                    want(came + received(client, len(shown) - 5), shown)
+                    want(key in missed, False)
+                else:
+                    want(key in moved, True)
+                    rest = LOST[5:] if came == LOST[:5] else b""
+                    want(came + received(client, len(rest)) in (b"END\r\n", LOST), True)
+                    missed.add(key)
+        want_at_most(time.monotonic() - begun, SECONDS_TO_TAKE + 1)
+        listed.is_said(f"{third.address} joined")
+        keys_are_at_owners(listed, client, [*listed.servers, third], [*listed.names, third.address])
+        nothing_is_said(listed.proxy)
+
+
+def two_lines_join_at_a_time():
+    with Listed(1) as listed, listed.proxy.connected() as client:
+        more = [listed.new_server() for _ in range(2)]
+        names = [*listed.names, "b:1", "c:1"]
+        listed.append("".join(f"{name}={server.address}\n" for name, server in zip(names[1:], more)))
+        for name in names[1:]:
+            listed.is_said(f"{name} joined")
+        keys_are_at_owners(listed, client, [*listed.servers, *more], names)
+
+
+def an_address_is_taken_over():
+    """No key moves: the server of that name is another."""
+    with Listed() as listed, listed.proxy.connected() as client:
+        is_served(client)
+        one, two = listed.names
+        other = listed.new_server()
+        listed.write(f"{one}={other.address}\n{two}\n")
+        is_said(listed.proxy, f"{one} lost: address changed", f"{one} back")
+        keys_are_at_owners(listed, client, [other, listed.servers[1]], listed.names)
+        listed.write(listed.text())
+        is_said(listed.proxy, f"{one} lost: address changed", f"{one} back")
+        keys_are_at_owners(listed, client, listed.servers, listed.names)
+
+
+def an_address_that_was_wrong_is_mended():
+    """A server joined at an address where nobody is."""
+    with Listed() as listed, listed.proxy.connected() as client:
+        third = listed.new_server()
+        listed.append(f"c:1={HOST}:1\n")
+        listed.is_said("c:1 joined")
+        listed.is_said("c:1 refused: connection refused")
+        key = Ring([*listed.names, "c:1"]).key(2)
+        asked(client, b"get %s\r\n" % key, LOST)
+        listed.write(listed.text() + f"c:1={third.address}\n")
+        listed.is_said("c:1 back")
+        keys_are_at_owners(listed, client, [*listed.servers, third], [*listed.names, "c:1"])
+
+
+CHANGES_THAT_ARE_REFUSED = {
+    "one_is_taken_out": lambda names: (1, f"{names[0]}\n{names[2]}\n"),
+    "the_last_is_taken_out": lambda names: (2, f"{names[0]}\n{names[1]}\n# "),
+    "one_has_another_name": lambda names: (0, f"a:1={names[0]}\n{names[1]}\n{names[2]}\n"),
+    "two_change_places": lambda names: (1, f"{names[0]}\n{names[2]}\n{names[1]}\n"),
+    "one_is_put_in_front": lambda names: (0, f"{HOST}:2\n" + "".join(f"{name}\n" for name in names)),
+}
+
+
+def servers_stay():
+    """A list that does not have them at their places changes nothing: what it appends does not join. It is said once for each change."""
+    with Listed(3) as listed, listed.proxy.connected() as client:
+        for text_of in CHANGES_THAT_ARE_REFUSED.values():
+            place, text = text_of(listed.names)
+            listed.write(text + f"{HOST}:1\n")
+            listed.is_said(f"{listed.names[place]} stays: a list is not taken whose server {place + 1} is another")
+            keys_are_at_owners(listed, client, listed.servers, listed.names)
+        time.sleep(LOOKS)
+        nothing_is_said(listed.proxy)
+
+
+def a_mistake_changes_nothing():
+    with Listed() as listed, listed.proxy.connected() as client:
+        third = listed.new_server()
+        for line, mistake in (("x\n", "line 4 is no [<name>:<port>=]<host>:<port>"), (f"{listed.names[0]}\n", "line 4 has the name of an earlier one")):
+            listed.write(listed.text() + f"{third.address}\n" + line)
+            listed.is_not_taken(mistake)
+        time.sleep(LOOKS)
+        nothing_is_said(listed.proxy)  # It was said once, and is not at each look.
+        keys_are_at_owners(listed, client, listed.servers, listed.names)
+        listed.write(listed.text() + f"{third.address}\n")
+        listed.is_said(f"{third.address} joined")
+        keys_are_at_owners(listed, client, [*listed.servers, third], [*listed.names, third.address])
+
+
+def half_a_line_is_not_taken():
+    """Nor is what stands before it."""
+    with Listed() as listed, listed.proxy.connected() as client:
+        third = listed.new_server()
+        listed.append(third.address[:-1])
+        listed.is_not_taken("line 3 has no line end")
+        keys_are_at_owners(listed, client, listed.servers, listed.names)
+        listed.append(third.address[-1:] + "\n")
+        listed.is_said(f"{third.address} joined")
+        keys_are_at_owners(listed, client, [*listed.servers, third], [*listed.names, third.address])
+
+
+def a_file_that_is_away_changes_nothing():
+    with Listed() as listed, listed.proxy.connected() as client:
+        third = listed.new_server()
+        listed.file.unlink()
+        listed.is_not_taken("entity not found")
+        time.sleep(LOOKS)
+        nothing_is_said(listed.proxy)
+        listed.file.mkdir()
+        listed.is_not_taken("not a file")
+        keys_are_at_owners(listed, client, listed.servers, listed.names)
+        listed.file.rmdir()
+        listed.write(listed.text() + f"{third.address}\n")
+        listed.is_said(f"{third.address} joined")
+        keys_are_at_owners(listed, client, [*listed.servers, third], [*listed.names, third.address])
+
+
+def what_cannot_be_read_changes_nothing():
+    """A pipe that nobody writes to holds up nobody, and of 100 MB no more is read than a list may have."""
+    with Listed() as listed, listed.proxy.connected() as client:
+        text = listed.text()
+        listed.file.unlink()
+        os.mkfifo(listed.file)
+        listed.is_not_taken("not a file")
+        is_served(client)
+        listed.file.unlink()
+        with listed.file.open("w") as file:
+            file.write(text)
+            file.truncate(100_000_000)
+        listed.is_not_taken(f"longer than {MOST_BYTES} bytes")
+        before = listed.proxy.processor_time()
+        time.sleep(LOOKS)
+        want_at_most(listed.proxy.processor_time() - before, 0.02)
+        want_at_most(listed.proxy.memory("VmHWM"), 100_000)
+        nothing_is_said(listed.proxy)
+        listed.write(text)
+        time.sleep(LOOKS)
+        nothing_is_said(listed.proxy)
+        keys_are_at_owners(listed, client, listed.servers, listed.names)
+
+
+def carriage_returns_and_order_of_writes_count_for_nothing():
+    """The file of an editor of another system, and one that comes in pieces."""
+    with Listed() as listed, listed.proxy.connected() as client:
+        third = listed.new_server()
+        text = (listed.text() + f"{third.address}\n").replace("\n", "\r\n")
+        with listed.file.open("w", newline="") as file:
+            for piece in range(0, len(text), 5):
+                file.write(text[piece : piece + 5])
+                file.flush()
+                time.sleep(0.01)
+        listed.is_said(f"{third.address} joined")
+        keys_are_at_owners(listed, client, [*listed.servers, third], [*listed.names, third.address])
+        nothing_is_said(listed.proxy)
+
+
+def a_file_that_is_being_written_is_let_be():
+    """It is emptied, and written again at once: nothing is said."""
+    with Listed() as listed:
+        for _ in range(20):
+            listed.file.write_text("")
+            time.sleep(0.05)
+            listed.file.write_text(listed.text())
+            time.sleep(0.1)
+        time.sleep(LOOKS)
+        nothing_is_said(listed.proxy)
+
+
+def two_proxies_follow_one_file():
+    with Listed() as listed:
+        proxies = [listed.proxy, listed.enter_proxy()]
+        third = listed.new_server()
+        listed.append(f"{third.address}\n")
+        for proxy in proxies:
+            is_said(proxy, f"{third.address} joined")
+            with proxy.connected() as client:
+                keys_are_at_owners(listed, client, [*listed.servers, third], [*listed.names, third.address])
+
+
+def descriptors_of_servers_that_join_are_reserved():
+    """For 64 servers, however many there are."""
+    most, own = 3, 7 + 64  # its own files and the one of look-ups, the list, and a socket for each server
+    with Listed(limits=[(resource.RLIMIT_NOFILE, own + most)]) as listed, contextlib.ExitStack() as stack:
+        listed.is_said(f"{own + most} open files: {most} connections can be served at a time")
+        clients = [stack.enter_context(listed.proxy.connected()) for _ in range(most + 1)]
+        for client in clients[:most]:
+            is_served(client)
+        listed.is_said(f"no more clients: {own + most} open files allow {most}")
+        third = listed.new_server()
+        listed.append(f"{third.address}\n")
+        listed.is_said(f"{third.address} joined")
+        keys_are_at_owners(listed, clients[0], [*listed.servers, third], [*listed.names, third.address])
+
+
+def a_file_that_stays_costs_little():
+    with Listed() as listed:
+        before = listed.proxy.processor_time()
+        time.sleep(3)
+        want_at_most(listed.proxy.processor_time() - before, 0.01)
+
+
+def checks_of_lists():
+    """Each of them by its name."""
+    for name, text in GOOD.items():
+        yield f"a list, {name}", a_list_is_read, (text,)
+    for name, (text, mistake) in BAD.items():
+        yield f"a bad list, {name}", a_list_is_refused, (text, mistake)
+    for check in (
+        what_is_no_file_is_refused,
+        a_list_and_words_are_refused,
+        a_line_that_is_appended_joins,
+        two_lines_join_at_a_time,
+        an_address_is_taken_over,
+        an_address_that_was_wrong_is_mended,
+        servers_stay,
+        a_mistake_changes_nothing,
+        half_a_line_is_not_taken,
+        a_file_that_is_away_changes_nothing,
+        what_cannot_be_read_changes_nothing,
+        carriage_returns_and_order_of_writes_count_for_nothing,
+        a_file_that_is_being_written_is_let_be,
+        two_proxies_follow_one_file,
+        descriptors_of_servers_that_join_are_reserved,
+        a_file_that_stays_costs_little,
+    ):
+        yield check.__name__, check, ()
