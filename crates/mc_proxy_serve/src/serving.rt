@@ -4,7 +4,7 @@ use crate::hosts::Host;
 use crate::settings::ProxySettings;
 use mc_clients::serve_rounds;
 use mc_operators::Operators;
-use mc_program::ServeError;
+use mc_program::{EprintSeldom, ServeError};
 use mc_ring::Ring;
 use mc_socket::Stopwatch;
 use mio::net::TcpListener;
@@ -21,7 +21,7 @@ use std::sync::Wait;
 /// is. It answers once as many clients as the settings say were accepted and all of them are gone; without
 /// such a limit it serves for ever. A client or an upstream that fails is closed, and the others go on. What becomes of servers is
 /// said on standard error; where that fails nothing else changes, and a write to it that waits holds all clients up.
-pub fn serve<R: Net + Clock + Files + RandomSource + Wait + Eprint>(
+pub fn serve<R: Net + Clock + Files + RandomSource + Wait + EprintSeldom>(
     rt: &R,
     alloc: Global,
     listener: TcpListener,

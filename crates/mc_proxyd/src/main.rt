@@ -8,7 +8,9 @@
 ghost use Rattle.std.specs.Prelude.{◌≡◌};
 ghost use Rattle.mc_program.specs.Statuses.{status_of};
 
-use mc_program::{Asked, Failure, Logged, ServeError, exit_status, is_read, read_words};
+use mc_program::{
+    EprintSeldom, Failure, LogOption, Logged, ServeError, exit_status, is_read, read_words,
+};
 use mc_proxy::MAX_SESSIONS;
 use mc_proxy_serve::{
     ListError, Operators, Options, PROGRAM, ProxySettings, command, other_files, serve,
@@ -25,23 +27,23 @@ use std::rt::{Clock, Env};
 use std::sync::Wait;
 
 fn main(rt: HostRuntime) -> ExitCode {
-    let mut asked = Asked::Nothing;
-    let served = run(&rt, &mut asked);
+    let mut option = LogOption::Nothing;
+    let served = run(&rt, &mut option);
     if let Err(failure) = &served {
-        failure.tell(&Logged::new(&rt, PROGRAM, asked), PROGRAM);
+        failure.tell(&Logged::new(&rt, PROGRAM, option), PROGRAM);
     }
     ExitCode::from(exit_status(&served))
 }
 
 /// Reads the words, says in which form they ask for lines, and then prints how large the ring is, or serves.
-fn run<R>(rt: &R, asked: &mut Asked) -> Result<(), Failure>
+fn run<R>(rt: &R, option: &mut LogOption) -> Result<(), Failure>
 where
     R: Env + Clock + Files + Print + Eprint + Net + RandomSource + Wait + AllocGlobal,
 {
     let alloc = rt.alloc();
     let words = read_words(rt)?;
     let matches = command(alloc)?.try_get_matches_from(words.as_slice())?;
-    *asked = Asked::of(&matches);
+    *option = LogOption::of(&matches);
     let Options {
         listen,
         ring,
@@ -76,7 +78,7 @@ fn listen_and_serve<R>(
     ring: Ring,
 ) -> Result<(), ServeError>
 where
-    R: Clock + Files + Print + Eprint + Net + RandomSource + Wait,
+    R: Clock + Files + Print + EprintSeldom + Net + RandomSource + Wait,
 {
     let listener = bind(rt, listen)?;
     let others = other_files(ring.servers().len(), settings.join.is_some()).saturating_add(
