@@ -23,7 +23,7 @@ from checks import (
     FORMS, KILOBYTE, MARK, PATIENCE, Program, Wrong, asked, checks_of_words, is_served, plain_lines, received, received_to_the_end,
     settles, tally, want, want_at_most, wrong_sizes_are_refused,
 )  # fmt: skip
-from connections import checks_of_connections, fields_of, lines_said
+from connections import checks_of_connections, fields_of, lines_said, suppressed_of
 from servers import HOST, Listener, connected, free_port
 from suite import are_built
 
@@ -302,7 +302,7 @@ def a_slow_reader_is_waited_for():
 
 def too_large_an_answer_is_refused():
     """A request whose answer may be larger than is allowed closes its connection, and is not made; others are served. It is said,
-    at most once in a second. Where the request is cut plays no part."""
+    at most once in a second, with how many such lines were suppressed. Where the request is cut plays no part."""
     keys = b" k" * 300
     for answer, asks in (
         (2_000_000, b"gat -1 k k\r\n"),
@@ -311,13 +311,19 @@ def too_large_an_answer_is_refused():
         with start(f"--answer {answer}") as server, server.connected() as other:
             asked(other, b"set k 0 0 1000000\r\n" + VALUE + b"\r\n", b"STORED\r\n")
             before = settles(server.memory)
-            for cut in (0, 1, len(asks) // 2, len(asks) - 1):
+            for cut in (0, 1, len(asks) // 2, len(asks) - 1, 2):
+                if cut == 2:
+                    time.sleep(1.1)
                 with server.connected() as client:
                     client.sendall(b"version\r\n" + asks[:cut])
                     want(received(client, 15), b"VERSION 1.6.0\r\n")
                     client.sendall(asks[cut:])
                     want(received_to_the_end(client), b"")
-            want(lines_said(server), [f"mc_serverd: request refused: its answer may have more than {answer} bytes"])
+            lines = []
+            while sum(1 + count for count, _ in lines) < 5:
+                lines += [suppressed_of(line, "") for line in lines_said(server)]
+            want((sum(1 + count for count, _ in lines), lines[0][0]), (5, 0))
+            want({line for _, line in lines}, {f"mc_serverd: request refused: its answer may have more than {answer} bytes"})
             asked(other, b"get k\r\n", ANSWER)
             want_at_most(settles(server.memory) - before, 4 * len(ANSWER))
 

@@ -4,7 +4,9 @@
 takes what it says, or none of it. It has the methods of `Listener` (servers.py).
 """
 
+import json
 import os
+import re
 import resource
 import select
 import socket
@@ -394,13 +396,42 @@ def strangers_are_told_once_in_a_second(start, name):
         refused, told = None, 0
         while refused != "50" and time.monotonic() < begun + PATIENCE:
             line = lines_said(program)[0]
-            if line.endswith(BINARY):
+            if BINARY in line:
                 told += 1
             elif "uptime=" in line:
                 refused = fields_of(line, name)["refused"]
         want(refused, "50")
         want_at_most(told, int(time.monotonic() - begun) + 2)
         want(told > 0, True)
+
+
+def suppressed_of(line, form):
+    """How many lines were suppressed before one, by its text or by its field, and that line without it as it is without a form."""
+    if form == "--log=json":
+        said = json.loads(line)
+        count = said.pop("suppressed", 0)
+        return count, plain(json.dumps(said), form)
+    line, count = re.fullmatch(r"(.*?)(?: \(([1-9][0-9]*) suppressed\))?", plain(line, form)).groups()
+    return int(count or 0), line
+
+
+def suppressed_lines_are_counted(start, name):
+    """Of many strangers in a short time few are said, the first as ever, and each line says how many were suppressed before it: with those of
+    a later second each was said, or counted once."""
+    for form in FORMS:
+        with start(form) as program:
+            lines = []
+            for count in (30, 1):
+                for _ in range(count):
+                    with program.connected() as stranger:
+                        want(answered_to(stranger, [b"\x80"]), b"")
+                time.sleep(1.1)
+            while sum(1 + count for count, _ in lines) < 31:
+                lines += [suppressed_of(line, form) for line in lines_said(program)]
+            want(sum(1 + count for count, _ in lines), 31)
+            want(lines[0][0], 0)
+            want(max(count for count, _ in lines) > 0, True)
+            want([line for _, line in lines if not (line.startswith(f"{name}: ") and line.endswith(f" refused: {BINARY}"))], [])
 
 
 # Clients that do nothing.
@@ -454,6 +485,7 @@ def checks_of_connections(start, program, own, more_dialogues={}, full="too many
     for text, (sent, answer) in TEXTS.items():
         yield f"no stranger, {text}", a_text_is_none_of_a_stranger, (start, sent, answer)
     yield strangers_are_told_once_in_a_second.__name__, strangers_are_told_once_in_a_second, (start, program)
+    yield suppressed_lines_are_counted.__name__, suppressed_lines_are_counted, (start, program)
     yield few_open_files_are_told.__name__, few_open_files_are_told, (start, program, own)
     yield lines_have_their_form.__name__, lines_have_their_form, (start, program, own)
     yield no_descriptors_are_waited_for.__name__, no_descriptors_are_waited_for, (start, program, own, full)

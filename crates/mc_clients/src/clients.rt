@@ -1,13 +1,15 @@
 //! The clients of a host, who of them goes on, and who is idle.
-ghost use Rattle.std.specs.Prelude.{◌<◌, ◌^◌};
+ghost use Rattle.std.specs.Prelude.{◌≡◌, ◌-◌, ◌<◌, ◌^◌, IfOk, drop, map, take};
+ghost use Rattle.mc_clients.specs.Lists.{all_shown, count_after, known_of, place_of, shown_of};
 
 use crate::conns::{Known, LIST_LEN, Listed, Owed, conn_of};
 use crate::handlers::{Client, Handler};
 use crate::reports::Report;
 use crate::strangers::{Refusal, opening};
+use mc_program::EprintSeldom;
 use mc_socket::{Backlog, Edge, KEPT_ROOM, Step};
 use mc_stranger::{FirstLine, Opening, Stranger};
-use mc_watch::{Pace, Tally, earlier};
+use mc_watch::{Pace, Said, Seldom, Tally, earlier};
 use mio::event::Event;
 use mio::net::TcpStream;
 use mio::{Interest, Registry, Token};
@@ -38,7 +40,12 @@ struct Seat<K> {
 impl<K: Drop> Seat<K> {
     /// Notes what passed of it, of what passed of all clients before and after its turn.
     #[inline(always)]
-    fn pass(&mut self, before: Tally, after: Tally) {
+    fn pass(&mut self, before: Tally, after: Tally)
+        ensures { self.new ≡ record self.old {
+          read = count_after self.old.read before.read after.read;
+          written = count_after self.old.written before.written after.written;
+        } }
+    {
         let read = after.read.wrapping_sub(before.read);
         let written = after.written.wrapping_sub(before.written);
         self.read = self.read.wrapping_add(read);
@@ -46,7 +53,9 @@ impl<K: Drop> Seat<K> {
     }
 
     /// What is known of it at a moment, at a place.
-    fn known(&self, place: usize, is_owed: bool, moment: u64) -> Known {
+    fn known(&self, place: usize, is_owed: bool, moment: u64) -> Known
+        ensures { result ≡ known_of moment place is_owed self.now }
+    {
         Known {
             place,
             is_owed,
@@ -76,16 +85,11 @@ pub struct Clients<K: Drop> {
     due: Option<u64>,
     /// How many clients were closed as they came.
     refused: u64,
-    /// A stranger of whom it was not said yet that it is turned away.
-    turned_away: Option<Refusal>,
-    /// When that may be said.
-    told: Pace,
+    /// Strangers of whom it is to be said that they were turned away.
+    turned_away: Seldom<Refusal>,
     /// When it may be said that no more are accepted, since the system gives no connection.
     told_refused: Pace,
 }
-
-/// In how many seconds it is said once, at most, that a stranger was turned away.
-const TOLD_EVERY: u64 = 1;
 
 /// In how many seconds it is said once, at most, that the system gives no connection: this may last for hours.
 const REFUSED_EVERY: u64 = 60;
@@ -94,19 +98,15 @@ impl<K: Default + Drop> Clients<K> {
     /// Nobody, with room for so many. A client that is idle for longer than so many seconds is closed; 0 for never.
     pub fn new(alloc: Global, most: usize, idle: u64) -> Result<Self, AllocError> {
         Ok(Clients {
-            seats: Slab::with_capacity(alloc, most)?,
-            most,
             queue: Vec::with_capacity(alloc, most)?,
             going_on: Vec::with_capacity(alloc, most)?,
+            seats: Slab::with_capacity(alloc, most)?,
+            most,
             busy: false,
             idle,
             due: None,
             refused: 0,
-            turned_away: None,
-            told: Pace {
-                every: TOLD_EVERY,
-                next: 0,
-            },
+            turned_away: Seldom::new(),
             told_refused: Pace {
                 every: REFUSED_EVERY,
                 next: 0,
@@ -161,6 +161,7 @@ impl<K: Default + Drop> Clients<K> {
     }
 
     /// Lists clients from a place on, at most [`LIST_LEN`], at a moment. One that is owed something waits for that.
+    #[tactic(auto, using(crate::proofs::ListLemmas::list_steps))]
     pub fn listed<H: Handler<K>>(
         &self,
         handler: &H,
@@ -168,7 +169,12 @@ impl<K: Default + Drop> Clients<K> {
         from: usize,
         moment: u64,
         owed: Owed,
-    ) -> Result<Listed, AllocError> {
+    ) -> Result<Listed, AllocError>
+        ensures conns { IfOk result (λ listed. map shown_of listed.conns.items
+            ≡ take LIST_LEN (all_shown self.now.seats moment from (self.now.most - from))) }
+        ensures next { IfOk result (λ listed. listed.next
+            ≡ place_of (drop LIST_LEN (all_shown self.now.seats moment from (self.now.most - from)))) }
+    {
         let mut conns = Vec::with_capacity(alloc, LIST_LEN)?;
         for place in from..self.most {
             let Some(seat) = self.seats.get(place) else {
@@ -234,7 +240,12 @@ impl<K: Default + Drop> Clients<K> {
             read: 0,
             written: 0,
         };
-        if registered.is_err() || self.seats.insert(seat).is_err() {
+        if registered.is_err() {
+            handler.end(number);
+            return false;
+        }
+        if self.seats.insert(seat).is_err() {
+            handler.note_refused();
             handler.end(number);
             return false;
         }
@@ -306,6 +317,7 @@ impl<K: Default + Drop> Clients<K> {
             Step::GoOn => {
                 let was_queued = mem::replace(&mut seat.queued, true);
                 if !was_queued && self.queue.push(key).is_err() {
+                    handler.note_refused();
                     self.close(handler, key);
                 }
             }
@@ -324,17 +336,16 @@ impl<K: Default + Drop> Clients<K> {
             .get(key)
             .and_then(|seat| seat.client.stream.peer_addr().ok());
         self.refused = self.refused.saturating_add(1);
-        self.turned_away = Some(Refusal { stranger, address });
+        self.turned_away.note(Refusal { stranger, address });
         self.close(handler, key);
     }
 
-    /// Says on standard error, as the program of a name and at most once in a second, that a stranger was turned away.
-    pub fn tell<R: Eprint>(&mut self, rt: &R, program: &str, second: u64) {
-        if let Some(refusal) = self.turned_away.take()
-            && self.told.comes(second)
-        {
+    /// Says on standard error, as the program of a name and at most once in a second, that a stranger was turned away, and how often that
+    /// was suppressed before.
+    pub fn tell<R: EprintSeldom>(&mut self, rt: &R, program: &str, second: u64) {
+        if let Some(Said { what, suppressed }) = self.turned_away.take(second) {
             // Where it cannot be said, all are served all the same.
-            let _ = eprintln!(rt; "{program}: {refusal}");
+            let _ = rt.eprintln_seldom(format_args!("{program}: {what}"), suppressed);
         }
     }
 

@@ -1,5 +1,8 @@
 //! Who is connected, as operators are told.
 
+ghost use Rattle.std.specs.Prelude.{◌≡◌, IfOk};
+ghost use Rattle.mc_clients.specs.Lists.{conn_state, owed_state, shown_by, shown_of, state_of};
+
 use mc_admin::{Conn, Part};
 use mio::net::TcpStream;
 use std::alloc::{AllocError, Global};
@@ -26,7 +29,9 @@ pub enum Owed {
 
 impl Owed {
     /// The state of a client that waits for it, in memcached's words.
-    fn state(self) -> &'static [u8] {
+    fn state(self) -> &'static [u8]
+        ensures { result.now ≡ owed_state self }
+    {
         match self {
             Owed::Answers => b"conn_mwrite",
             Owed::Replies => b"conn_io_queue",
@@ -77,7 +82,10 @@ pub fn conn_of(
     stream: &TcpStream,
     known: Known,
     owed: Owed,
-) -> Result<Conn, AllocError> {
+) -> Result<Conn, AllocError>
+    ensures shown { IfOk result (λ conn. shown_of conn ≡ shown_by known) }
+    ensures state { IfOk result (λ conn. conn_state conn ≡ state_of known.is_owed owed) }
+{
     Ok(Conn {
         place: known.place as u64,
         peer: text_of(alloc, stream.peer_addr())?,

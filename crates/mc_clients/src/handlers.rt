@@ -28,6 +28,9 @@ pub trait Handler<K> {
     /// Admits a client that will have this key, and gives its number; none where there is no place or no memory for it.
     fn admit(&mut self, key: usize) -> Option<u64>;
 
+    /// Notes that a client is closed since there is no memory for its place.
+    fn note_refused(&mut self) {}
+
     /// Ends the connection or the session of a client that is closed.
     fn end(&mut self, number: u64);
 

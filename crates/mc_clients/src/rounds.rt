@@ -77,19 +77,25 @@ pub fn serve_rounds<R: Net + Wait, C, H: Rounds<R, C>>(
     let mut acceptor = Acceptor::new(listener, accept);
     acceptor.register(poll.registry(), LISTENER)?;
     host.ready(rt);
+    go_round(rt, &mut poll, &mut events, &mut acceptor, clock, host)
+}
+
+/// Goes round over what was made for it.
+fn go_round<R: Net + Wait, C, H: Rounds<R, C>>(
+    rt: &R,
+    poll: &mut Poll,
+    events: &mut Events,
+    acceptor: &mut Acceptor,
+    clock: &mut C,
+    host: &mut H,
+) -> Result<(), ServeError> {
     for _ in rt.forever() {
         let patience = host.before(rt, poll.registry(), acceptor.backlog());
-        poll.poll(&mut events, patience)?;
+        poll.poll(events, patience)?;
         host.begin(rt, clock);
-        for event in events.iter() {
-            if event.token() == LISTENER {
-                acceptor.note();
-            } else {
-                host.wake(event);
-            }
-        }
+        wake_all::<R, C, H>(events, acceptor, host);
         host.carry_on(poll.registry());
-        let_in::<R, C, H>(rt, poll.registry(), &mut acceptor, host);
+        let_in::<R, C, H>(rt, poll.registry(), acceptor, host);
         host.finish(rt, acceptor.accepted());
         if let Some(error) = host.failed() {
             return Err(error);
@@ -99,6 +105,18 @@ pub fn serve_rounds<R: Net + Wait, C, H: Rounds<R, C>>(
         }
     }
     unreachable!()
+}
+
+/// Does what the events of a round ask for.
+#[inline(always)]
+fn wake_all<R, C, H: Rounds<R, C>>(events: &Events, acceptor: &mut Acceptor, host: &mut H) {
+    for event in events.iter() {
+        if event.token() == LISTENER {
+            acceptor.note();
+        } else {
+            host.wake(event);
+        }
+    }
 }
 
 /// Lets clients in until none waits, or as many as a round lets in.

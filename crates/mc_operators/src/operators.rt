@@ -1,5 +1,6 @@
 //! The listener of operators, and their connections.
-ghost use Rattle.std.specs.Prelude.{◌<◌, vec_len};
+ghost use Rattle.std.specs.Prelude.{◌≡◌, ◌<◌, ◌-◌, option_map, vec_len};
+ghost use Rattle.mc_operators.specs.Listings.{first_listing, listed_by, next_listing};
 
 use crate::budgets::Budget;
 use crate::seats::{QUIET, Seat};
@@ -62,12 +63,12 @@ impl Operators {
         let place = admin.listen.unwrap_or("");
         Ok(Operators {
             alloc,
-            acceptor: acceptor_at(rt, admin)?,
-            registered: admin.listen.is_none(),
             listen: Vec::from_slice(alloc, host_of(place.as_bytes()))?,
             name: Vec::from_slice(alloc, admin.name.as_bytes())?,
-            seats: Slab::with_capacity(alloc, MAX_OPERATORS)?,
             piece: Vec::from_elem(alloc, 0, REQUEST_LIMIT)?,
+            seats: Slab::with_capacity(alloc, MAX_OPERATORS)?,
+            acceptor: acceptor_at(rt, admin)?,
+            registered: admin.listen.is_none(),
             budget: Budget::new(),
             second: 0,
             stirred: false,
@@ -232,12 +233,30 @@ impl Operators {
 
     /// From which place on clients are to be listed for this round, if a connection has asked who is connected: one a round, each in turn.
     /// What `serve` is given next is for it alone.
-    pub fn listing(&mut self) -> Option<usize> {
+    pub fn listing(&mut self) -> Option<usize>
+        ensures from { result ≡ option_map (λ found. found.1) (next_listing self.old.seats self.old.listed) }
+        ensures rest { self.new ≡ record self.old { listed = listed_by (next_listing self.old.seats self.old.listed) self.old.listed } }
+    {
         let after = self.listed.saturating_add(1);
-        for key in (after..MAX_OPERATORS).chain(0..after) {
-            if let Some(from) = self.seats.get(key).and_then(|seat| seat.listing()) {
-                self.listed = key;
-                return Some(from);
+        let (key, from) = match self.listing_in(after, MAX_OPERATORS) {
+            Some(found) => found,
+            None => self.listing_in(0, after)?,
+        };
+        self.listed = key;
+        Some(from)
+    }
+
+    /// The first connection from a key on, and before another, that has asked who is connected: its key, and from which place on.
+    #[tactic(auto, using(crate::proofs::ListingLemmas::first_next))]
+    fn listing_in(&self, first: usize, end: usize) -> Option<(usize, usize)>
+        ensures { result ≡ first_listing self.now.seats first (end - first) }
+    {
+        for key in first..end {
+            let Some(seat) = self.seats.get(key) else {
+                continue;
+            };
+            if let Some(from) = seat.listing() {
+                return Some((key, from));
             }
         }
         None

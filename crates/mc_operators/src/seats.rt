@@ -1,5 +1,6 @@
 //! The connection of an operator.
-ghost use Rattle.std.specs.Prelude.{◌<◌, length};
+ghost use Rattle.std.specs.Prelude.{◌≡◌, ◌<◌, length};
+ghost use Rattle.mc_operators.specs.Listings.{listing_of};
 
 use crate::budgets::Budget;
 use mc_admin::{AdminError, Asked, Hosts, REQUEST_LIMIT, Sheet, Talk};
@@ -85,7 +86,9 @@ impl Seat {
     }
 
     /// From which place on clients are to be listed to it, if it has asked who is connected and all before was sent.
-    pub fn listing(&self) -> Option<usize> {
+    pub fn listing(&self) -> Option<usize>
+        ensures { result ≡ listing_of self.now }
+    {
         if self.stirred && self.talk.output().is_empty() {
             self.listing
         } else {

@@ -38,7 +38,7 @@ pub enum ServeError {
     /// 2: no memory to start with. Once a program serves, want of memory closes a stream, and does not end the program.
     #[error("out of memory")]
     Memory,
-    /// 3: a server that serves was refused memory for that many seconds, each time that it needed any, and is to end then.
+    /// 3: calls of a server were refused memory for that many seconds in which it stored no item, and it is to end then.
     #[error("out of memory for {0} seconds")]
     MemoryFor(u64),
 }

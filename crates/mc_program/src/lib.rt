@@ -4,7 +4,7 @@
 //! others. [`size_within`] reads a number of bytes. [`Terms`] are what the words say of all clients, [`AdminTerms`] what they say of
 //! operators ([`admin`], [`admin_name`]), and [`VERSION`] is what `--version` prints. [`ServeError`] is why a program cannot serve, and
 //! [`ListenError`] why it cannot listen. [`is_read`] says whether its operator reads standard error. [`Logged`] is a runtime whose lines on
-//! standard error have the [`Form`] that the words ask for ([`log`], [`Asked`]).
+//! standard error have the [`Form`] that the words ask for ([`log`], [`LogOption`]), and by [`EprintSeldom`] say how many like them were suppressed.
 //!
 //! The exit status is 0 where the program came to its end, or the words ask for the version. Else it is 1 where standard output cannot
 //! be written, 2 where the words are refused (those that ask for help among them), 3 where it cannot listen, and 4 where there was no
@@ -27,7 +27,7 @@ mod words;
 pub use admins::{AdminTerms, admin, admin_name};
 pub use errors::{ListenError, ServeError};
 pub use failures::{Failure, exit_status};
-pub use logs::{Asked, Form, Logged, Spelling, form_by, spelling_of};
+pub use logs::{EprintSeldom, Form, LogOption, Logged, Spelling, form_by, spelling_of};
 pub use operators::is_read;
 pub use options::{accept, flag, idle, listen, log, number, report, size};
 pub use sizes::size_within;

@@ -9,10 +9,10 @@ use std::fmt::{Display, Formatter};
 use std::rt::{Clock, Env};
 use std::{fmt, io};
 
-/// What the words ask for of a program's lines.
+/// The option `--log`, by which the words say the form of a program's lines.
 #[derive(Clone, Copy, Debug, PartialEq, Eq)]
-pub enum Asked {
-    /// Nothing.
+pub enum LogOption {
+    /// It is not there.
     Nothing,
     /// Lines for a file: `--log`.
     Text,
@@ -20,29 +20,29 @@ pub enum Asked {
     Json,
 }
 
-impl Asked {
-    /// What matches ask for.
-    pub fn of(matches: &ArgMatches<'_>) -> Asked {
+impl LogOption {
+    /// The option of matches.
+    pub fn of(matches: &ArgMatches<'_>) -> LogOption {
         match matches.get_str("log") {
-            None => Asked::Nothing,
-            Some("json") => Asked::Json,
-            Some(_) => Asked::Text,
+            None => LogOption::Nothing,
+            Some("json") => LogOption::Json,
+            Some(_) => LogOption::Text,
         }
     }
 
-    /// Whether they ask for anything.
+    /// Whether it is there.
     pub fn is_any(self) -> bool {
-        self != Asked::Nothing
+        self != LogOption::Nothing
     }
 }
 
 /// What is not at its default, as it is printed behind other settings.
-impl Display for Asked {
+impl Display for LogOption {
     fn fmt<W: fmt::Write>(&self, f: &mut Formatter<W>) -> fmt::Result {
         match self {
-            Asked::Nothing => Ok(()),
-            Asked::Text => f.write_str(" log"),
-            Asked::Json => f.write_str(" log json"),
+            LogOption::Nothing => Ok(()),
+            LogOption::Text => f.write_str(" log"),
+            LogOption::Json => f.write_str(" log json"),
         }
     }
 }
@@ -50,23 +50,30 @@ impl Display for Asked {
 /// How a program writes what happens, each on a line.
 #[derive(Clone, Copy, Debug, PartialEq, Eq)]
 pub enum Form {
-    /// `<program>: <text>`.
+    /// `<program>: <text>`, and behind it ` (<n> suppressed)` if any such lines were.
     Plain,
-    /// `<time> <program>: <text>`, with the time in UTC.
+    /// `<time> <program>: <text>`, with the time in UTC, and the same behind it.
     Timed,
-    /// `{"time":"<time>","program":"<program>","text":"<text>"}`.
+    /// `{"time":"<time>","program":"<program>","text":"<text>"}`, with `,"suppressed":<n>` before the brace if any such lines were.
     Json,
 }
 
-/// The form that words ask for. A terminal, and systemd's journal, show lines as they are said: the journal has their times.
-pub fn form_by(asked: Asked, is_shown: bool) -> Form
-    ensures { result ≡ form_by asked is_shown }
+/// The form that the option asks for. A terminal, and systemd's journal, show lines as they are said: the journal has their times.
+pub fn form_by(option: LogOption, is_shown: bool) -> Form
+    ensures { result ≡ form_by option is_shown }
 {
-    match asked {
-        Asked::Text if !is_shown => Form::Timed,
-        Asked::Json => Form::Json,
-        Asked::Text | Asked::Nothing => Form::Plain,
+    match option {
+        LogOption::Text if !is_shown => Form::Timed,
+        LogOption::Json => Form::Json,
+        LogOption::Text | LogOption::Nothing => Form::Plain,
     }
+}
+
+/// Standard error on which a line of which at most one comes in a second says how many were suppressed since the one before.
+pub trait EprintSeldom: Eprint {
+    /// Writes a line, and how many such lines were suppressed since the last one. The line begins with the program's name, a colon and a
+    /// space.
+    fn eprintln_seldom<D: Display + Drop>(&self, line: D, suppressed: u64) -> io::Result<()>;
 }
 
 /// A runtime whose standard error has each line in a form. All else is as it is of the runtime within.
@@ -80,9 +87,9 @@ pub struct Logged<R> {
 }
 
 impl<R: Env + AllocGlobal> Logged<R> {
-    /// A runtime whose lines have the form that words of a program ask for.
-    pub fn new(rt: R, program: &'static str, asked: Asked) -> Logged<R> {
-        let form = form_by(asked, is_read(&rt, false));
+    /// A runtime whose lines have the form that a program's option asks for.
+    pub fn new(rt: R, program: &'static str, option: LogOption) -> Logged<R> {
+        let form = form_by(option, is_read(&rt, false));
         Logged { rt, program, form }
     }
 }
@@ -96,11 +103,18 @@ impl<R: Eprint + Clock> Eprint for Logged<R> {
         if self.form == Form::Plain {
             return self.rt.eprintln(value);
         }
+        self.eprintln_seldom(value, 0)
+    }
+}
+
+impl<R: Eprint + Clock> EprintSeldom for Logged<R> {
+    fn eprintln_seldom<D: Display + Drop>(&self, line: D, suppressed: u64) -> io::Result<()> {
         let event = Event {
             form: self.form,
             time: self.time(),
             program: self.program,
-            line: value,
+            line,
+            suppressed: Suppressed(suppressed),
         };
         self.rt.eprintln(event)
     }
@@ -116,6 +130,19 @@ impl<R: Clock> Logged<R> {
     }
 }
 
+/// How many lines were suppressed, as it is said behind a line; of none nothing is said.
+#[derive(Clone, Copy, Debug)]
+struct Suppressed(u64);
+
+impl Display for Suppressed {
+    fn fmt<W: fmt::Write>(&self, f: &mut Formatter<W>) -> fmt::Result {
+        match self.0 {
+            0 => Ok(()),
+            count => write!(f, " ({count} suppressed)"),
+        }
+    }
+}
+
 /// A line with its time.
 #[derive(Drop)]
 struct Event<D> {
@@ -124,19 +151,18 @@ struct Event<D> {
     program: &'static str,
     /// The program's name, a colon, a space and the text.
     line: D,
+    suppressed: Suppressed,
 }
 
-impl<D: Display + Drop> Display for Event<D> {
-    fn fmt<W: fmt::Write>(&self, f: &mut Formatter<W>) -> fmt::Result {
+impl<D: Display + Drop> Event<D> {
+    /// Writes it as an object of JSON.
+    fn write_json<W: fmt::Write>(&self, f: &mut Formatter<W>) -> fmt::Result {
         let Event {
-            form,
             time,
             program,
             line,
+            ..
         } = self;
-        if *form != Form::Json {
-            return write!(f, "{time} {line}");
-        }
         write!(
             f,
             "{{\"time\":\"{time}\",\"program\":\"{program}\",\"text\":\""
@@ -146,7 +172,21 @@ impl<D: Display + Drop> Display for Event<D> {
             passed: program.len().saturating_add(2),
         };
         fmt::Write::write(&mut quoted, line)?;
-        f.write_str("\"}")
+        match self.suppressed.0 {
+            0 => f.write_str("\"}"),
+            count => write!(f, "\",\"suppressed\":{count}}}"),
+        }
+    }
+}
+
+impl<D: Display + Drop> Display for Event<D> {
+    fn fmt<W: fmt::Write>(&self, f: &mut Formatter<W>) -> fmt::Result {
+        let (time, line, suppressed) = (&self.time, &self.line, &self.suppressed);
+        match self.form {
+            Form::Plain => write!(f, "{line}{suppressed}"),
+            Form::Timed => write!(f, "{time} {line}{suppressed}"),
+            Form::Json => self.write_json(f),
+        }
     }
 }
 

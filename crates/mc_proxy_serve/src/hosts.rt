@@ -14,7 +14,7 @@ use crate::settings::ProxySettings;
 use crate::woken::Woken;
 use mc_clients::{Clients, Listed, Owed, Report, Room, Rounds, patience};
 use mc_operators::{Operators, process_number, resident_memory, wall_clock};
-use mc_program::ServeError;
+use mc_program::{EprintSeldom, ServeError};
 use mc_proxy::MAX_SESSIONS;
 use mc_ring::{Ring, SERVER_LIMIT};
 use mc_socket::{Backlog, Stopwatch};
@@ -298,7 +298,7 @@ impl<'a> Host<'a> {
     }
 }
 
-impl<'a, R: Net + Clock + Files + Eprint> Rounds<R, Stopwatch> for Host<'a> {
+impl<'a, R: Net + Clock + Files + EprintSeldom> Rounds<R, Stopwatch> for Host<'a> {
     /// Follows the list of servers, tries the upstreams that are down where it is time for them, and says what is new of the servers, of
     /// each at most once in a second.
     fn before(&mut self, rt: &R, registry: &Registry, backlog: Backlog) -> Option<Duration> {

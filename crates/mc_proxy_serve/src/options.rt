@@ -9,8 +9,8 @@ use crate::settings::ProxySettings;
 use clap::builder::ValueParser;
 use clap::{Arg, ArgMatches, Command};
 use mc_program::{
-    AdminTerms, Asked, Terms, VERSION, accept, admin, admin_name, flag, idle, listen, log, number,
-    report, size, size_within,
+    AdminTerms, LogOption, Terms, VERSION, accept, admin, admin_name, flag, idle, listen, log,
+    number, report, size, size_within,
 };
 use mc_ring::{Ring, RingError};
 use std::alloc::{AllocError, Global};
@@ -33,7 +33,7 @@ pub struct Options<'a> {
     /// What to serve with.
     pub settings: ProxySettings,
     /// In which form its operator is told on standard error what happens.
-    pub log: Asked,
+    pub log: LogOption,
     /// Where operators are answered.
     pub admin: AdminTerms<'a>,
     /// Whether to print how many servers and points there are, and end.
@@ -111,7 +111,7 @@ impl<'a> Options<'a> {
                 list: owned(alloc, list)?,
                 join,
             },
-            log: Asked::of(matches),
+            log: LogOption::of(matches),
             admin: AdminTerms::of(matches),
             check: matches.get_flag("check"),
         })

@@ -6,7 +6,7 @@ use crate::resolving::begin_lookups;
 use crate::settings::ProxySettings;
 use mc_clients::serve_rounds;
 use mc_operators::Operators;
-use mc_program::ServeError;
+use mc_program::{EprintSeldom, ServeError};
 use mc_ring::Ring;
 use mc_socket::Stopwatch;
 use mio::net::TcpListener;
@@ -41,7 +41,7 @@ pub fn serve<S, R>(
 where
     S: Net<Listener = net::TcpListener, Stream = net::TcpStream>,
     S: Threads + Wait + Copy + Send + 'static,
-    R: Net + Clock + Files + RandomSource + Wait + Eprint,
+    R: Net + Clock + Files + RandomSource + Wait + EprintSeldom,
 {
     if !settings.may_look_up() {
         return serve_with(rt, alloc, listener, settings, operators, ring, None);
@@ -54,7 +54,7 @@ where
 }
 
 /// The same, with what looks hosts up.
-fn serve_with<R: Net + Clock + Files + RandomSource + Wait + Eprint>(
+fn serve_with<R: Net + Clock + Files + RandomSource + Wait + EprintSeldom>(
     rt: &R,
     alloc: Global,
     listener: TcpListener,

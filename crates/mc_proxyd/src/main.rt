@@ -9,7 +9,9 @@ ghost use Rattle.std.specs.Prelude.{◌≡◌};
 ghost use Rattle.mc_program.specs.Statuses.{status_of};
 
 use clap::ArgMatches;
-use mc_program::{Asked, Failure, Logged, ServeError, exit_status, is_read, read_words};
+use mc_program::{
+    EprintSeldom, Failure, LogOption, Logged, ServeError, exit_status, is_read, read_words,
+};
 use mc_proxy::MAX_SESSIONS;
 use mc_proxy_serve::{
     ListError, Mistake, Operators, Options, PROGRAM, ProxySettings, command, other_files, serve,
@@ -27,16 +29,16 @@ use std::sync::Wait;
 use std::thread::Threads;
 
 fn main(rt: HostRuntime) -> ExitCode {
-    let mut asked = Asked::Nothing;
-    let served = run(&rt, &mut asked);
+    let mut option = LogOption::Nothing;
+    let served = run(&rt, &mut option);
     if let Err(failure) = &served {
-        failure.tell(&Logged::new(&rt, PROGRAM, asked), PROGRAM);
+        failure.tell(&Logged::new(&rt, PROGRAM, option), PROGRAM);
     }
     ExitCode::from(exit_status(&served))
 }
 
 /// Reads the words, says in which form they ask for lines, and then prints how large the ring is, or serves.
-fn run<R>(rt: &R, asked: &mut Asked) -> Result<(), Failure>
+fn run<R>(rt: &R, option: &mut LogOption) -> Result<(), Failure>
 where
     R: Net<Listener = TcpListener, Stream = TcpStream>,
     R: Env + Clock + Files + Print + Eprint + RandomSource + Wait + Threads + AllocGlobal,
@@ -45,7 +47,7 @@ where
     let alloc = rt.alloc();
     let words = read_words(rt)?;
     let matches = command(alloc)?.try_get_matches_from(words.as_slice())?;
-    *asked = Asked::of(&matches);
+    *option = LogOption::of(&matches);
     let Options {
         listen,
         ring,
@@ -83,7 +85,7 @@ fn listen_and_serve<S, R>(
 where
     S: Net<Listener = TcpListener, Stream = TcpStream>,
     S: Threads + Wait + Copy + Send + 'static,
-    R: Clock + Files + Print + Eprint + Net + RandomSource + Wait,
+    R: Clock + Files + Print + EprintSeldom + Net + RandomSource + Wait,
 {
     let listener = bind(rt, listen)?;
     let others = other_files(ring.servers().len(), settings).saturating_add(operators.files());
@@ -104,7 +106,7 @@ fn refusal_of<R: Env + Clock + Eprint + AllocGlobal>(
     error: ListError,
 ) -> Failure {
     if let (ListError::File(mistake), Some(path)) = (error, matches.get_str("servers")) {
-        let rt = &Logged::new(rt, PROGRAM, Asked::of(matches));
+        let rt = &Logged::new(rt, PROGRAM, LogOption::of(matches));
         // Where it cannot be said, the status says that the list is bad.
         let _ = eprintln!(rt; "{PROGRAM}: {path}: {mistake}");
     }

@@ -1,4 +1,5 @@
 //! What a store has done.
+ghost use Rattle.std.specs.Prelude.{◌≡◌};
 
 use crate::refusals::Refusals;
 use mc_admin::StoreFigures;
@@ -8,6 +9,9 @@ use std::fmt::{Display, Formatter};
 
 /// What a store has done since it was made, as far as its operator asks, and how often memory was refused. Whoever holds it sets the
 /// moment, by which an item is dead or not. Each number begins again at 0 after 2^64 - 1.
+///
+/// The numbers are in cells, since a store and its host hold them both. No clause sees what a cell holds: that each call counts, and that
+/// [`figures`](Counts::figures) has each number under its name, tests show.
 #[derive(Drop)]
 pub struct Counts {
     moment: Cell<u64>,
@@ -96,7 +100,10 @@ impl Counts {
     }
 
     /// What the store has done and holds, where it may hold so much.
-    pub fn figures(&self, budget: u64, most: usize) -> StoreFigures {
+    pub fn figures(&self, budget: u64, most: usize) -> StoreFigures
+        ensures budget { result.budget ≡ budget }
+        ensures most { result.most ≡ most }
+    {
         let (items, used) = self.held();
         StoreFigures {
             hits: self.hits.get(),

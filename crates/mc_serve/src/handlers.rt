@@ -7,11 +7,12 @@ use crate::counts::Counts;
 use crate::options::PROGRAM;
 use crate::sides::{Received, Sent};
 use mc_clients::{Client, Guard, Handler};
+use mc_program::EprintSeldom;
 use mc_pump::{Pumped, Watch, pump};
 use mc_server::{AnswerLimit, Server, ServerError};
 use mc_socket::{Input, PIECE_LEN, Step, step_after};
 use mc_store::Store;
-use mc_watch::{Seldom, Tally};
+use mc_watch::{Said, Seldom, Tally};
 use std::alloc::{AllocError, Global};
 use std::mem;
 use std::rc::Rc;
@@ -27,7 +28,7 @@ pub struct ServerHandler<S: Store + Drop> {
     /// How large an answer may be, and what passed of all clients.
     watch: Watch,
     /// What is to be said of a request whose answer may be too large: how many bytes it might have.
-    too_large: Seldom,
+    too_large: Seldom<u64>,
     ghost reads: { 0 < vec_len piece },
 }
 
@@ -57,13 +58,15 @@ impl<S: Store + Drop> ServerHandler<S> {
         }
     }
 
-    /// Says on standard error, at most once in a second, that a request was refused whose answer may be too large.
-    pub fn tell<R: Eprint>(&mut self, rt: &R, moment: u64) {
-        if let Some(bytes) = self.too_large.take(moment) {
-            // Where it cannot be said, all are served all the same.
-            let _ = eprintln!(rt;
-                "{PROGRAM}: request refused: its answer may have more than {bytes} bytes"
+    /// Says on standard error, at most once in a second, that a request was refused whose answer may be too large, and how often that was
+    /// suppressed before.
+    pub fn tell<R: EprintSeldom>(&mut self, rt: &R, moment: u64) {
+        if let Some(Said { what, suppressed }) = self.too_large.take(moment) {
+            let line = format_args!(
+                "{PROGRAM}: request refused: its answer may have more than {what} bytes"
             );
+            // Where it cannot be said, all are served all the same.
+            let _ = rt.eprintln_seldom(line, suppressed);
         }
     }
 }
@@ -79,6 +82,10 @@ impl<S: Store + Drop> Handler<()> for ServerHandler<S> {
                 None
             }
         }
+    }
+
+    fn note_refused(&mut self) {
+        self.counts.refuse(1);
     }
 
     fn end(&mut self, number: u64) {

@@ -10,7 +10,7 @@ use crate::options::PROGRAM;
 use crate::settings::Settings;
 use mc_clients::{Clients, Handler, Listed, Owed, Report, Room, Rounds, patience};
 use mc_operators::Operators;
-use mc_program::ServeError;
+use mc_program::{EprintSeldom, ServeError};
 use mc_server::{MAX_CONNECTIONS, Server};
 use mc_socket::Backlog;
 use mc_store::Store;
@@ -203,7 +203,7 @@ impl<'a, S: Store + Drop> Host<'a, S> {
     }
 }
 
-impl<R: Print + Eprint + Files, C: Seconds, S: Store + Drop> Rounds<R, C> for Host<'_, S> {
+impl<R: Print + EprintSeldom + Files, C: Seconds, S: Store + Drop> Rounds<R, C> for Host<'_, S> {
     fn ready(&mut self, rt: &R) {
         // Whom the line does not reach is served all the same.
         let _ = println!(rt; "listening {}", self.listen);

@@ -8,8 +8,8 @@ use clap::builder::ValueParser;
 use clap::{Arg, ArgMatches, Command};
 use mc_cache::MAX_BUDGET;
 use mc_program::{
-    AdminTerms, Asked, Terms, VERSION, accept, admin, admin_name, flag, idle, listen, log, number,
-    report, size, size_within,
+    AdminTerms, LogOption, Terms, VERSION, accept, admin, admin_name, flag, idle, listen, log,
+    number, report, size, size_within,
 };
 use std::alloc::{AllocError, Global};
 use std::fmt;
@@ -44,7 +44,7 @@ pub struct Options<'a> {
     /// What to serve with.
     pub settings: Settings,
     /// In which form its operator is told on standard error what happens.
-    pub log: Asked,
+    pub log: LogOption,
     /// Where operators are answered.
     pub admin: AdminTerms<'a>,
     /// Whether to print the settings and end.
@@ -72,7 +72,7 @@ impl<'a> Options<'a> {
         Ok(Options {
             listen: word_of(matches, "listen"),
             settings: settings.ok_or(BAD_BUDGET)?,
-            log: Asked::of(matches),
+            log: LogOption::of(matches),
             admin,
             check: matches.get_flag("check"),
         })

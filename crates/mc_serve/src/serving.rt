@@ -17,7 +17,7 @@ use mc_clients::serve_rounds;
 use mc_hasher::SecretState;
 use mc_item::CasCounter;
 use mc_operators::Operators;
-use mc_program::{ListenError, ServeError};
+use mc_program::{EprintSeldom, ListenError, ServeError};
 use mc_server::Server;
 use mc_store::{LruStore, TableStore};
 use mio::net::TcpListener;
@@ -41,7 +41,7 @@ const NO_SEED: ServeError = ServeError::Listen(ListenError::NoSeed);
 /// limit it serves for ever, unless the settings say after how many seconds without memory it ends. A connection that fails is closed, and
 /// the others go on. A round of the poll reads the clock once. Operators are served at the end of a round, by what the server has done. What
 /// is said on standard error waits for whoever reads it; where it fails nothing else changes.
-pub fn serve<R: Net + RandomSource + Wait + Files + Print + Eprint, C: Seconds>(
+pub fn serve<R: Net + RandomSource + Wait + Files + Print + EprintSeldom, C: Seconds>(
     rt: &R,
     alloc: Global,
     listen: &str,

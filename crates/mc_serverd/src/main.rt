@@ -4,7 +4,9 @@
 //! that of [`mc_program`]. The words are read first, then `--check` is obeyed, then it listens.
 #![tactic(auto)]
 
-use mc_program::{Asked, Failure, Logged, ServeError, exit_status, is_read, read_words};
+use mc_program::{
+    EprintSeldom, Failure, LogOption, Logged, ServeError, exit_status, is_read, read_words,
+};
 use mc_serve::{
     Operators, Options, PROGRAM, SystemSeconds, bind, command, other_files, serve, tell_memory,
 };
@@ -19,23 +21,23 @@ use std::rt::{Clock, Env};
 use std::sync::Wait;
 
 fn main(rt: HostRuntime) -> ExitCode {
-    let mut asked = Asked::Nothing;
-    let served = run(&rt, &mut asked);
+    let mut option = LogOption::Nothing;
+    let served = run(&rt, &mut option);
     if let Err(failure) = &served {
-        failure.tell(&Logged::new(&rt, PROGRAM, asked), PROGRAM);
+        failure.tell(&Logged::new(&rt, PROGRAM, option), PROGRAM);
     }
     ExitCode::from(exit_status(&served))
 }
 
 /// Reads the words, says in which form they ask for lines, and then prints the settings or serves.
-fn run<R>(rt: &R, asked: &mut Asked) -> Result<(), Failure>
+fn run<R>(rt: &R, option: &mut LogOption) -> Result<(), Failure>
 where
     R: Env + Clock + Files + Print + Eprint + Net + RandomSource + Wait + AllocGlobal,
 {
     let alloc = rt.alloc();
     let words = read_words(rt)?;
     let matches = command(alloc)?.try_get_matches_from(words.as_slice())?;
-    *asked = Asked::of(&matches);
+    *option = LogOption::of(&matches);
     let options = Options::of(&matches).map_err(Failure::Refused)?;
     if options.check {
         return check(rt, &options);
@@ -61,7 +63,7 @@ fn listen_and_serve<R>(
     is_read: bool,
 ) -> Result<(), ServeError>
 where
-    R: Clock + Files + Print + Eprint + Net + RandomSource + Wait + AllocGlobal,
+    R: Clock + Files + Print + EprintSeldom + Net + RandomSource + Wait + AllocGlobal,
 {
     let listener = bind(rt, options.listen)?;
     if is_read {

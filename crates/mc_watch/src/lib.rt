@@ -2,7 +2,7 @@
 //!
 //! A [`Tally`] counts what passed. [`open_files`] asks the system how many files and sockets may be open at a time, and [`served`]
 //! says how many connections that leaves; [`tell_open_files`] says so to the operator where it may be too few. A [`Pace`] says when something is due that comes once in so many seconds, and a
-//! [`Seldom`] keeps what is said to once in a second. [`earlier`] is the earlier of two moments that may be there.
+//! [`Seldom`] keeps what is said to once in a second, and counts what it suppresses. [`earlier`] is the earlier of two moments that may be there.
 //!
 //! Nothing here waits, allocates or knows a socket.
 #![tactic(auto)]
@@ -12,5 +12,5 @@ mod paces;
 mod tallies;
 
 pub use descriptors::{OWN_FILES, open_files, served, tell_open_files};
-pub use paces::{Pace, Seldom, earlier};
+pub use paces::{Pace, Said, Seldom, earlier};
 pub use tallies::Tally;

@@ -1,7 +1,9 @@
 //! When something is said.
 ghost use Rattle.std.specs.Prelude.{◌≡◌, ◌≢◌, ◌≤◌, ◌<◌, ◌↔◌, ◌-◌, None, Some, min, IfNone, IsTrue, OnSome};
 ghost use Rattle.std.specs.Bool.{OnTrue, OnFalse};
-ghost use Rattle.mc_watch.specs.Paces.{earlier, next_of};
+ghost use Rattle.mc_watch.specs.Paces.{earlier, next_of, one_more, said_of, suppressed_with};
+
+use std::mem;
 
 /// When something is due that comes once in so many seconds.
 #[derive(Clone, Copy, Debug)]
@@ -49,51 +51,67 @@ impl Pace {
     }
 }
 
-/// What is to be said, of which no more than one is said in a second: what comes between two that are said is left out.
+/// What is to be said, of which no more than one is said in a second. What comes between two that are said is suppressed, and the next one
+/// that is said has how many these are.
 #[derive(Clone, Copy, Debug)]
-pub struct Seldom {
+pub struct Seldom<T> {
     /// What is to be said: the first that came since the last look.
-    pub what: Option<u64>,
+    pub what: Option<T>,
     /// In which second something was said last.
     pub second: Option<u64>,
+    /// How many were suppressed since then; 2^64 - 1 also if there were more.
+    pub suppressed: u64,
 }
 
-impl Seldom {
+/// What is said, and how many were suppressed since something was said last.
+#[derive(Clone, Copy, Debug)]
+pub struct Said<T> {
+    /// What is said.
+    pub what: T,
+    /// How many were suppressed; 2^64 - 1 also if there were more.
+    pub suppressed: u64,
+}
+
+impl<T: Copy> Seldom<T> {
     /// Nothing was said, and nothing is to be said.
-    pub fn new() -> Seldom
-        ensures { result ≡ record { what = None; second = None } }
+    pub fn new() -> Seldom<T>
+        ensures { result ≡ record { what = None; second = None; suppressed = 0 } }
     {
         Seldom {
             what: None,
             second: None,
+            suppressed: 0,
         }
     }
 
-    /// Notes what is to be said, where nothing is yet.
-    pub fn note(&mut self, what: u64)
+    /// Notes what is to be said. If something is already, this is suppressed.
+    pub fn note(&mut self, what: T)
         ensures first { self.old.what ≡ None → self.new ≡ record self.old { what = Some what } }
-        ensures later { self.old.what ≢ None → self.new ≡ self.old }
+        ensures later { self.old.what ≢ None → self.new ≡ record self.old { suppressed = one_more self.old.suppressed } }
     {
-        if self.what.is_none() {
-            self.what = Some(what);
+        match self.what {
+            None => self.what = Some(what),
+            Some(_) => self.suppressed = self.suppressed.saturating_add(1),
         }
     }
 
-    /// What is said in a second: nothing where something was said in it before. What was to be said is then forgotten.
-    pub fn take(&mut self, second: u64) -> Option<u64>
+    /// What is said in a second. If something was said in it before, nothing is, and what was to be said is suppressed.
+    pub fn take(&mut self, second: u64) -> Option<Said<T>>
         ensures once { self.old.second ≡ Some second → result ≡ None }
-        ensures what { self.old.second ≢ Some second → result ≡ self.old.what }
-        ensures said { OnSome result (self.new ≡ record { what = None; second = Some second }) }
-        ensures silent { IfNone result (self.new.second ≡ self.old.second) }
-        ensures forgotten { self.new.what ≡ None }
+        ensures what { self.old.second ≢ Some second → result ≡ said_of self.old.what self.old.suppressed }
+        ensures said { OnSome result (self.new ≡ record { what = None; second = Some second; suppressed = 0 }) }
+        ensures silent { IfNone result (self.new
+            ≡ record self.old { what = None; suppressed = suppressed_with self.old.what self.old.suppressed }) }
     {
-        let what = self.what;
+        let what = self.what?;
         self.what = None;
-        if self.second == Some(second) || what.is_none() {
+        if self.second == Some(second) {
+            self.suppressed = self.suppressed.saturating_add(1);
             return None;
         }
         self.second = Some(second);
-        what
+        let suppressed = mem::replace(&mut self.suppressed, 0);
+        Some(Said { what, suppressed })
     }
 }
 
