@@ -427,7 +427,7 @@ def suppressed_lines_are_counted(start, name):
                         want(answered_to(stranger, [b"\x80"]), b"")
                 time.sleep(1.1)
             while sum(1 + count for count, _ in lines) < 31:
-                lines += [suppressed_of(line, form) for line in lines_said(program)]
+                lines += [suppressed_of(line, form) for line in lines_said(program) if BINARY in line]
             want(sum(1 + count for count, _ in lines), 31)
             want(lines[0][0], 0)
             want(max(count for count, _ in lines) > 0, True)
