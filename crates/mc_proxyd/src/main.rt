@@ -8,7 +8,6 @@
 ghost use Rattle.std.specs.Prelude.{◌≡◌};
 ghost use Rattle.mc_program.specs.Statuses.{status_of};
 
-use clap::ArgMatches;
 use mc_program::{Asked, Failure, Logged, ServeError, exit_status, is_read, read_words};
 use mc_proxy::MAX_SESSIONS;
 use mc_proxy_serve::{
@@ -46,6 +45,8 @@ where
     let words = read_words(rt)?;
     let matches = command(alloc)?.try_get_matches_from(words.as_slice())?;
     *asked = Asked::of(&matches);
+    let logged = Logged::new(rt, PROGRAM, *asked);
+    let list = matches.get_str("servers");
     let Options {
         listen,
         ring,
@@ -53,7 +54,7 @@ where
         log,
         admin,
         check,
-    } = Options::of(rt, alloc, &matches).map_err(|error| refusal_of(rt, &matches, error))?;
+    } = Options::of(rt, alloc, &matches).map_err(|error| refusal_of(&logged, list, error))?;
     admin.check().map_err(Failure::Refused)?;
     if check {
         return print_size(rt, &ring);
@@ -65,7 +66,6 @@ where
         admin.listen.unwrap_or(""),
         is_read,
     ))?;
-    let logged = Logged::new(rt, PROGRAM, log);
     let served = listen_and_serve(rt, &logged, alloc, listen, &settings, operators, ring);
     served.map_err(|error| Failure::at(rt, error, listen, is_read))
 }
@@ -97,14 +97,9 @@ where
 const BAD_HELD: &str =
     "invalid value for '--held <bytes>': neither in 1..=1099511627776 nor a number of K, M or G up to 1024G";
 
-/// How the program ends where the words name no pool. The mistake of a file is said beside it.
-fn refusal_of<R: Env + Clock + Eprint + AllocGlobal>(
-    rt: &R,
-    matches: &ArgMatches<'_>,
-    error: ListError,
-) -> Failure {
-    if let (ListError::File(mistake), Some(path)) = (error, matches.get_str("servers")) {
-        let rt = &Logged::new(rt, PROGRAM, Asked::of(matches));
+/// How the program ends where the words, or a file of this path, name no pool. The mistake of a file is said beside it.
+fn refusal_of<R: Eprint>(rt: &R, list: Option<&str>, error: ListError) -> Failure {
+    if let (ListError::File(mistake), Some(path)) = (error, list) {
         // Where it cannot be said, the status says that the list is bad.
         let _ = eprintln!(rt; "{PROGRAM}: {path}: {mistake}");
     }
