@@ -299,7 +299,7 @@ def what_cannot_be_read_changes_nothing():
         before = listed.proxy.processor_time()
         time.sleep(LOOKS)
         want_at_most(listed.proxy.processor_time() - before, 0.02)
-        want_at_most(listed.proxy.memory("VmHWM"), 100_000)
+        want_at_most(listed.proxy.memory("VmHWM"), 20_000_000)
         nothing_is_said(listed.proxy)
         listed.write(text)
         time.sleep(LOOKS)

@@ -26,10 +26,10 @@ from rings import Ring
 from servers import HOST, Proxy, Server
 
 TRY = 3  # seconds of a try, a look-up included
-PROMPT = 0.1  # seconds in which a client of a living server is answered
+PROMPT = 1  # seconds in which a client of a living server is answered, also on a busy machine
 OWN = 2  # threads of a proxy that may look names up: the loop's, and the one that begins look-ups
-FILES = {  # a look-up is sent each second, and fails after nine
-    "resolv.conf": "nameserver 127.0.0.1\noptions timeout:1 attempts:5\n",
+FILES = {  # a look-up is sent twice, and fails after ten seconds
+    "resolv.conf": "nameserver 127.0.0.1\noptions timeout:5 attempts:2\n",
     "nsswitch.conf": "hosts: files dns\n",
     "hosts": "127.0.0.1 localhost\n",
 }
@@ -45,10 +45,10 @@ def in_a_network_of_its_own(proxy, server):
 
 class NameServer:
     """Answers each look-up of a name in `known` by 127.0.0.1, as many seconds late as is said of it there, and one of a name in `unknown`
-    by NXDOMAIN. To all others it is silent."""
+    by NXDOMAIN. To all others it is silent, until the name is known."""
 
     def __init__(self):
-        self.known, self.unknown = {}, set()
+        self.known, self.unknown, self.unanswered = {}, set(), []
         self.socket = socket.socket(socket.AF_INET, socket.SOCK_DGRAM)
         self.socket.bind((HOST, 53))
         threading.Thread(target=self.serve, daemon=True).start()
@@ -60,12 +60,23 @@ class NameServer:
             while query[end]:
                 name.append(query[end + 1 : end + 1 + query[end]].decode())
                 end += 1 + query[end]
-            name, question = ".".join(name), query[12 : end + 5]
-            is_a = name in self.known and question[-4:] == struct.pack("!HH", 1, 1)
-            answer = struct.pack("!HHHIH", 0xC00C, 1, 1, 1, 4) + socket.inet_aton(HOST) if is_a else b""
-            head = query[:2] + struct.pack("!HHHHH", 0x8183 if name in self.unknown else 0x8180, 1, is_a, 0, 0)
-            if name in self.known or name in self.unknown:
-                threading.Timer(self.known.get(name, 0), self.socket.sendto, (head + question + answer, client)).start()
+            self.answer(".".join(name), query, query[12 : end + 5], client)
+
+    def know(self, name, seconds=0):
+        """Answers a name from now on, so late, and what was asked of it before."""
+        self.known[name] = seconds
+        unanswered, self.unanswered = self.unanswered, []
+        for each in unanswered:
+            self.answer(*each)
+
+    def answer(self, name, query, question, client):
+        if name not in self.known and name not in self.unknown:
+            self.unanswered.append((name, query, question, client))
+            return
+        is_a = name in self.known and question[-4:] == struct.pack("!HH", 1, 1)
+        address = struct.pack("!HHHIH", 0xC00C, 1, 1, 1, 4) + socket.inet_aton(HOST) if is_a else b""
+        head = query[:2] + struct.pack("!HHHHH", 0x8183 if name in self.unknown else 0x8180, 1, is_a, 0, 0)
+        threading.Timer(self.known.get(name, 0), self.socket.sendto, (head + question + address, client)).start()
 
 
 def threads_of(proxy):
@@ -100,7 +111,7 @@ def a_silent_name_holds_up_nobody():
             asked(client, b"get %s\r\n" % there, LOST)
             want(threads_of(proxy), OWN + 1)
             nothing_is_said(proxy)
-            NAMES.known["late.example"] = 0
+            NAMES.know("late.example")
             answered_in_time(client, b"get %s\r\n" % there, b"END\r\n", PATIENCE)
             is_said(proxy, f"{place} back")
             asked(client, *stored(there)[:2])
@@ -108,7 +119,7 @@ def a_silent_name_holds_up_nobody():
 
 
 def a_name_is_not_held_up_by_another():
-    NAMES.known["quick.example"] = 0
+    NAMES.know("quick.example")
     with Server(SERVER) as server:
         places = [f"silent.example:{server.port}", f"quick.example:{server.port}"]
         ring = Ring(places)
@@ -121,7 +132,7 @@ def a_name_is_not_held_up_by_another():
 
 
 def a_name_that_is_answered_holds_up_nobody_at_first():
-    NAMES.known["quick.example"] = 0
+    NAMES.know("quick.example")
     with Server(SERVER) as server:
         place = f"quick.example:{server.port}"
         begun = time.monotonic()
@@ -153,7 +164,7 @@ def the_end_does_not_wait_for_a_look_up():
 
 def a_slow_answer_is_in_time():
     """One that comes within the three seconds of a try: nothing is said."""
-    NAMES.known["slow.example"] = 2
+    NAMES.know("slow.example", 2)
     with Server(SERVER) as server:
         place = f"slow.example:{server.port}"
         with in_front([], [place]) as proxy, proxy.connected() as client:
@@ -163,7 +174,7 @@ def a_slow_answer_is_in_time():
 
 def an_answer_after_the_try_is_taken():
     """The next try has it, and asks no more."""
-    NAMES.known["slower.example"] = 4
+    NAMES.know("slower.example", 4)
     with Server(SERVER) as server:
         place = f"slower.example:{server.port}"
         with in_front([], [place]) as proxy, proxy.connected() as client:
@@ -181,7 +192,7 @@ def a_name_that_nobody_knows_is_refused_at_once():
         asked(client, b"get a\r\n", LOST)
         want_at_most(time.monotonic() - begun, 1)
         is_said(proxy, f"{place} refused: unknown host")
-        asked_promptly(client, b"a", 2, LOST)
+        time.sleep(3)
         want_at_most(proxy.processor_time(), 0.1)
 
 
@@ -226,7 +237,7 @@ def a_name_that_joins_holds_up_nobody():
 
 
 def the_server_of_join_may_have_a_name():
-    NAMES.known["quick.example"] = 0
+    NAMES.know("quick.example")
     with Server(SERVER) as one, Server(SERVER) as two:
         place = f"quick.example:{two.port}"
         ring = Ring([one.address, place])

@@ -1,5 +1,5 @@
 -- Words of a text's lines, taken from the front.
-use Rattle.std.proofs.Common.{◌≡◌, ◌<◌, ◌∷◌, ◌++◌, [], ◌∙◌, ℕ, List, length, map, ap, refl, sym, true, false, nat_lt, arith}
+use Rattle.std.proofs.Common.{◌≡◌, ◌<◌, ◌∷◌, ◌++◌, [], ◌∙◌, ℕ, List, length, map, ap, sym, true, false, nat_lt, arith}
 use Rattle.std.specs.List.{before_first, after_first, position_or_len, slice_split}
 use Rattle.std.specs.Prelude.{filter}
 use Rattle.std.proofs.lemmas.List.{append_assoc, append-nil, map-append}

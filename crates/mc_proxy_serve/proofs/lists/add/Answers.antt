@@ -1,4 +1,4 @@
-use Rattle.std.proofs.Common.{◌≡◌, ◌∙◌, ℕ, List, ap, map, true, nat_lt, length, arith}
+use Rattle.std.proofs.Common.{◌≡◌, true, nat_lt, length, arith}
 use Rattle.std.proofs.lemmas.Bool.Decides.{nat_tests}
 use Rattle.mc_proxy_serve.specs.Servers.{address_of, name_of}
 use Rattle.mc_proxy_serve.specs.declared.servers.Server.{Server}
