@@ -29,7 +29,7 @@ TRY = 3  # seconds of a try, a look-up included
 PROMPT = 1  # seconds in which a client of a living server is answered, also on a busy machine
 OWN = 2  # threads of a proxy that may look names up: the loop's, and the one that begins look-ups
 FILES = {  # a look-up is sent twice, and fails after ten seconds
-    "resolv.conf": "nameserver 127.0.0.1\noptions timeout:5 attempts:2\n",
+    "resolv.conf": "nameserver 127.0.0.1\nsearch .\noptions timeout:5 attempts:2\n",
     "nsswitch.conf": "hosts: files dns\n",
     "hosts": "127.0.0.1 localhost\n",
 }
@@ -38,7 +38,8 @@ FILES = {  # a look-up is sent twice, and fails after ten seconds
 def in_a_network_of_its_own(proxy, server):
     """Makes these checks where no name server of the machine is asked: as root of a user namespace, in namespaces of its own."""
     words = ["unshare", "--map-root-user", "--mount", "--net", sys.executable, __file__, proxy, server]
-    ended = subprocess.run(words, stdout=subprocess.PIPE, stderr=subprocess.STDOUT)
+    environment = {name: value for name, value in os.environ.items() if name not in ("LOCALDOMAIN", "RES_OPTIONS")}
+    ended = subprocess.run(words, env=environment, stdout=subprocess.PIPE, stderr=subprocess.STDOUT)
     if ended.returncode:
         raise Wrong(ended.stdout.decode())
 

@@ -12,7 +12,7 @@
 //! On standard error it says what becomes of its servers: a line `mc_proxyd: <server> <what>` where that is another than was said
 //! of the server last, and in each second at most one of each. Of a server that is there at first nothing is said.
 //!
-//! [`serve`] waits for its sockets, and may wait for ever; no other call does. What a socket or a file carries, what a look-up finds and
+//! [`serve`] waits for its sockets, and may wait for ever; it and [`Options::of`] wait for the file of servers. What a socket or a file carries, what a look-up finds and
 //! that a thread begins, no contract says.
 #![tactic(auto)]
 
