@@ -71,7 +71,13 @@ impl<'a> Host<'a> {
         random: u64,
     ) -> Result<Self, ServeError> {
         let pool = Pool::new(alloc, &ring, settings, lookups, random)?;
-        let others = other_files(ring.servers().len(), settings).saturating_add(operators.files());
+        let others = other_files(
+            ring.servers().len(),
+            settings.join.is_some(),
+            settings.list.is_some(),
+            settings.may_look_up(),
+        );
+        let others = others.saturating_add(operators.files());
         let listing = match &settings.list {
             Some(path) => {
                 let addresses = settings.addresses.as_slice();

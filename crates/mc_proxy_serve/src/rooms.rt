@@ -3,24 +3,13 @@ ghost use Rattle.std.specs.Prelude.{◌≡◌, ◌<◌, ◌^◌};
 ghost use Rattle.mc_proxy_serve.specs.Rooms.{files_beside};
 
 use crate::limits::{LISTING_FILES, WAKING_FILES};
-use crate::settings::ProxySettings;
 use mc_ring::SERVER_LIMIT;
 use mc_watch::OWN_FILES;
 
-/// How many files a proxy over that many servers has open at most beside its clients: its own, and the one by which look-ups wake it, if a
-/// server may have a host's name. Then a socket for each server, also for the one that joins, if one does; or, if a file lists the
-/// servers, that file and a socket for each of the most servers that a ring may have.
-pub fn other_files(servers: usize, settings: &ProxySettings) -> u64 {
-    files_beside(
-        servers,
-        settings.join.is_some(),
-        settings.list.is_some(),
-        settings.may_look_up(),
-    )
-}
-
-/// The same, by whether one server joins, whether a file lists them, and whether one may have a host's name.
-fn files_beside(servers: usize, joins: bool, listed: bool, named: bool) -> u64
+/// How many files a proxy over that many servers has open beside its clients: its own, and the one by which look-ups wake it, if a
+/// server may have a host's name (`named`). Then a socket for each server, also for the one that joins, if one does (`joins`); or, if a file
+/// lists the servers (`listed`), that file and a socket for each of the most servers that a ring may have.
+pub fn other_files(servers: usize, joins: bool, listed: bool, named: bool) -> u64
     ensures { servers < 2 ^ 63 → result ≡ files_beside servers joins listed named }
 {
     let waking = if named { WAKING_FILES } else { 0 };

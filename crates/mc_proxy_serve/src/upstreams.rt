@@ -360,7 +360,7 @@ impl Upstream {
     }
 
     /// Has its server be at another address from a moment on, at which it is tried. The connection to the old one is lost; the result says
-    /// whether there was one. The look-up of the old one is given up.
+    /// whether there was one. The look-up of the old one is given up, and no client waits for the first connection to the new one.
     pub fn relocate(
         &mut self,
         proxy: &mut Proxy,
@@ -379,6 +379,7 @@ impl Upstream {
         self.address = address;
         self.failures = 0;
         self.next = now;
+        self.tried = true;
         was_up
     }
 

@@ -88,7 +88,13 @@ where
     R: Clock + Files + Print + EprintSeldom + Net + RandomSource + Wait,
 {
     let listener = bind(rt, listen)?;
-    let others = other_files(ring.servers().len(), settings).saturating_add(operators.files());
+    let others = other_files(
+        ring.servers().len(),
+        settings.join.is_some(),
+        settings.list.is_some(),
+        settings.may_look_up(),
+    );
+    let others = others.saturating_add(operators.files());
     tell_open_files(rt, PROGRAM, others, MAX_SESSIONS);
     // Whom the line does not reach is served all the same.
     let _ = println!(rt; "listening {listen}");
