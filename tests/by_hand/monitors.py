@@ -4,7 +4,7 @@
 Usage: monitors.py SERVER [PROXY] [--plugins FOLDER]
 
 Debian's promtool (package prometheus) checks what /metrics shows, and memcstat (libmemcached-tools) asks for the statistics. Munin's plug-in
-memcached_ (munin-plugins-core, libcache-memcached-perl, libstring-crc32-perl) is run as munin would run it, and collectd (collectd-core)
+memcached_ (munin-plugins-extra, libcache-memcached-perl, libstring-crc32-perl) is run as munin would run it, and collectd (collectd-core)
 with its plug-in memcached. FOLDER is where packages were unpacked that are not installed. One that is missing is named and not counted.
 The last line is 'N passed, M failed'.
 """
