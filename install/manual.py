@@ -32,7 +32,8 @@ PAGES = {
         "a memcached proxy that makes one pool of several servers",
         "Serves clients of memcached's text protocol over up to 64 servers, each key by the server that libketama's ring names. "
         "It prints one line, 'listening <host>:<port>', and serves until it is ended. On standard error it says which servers "
-        "are refused, lost and back, and that open files allow no more clients. A server may have a name, by which keys are spread and "
+        "are refused, lost and back, and that open files allow no more clients. If a server is lost, requests for its keys get an error "
+        "line, or with --lost missed they miss. A server may have a name, by which keys are spread and "
         "it is told: <name>:<port>=<host>:<port>. With --servers they are lines of a file, which is looked at once a second: a line that is "
         "appended joins, and another address behind a name is taken over. '#' begins a comment. No server is taken out while it runs.",
         SERVES,

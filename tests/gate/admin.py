@@ -24,6 +24,7 @@ import time
 sys.path.insert(0, str(pathlib.Path(__file__).resolve().parents[1] / "lib"))
 
 from checks import PATIENCE, Program, Wrong, asked, is_served, received, received_to_the_end, tally, want, want_at_most
+from live_pool import LOST
 from servers import HOST, Proxy, Server, connected, free_port
 from suite import are_built
 
@@ -196,6 +197,19 @@ def a_proxy_shows_its_servers(program, proxy_program):
             lines = admin.told(b"stats\r\nquit\r\n").splitlines()
             for part, number in ((b"up", 0), (b"losses", 1), (b"sent", 1), (b"lost", 0), (b"waiting", 0)):
                 want(b"STAT server:%s:%s %d" % (address, part, number) in lines, True)
+
+
+def a_proxy_shows_its_choice(proxy_program):
+    """With `--lost missed` it shows the requests for a server that was down, and else none."""
+    for words, choice, missed in (([], b"told", None), (["--lost", "missed"], b"missed", b"1")):
+        port = free_port()
+        with Proxy(proxy_program, [f"{HOST}:{free_port()}"], ["--admin", f"{HOST}:{port}", *words]) as proxy, proxy.connected() as client:
+            asked(client, b"get a\r\n", b"END\r\n" if missed else LOST)
+            admin = Admin(port)
+            lines = admin.told(b"stats settings\r\nquit\r\n").splitlines()
+            want(b"STAT lost " + choice in lines, True)
+            shown = dict(line.rsplit(b" ", 1) for line in admin.got("/metrics")[2].splitlines())
+            want(shown.get(b"wiersbol_requests_missed_total"), missed)
 
 
 # Who is connected.
@@ -524,6 +538,7 @@ def checks_of(program, proxy_program):
     yield "an_address_that_is_none_is_told", an_address_that_is_none_is_told, (program,)
     yield "an_address_of_a_proxy_that_is_none_is_told", an_address_that_is_none_is_told, (proxy_program, "127.0.0.1:1")
     yield "a_proxy_shows_its_servers", a_proxy_shows_its_servers, (program, proxy_program)
+    yield "a_proxy_shows_its_choice", a_proxy_shows_its_choice, (proxy_program,)
     yield "a_proxy_lists_its_clients", a_proxy_lists_its_clients, (program, proxy_program)
 
 

@@ -5,7 +5,7 @@ Usage: chart.py SCRIPT PICTURE [--check] [--program PROGRAM]      (mc_sim, as it
 
 Clients are on the left, the proxy in the middle, servers on the right; time goes down. What the program says of each line (`--trace`)
 is drawn: bytes that move are arrows, what is done at one place is a dot with its words, a lost link is a red break. What travels on a
-lost generation of a link is dashed. A line that did nothing is grey. With --check nothing is written: it is seen that the picture is
+lost generation of a link is dashed. A line that did nothing is grey. If losses are missed, the proxy's column says so. With --check nothing is written: it is seen that the picture is
 what would be, and the last line is 'N passed, M failed'.
 """
 import argparse
@@ -19,6 +19,7 @@ sys.path.insert(0, str(pathlib.Path(__file__).resolve().parents[1] / "lib"))
 
 from suite import built, counted
 
+PROXIES = {"told": "proxy", "missed": "proxy, losses missed"}
 COLUMN, LEFT, TOP, ROW = 270, 130, 70, 34
 STYLE = """
 text { font: 13px 'DejaVu Sans Mono', Menlo, monospace; fill: #1b1f24 }
@@ -36,13 +37,14 @@ text { font: 13px 'DejaVu Sans Mono', Menlo, monospace; fill: #1b1f24 }
 
 
 def lines_of(script, program):
-    """The script's head, and of each later line its number, whether it did something, and its words."""
+    """The script's head and its choice for lost commands, and of each line of what comes whether it did something, and its words."""
     told = subprocess.run([program, "--trace"], input=script, capture_output=True)
     if told.returncode != 0:
         sys.exit(told.stderr.decode().strip() or f"chart.py: {program} failed")
-    head = next(line for line in script.decode("latin-1").split("\n") if line)
+    said = [line for line in script.decode("latin-1").split("\n") if line]
+    losses = "missed" if "losses missed" in said else "told"
     found = re.findall(r"^line (\d+): (done|nothing): (.*)$", told.stderr.decode("latin-1"), re.M)
-    return head.split(" "), [(verdict == "done", words) for _, verdict, words in found]
+    return said[0].split(" "), losses, [(verdict == "done", words) for _, verdict, words in found]
 
 
 def short(text, length=34):
@@ -50,9 +52,9 @@ def short(text, length=34):
 
 
 class Chart:
-    def __init__(self, servers, clients):
+    def __init__(self, servers, clients, losses):
         self.clients = clients
-        self.columns = [f"client {number}" for number in range(clients)] + ["proxy"] + [f"server {number}" for number in range(servers)]
+        self.columns = [f"client {number}" for number in range(clients)] + [PROXIES[losses]] + [f"server {number}" for number in range(servers)]
         self.generations = [1] * servers
         self.up = [True] * servers
         self.parts = []
@@ -167,10 +169,10 @@ def main():
     options.add_argument("--check", action="store_true")
     options.add_argument("--program", default=str(built("mc_sim")))
     given = options.parse_args()
-    head, lines = lines_of(given.script.read_bytes(), given.program)
+    head, losses, lines = lines_of(given.script.read_bytes(), given.program)
     if head[0] != "pool":
         sys.exit("chart.py: only a pool script has a chart")
-    chart = Chart(int(head[1]), int(head[2]))
+    chart = Chart(int(head[1]), int(head[2]), losses)
     for done, words in lines:
         chart.add(done, words)
     if not given.check:

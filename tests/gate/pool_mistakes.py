@@ -15,7 +15,7 @@ import sys
 sys.path.insert(0, str(pathlib.Path(__file__).resolve().parents[1] / "lib"))
 
 import pool_model
-from pool_model import Awaited, Pool, Script, Tag, answered, faults_of, routed
+from pool_model import LINK_LOST, Awaited, Pool, Script, Tag, faults_of, routed
 from random_world import lines_of_world
 from suite import counted
 
@@ -118,7 +118,7 @@ class OutOfOrder(Forgiving):
         ready = [at for at, (_, outcomes) in enumerate(client.unanswered) if Awaited not in outcomes]
         if client.gone or not ready:
             return False
-        client.put += answered(*client.unanswered.pop(ready[-1]))
+        client.put += self.answer(*client.unanswered.pop(ready[-1]))
         return True
 
 
@@ -279,8 +279,74 @@ class LostOften(Pool):
         oldest = client.unanswered[:1]
         done = super().emit(number)
         if done:
-            client.put += pool_model.LINK_LOST * max(0, oldest[0][1].count(None) - 1)
+            client.put += LINK_LOST * max(0, oldest[0][1].count(None) - 1)
         return done
+
+
+class LostStored(Pool):
+    """A store that was lost is answered as if it had been stored."""
+
+    def answer(self, request, outcomes):
+        answer = super().answer(request, outcomes)
+        stores = any(b"\r\n" in atom.line[:-2] for atom in request.atoms)
+        return b"STORED\r\n" if stores and answer == LINK_LOST else answer
+
+
+class MissTold(Pool):
+    """Where losses are missed, a retrieval with a lost command is told so."""
+
+    def answer(self, request, outcomes):
+        return LINK_LOST if request.miss and None in outcomes else super().answer(request, outcomes)
+
+
+class MissedWhole(Pool):
+    """Where losses are missed, a retrieval with a lost command shows no other key's item."""
+
+    def answer(self, request, outcomes):
+        if request.miss and None in outcomes:
+            outcomes = [None] * len(outcomes)
+        return super().answer(request, outcomes)
+
+
+class HiddenTold(Pool):
+    """Where losses are missed, a request that hides its reply is told of one."""
+
+    def answer(self, request, outcomes):
+        told = request.quiet and not request.miss and None in outcomes
+        return LINK_LOST if told else super().answer(request, outcomes)
+
+
+class HidesAll(Pool):
+    """Where losses are missed, each request says nothing of one."""
+
+    def answer(self, request, outcomes):
+        answer = super().answer(request, outcomes)
+        return b"" if self.losses == "missed" and answer == LINK_LOST else answer
+
+
+class FirstShown(Pool):
+    """Where losses are missed, a key of a lost command shows the first key's reply."""
+
+    def answer(self, request, outcomes):
+        if self.losses == "missed" and request.miss and outcomes[0] is not None:
+            outcomes = [outcomes[0] if outcome is None else outcome for outcome in outcomes]
+        return super().answer(request, outcomes)
+
+
+class SaysQuietMisses(Pool):
+    """Where losses are missed, `mg` with `q` answers `EN`."""
+
+    def answer(self, request, outcomes):
+        says = self.losses == "missed" and request.miss == b"EN\r\n" and None in outcomes
+        return b"EN\r\n" if says else super().answer(request, outcomes)
+
+
+class OtherLosses(Pool):
+    """Losses are missed where they are to be told, and told where they are to be missed."""
+
+    def __init__(self, script):
+        super().__init__(script)
+        self.losses = "told" if script.losses == "missed" else "missed"
 
 
 class ToldRefused(Pool):
@@ -392,7 +458,8 @@ class GoneIsServed(Pool):
 
 MISTAKES = [
     SentAgain, KeptAndSent, WaitingKept, OutOfOrder, Padded, Doubled, LateUnwritten, LateIgnored, RoutedByTheLast, NeighbourOwns,
-    StoredWhenDown, AlwaysLost, LosesTheTaken, RisingMoments, OtherBytes, Unfinished, OtherText, SilentFaults, LostOften, ToldRefused,
+    StoredWhenDown, AlwaysLost, LosesTheTaken, RisingMoments, OtherBytes, Unfinished, OtherText, SilentFaults, LostOften, LostStored,
+    MissTold, MissedWhole, HiddenTold, HidesAll, FirstShown, SaysQuietMisses, OtherLosses, ToldRefused,
     LaterFirst, OthersFirst, AnsweredUnserved, LostInvents, ForgetsTheFlush, LeavesTheLast, DrainsAtZero, KeepsTheLate,
 ]  # fmt: skip
 

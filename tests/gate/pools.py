@@ -1,19 +1,21 @@
 #!/usr/bin/env python3
 """Sees that what a world tells is as it must be, over random worlds: proxy, servers, links and clients, with all that can happen to them.
 
-Usage: pools.py [--worlds N] [--seed S] [--program PROGRAM]      (200 worlds from seed 1 on; mc_sim as it was built)
-       pools.py --write SEED                                      (writes the script of a seed)
+Usage: pools.py [--worlds N] [--seed S] [--losses told|missed] [--program PROGRAM]      (200 worlds from seed 1 on; mc_sim as it was built)
+       pools.py --write SEED [--losses told|missed]                                     (writes the script of a seed)
 
 The program plays the script of a random world (random_world.py) with `--account`, and then two things are seen: that each event was
 done where a plain model of a pool does it, and left the same texts, answers and histories (pool_model.py, `Pool`); and that the
 account holds of what was told, by the events that were done alone (`faults_of`), those that the model does in each drain among them.
-After a drain each whole request of each client that has not gone is answered, and nothing that a pool does by itself applies. At the
+After a drain each whole request of each client that has not gone is answered, and nothing that a pool does by itself applies. What
+clients are told of losses is the world's own choice, or with --losses the same in all. At the
 first world that differs the script is made shorter while it still does, and is printed with what is wrong; the exit status is then 1.
 The last line is 'N passed, M failed', in worlds.
 """
 
 import argparse
 import collections
+import itertools
 import pathlib
 import re
 import subprocess
@@ -22,7 +24,7 @@ import sys
 sys.path.insert(0, str(pathlib.Path(__file__).resolve().parents[1] / "lib"))
 
 from model import unescaped
-from pool_model import LINK_LOST, BadLine, Entry, Script, Told, faults_of, played, requests_of
+from pool_model import LOSSES, BadLine, Entry, Script, Told, answered, faults_of, played, requests_of
 from random_world import lines_of_world
 from suite import are_built, built
 
@@ -92,12 +94,12 @@ def left_after_drain(script, told):
     wrong = [f"event {at}, {script.events[at]}: done after a drain" for at in range(last + 1, len(names)) if told.done[at]]
     gone = {event[1] for event, done in zip(script.events, told.done) if event[0] == "gone" and done}
     there = [] if last == len(names) else [client for client in range(script.clients) if client not in gone]
-    return wrong + [f"client {client} is not answered in full" for client in there if not is_answered(client, told)]
+    return wrong + [f"client {client} is not answered in full" for client in there if not is_answered(client, script.losses, told)]
 
 
-def is_answered(client, told):
-    """Whether a client was sent an answer to each request of its text, and no more. It is told here by the histories alone: the
-    answer is what the replies to all of the request's commands make, or that a link was lost."""
+def is_answered(client, losses, told):
+    """Whether a client was sent an answer to each request of its text, and no more. It is found here by the histories alone: a command
+    that has an entry was answered or lost, and one that has none was lost."""
     replies = collections.defaultdict(dict)
     for history in told.histories:
         for entry in history:
@@ -105,12 +107,18 @@ def is_answered(client, told):
                 replies[entry.request][entry.atom] = entry.reply
     out, ends = told.outs[client], {0}
     for number, request in enumerate(requests_of(told.texts[client])):
-        known = [reply for _, reply in sorted(replies[number].items())]
-        answers = [LINK_LOST] if request.atoms else []
-        if len(known) >= len(request.atoms):
-            answers.append(request.answer(known))
+        answers = answers_to(request, replies[number], losses)
         ends = {at + len(answer) for at in ends for answer in answers if out.startswith(answer, at)}
     return len(out) in ends
+
+
+def answers_to(request, replies, losses):
+    """What a request may have been answered of which these commands have replies."""
+    if not request.atoms:
+        return {request.answer([])}
+    count = max([len(request.atoms), *(atom + 1 for atom in replies)])
+    known = [{None, replies.get(atom)} for atom in range(count)]
+    return {answered(request, outcomes, losses) for outcomes in itertools.product(*known)}
 
 
 def wrong_in(lines, program):
@@ -145,16 +153,17 @@ def main():
     words.add_argument("--worlds", type=int, default=200)
     words.add_argument("--seed", type=int, default=1)
     words.add_argument("--program", default=built("mc_sim"))
+    words.add_argument("--losses", choices=LOSSES)
     words.add_argument("--write", type=int)
     words = words.parse_args()
     if words.write is not None:
-        print("\n".join(lines_of_world(words.write)))
+        print("\n".join(lines_of_world(words.write, words.losses)))
         return 0
     if not are_built(words.program):
         return 1
     events = 0
     for passed, seed in enumerate(range(words.seed, words.seed + words.worlds)):
-        lines = lines_of_world(seed)
+        lines = lines_of_world(seed, words.losses)
         wrong = wrong_in(lines, words.program)
         if wrong:
             lines = shortened(lines, words.program)

@@ -66,6 +66,7 @@ SETTINGS = {
     "words_in_another_order": ("--accept 3 b:2 --listen=a:1 c:3", "servers 3 points 480"),
     "one_that_joins": ("--join b:1 --join-after 1", "servers 1 points 160"),
     "the_longest_host": ("a-Z.9" * 51 + ":65535", "servers 2 points 320"),
+    "losses_that_are_missed": ("--lost missed b:2", "servers 2 points 320 lost missed"),
     "names": ("a:1=b:2 --join c:3=b:2 --join-after 1 b:2=127.0.0.1:1", "servers 3 points 480"),
     "an_address_with_its_own_name": ("b:2=b:2", "servers 2 points 320"),
 }
@@ -82,6 +83,7 @@ REFUSED = {
         ["--timeout", "1s"],
         "invalid value '1s' for '--timeout <milliseconds>': invalid digit found in string",
     ),
+    "another_answer": (["--lost", "hidden"], "invalid value 'hidden' for '--lost <answer>'\n  [possible values: told, missed]"),
     "no_number": (["--accept", "x"], "invalid value 'x' for '--accept <n>': invalid digit found in string"),
     "a_number_below_0": (["--join-after=-1"], "invalid value '-1' for '--join-after <n>': invalid digit found in string"),
     "too_large_a_number": (

@@ -1,5 +1,5 @@
 """What a proxy does with its links where a network or a server fails, where descriptors are few, and where servers have names of
-their own. `checks_of_links` gives each check by its name; proxyd.py makes them. `Pool.programs` are the programs that are tried.
+their own. `checks_of_links` gives each check by its name, those of losses.py too; proxyd.py makes them. `Pool.programs` are the programs that are tried.
 """
 
 import contextlib
@@ -17,6 +17,7 @@ from live_pool import (
     LOST, Played, Pool, answered_in_time, bytes_before_a_reset, is_asked_and_answers, is_lost_and_refused, is_said, nothing_comes,
     stored,
 )  # fmt: skip
+from losses import checks_of_losses
 from rings import Ring
 from servers import Proxy, Server
 
@@ -262,3 +263,4 @@ def checks_of_links():
         two_names_may_have_one_address,
     ):
         yield check.__name__, check, ()
+    yield from checks_of_losses()

@@ -23,6 +23,7 @@ CLIENT_MARK = 4_194_304  # unsent bytes to a client
 LINK_MARK = 8_388_608  # unsent bytes on a link
 MOST_CONNECTIONS = 1024  # of a server
 LINK_LOST = b"SERVER_ERROR link lost\r\n"
+LOSSES = ("told", "missed")  # what clients are told of lost commands: the line of a lost link, or as little as a cache may say
 NO_MEMORY = b"SERVER_ERROR out of memory storing object\r\n"
 MODES = {"set": "S", "add": "E", "append": "A", "prepend": "P", "replace": "R", "incr": "I", "decr": "D"}
 
@@ -37,13 +38,16 @@ Atom = collections.namedtuple("Atom", "key line")  # a flush has no key
 
 
 class Request:
-    """A request or fault: its commands, and what it is answered by their replies."""
+    """A request or fault: its commands, and what it is answered by their replies. Of a retrieval `miss` is the reply of a server that
+    does not have the item; `quiet` is whether a request hides its reply, by `noreply` or `q`."""
 
-    def __init__(self, atoms, answer, size, closes):
+    def __init__(self, atoms, answer, size, closes, miss, quiet):
         self.atoms = atoms
         self.answer = answer
         self.size = size
         self.closes = closes
+        self.miss = miss
+        self.quiet = quiet
 
 
 def is_error(reply):
@@ -88,20 +92,21 @@ class Reader(Server):
         """The first request or fault of a text, or nothing where it has not come whole."""
         connection = Connection()
         connection.unread = bytes(unread)
-        self.atoms, self.quiet, self.answer = [], False, None
+        self.atoms, self.quiet, self.answer, self.miss = [], False, None, None
         self.turn(connection, 0)
         if len(connection.unread) == len(unread) and not connection.closed:
             return None
         size = len(unread) - len(connection.unread)
         fixed = connection.output
         answer = self.answer if self.atoms else lambda replies: fixed
-        return Request(self.atoms, answer, size, connection.closed)
+        return Request(self.atoms, answer, size, connection.closed, self.miss, self.quiet)
 
     def note(self, key, *words, block=None):
         line = b" ".join(word if isinstance(word, bytes) else str(word).encode() for word in words) + b"\r\n"
         self.atoms.append(Atom(key, line + (b"" if block is None else block + b"\r\n")))
 
     def hide(self, quiet, answer):
+        self.quiet = quiet
         self.answer = lambda replies: b"" if quiet and not is_error(replies[0]) else replies[0]
         return ""
 
@@ -111,7 +116,7 @@ class Reader(Server):
                 self.note(key, "gets" if with_number else "get", key)
             else:
                 self.note(key, "gats" if with_number else "gat", exptime, key)
-        self.answer = with_end
+        self.answer, self.miss = with_end, b"END\r\n"
         return ""
 
     def touch(self, key, exptime, moment):
@@ -137,6 +142,7 @@ class Reader(Server):
         words += [letter for letter in order if letter.encode() in asked]
         words += [b"%s%s" % (flag.encode(), str(token).encode()) for flag, token in tokens if token is not None]
         self.note(key, *words, block=block)
+        self.quiet, self.miss = b"q" in asked, b"EN\r\n" if name == "mg" else None
         self.answer = lambda replies: meta_answer(name, key, asked, replies[0])
         return "EN", None, b""
 
@@ -174,9 +180,13 @@ def requests_of(text):
             return requests
 
 
-def answered(request, outcomes):
-    """The answer to a request: an outcome is a reply, or nothing where the command is lost."""
-    return LINK_LOST if any(reply is None for reply in outcomes) else request.answer(outcomes)
+def answered(request, outcomes, losses):
+    """The answer to a request, by what clients are told of losses: an outcome is a reply, or nothing if the command is lost."""
+    if None not in outcomes:
+        return request.answer(outcomes)
+    if losses == "missed" and request.miss:
+        return request.answer([request.miss if reply is None else reply for reply in outcomes])
+    return b"" if losses == "missed" and request.quiet else LINK_LOST
 
 
 # Scripts
@@ -188,16 +198,22 @@ class BadLine(Exception):
 
 
 class Script:
-    """A pool script: its head, the ring's points, and what comes."""
+    """A pool script: its head, the ring's points, what clients are told of losses, and what comes."""
 
     def __init__(self, lines):
         self.servers, self.clients, self.budget, self.items = (int(word) for word in lines[0].split(" ")[1:])
         at = 1
-        self.points = []
-        while at < len(lines) and lines[at].startswith("point "):
-            _, point, place = lines[at].split(" ")
-            self.points.append((int(point, 16), int(place)))
+        self.points, losses = [], []
+        while at < len(lines) and lines[at].startswith(("point ", "losses ")):
+            name, *words = lines[at].split(" ")
             at += 1
+            if name == "point":
+                self.points.append((int(words[0], 16), int(words[1])))
+            elif losses or words not in ([word] for word in LOSSES):
+                raise BadLine(at)
+            else:
+                losses = words
+        self.losses = (losses or LOSSES)[0]
         self.events = []
         servers = self.servers
         for number, line in enumerate(lines[at:], at + 1):
@@ -299,7 +315,7 @@ class Pool:
 
     def __init__(self, script, new_cache=Server):
         self.new_site = lambda: Site(new_cache(0, script.budget, script.items))
-        self.ring = script.ring()
+        self.ring, self.losses = script.ring(), script.losses
         self.sites = [self.new_site() for _ in range(script.servers)]
         self.clients = [Client() for _ in range(script.clients)]
         self.drains = []
@@ -370,8 +386,11 @@ class Pool:
         client = self.clients[number]
         if client.gone or not client.unanswered or Awaited in client.unanswered[0][1]:
             return False
-        client.put += answered(*client.unanswered.pop(0))
+        client.put += self.answer(*client.unanswered.pop(0))
         return True
+
+    def answer(self, request, outcomes):
+        return answered(request, outcomes, self.losses)
 
     def takes(self, number, count):
         client = self.clients[number]
@@ -731,7 +750,7 @@ class Account:
             wanted = b""
             for number in range(put):
                 outcomes = [self.reply_of(tag) for tag in self.tags(client, number)]
-                wanted += answered(self.requests[client][number], outcomes)
+                wanted += answered(self.requests[client][number], outcomes, self.script.losses)
             if self.told.outs[client] != wanted:
                 self.fault(f"client {client} was sent {self.told.outs[client]!r}, and its answers are {wanted!r}")
 

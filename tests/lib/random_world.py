@@ -1,12 +1,12 @@
 """Random worlds: pools, whose clients send commands of all kinds (random_script.py), whole and in pieces, and to which all happens that a
 pool script can say, mostly where it applies. A world has 1 to 5 servers and 1 to 20 clients, points of its own or libketama's, caches from
-tiny to large. Many end with a drain, and a try of each event that a pool does by itself.
+tiny to large. In half of the worlds losses are missed, unless a caller asks for one of the two. Many end with a drain, and a try of each event that a pool does by itself.
 """
 
 import random
 
 from model import escaped
-from pool_model import ALL, Awaited, Pool, Script, event_of
+from pool_model import ALL, LOSSES, Awaited, Pool, Script, event_of
 from random_script import Scene, command
 from rings import hash_of
 
@@ -44,21 +44,31 @@ def points_of_world(dice, servers):
     return points + points[: dice.randrange(2)]
 
 
+def losses_of_world(seed, losses):
+    """The line that says what clients are told of losses, or none if that is the default. The dice are its own, so that the worlds of a
+    seed differ in what clients are told alone."""
+    dice = random.Random(f"losses {seed}")
+    losses = losses or dice.choice(LOSSES)
+    return [] if losses == "told" and dice.random() < 0.5 else [f"losses {losses}"]
+
+
 class World:
     """A random world: its script, and the pool that has played it so far."""
 
-    def __init__(self, seed):
+    def __init__(self, seed, losses=None):
         self.dice = dice = random.Random(seed)
         servers, clients = dice.randrange(1, 6), dice.choice([1, 1, 2, 3, 5, 8, 20])
         self.lines = [f"pool {servers} {clients} {dice.choice(BUDGETS[-3:] + BUDGETS)} {dice.choice(LIMITS)}"]
-        self.lines += [f"point {point:08x} {place}" for point, place in points_of_world(dice, servers)]
+        points = [f"point {point:08x} {place}" for point, place in points_of_world(dice, servers)]
+        said = losses_of_world(seed, losses)
+        self.lines += points + said if seed % 2 else said + points
         self.pool = Pool(Script(self.lines))
         self.scene = PoolScene(dice, self.pool)
         self.left = [b""] * clients  # what is still to come of a client's command
-        losses = dice.choice([0, 0.1, 0.3, 1])
+        lost = dice.choice([0, 0.1, 0.3, 1])
         self.chances = {
             "bytes": 6, "turn": 6, "toserver": 5, "serve": 6, "toproxy": 5, "reply": 6, "emit": 6, "takes": 2,
-            "lost": losses, "back": losses * 2, "end": losses * dice.choice([0.2, 1]),
+            "lost": lost, "back": lost * 2, "end": lost * dice.choice([0.2, 1]),
             "gone": dice.choice([0, 0, 0.05]), "join": dice.choice([0, 0, 0.1]), "drain": dice.choice([0, 0, 0.05, 0.3]),
         }  # fmt: skip
         self.greed = dice.choice([0.2, 0.7, 1])  # how often all bytes move
@@ -221,5 +231,5 @@ class World:
         return self
 
 
-def lines_of_world(seed):
-    return World(seed).played().lines
+def lines_of_world(seed, losses=None):
+    return World(seed, losses).played().lines

@@ -8,6 +8,7 @@ use Rattle.std.proofs.lemmas.Option.{none-some, same_Some}
 use Rattle.mc_ring.specs.Rings.{RingState}
 use Rattle.mc_route.specs.declared.outcomes.Outcome.{Outcome}
 use Rattle.mc_route.specs.declared.outcomes.Outcome.TheVariants.{Lost, Reply}
+use Rattle.mc_route.specs.declared.losses.Losses.{Losses}
 use Rattle.mc_link.specs.LinkState.{LinkState, Waiting}
 use Rattle.mc_link.specs.declared.turns.Tag.{Tag}
 use Rattle.mc_session.specs.Emits.{IsEmit, answer_of_one, emitted_from, is_known}
@@ -60,18 +61,18 @@ answered-fed number piece old new steps m =
     answered_step number old new steps.before steps.after steps.was steps.is (ap (λ (s : SessionState). answered s) steps.step.1.all_else) m
 
 -- `turn`: what is taken is not answered yet
-turn_answers : (number : ℕ) (turn : Turn) (ring : RingState) (links now : List LinkState) (before after : SessionState) → IsTurn number turn ring links now before after
+turn_answers : (number : ℕ) (turn : Turn) (ring : RingState) (losses : Losses) (links now : List LinkState) (before after : SessionState) → IsTurn number turn ring losses links now before after
     → answered after ≡ answered before
-turn_answers number turns.Took ring links now before after step =
+turn_answers number turns.Took ring losses links now before after step =
     let more : length after.unanswered ≡ length before.unanswered + 1 = ap (λ (us : List Unanswered). length us) step.1.unanswered ∙ length_push before.unanswered _ in
     omega (arith, step.1.taken, more)
-turn_answers number turns.Idle ring links now before after step = ap (λ (s : SessionState). answered s) step.1.1
-turn_answers number turns.Waiting ring links now before after step = ap (λ (s : SessionState). answered s) step.1.1
-turn_answers number turns.Closing ring links now before after step = ap (λ (s : SessionState). answered s) step.1.1
+turn_answers number turns.Idle ring losses links now before after step = ap (λ (s : SessionState). answered s) step.1.1
+turn_answers number turns.Waiting ring losses links now before after step = ap (λ (s : SessionState). answered s) step.1.1
+turn_answers number turns.Closing ring losses links now before after step = ap (λ (s : SessionState). answered s) step.1.1
 
-pub answered-turn : (number : ℕ) (turn : Turn) (ring : RingState) (old new : ProxyState) → Steps number old new (IsTurn number turn ring) → (m : ℕ) → answered_at new m ≡ answered_at old m
-answered-turn number turn ring old new steps m =
-    answered_step number old new steps.before steps.after steps.was steps.is (turn_answers number turn ring old.links new.links steps.before steps.after steps.step) m
+pub answered-turn : (number : ℕ) (turn : Turn) (ring : RingState) (losses : Losses) (old new : ProxyState) → Steps number old new (IsTurn number turn ring losses) → (m : ℕ) → answered_at new m ≡ answered_at old m
+answered-turn number turn ring losses old new steps m =
+    answered_step number old new steps.before steps.after steps.was steps.is (turn_answers number turn ring losses old.links new.links steps.before steps.after steps.step) m
 
 -- `emit`, where it put nothing out
 pub answered-idle_emit : (number : ℕ) (old new : ProxyState) → Steps number old new (Alone (IsEmit emits.Idle)) → (m : ℕ) → answered_at new m ≡ answered_at old m

@@ -8,6 +8,7 @@ use Rattle.std.proofs.lemmas.List.Elements.{All-push}
 use Rattle.std.proofs.Math.Seq.{take-nil}
 use Rattle.mc_ring.specs.Rings.{RingState}
 use Rattle.mc_route.specs.Routes.{route_of_taken}
+use Rattle.mc_route.specs.declared.losses.Losses.{Losses}
 use Rattle.mc_link.specs.LinkState.{LinkState}
 use Rattle.mc_session.specs.Emits.{IsEmit}
 use Rattle.mc_session.specs.Sending.{at_once}
@@ -19,7 +20,7 @@ use Rattle.mc_session.specs.declared.turns.Turn.TheVariants as turns
 use Rattle.mc_proxy.specs.ProxyState.{ProxyState, Sessions, output_of, sent_by, session_at, session_in, updated, with_fresh, without}
 use Rattle.mc_proxy.specs.Turns.{Alone, Steps}
 use Rattle.mc_account.specs.Lanes.{Lane, LinkHolds}
-use Rattle.mc_account.specs.Orders.{AreInOrder, Entry, IsSized, Order, entries_of, is_complete}
+use Rattle.mc_account.specs.Orders.{AreInOrder, Entry, IsSized, Order, entries_of, is_complete, IsToldAs}
 use Rattle.mc_account.specs.Holds.{ProxyHolds, SessionHolds, SessionHoldsAt, changed, grown}
 use Rattle.mc_account.proofs.OpenSessions.{at_each, fresh_other, fresh_own, other_number, own_number, updated_other, without_other}
 use Rattle.mc_account.proofs.OrderLemmas.{entries_push_other, entries_push_own, in_order_push}
@@ -58,13 +59,14 @@ given texts sent order lanes proxy number session h was =
 
 -- a session takes a step, and what is said of all others stays
 stepped : (texts texts' sent sent' : ℕ → List ℕ) (order longer : Order) (lanes : ℕ → Lane) (number : ℕ) (before after : SessionState) (old new : ProxyState)
-    → session_at old number ≡ Some before → new.sessions ≡ updated number after old.sessions → new.admitted ≡ old.admitted
+    → session_at old number ≡ Some before → new.sessions ≡ updated number after old.sessions → new.admitted ≡ old.admitted → new.losses ≡ old.losses
     → SessionHolds number longer (texts' number) (sent' number) after
     → ((m : ℕ) → number ≢ m → texts' m ≡ texts m) → ((m : ℕ) → number ≢ m → sent' m ≡ sent m) → ((m : ℕ) → number ≢ m → entries_of m longer ≡ entries_of m order)
-    → All IsSized longer → ((m : ℕ) → AreInOrder (entries_of m longer)) → ((place : ℕ) → LinkHolds place longer (lanes place) (link_at new.links place))
+    → All IsSized longer → All (IsToldAs old.losses) longer → ((m : ℕ) → AreInOrder (entries_of m longer)) → ((place : ℕ) → LinkHolds place longer (lanes place) (link_at new.links place))
     → ProxyHolds texts sent order lanes old → ProxyHolds texts' sent' longer lanes new
-stepped texts texts' sent sent' order longer lanes number before after old new was is admitted own text_is sent_is same sized numbered links h = record {
+stepped texts texts' sent sent' order longer lanes number before after old new was is admitted losses own text_is sent_is same sized chosen numbered links h = record {
   sized = sized;
+  chosen = subst (λ (l : Losses). All (IsToldAs l) longer) (sym losses) chosen;
   numbered = numbered;
   sessions = at_each number before after old.sessions new.sessions was is (λ m s. SessionHoldsAt m longer (texts' m) (sent' m) s) own
       (λ m differ. session_same m order longer (texts m) (texts' m) (sent m) (sent' m) (session_at old m) (same m differ) (text_is m differ) (sent_is m differ) (h.sessions m));
@@ -88,12 +90,12 @@ same_links texts sent order lanes old new is h place = subst (λ (links : List L
 
 -- a session takes a step of its own: of nothing else is anything said
 alone : (texts texts' : ℕ → List ℕ) (sent : ℕ → List ℕ) (order : Order) (lanes : ℕ → Lane) (number : ℕ) (before after : SessionState) (old new : ProxyState)
-    → session_at old number ≡ Some before → new.sessions ≡ updated number after old.sessions → new.admitted ≡ old.admitted → new.links ≡ old.links
+    → session_at old number ≡ Some before → new.sessions ≡ updated number after old.sessions → new.admitted ≡ old.admitted → new.losses ≡ old.losses → new.links ≡ old.links
     → ((m : ℕ) → number ≢ m → texts' m ≡ texts m)
     → SessionHolds number order (texts' number) (sent number) after → ProxyHolds texts sent order lanes old → ProxyHolds texts' sent order lanes new
-alone texts texts' sent order lanes number before after old new was is admitted links text_is own h =
-    stepped texts texts' sent sent order order lanes number before after old new was is admitted own
-    text_is (λ _ _. refl) (λ _ _. refl) h.sized h.numbered (same_links texts sent order lanes old new links h) h
+alone texts texts' sent order lanes number before after old new was is admitted losses links text_is own h =
+    stepped texts texts' sent sent order order lanes number before after old new was is admitted losses own
+    text_is (λ _ _. refl) (λ _ _. refl) h.sized h.chosen h.numbered (same_links texts sent order lanes old new links h) h
 
 -- `admit`: the next number is open, and nothing else has changed
 pub holds-admitted : (texts sent : ℕ → List ℕ) (order : Order) (lanes : ℕ → Lane) (old : ProxyState)
@@ -105,6 +107,7 @@ holds-admitted texts sent order lanes old h none =
     let holds : SessionHolds old.admitted order (texts old.admitted) (sent old.admitted) fresh_session = rw (u.nothing_came, u.nothing_sent) fresh in
     record {
       sized = h.sized;
+      chosen = h.chosen;
       numbered = h.numbered;
       sessions = λ m. ⊎_elim
           (λ e. subst (λ (n : ℕ). SessionHoldsAt n order (texts n) (sent n) (session_at (with_fresh old) n)) e.1
@@ -128,30 +131,31 @@ pub holds-fed : (texts sent : ℕ → List ℕ) (order : Order) (lanes : ℕ →
     → ProxyHolds texts sent order lanes old → Steps number old new (Alone (IsFed piece)) → ProxyHolds (grown number piece texts) sent order lanes new
 holds-fed texts sent order lanes number piece old new h steps =
     let own = session_fed number order (texts number) (sent number) piece steps.before steps.after (stood texts sent order lanes old number steps.before h steps.was) steps.step.1 in
-    alone texts (grown number piece texts) sent order lanes number steps.before steps.after old new steps.was steps.is steps.admitted steps.step.0
+    alone texts (grown number piece texts) sent order lanes number steps.before steps.after old new steps.was steps.is steps.admitted steps.losses steps.step.0
     (λ m differ. changed-other number m (texts number ++ piece) texts differ)
     (subst (λ (text : List ℕ). SessionHolds number order text (sent number) steps.after) (sym (changed-own number (texts number ++ piece) texts)) own) h
 
 -- `turn`, where it took: the order has its entry more
-abbrev pub entry_taken : {number : ℕ} {old new : ProxyState} → Steps number old new (IsTurn number turns.Took old.ring) → Entry
+abbrev pub entry_taken : {number : ℕ} {old new : ProxyState} → Steps number old new (IsTurn number turns.Took old.ring old.losses) → Entry
 entry_taken {number = number} {old = old} steps = record {
   session = number;
   request = steps.before.taken;
   what = steps.step.0;
   ring = old.ring;
+  losses = old.losses;
   outcomes = map (at_once old.links) (route_of_taken old.ring steps.step.0);
 }
 
 pub holds-took : (texts sent : ℕ → List ℕ) (order : Order) (lanes : ℕ → Lane) (number : ℕ) (old new : ProxyState)
-    → ProxyHolds texts sent order lanes old → (steps : Steps number old new (IsTurn number turns.Took old.ring))
+    → ProxyHolds texts sent order lanes old → (steps : Steps number old new (IsTurn number turns.Took old.ring old.losses))
     → ProxyHolds texts sent (order ++ entry_taken steps ∷ []) lanes new
 holds-took texts sent order lanes number old new h steps =
     let was = stood texts sent order lanes old number steps.before h steps.was in
     let sized : IsSized (entry_taken steps) = length-map (route_of_taken old.ring steps.step.0) (at_once old.links) in
-    stepped texts texts sent sent order (order ++ entry_taken steps ∷ []) lanes number steps.before steps.after old new steps.was steps.is steps.admitted
-    (session_took number order (texts number) (sent number) old.ring old.links new.links steps.before steps.after steps.step.0 was steps.step.1)
+    stepped texts texts sent sent order (order ++ entry_taken steps ∷ []) lanes number steps.before steps.after old new steps.was steps.is steps.admitted steps.losses
+    (session_took number order (texts number) (sent number) old.ring old.losses old.links new.links steps.before steps.after steps.step.0 was steps.step.1)
     (λ _ _. refl) (λ _ _. refl) (λ m differ. entries_push_other m order (entry_taken steps) differ)
-    (All-push IsSized order (entry_taken steps) h.sized sized)
+    (All-push IsSized order (entry_taken steps) h.sized sized) (All-push (IsToldAs old.losses) order (entry_taken steps) h.chosen refl)
     (λ m. ⊎_elim
     (λ same. subst (λ (n : ℕ). AreInOrder (entries_of n (order ++ entry_taken steps ∷ []))) same.1
     (subst (λ (es : Order). AreInOrder es) (sym (entries_push_own number order (entry_taken steps) refl)) (in_order_push (entries_of number order) (entry_taken steps) (h.numbered number) was.taken)))
@@ -161,31 +165,31 @@ holds-took texts sent order lanes number old new h steps =
     h
 
 -- a turn that took nothing
-unchanged : (number : ℕ) (turn : Turn) (ring : RingState) (links now : List LinkState) (before after : SessionState) → turn ≢ turns.Took
-    → IsTurn number turn ring links now before after → IsUnchanged links now before after
-unchanged number turns.Took ring links now before after differ step = absurd (differ refl)
-unchanged number turns.Idle ring links now before after differ step = step.1
-unchanged number turns.Waiting ring links now before after differ step = step.1
-unchanged number turns.Closing ring links now before after differ step = step.1
+unchanged : (number : ℕ) (turn : Turn) (ring : RingState) (losses : Losses) (links now : List LinkState) (before after : SessionState) → turn ≢ turns.Took
+    → IsTurn number turn ring losses links now before after → IsUnchanged links now before after
+unchanged number turns.Took ring losses links now before after differ step = absurd (differ refl)
+unchanged number turns.Idle ring losses links now before after differ step = step.1
+unchanged number turns.Waiting ring losses links now before after differ step = step.1
+unchanged number turns.Closing ring losses links now before after differ step = step.1
 
 pub holds-idle_turn : (texts sent : ℕ → List ℕ) (order : Order) (lanes : ℕ → Lane) (number : ℕ) (turn : Turn) (old new : ProxyState)
-    → ProxyHolds texts sent order lanes old → turn ≢ turns.Took → Steps number old new (IsTurn number turn old.ring) → ProxyHolds texts sent order lanes new
+    → ProxyHolds texts sent order lanes old → turn ≢ turns.Took → Steps number old new (IsTurn number turn old.ring old.losses) → ProxyHolds texts sent order lanes new
 holds-idle_turn texts sent order lanes number turn old new h differ steps =
-    let same = unchanged number turn old.ring old.links new.links steps.before steps.after differ steps.step in
-    alone texts texts sent order lanes number steps.before steps.after old new steps.was steps.is steps.admitted same.0 (λ _ _. refl)
+    let same = unchanged number turn old.ring old.losses old.links new.links steps.before steps.after differ steps.step in
+    alone texts texts sent order lanes number steps.before steps.after old new steps.was steps.is steps.admitted steps.losses same.0 (λ _ _. refl)
     (subst (λ (s : SessionState). SessionHolds number order (texts number) (sent number) s) (sym same.1) (stood texts sent order lanes old number steps.before h steps.was)) h
 
 -- `emit`, where it put nothing out, and where it answered
 pub holds-idle_emit : (texts sent : ℕ → List ℕ) (order : Order) (lanes : ℕ → Lane) (number : ℕ) (old new : ProxyState)
     → ProxyHolds texts sent order lanes old → Steps number old new (Alone (IsEmit emits.Idle)) → ProxyHolds texts sent order lanes new
 holds-idle_emit texts sent order lanes number old new h steps =
-    alone texts texts sent order lanes number steps.before steps.after old new steps.was steps.is steps.admitted steps.step.0 (λ _ _. refl)
+    alone texts texts sent order lanes number steps.before steps.after old new steps.was steps.is steps.admitted steps.losses steps.step.0 (λ _ _. refl)
     (subst (λ (s : SessionState). SessionHolds number order (texts number) (sent number) s) (sym steps.step.1.1) (stood texts sent order lanes old number steps.before h steps.was)) h
 
 pub holds-emitted : (texts sent : ℕ → List ℕ) (order : Order) (lanes : ℕ → Lane) (number : ℕ) (old new : ProxyState)
     → ProxyHolds texts sent order lanes old → Steps number old new (Alone (IsEmit emits.Done)) → ProxyHolds texts sent order lanes new
 holds-emitted texts sent order lanes number old new h steps =
-    alone texts texts sent order lanes number steps.before steps.after old new steps.was steps.is steps.admitted steps.step.0 (λ _ _. refl)
+    alone texts texts sent order lanes number steps.before steps.after old new steps.was steps.is steps.admitted steps.losses steps.step.0 (λ _ _. refl)
     (session_emitted number order (texts number) (sent number) steps.before steps.after (stood texts sent order lanes old number steps.before h steps.was) steps.step.1) h
 
 -- `taken_out`: the bytes taken out grow by the first of the output
@@ -194,6 +198,7 @@ holds_sent_from : (texts sent : ℕ → List ℕ) (order : Order) (lanes : ℕ �
     → ProxyHolds texts (grown number (take count (output_of session)) sent) order lanes (sent_by number count session old)
 holds_sent_from texts sent order lanes number count old None was h = record {
   sized = h.sized;
+  chosen = h.chosen;
   numbered = h.numbered;
   sessions = λ m. session_same m order order (texts m) (texts m) (sent m) (grown number (take count []) sent m) (session_at old m) refl refl (grown-nothing number m count sent) (h.sessions m);
   unused = λ m above.
@@ -209,10 +214,10 @@ holds_sent_from texts sent order lanes number count old None was h = record {
 holds_sent_from texts sent order lanes number count old (Some before) was h =
     let own = session_sent number order (texts number) (sent number) before count (stood texts sent order lanes old number before h was) in
     stepped texts texts sent (grown number (take count before.output) sent) order order lanes number before (record before { output = drop count before.output })
-    old (sent_by number count (Some before) old) was refl refl
+    old (sent_by number count (Some before) old) was refl refl refl
     (subst (λ (bytes : List ℕ). SessionHolds number order (texts number) bytes (record before { output = drop count before.output }))
     (sym (changed-own number (sent number ++ take count before.output) sent)) own)
-    (λ _ _. refl) (λ m differ. changed-other number m (sent number ++ take count before.output) sent differ) (λ _ _. refl) h.sized h.numbered h.links h
+    (λ _ _. refl) (λ m differ. changed-other number m (sent number ++ take count before.output) sent differ) (λ _ _. refl) h.sized h.chosen h.numbered h.links h
 
 pub holds-sent : (texts sent : ℕ → List ℕ) (order : Order) (lanes : ℕ → Lane) (number count : ℕ) (old : ProxyState) → ProxyHolds texts sent order lanes old
     → ProxyHolds texts (grown number (take count (output_of (session_at old number))) sent) order lanes (sent_by number count (session_at old number) old)
@@ -226,6 +231,7 @@ holds-gone texts sent order lanes number old h not_open =
     let left = session_left number order (texts number) (sent number) (session_at old number) (h.sessions number) in
     record {
       sized = h.sized;
+      chosen = h.chosen;
       numbered = h.numbered;
       sessions = λ m. ⊎_elim
           (λ e. subst (λ (n : ℕ). SessionHoldsAt n order (texts n) (sent n) (session_in (without number old.sessions) n)) e.1

@@ -9,6 +9,7 @@ use Rattle.std.proofs.lemmas.List.{get_or_append_left, get_or_past, get_or_push,
 use Rattle.mc_reply.specs.declared.replies.Reply.{Reply as AReply}
 use Rattle.mc_route.specs.declared.outcomes.Outcome.{Outcome}
 use Rattle.mc_route.specs.declared.outcomes.Outcome.TheVariants.{Lost, Reply}
+use Rattle.mc_route.specs.declared.losses.Losses.{Losses}
 use Rattle.mc_link.specs.LinkState.{LinkState, Waiting, down_link}
 use Rattle.mc_link.specs.declared.turns.Tag.{Tag}
 use Rattle.mc_session.specs.Emits.{is_told}
@@ -19,27 +20,29 @@ use Rattle.mc_proxy.specs.LinkTurns.{Answers, lost_at}
 use Rattle.mc_proxy.specs.Noting.{all_lost, noted}
 use Rattle.mc_proxy.specs.ProxyState.{ProxyState, Sessions, session_in}
 use Rattle.mc_account.specs.Lanes.{Lane, LinkHolds, fresh_lane}
-use Rattle.mc_account.specs.Orders.{AreInOrder, IsSized, Order, entries_of, note, note_all, outcomes_to}
+use Rattle.mc_account.specs.Orders.{AreInOrder, IsSized, Order, entries_of, note, note_all, outcomes_to, IsToldAs}
 use Rattle.mc_account.specs.Holds.{IsUnused, ProxyHolds, SessionHoldsAt, changed}
 use Rattle.mc_account.proofs.OpenSessions.{noted_other, noted_own}
-use Rattle.mc_account.proofs.OrderLemmas.{entries-note, in_order-note, sized-note}
+use Rattle.mc_account.proofs.OrderLemmas.{entries-note, in_order-note, sized-note, chosen-note}
 use Rattle.mc_account.proofs.TagLemmas.{owners, tag_once, incomplete_owners}
 use Rattle.mc_account.proofs.LaneLemmas.{IsOldest, Pending, is_oldest, lane_fresh, lane_replied, link_other, link_other_noted, link_own, pending_none, pending_noted, pending_of, up_is_there}
 use Rattle.mc_account.proofs.SessionLemmas.{left_noted, note_absent, owners_elsewhere, session_noted, session_same}
 use Rattle.mc_account.proofs.HoldsLemmas.{changed-other, changed-own}
 
 -- a proxy holds but for the link of one place, of which nothing is said
-pub record HoldsBut (texts sent : ℕ → List ℕ) (order : Order) (lanes : ℕ → Lane) (place : ℕ) (sessions : Sessions) (admitted : ℕ) (links : List LinkState) : Type 0 where
+pub record HoldsBut (texts sent : ℕ → List ℕ) (order : Order) (lanes : ℕ → Lane) (place : ℕ) (losses : Losses) (sessions : Sessions) (admitted : ℕ) (links : List LinkState) : Type 0 where
   pub sized : All IsSized order
+  pub chosen : All (IsToldAs losses) order
   pub numbered : (number : ℕ) → AreInOrder (entries_of number order)
   pub each : (number : ℕ) → SessionHoldsAt number order (texts number) (sent number) (session_in sessions number)
   pub unused : (number : ℕ) → admitted ≤ number → IsUnused number order (texts number) (sent number) (session_in sessions number)
   pub others : (other : ℕ) → place ≢ other → LinkHolds other order (lanes other) (link_at links other)
 
 holds_but : (texts sent : ℕ → List ℕ) (order : Order) (lanes : ℕ → Lane) (place : ℕ) (old : ProxyState) → ProxyHolds texts sent order lanes old
-    → HoldsBut texts sent order lanes place old.sessions old.admitted old.links
+    → HoldsBut texts sent order lanes place old.losses old.sessions old.admitted old.links
 holds_but texts sent order lanes place old h = record {
   sized = h.sized;
+  chosen = h.chosen;
   numbered = h.numbered;
   each = h.sessions;
   unused = h.unused;
@@ -48,11 +51,12 @@ holds_but texts sent order lanes place old h = record {
 
 -- it holds, where that link does too
 holds_with : (texts sent : ℕ → List ℕ) (order : Order) (lanes lanes' : ℕ → Lane) (place : ℕ) (links : List LinkState) (new : ProxyState)
-    → HoldsBut texts sent order lanes place new.sessions new.admitted links → LinkHolds place order (lanes' place) (link_at new.links place)
+    → HoldsBut texts sent order lanes place new.losses new.sessions new.admitted links → LinkHolds place order (lanes' place) (link_at new.links place)
     → ((other : ℕ) → place ≢ other → lanes' other ≡ lanes other) → ((other : ℕ) → place ≢ other → link_at new.links other ≡ link_at links other)
     → ProxyHolds texts sent order lanes' new
 holds_with texts sent order lanes lanes' place links new h own lane_is link_is = record {
   sized = h.sized;
+  chosen = h.chosen;
   numbered = h.numbered;
   sessions = h.each;
   unused = h.unused;
@@ -85,13 +89,14 @@ still_none tag outcome number sessions none =
     (eqb_tells tag.session number)
 
 -- an outcome of a command to that place is noted
-but_noted : (texts sent : ℕ → List ℕ) (order : Order) (lanes : ℕ → Lane) (place : ℕ) (sessions : Sessions) (admitted : ℕ) (links : List LinkState) (tag : Tag) (outcome : Outcome)
-    → is_told outcome ≡ true → IsOldest place order tag → HoldsBut texts sent order lanes place sessions admitted links
-    → HoldsBut texts sent (note tag outcome order) lanes place (noted tag outcome sessions) admitted links
-but_noted texts sent order lanes place sessions admitted links tag outcome known oldest h =
+but_noted : (texts sent : ℕ → List ℕ) (order : Order) (lanes : ℕ → Lane) (place : ℕ) (losses : Losses) (sessions : Sessions) (admitted : ℕ) (links : List LinkState) (tag : Tag) (outcome : Outcome)
+    → is_told outcome ≡ true → IsOldest place order tag → HoldsBut texts sent order lanes place losses sessions admitted links
+    → HoldsBut texts sent (note tag outcome order) lanes place losses (noted tag outcome sessions) admitted links
+but_noted texts sent order lanes place losses sessions admitted links tag outcome known oldest h =
     let once = tag_once tag order (h.numbered tag.session) in
     record {
       sized = sized-note tag outcome order h.sized;
+      chosen = chosen-note losses tag outcome order h.chosen;
       numbered = λ number. subst (λ (es : Order). AreInOrder es) (sym (entries-note number tag outcome order)) (in_order-note tag outcome (entries_of number order) (h.numbered number));
       each = λ number. ⊎_elim
           (λ e. subst (λ (n : ℕ). SessionHoldsAt n (note tag outcome order) (texts n) (sent n) (session_in (noted tag outcome sessions) n)) e.1
@@ -124,9 +129,10 @@ holds-replied texts sent order lanes place old new h up answers =
     let pending = subst (λ (ws : List Waiting). Pending place (lanes place).since order (map (λ (reply : AReply (List ℕ)). Reply reply) (lanes place).replies) ws) answers.takes.oldest
     (pending_of place order (lanes place) (link_at old.links place) lane) in
     let oldest = is_oldest place (lanes place).since order (map (λ (reply : AReply (List ℕ)). Reply reply) (lanes place).replies) (answers.takes.head, answers.tag) answers.link.waiting h.sized pending in
-    let but = but_noted texts sent order lanes place old.sessions old.admitted old.links answers.tag (Reply answers.reply) refl oldest (holds_but texts sent order lanes place old h) in
-    let same_sessions = subst (λ (sessions : Sessions). HoldsBut texts sent (note answers.tag (Reply answers.reply) order) lanes place sessions old.admitted old.links) (sym answers.sessions) but in
-    let same_admitted = subst (λ (admitted : ℕ). HoldsBut texts sent (note answers.tag (Reply answers.reply) order) lanes place new.sessions admitted old.links) (sym answers.admitted) same_sessions in
+    let but = but_noted texts sent order lanes place old.losses old.sessions old.admitted old.links answers.tag (Reply answers.reply) refl oldest (holds_but texts sent order lanes place old h) in
+    let same_sessions = subst (λ (sessions : Sessions). HoldsBut texts sent (note answers.tag (Reply answers.reply) order) lanes place old.losses sessions old.admitted old.links) (sym answers.sessions) but in
+    let same_losses = subst (λ (losses : Losses). HoldsBut texts sent (note answers.tag (Reply answers.reply) order) lanes place losses new.sessions old.admitted old.links) (sym answers.losses) same_sessions in
+    let same_admitted = subst (λ (admitted : ℕ). HoldsBut texts sent (note answers.tag (Reply answers.reply) order) lanes place new.losses new.sessions admitted old.links) (sym answers.admitted) same_losses in
     let link_is : link_at new.links place ≡ answers.link = ap (λ (links : List LinkState). link_at links place) answers.links ∙ link_own place answers.link old.links inside in
     let stays_up : answers.link.up ≡ true = ap (λ (link : LinkState). link.up) answers.takes.others ∙ up in
     let own : LinkHolds place (note answers.tag (Reply answers.reply) order) (record (lanes place) { replies = (lanes place).replies ++ answers.reply ∷ [] }) answers.link = (
@@ -142,20 +148,20 @@ holds-replied texts sent order lanes place old new h up answers =
     (λ other differ. ap (λ (links : List LinkState). link_at links other) answers.links ∙ link_other place other answers.link old.links differ)
 
 -- each command that waits is lost
-record IsLost (texts sent : ℕ → List ℕ) (order : Order) (lanes : ℕ → Lane) (place : ℕ) (sessions : Sessions) (admitted : ℕ) (links : List LinkState) : Type 0 where
-  pub but : HoldsBut texts sent order lanes place sessions admitted links
+record IsLost (texts sent : ℕ → List ℕ) (order : Order) (lanes : ℕ → Lane) (place : ℕ) (losses : Losses) (sessions : Sessions) (admitted : ℕ) (links : List LinkState) : Type 0 where
+  pub but : HoldsBut texts sent order lanes place losses sessions admitted links
   pub known : list_all is_told (outcomes_to place order) ≡ true
 
-lost_each : (texts sent : ℕ → List ℕ) (order : Order) (lanes : ℕ → Lane) (place since : ℕ) (known : List Outcome) (waiting : List Waiting) (sessions : Sessions) (admitted : ℕ) (links : List LinkState)
-    → Pending place since order known waiting → HoldsBut texts sent order lanes place sessions admitted links
-    → IsLost texts sent (note_all (map (λ (w : Waiting). w.1) waiting) Lost order) lanes place (all_lost waiting sessions) admitted links
-lost_each texts sent order lanes place since known [] sessions admitted links pending h = record { but = h; known = pending_none place since order known pending }
-lost_each texts sent order lanes place since known (w ∷ ws) sessions admitted links pending h =
+lost_each : (texts sent : ℕ → List ℕ) (order : Order) (lanes : ℕ → Lane) (place since : ℕ) (known : List Outcome) (waiting : List Waiting) (losses : Losses) (sessions : Sessions) (admitted : ℕ) (links : List LinkState)
+    → Pending place since order known waiting → HoldsBut texts sent order lanes place losses sessions admitted links
+    → IsLost texts sent (note_all (map (λ (w : Waiting). w.1) waiting) Lost order) lanes place losses (all_lost waiting sessions) admitted links
+lost_each texts sent order lanes place since known [] losses sessions admitted links pending h = record { but = h; known = pending_none place since order known pending }
+lost_each texts sent order lanes place since known (w ∷ ws) losses sessions admitted links pending h =
     let once = tag_once w.1 order (h.numbered w.1.session) in
     let oldest = is_oldest place since order known w ws h.sized pending in
-    lost_each texts sent (note w.1 Lost order) lanes place since (known ++ Lost ∷ []) ws (noted w.1 Lost sessions) admitted links
+    lost_each texts sent (note w.1 Lost order) lanes place since (known ++ Lost ∷ []) ws losses (noted w.1 Lost sessions) admitted links
     (pending_noted place since order known w ws Lost h.sized once refl pending)
-    (but_noted texts sent order lanes place sessions admitted links w.1 Lost refl oldest h)
+    (but_noted texts sent order lanes place losses sessions admitted links w.1 Lost refl oldest h)
 
 -- `lost`
 pub holds-lost : (texts sent : ℕ → List ℕ) (order : Order) (lanes : ℕ → Lane) (place : ℕ) (old : ProxyState)
@@ -166,7 +172,7 @@ holds-lost texts sent order lanes place old h up =
     let gone : LinkState = down_link (link_at old.links place).generation in
     let longer : Order = note_all (map (λ (w : Waiting). w.1) (link_at old.links place).waiting) Lost order in
     let lost = lost_each texts sent order lanes place (lanes place).since (map (λ (reply : AReply (List ℕ)). Reply reply) (lanes place).replies) (link_at old.links place).waiting
-    old.sessions old.admitted old.links (pending_of place order (lanes place) (link_at old.links place) ((h.links place).0 up)) (holds_but texts sent order lanes place old h) in
+    old.losses old.sessions old.admitted old.links (pending_of place order (lanes place) (link_at old.links place) ((h.links place).0 up)) (holds_but texts sent order lanes place old h) in
     let link_is : link_at (with_link place (down_link (link_at old.links place).generation) old.links) place ≡ down_link (link_at old.links place).generation =
     link_own place (down_link (link_at old.links place).generation) old.links inside in
     let own : LinkHolds place longer (lanes place) gone = (
@@ -201,8 +207,9 @@ holds-joined texts sent order lanes address up place old new h sized joins =
     let known = ((h.links place).1 off).outcomes in
     let link_is : link_at new.links place ≡ joined_link up =
     ap (λ (links : List LinkState). link_at links place) joins.links ∙ get_or_push old.links (joined_link up) (down_link 0) place (sym last) in
-    let but = subst (λ (sessions : Sessions). HoldsBut texts sent order lanes place sessions new.admitted old.links) (sym joins.sessions)
-    (subst (λ (admitted : ℕ). HoldsBut texts sent order lanes place old.sessions admitted old.links) (sym joins.admitted) (holds_but texts sent order lanes place old h)) in
+    let but = subst (λ (losses : Losses). HoldsBut texts sent order lanes place losses new.sessions new.admitted old.links) (sym joins.losses)
+    (subst (λ (sessions : Sessions). HoldsBut texts sent order lanes place old.losses sessions new.admitted old.links) (sym joins.sessions)
+    (subst (λ (admitted : ℕ). HoldsBut texts sent order lanes place old.losses old.sessions admitted old.links) (sym joins.admitted) (holds_but texts sent order lanes place old h))) in
     holds_with texts sent order lanes (changed place (fresh_lane (length order)) lanes) place old.links new but
     (subst (λ (lane : Lane). LinkHolds place order lane (link_at new.links place)) (sym (changed-own place (fresh_lane (length order)) lanes))
     (subst (λ (link : LinkState). LinkHolds place order (fresh_lane (length order)) link) (sym link_is) (joined_own place order up known)))

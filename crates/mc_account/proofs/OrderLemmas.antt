@@ -10,10 +10,11 @@ use Rattle.mc_request.specs.declared.parts.Taken.{Taken}
 use Rattle.mc_route.specs.Routes.{route_of_taken}
 use Rattle.mc_route.specs.declared.outcomes.Outcome.{Outcome}
 use Rattle.mc_route.specs.declared.routes.Routed.{Routed}
+use Rattle.mc_route.specs.declared.losses.Losses.{Losses}
 use Rattle.mc_link.specs.declared.turns.Tag.{Tag}
 use Rattle.mc_session.specs.Emits.{answer_by, is_told}
 use Rattle.mc_session.specs.Noting.{with_outcome}
-use Rattle.mc_account.specs.Orders.{Entry, Order, Tagged, AreInOrder, IsSized, answers_of, commands_from, commands_in, commands_to, entries_of, note, note_in, numbers_from, outcomes_from, outcomes_in, outcomes_to, owns}
+use Rattle.mc_account.specs.Orders.{Entry, Order, Tagged, AreInOrder, IsSized, answers_of, commands_from, commands_in, commands_to, entries_of, note, note_in, numbers_from, outcomes_from, outcomes_in, outcomes_to, owns, IsToldAs}
 use Rattle.mc_account.proofs.OpenSessions.{own_number, other_number}
 
 -- what passes a test in each of two lists, and in both joined
@@ -69,11 +70,11 @@ told_whole place since es before after =
     (ap (λ (fs : Order). outcomes_to place fs) (sym (take-append-drop since es)) ∙ outcomes-append place (take since es) (drop since es)) ∙ both
 
 -- the answers
-pub answers-push : (es : Order) (e : Entry) → answers_of (es ++ e ∷ []) ≡ answers_of es ++ answer_by e.what e.outcomes
-answers-push [] e = append-nil (answer_by e.what e.outcomes)
+pub answers-push : (es : Order) (e : Entry) → answers_of (es ++ e ∷ []) ≡ answers_of es ++ answer_by e.losses e.what e.outcomes
+answers-push [] e = append-nil (answer_by e.losses e.what e.outcomes)
 answers-push (x ∷ xs) e =
-    ap (λ (bytes : List ℕ). answer_by x.what x.outcomes ++ bytes) (answers-push xs e)
-    ∙ sym (append_assoc (answer_by x.what x.outcomes) (answers_of xs) (answer_by e.what e.outcomes))
+    ap (λ (bytes : List ℕ). answer_by x.losses x.what x.outcomes ++ bytes) (answers-push xs e)
+    ∙ sym (append_assoc (answer_by x.losses x.what x.outcomes) (answers_of xs) (answer_by e.losses e.what e.outcomes))
 
 -- the numbers of a session's requests
 numbers-push : (at : ℕ) (es : Order) (e : Entry) → numbers_from at (es ++ e ∷ []) ≡ numbers_from at es ++ (at + length es) ∷ []
@@ -149,6 +150,12 @@ pub sized-note : (tag : Tag) (outcome : Outcome) (es : Order) → All IsSized es
 sized-note tag outcome [] h = All-nil IsSized
 sized-note tag outcome (e ∷ es) h =
     All-cons IsSized (note_in tag outcome e) (note tag outcome es) (sized-note_in tag outcome e (All-head IsSized e es h)) (sized-note tag outcome es (All-tail IsSized e es h))
+
+-- what clients are told stays where an outcome is noted
+pub chosen-note : (losses : Losses) (tag : Tag) (outcome : Outcome) (es : Order) → All (IsToldAs losses) es → All (IsToldAs losses) (note tag outcome es)
+chosen-note losses tag outcome [] h = All-nil (IsToldAs losses)
+chosen-note losses tag outcome (e ∷ es) h =
+    All-cons (IsToldAs losses) (note_in tag outcome e) (note tag outcome es) (All-head (IsToldAs losses) e es h) (chosen-note losses tag outcome es (All-tail (IsToldAs losses) e es h))
 
 -- each command to a place has its outcome
 pub lengths_from : (place session request at : ℕ) (commands : List Routed) (xs : List Outcome) → length xs ≡ length commands

@@ -12,7 +12,8 @@ use Rattle.mc_ring.specs.Rings.{RingState}
 use Rattle.mc_route.specs.Kept.{kept_of}
 use Rattle.mc_route.specs.Routes.{route_of_taken}
 use Rattle.mc_route.specs.declared.outcomes.Outcome.{Outcome}
-use Rattle.mc_route.proofs.KeptLemmas.{joined-kept}
+use Rattle.mc_route.proofs.KeptLemmas.{with-kept}
+use Rattle.mc_route.specs.declared.losses.Losses.{Losses}
 use Rattle.mc_link.specs.LinkState.{LinkState}
 use Rattle.mc_link.specs.declared.turns.Tag.{Tag}
 use Rattle.mc_session.specs.Emits.{answer_by, answer_of_one, emitted, emitted_from}
@@ -98,14 +99,14 @@ session_fed number order text sent piece before after h fed = record {
 }
 
 -- a turn takes the first of the rest
-pub session_took : (number : ℕ) (order : Order) (text sent : List ℕ) (ring : RingState) (links now : List LinkState) (before after : SessionState) (what : Taken)
-    → SessionHolds number order text sent before → Takes number ring links now before after what
+pub session_took : (number : ℕ) (order : Order) (text sent : List ℕ) (ring : RingState) (losses : Losses) (links now : List LinkState) (before after : SessionState) (what : Taken)
+    → SessionHolds number order text sent before → Takes number ring losses links now before after what
     → SessionHolds number
-    (order ++ (record { session = number; request = before.taken; what = what; ring = ring; outcomes = map (at_once links) (route_of_taken ring what) }) ∷ []) text sent after
-session_took number order text sent ring links now before after what h takes =
-    let e : Entry = record { session = number; request = before.taken; what = what; ring = ring; outcomes = map (at_once links) (route_of_taken ring what) } in
-    let mine : entries_of number (order ++ (record { session = number; request = before.taken; what = what; ring = ring; outcomes = map (at_once links) (route_of_taken ring what) }) ∷ [])
-    ≡ entries_of number order ++ (record { session = number; request = before.taken; what = what; ring = ring; outcomes = map (at_once links) (route_of_taken ring what) }) ∷ [] =
+    (order ++ (record { session = number; request = before.taken; what = what; ring = ring; losses = losses; outcomes = map (at_once links) (route_of_taken ring what) }) ∷ []) text sent after
+session_took number order text sent ring losses links now before after what h takes =
+    let e : Entry = record { session = number; request = before.taken; what = what; ring = ring; losses = losses; outcomes = map (at_once links) (route_of_taken ring what) } in
+    let mine : entries_of number (order ++ (record { session = number; request = before.taken; what = what; ring = ring; losses = losses; outcomes = map (at_once links) (route_of_taken ring what) }) ∷ [])
+    ≡ entries_of number order ++ (record { session = number; request = before.taken; what = what; ring = ring; losses = losses; outcomes = map (at_once links) (route_of_taken ring what) }) ∷ [] =
     entries_push_own number order e refl in
     record {
       rest = λ more.
@@ -145,9 +146,9 @@ session_sent number order text sent session count h = record {
 }
 
 -- a data block plays no part in an answer
-answer_kept : (what : Taken) (outcomes : List Outcome) → answer_by (kept_of what) outcomes ≡ answer_by what outcomes
-answer_kept (Whole request) outcomes = joined-kept request outcomes
-answer_kept (Faulty fault) outcomes = refl
+answer_kept : (losses : Losses) (what : Taken) (outcomes : List Outcome) → answer_by losses (kept_of what) outcomes ≡ answer_by losses what outcomes
+answer_kept losses (Whole request) outcomes = with-kept losses request outcomes
+answer_kept losses (Faulty fault) outcomes = refl
 
 -- the oldest request that is not answered, where it can be: it is complete, and its answer is put out
 record Emits (before after : SessionState) (incomplete : Order) : Type 0 where
@@ -180,7 +181,7 @@ session_emitted number order text sent before after h is =
       answered =
           ap (λ (s : SessionState). sent ++ s.output) e.now
           ∙ sym (append_assoc sent before.output (answer_of_one (unanswered_of e.first)))
-          ∙ ap₂ (λ (bytes more : List ℕ). bytes ++ more) h.answered (answer_kept e.first.what e.first.outcomes)
+          ∙ ap₂ (λ (bytes more : List ℕ). bytes ++ more) h.answered (answer_kept e.first.losses e.first.what e.first.outcomes)
           ∙ sym (answers-push h.done e.first);
       unanswered = ap (λ (s : SessionState). s.unanswered) e.now;
       taken = ap (λ (s : SessionState). s.taken) e.now ∙ h.taken;

@@ -6,6 +6,7 @@ use Rattle.mc_request.specs.declared.parts.Taken.{Taken}
 use Rattle.mc_ring.specs.Rings.{RingState}
 use Rattle.mc_route.specs.Kept.{kept_of}
 use Rattle.mc_route.specs.Routes.{route_of_taken}
+use Rattle.mc_route.specs.declared.losses.Losses.{Losses}
 use Rattle.mc_route.specs.declared.outcomes.Outcome.{Outcome}
 use Rattle.mc_route.specs.declared.routes.Routed.{Routed}
 use Rattle.mc_link.specs.declared.turns.Tag.{Tag}
@@ -14,13 +15,14 @@ use Rattle.mc_session.specs.Noting.{with_outcome}
 use Rattle.mc_session.specs.Sending.{tag_of}
 use Rattle.mc_session.specs.SessionState.{Unanswered}
 
--- a request or fault that was taken: of which session, its number there, what it was, the ring by which it was routed, and
--- what became of its commands so far
+-- a request or fault that was taken: of which session, its number there, what it was, the ring by which it was routed, the
+-- choice for its lost commands, and what became of its commands so far
 pub record Entry : Type 0 where
   pub session : ℕ
   pub request : ℕ
   pub what : Taken
   pub ring : RingState
+  pub losses : Losses
   pub outcomes : List Outcome
 
 -- all that was taken, in one order, the oldest first
@@ -81,6 +83,10 @@ outcomes_to place (e ∷ es) = outcomes_in place e ++ outcomes_to place es
 abbrev pub IsSized : Entry → Type 0
 IsSized e = length e.outcomes ≡ length (route_of_taken e.ring e.what)
 
+-- an entry's lost commands are answered by this choice
+abbrev pub IsToldAs : Losses → Entry → Type 0
+IsToldAs losses e = e.losses ≡ losses
+
 -- whether it is known of each command of an entry what became of it
 abbrev pub is_complete : Entry → Bool
 is_complete e = list_all is_told e.outcomes
@@ -104,9 +110,9 @@ note_all (tag ∷ tags) outcome order = note_all tags outcome (note tag outcome 
 
 -- an entry as its session keeps it until it is answered
 abbrev pub unanswered_of : Entry → Unanswered
-unanswered_of e = record { what = kept_of e.what; outcomes = e.outcomes }
+unanswered_of e = record { what = kept_of e.what; losses = e.losses; outcomes = e.outcomes }
 
 -- the answers to entries, joined
 abbrev pub answers_of : Order → List ℕ
 answers_of [] = []
-answers_of (e ∷ es) = answer_by e.what e.outcomes ++ answers_of es
+answers_of (e ∷ es) = answer_by e.losses e.what e.outcomes ++ answers_of es

@@ -1,13 +1,14 @@
 //! How each call of a proxy keeps its account. The functions do nothing: their contracts are the laws.
-ghost use Rattle.std.specs.Prelude.{◌≡◌, ◌≢◌, ◌+◌, ◌<◌, ◌≤◌, ℕ, Bool, true, List, [], ◌∷◌, ◌++◌, Some, None, All, length, map, drop, take, replicate, slice_get};
+ghost use Rattle.std.specs.Prelude.{◌≡◌, ◌≢◌, ◌+◌, ◌<◌, ◌≤◌, ℕ, Bool, true, List, [], ◌∷◌, ◌++◌, Some, None, All, length, map, drop, take, slice_get};
 ghost use Rattle.std.specs.List.{list_all};
 ghost use Rattle.mc_request.specs.declared.parts.Atom.{Atom};
 ghost use Rattle.mc_ring.specs.Rings.{RingState};
 ghost use Rattle.mc_route.specs.Routes.{route_of_taken, to_place};
+ghost use Rattle.mc_route.specs.declared.losses.Losses.{Losses};
 ghost use Rattle.mc_route.specs.declared.outcomes.Outcome.{Outcome};
 ghost use Rattle.mc_route.specs.declared.outcomes.Outcome.TheVariants.{Awaited, Lost, Reply};
 ghost use Rattle.mc_route.specs.declared.routes.Routed.{Routed};
-ghost use Rattle.mc_link.specs.LinkState.{Waiting, can_come_back, down_link, up_link};
+ghost use Rattle.mc_link.specs.LinkState.{Waiting, can_come_back, up_link};
 ghost use Rattle.mc_link.specs.declared.turns.Tag.{Tag};
 ghost use Rattle.mc_session.specs.Emits.{IsEmit, is_told};
 ghost use Rattle.mc_session.specs.Sending.{at_once};
@@ -18,7 +19,7 @@ ghost use Rattle.mc_session.specs.declared.turns.Turn.{Turn};
 ghost use Rattle.mc_session.specs.declared.turns.Turn.TheVariants.{Took};
 ghost use Rattle.mc_proxy.specs.Joins.{JoinsServer};
 ghost use Rattle.mc_proxy.specs.LinkTurns.{Answers, lost_at};
-ghost use Rattle.mc_proxy.specs.ProxyState.{ProxyState, output_of, sent_by, session_at, with_fresh, without};
+ghost use Rattle.mc_proxy.specs.ProxyState.{ProxyState, opened, output_of, sent_by, session_at, with_fresh, without};
 ghost use Rattle.mc_proxy.specs.Turns.{Alone, Steps};
 ghost use Rattle.mc_account.specs.Lanes.{Lane, fresh_lane};
 ghost use Rattle.mc_account.specs.Lookups.{AreAwaited, IsAwaited, IsBefore, IsRoutedWithin, command_at, outcome_at};
@@ -28,9 +29,9 @@ ghost use Rattle.mc_account.specs.Holds.{ProxyHolds, changed, grown};
 
 /// A proxy that was just made is where nothing was taken.
 pub fn a_proxy_opens()
-    ensures { (ring : RingState)
+    ensures { (losses : Losses) (ring : RingState)
         → ProxyHolds (λ _. []) (λ _. []) [] (λ _. fresh_lane 0)
-        (record { ring = ring; sessions = []; admitted = 0; links = replicate (length ring.servers) (down_link 0) }) }
+        (opened losses ring) }
 {}
 
 /// `admit` keeps the account.
@@ -50,13 +51,14 @@ pub fn pieces_hold()
 /// down is lost.
 pub fn taken_requests_hold()
     ensures { (texts sent : ℕ → List ℕ) (order : Order) (lanes : ℕ → Lane) (number : ℕ) (old new : ProxyState)
-        → ProxyHolds texts sent order lanes old → (step : Steps number old new (IsTurn number Took old.ring))
+        → ProxyHolds texts sent order lanes old → (step : Steps number old new (IsTurn number Took old.ring old.losses))
         → ProxyHolds texts sent
         (order ++ (record {
           session = number;
           request = step.before.taken;
           what = step.step.0;
           ring = old.ring;
+          losses = old.losses;
           outcomes = map (at_once old.links) (route_of_taken old.ring step.step.0);
         }) ∷ []) lanes new }
 {}
@@ -64,7 +66,7 @@ pub fn taken_requests_hold()
 /// A `turn` that took nothing, and an `emit` that put nothing out.
 pub fn idle_calls_hold()
     ensures turn { (texts sent : ℕ → List ℕ) (order : Order) (lanes : ℕ → Lane) (number : ℕ) (turn : Turn) (old new : ProxyState)
-        → ProxyHolds texts sent order lanes old → turn ≢ Took → Steps number old new (IsTurn number turn old.ring)
+        → ProxyHolds texts sent order lanes old → turn ≢ Took → Steps number old new (IsTurn number turn old.ring old.losses)
         → ProxyHolds texts sent order lanes new }
     ensures emit { (texts sent : ℕ → List ℕ) (order : Order) (lanes : ℕ → Lane) (number : ℕ) (old new : ProxyState)
         → ProxyHolds texts sent order lanes old → Steps number old new (Alone (IsEmit emits.Idle))
@@ -170,7 +172,7 @@ pub fn answered_requests_are_counted()
         → answered step.after ≡ answered step.before + 1 }
     ensures idle { (number : ℕ) (old new : ProxyState) → Steps number old new (Alone (IsEmit emits.Idle))
         → (other : ℕ) → answered_at new other ≡ answered_at old other }
-    ensures turn { (number : ℕ) (turn : Turn) (ring : RingState) (old new : ProxyState) → Steps number old new (IsTurn number turn ring)
+    ensures turn { (number : ℕ) (turn : Turn) (ring : RingState) (losses : Losses) (old new : ProxyState) → Steps number old new (IsTurn number turn ring losses)
         → (other : ℕ) → answered_at new other ≡ answered_at old other }
     ensures fed { (number : ℕ) (piece : List ℕ) (old new : ProxyState) → Steps number old new (Alone (IsFed piece))
         → (other : ℕ) → answered_at new other ≡ answered_at old other }

@@ -1,7 +1,7 @@
 -- Which figures a program shows.
 use Rattle.std.specs.Prelude.{ℕ, ◌+◌, ◌%◌, ◌^◌, Bool, true, false, List, [], ◌∷◌, ◌++◌, Option, Some, None}
 use Rattle.mc_admin.specs.declared.names.Name.{Name}
-use Rattle.mc_admin.specs.declared.names.Name.TheVariants.{Up, Version as VersionName, Uptime, Time, Pid, Threads, CurrConnections, MaxConnections, TotalConnections, RejectedConnections, Requests, BytesRead, BytesWritten, Resident, CmdGet, GetHits, GetMisses, CmdSet, CurrItems, TotalItems, Bytes, LimitMaxbytes, LimitItems, Evictions, Expired, NoMemory, ServerUp, ServerLosses, ServerSent, ServerLost, ServerWaiting}
+use Rattle.mc_admin.specs.declared.names.Name.TheVariants.{Up, Version as VersionName, Uptime, Time, Pid, Threads, CurrConnections, MaxConnections, TotalConnections, RejectedConnections, Requests, BytesRead, BytesWritten, Resident, CmdGet, GetHits, GetMisses, CmdSet, CurrItems, TotalItems, Bytes, LimitMaxbytes, LimitItems, Evictions, Expired, NoMemory, Missed, ServerUp, ServerLosses, ServerSent, ServerLost, ServerWaiting}
 use Rattle.mc_admin.specs.declared.figures.Figure.{Figure}
 use Rattle.mc_admin.specs.declared.figures.Value.TheVariants.{Number, Version}
 use Rattle.mc_admin.specs.declared.lists.ClientFigures.{ClientFigures}
@@ -36,6 +36,11 @@ traffic_figures c =
 -- the figures of whom a program serves
 abbrev pub client_figures : ClientFigures → List Figure
 client_figures c = process_figures c ++ traffic_figures c ++ resident_figures c.resident
+
+-- the requests of a proxy's clients for a server that was down, if they are counted
+abbrev pub missed_figures : Option ℕ → List Figure
+missed_figures None = []
+missed_figures (Some count) = own Missed count ∷ []
 
 -- the figures of commands
 -- source: memcached's protocol.txt, "General-purpose statistics": cmd_get is get_hits and get_misses

@@ -1,7 +1,7 @@
 -- What a figure is called: in memcached's statistics, and as a metric of Prometheus.
 use Rattle.std.specs.Prelude.{ℕ, List, [], codes}
 use Rattle.mc_admin.specs.declared.names.Name.{Name}
-use Rattle.mc_admin.specs.declared.names.Name.TheVariants.{Up, Version, Uptime, Time, Pid, Threads, CurrConnections, MaxConnections, TotalConnections, RejectedConnections, Requests, BytesRead, BytesWritten, Resident, CmdGet, GetHits, GetMisses, CmdSet, CurrItems, TotalItems, Bytes, LimitMaxbytes, LimitItems, Evictions, Expired, NoMemory, ServerUp, ServerLosses, ServerSent, ServerLost, ServerWaiting}
+use Rattle.mc_admin.specs.declared.names.Name.TheVariants.{Up, Version, Uptime, Time, Pid, Threads, CurrConnections, MaxConnections, TotalConnections, RejectedConnections, Requests, BytesRead, BytesWritten, Resident, CmdGet, GetHits, GetMisses, CmdSet, CurrItems, TotalItems, Bytes, LimitMaxbytes, LimitItems, Evictions, Expired, NoMemory, Missed, ServerUp, ServerLosses, ServerSent, ServerLost, ServerWaiting}
 
 -- its name among the statistics
 -- source: memcached's protocol.txt, "General-purpose statistics", where that has it; of the others this project's own
@@ -32,6 +32,7 @@ stat_name LimitItems = codes "limit_items"
 stat_name Evictions = codes "evictions"
 stat_name Expired = codes "expired"
 stat_name NoMemory = codes "no_memory"
+stat_name Missed = codes "missed"
 stat_name ServerUp = codes "up"
 stat_name ServerLosses = codes "losses"
 stat_name ServerSent = codes "sent"
@@ -68,6 +69,7 @@ metric_name LimitItems = codes "wiersbol_limit_items"
 metric_name Evictions = codes "memcached_items_evicted_total"
 metric_name Expired = codes "wiersbol_items_expired_total"
 metric_name NoMemory = codes "wiersbol_memory_refused_total"
+metric_name Missed = codes "wiersbol_requests_missed_total"
 metric_name ServerUp = codes "wiersbol_server_up"
 metric_name ServerLosses = codes "wiersbol_server_losses_total"
 metric_name ServerSent = codes "wiersbol_server_sent_total"
@@ -131,6 +133,7 @@ help_of LimitItems = codes "The most items."
 help_of Evictions = codes "Items that went to make room."
 help_of Expired = codes "Expired items that were taken out or replaced."
 help_of NoMemory = codes "Times that the system gave no memory for a request."
+help_of Missed = codes "Requests for a server that was down."
 help_of ServerUp = codes "Whether the connection to the server is up."
 help_of ServerLosses = codes "How often the connection to the server was lost."
 help_of ServerSent = codes "Commands that were put on the connection to the server."

@@ -27,7 +27,7 @@ pub use inboxes::{Inbox, Phase, REQUEST_LIMIT};
 pub use laws::{cuts_say_nothing, requests_end};
 pub use lines::asked_of;
 pub use lists::{
-    ClientFigures, LinkFigures, StoreFigures, push_client_figures, push_link_figures,
+    ClientFigures, LinkFigures, StoreFigures, push_client_figures, push_link_figures, push_missed,
     push_store_figures,
 };
 pub use names::Name;

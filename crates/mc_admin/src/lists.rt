@@ -1,6 +1,6 @@
 //! Which figures a program shows.
 ghost use Rattle.std.specs.Prelude.{◌≡◌, ◌++◌, true, OnOk};
-ghost use Rattle.mc_admin.specs.Lists.{own, further, client_figures, process_figures, traffic_figures, resident_figures, store_figures, command_figures, item_figures, link_number, of_each, link_figures};
+ghost use Rattle.mc_admin.specs.Lists.{own, further, client_figures, process_figures, traffic_figures, resident_figures, missed_figures, store_figures, command_figures, item_figures, link_number, of_each, link_figures};
 
 use crate::figures::{Figure, Value};
 use crate::names::Name;
@@ -131,6 +131,17 @@ fn push_resident(resident: Option<u64>, figures: &mut Vec<Figure<'_>>) -> Result
         return Ok(());
     };
     figures.push(own(Name::Resident, bytes))?;
+    Ok(())
+}
+
+/// Puts the requests of a proxy's clients for a server that was down at the end of a list, if they are counted.
+pub fn push_missed(missed: Option<u64>, figures: &mut Vec<Figure<'_>>) -> Result<(), AllocError>
+    ensures { OnOk result (figures.new.items ≡ figures.old.items ++ missed_figures missed) }
+{
+    let Some(count) = missed else {
+        return Ok(());
+    };
+    figures.push(own(Name::Missed, count))?;
     Ok(())
 }
 

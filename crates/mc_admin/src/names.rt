@@ -57,6 +57,8 @@ pub enum Name {
     Expired,
     /// How often the system gave no memory for a request.
     NoMemory,
+    /// Requests of a proxy's clients for a server that was down.
+    Missed,
     /// Whether a proxy's connection to a server is up: 1 or 0.
     ServerUp,
     /// How often the connection to a server was lost.
@@ -102,6 +104,7 @@ impl Name {
             Name::Evictions => b"evictions",
             Name::Expired => b"expired",
             Name::NoMemory => b"no_memory",
+            Name::Missed => b"missed",
             Name::ServerUp => b"up",
             Name::ServerLosses => b"losses",
             Name::ServerSent => b"sent",
@@ -142,6 +145,7 @@ impl Name {
             Name::Evictions => b"memcached_items_evicted_total",
             Name::Expired => b"wiersbol_items_expired_total",
             Name::NoMemory => b"wiersbol_memory_refused_total",
+            Name::Missed => b"wiersbol_requests_missed_total",
             Name::ServerUp => b"wiersbol_server_up",
             Name::ServerLosses => b"wiersbol_server_losses_total",
             Name::ServerSent => b"wiersbol_server_sent_total",
@@ -221,6 +225,7 @@ impl Name {
             Name::Evictions => b"Items that went to make room.",
             Name::Expired => b"Expired items that were taken out or replaced.",
             Name::NoMemory => b"Times that the system gave no memory for a request.",
+            Name::Missed => b"Requests for a server that was down.",
             Name::ServerUp => b"Whether the connection to the server is up.",
             Name::ServerLosses => b"How often the connection to the server was lost.",
             Name::ServerSent => b"Commands that were put on the connection to the server.",

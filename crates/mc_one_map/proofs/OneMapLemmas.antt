@@ -4,6 +4,7 @@ use Rattle.std.specs.Option.{option_map}
 use Rattle.std.proofs.lemmas.List.{length-map}
 use Rattle.mc_request.specs.declared.parts.Atom.{Atom}
 use Rattle.mc_ring.specs.Rings.{RingState}
+use Rattle.mc_route.specs.declared.losses.Losses.{Losses}
 use Rattle.mc_route.specs.Routes.{owner_in, to_place}
 use Rattle.mc_route.specs.declared.routes.Routed.{Routed}
 use Rattle.mc_link.specs.declared.turns.Tag.{Tag}
@@ -65,23 +66,23 @@ history-owned owner look order finds own place s (e ∷ es) legal =
     )
 
 -- a history has a command for each turn of its server
-history-turns : (ring : RingState) (opening : CacheState) (look : LookUp) (order : Order) (texts outs : ℕ → List ℕ) (histories : ℕ → List Entry) (log : Log) → Finds look order
-    → Accounts ring opening order texts outs histories log → HaveTurns (λ place. commands_of look (histories place)) (turns_of log)
-history-turns ring opening look order texts outs histories log finds h place =
+history-turns : (losses : Losses) (ring : RingState) (opening : CacheState) (look : LookUp) (order : Order) (texts outs : ℕ → List ℕ) (histories : ℕ → List Entry) (log : Log) → Finds look order
+    → Accounts losses ring opening order texts outs histories log → HaveTurns (λ place. commands_of look (histories place)) (turns_of log)
+history-turns losses ring opening look order texts outs histories log finds h place =
     grind (arith, length-map, moments-count, turns-count, commands-many)
 
 -- the histories are those of one map, wherever all that the order has is found
-one-map : (ring : RingState) (budget items : ℕ) (look : LookUp) (order : Order) (texts outs : ℕ → List ℕ) (histories : ℕ → List Entry) (log : Log) → IsWithinBounds budget items
-    → Accounts ring (opening_cache budget items 0) order texts outs histories log → Finds look order → ArePlainlyOfOneMap ring budget items look histories log
-one-map ring budget items look order texts outs histories log bounds h finds run =
+one-map : (losses : Losses) (ring : RingState) (budget items : ℕ) (look : LookUp) (order : Order) (texts outs : ℕ → List ℕ) (histories : ℕ → List Entry) (log : Log) → IsWithinBounds budget items
+    → Accounts losses ring (opening_cache budget items 0) order texts outs histories log → Finds look order → ArePlainlyOfOneMap ring budget items look histories log
+one-map losses ring budget items look order texts outs histories log bounds h finds run =
     let opening : CacheState = opening_cache budget items 0 in
     let caches : Caches = opening_caches budget items 0 in
     let es : List Executed = executed look histories log in
     let all : (place : ℕ) → commands_at place es ≡ commands_of look (histories place) =
-    merged-own (turns_of log) (λ place. commands_of look (histories place)) (history-turns ring opening look order texts outs histories log finds h) in
+    merged-own (turns_of log) (λ place. commands_of look (histories place)) (history-turns losses ring opening look order texts outs histories log finds h) in
     let steps : StepPlainly (owner_in ring) caches es = record {
       at_owners = merged-owned (owner_in ring) (turns_of log) (λ place. commands_of look (histories place))
-          (λ place. history-owned (owner_in ring) look order finds (command_own ring opening order texts outs histories log h run.unjoined) place opening (histories place) (h.legal place));
+          (λ place. history-owned (owner_in ring) look order finds (command_own losses ring opening order texts outs histories log h run.unjoined) place opening (histories place) (h.legal place));
       plain = λ place. subst (λ (cs : List Command). ArePlainSteps opening cs) (sym (all place)) (run.plain place);
     } in
     let act : ActAsMap (owner_in ring) empty_map caches es =
@@ -89,20 +90,20 @@ one-map ring budget items look order texts outs histories log bounds h finds run
     grind (arith, replies-told)
 
 -- in the order itself all is found, and in what was sent too where no server joined
-pub map_by_order : (ring : RingState) (budget items : ℕ) (order : Order) (texts outs : ℕ → List ℕ) (histories : ℕ → List Entry) (log : Log) → IsWithinBounds budget items
-    → Accounts ring (opening_cache budget items 0) order texts outs histories log → ArePlainlyOfOneMap ring budget items (command_at order) histories log
-map_by_order ring budget items order texts outs histories log bounds h = one-map ring budget items (command_at order) order texts outs histories log bounds h (λ tag command at. at)
+pub map_by_order : (losses : Losses) (ring : RingState) (budget items : ℕ) (order : Order) (texts outs : ℕ → List ℕ) (histories : ℕ → List Entry) (log : Log) → IsWithinBounds budget items
+    → Accounts losses ring (opening_cache budget items 0) order texts outs histories log → ArePlainlyOfOneMap ring budget items (command_at order) histories log
+map_by_order losses ring budget items order texts outs histories log bounds h = one-map losses ring budget items (command_at order) order texts outs histories log bounds h (λ tag command at. at)
 
-pub map_by_texts : (ring : RingState) (budget items : ℕ) (order : Order) (texts outs : ℕ → List ℕ) (histories : ℕ → List Entry) (log : Log) → IsWithinBounds budget items
-    → Accounts ring (opening_cache budget items 0) order texts outs histories log → ArePlainlyOfOneMap ring budget items (sent_at ring texts) histories log
-map_by_texts ring budget items order texts outs histories log bounds h run =
-    one-map ring budget items (sent_at ring texts) order texts outs histories log bounds h
-    (command_is_sent ring (opening_cache budget items 0) order texts outs histories log h run.unjoined) run
+pub map_by_texts : (losses : Losses) (ring : RingState) (budget items : ℕ) (order : Order) (texts outs : ℕ → List ℕ) (histories : ℕ → List Entry) (log : Log) → IsWithinBounds budget items
+    → Accounts losses ring (opening_cache budget items 0) order texts outs histories log → ArePlainlyOfOneMap ring budget items (sent_at ring texts) histories log
+map_by_texts losses ring budget items order texts outs histories log bounds h run =
+    one-map losses ring budget items (sent_at ring texts) order texts outs histories log bounds h
+    (command_is_sent losses ring (opening_cache budget items 0) order texts outs histories log h run.unjoined) run
 
 -- so it is of a world that gives account
 pub one_map_of : (w : WorldState) → IsWithinBounds w.budget w.items → GivesAccount w → ActsAsOneMap w
 one_map_of w bounds account = record {
   account = account;
-  by_texts = map_by_texts w.opening w.budget w.items account.0 (text_of w.course) (put_out_of w.course) (history_of w.course) w.course.log bounds account.1;
-  by_order = λ order h. map_by_order w.opening w.budget w.items order (text_of w.course) (put_out_of w.course) (history_of w.course) w.course.log bounds h;
+  by_texts = map_by_texts w.losses w.opening w.budget w.items account.0 (text_of w.course) (put_out_of w.course) (history_of w.course) w.course.log bounds account.1;
+  by_order = λ order h. map_by_order w.losses w.opening w.budget w.items order (text_of w.course) (put_out_of w.course) (history_of w.course) w.course.log bounds h;
 }

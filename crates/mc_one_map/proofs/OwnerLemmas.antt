@@ -3,13 +3,13 @@ use Rattle.std.proofs.Common.{◌≡◌, ◌∙◌, ℕ, zero, suc, ℤ, Bool, L
 use Rattle.std.proofs.lemmas.Option.{none-some, same_Some}
 use Rattle.mc_request.specs.Requests.{requests_of}
 use Rattle.mc_request.specs.declared.parts.Atom.{Atom}
-use Rattle.mc_request.specs.declared.parts.Atom.TheVariants as atoms
 use Rattle.mc_request.specs.declared.parts.Request.{Request}
 use Rattle.mc_request.specs.declared.parts.Request.TheVariants as requests
 use Rattle.mc_request.specs.declared.parts.Taken.{Taken}
 use Rattle.mc_request.specs.declared.parts.Taken.TheVariants.{Whole, Faulty}
 use Rattle.mc_request.specs.declared.parts.Update.TheVariants.{Store, Touch, Delete, Count, FlushAll}
 use Rattle.mc_ring.specs.Rings.{RingState}
+use Rattle.mc_route.specs.declared.losses.Losses.{Losses}
 use Rattle.mc_route.specs.Routes.{owner_in, route_of, route_of_gets, route_of_taken, to_each, to_owner, to_place}
 use Rattle.mc_route.specs.declared.routes.Routed.{Routed}
 use Rattle.mc_link.specs.declared.turns.Tag.{Tag}
@@ -83,25 +83,25 @@ in-request None atom command h = absurd (none-some command h)
 in-request (Some e) atom command h = (e, refl, h)
 
 -- a request of an account was routed by the ring of the opening, where none joins
-ring_is : (ring : RingState) (opening : CacheState) (order : Order) (texts outs : ℕ → List ℕ) (histories : ℕ → List Entry) (log : Log)
-    → Accounts ring opening order texts outs histories log → number_of joins log ≡ 0 → (client request : ℕ) (e : Asked) → asked_at order client request ≡ Some e
+ring_is : (losses : Losses) (ring : RingState) (opening : CacheState) (order : Order) (texts outs : ℕ → List ℕ) (histories : ℕ → List Entry) (log : Log)
+    → Accounts losses ring opening order texts outs histories log → number_of joins log ≡ 0 → (client request : ℕ) (e : Asked) → asked_at order client request ≡ Some e
     → e.ring ≡ ring
-ring_is ring opening order texts outs histories log h none client request e at = grind (arith, number-before, ring-stays)
+ring_is losses ring opening order texts outs histories log h none client request e at = grind (arith, number-before, ring-stays)
 
 -- so each command of it went to the owner of its key
-pub command_own : (ring : RingState) (opening : CacheState) (order : Order) (texts outs : ℕ → List ℕ) (histories : ℕ → List Entry) (log : Log)
-    → Accounts ring opening order texts outs histories log → number_of joins log ≡ 0 → (tag : Tag) (place : ℕ) (atom : Atom (List ℕ))
+pub command_own : (losses : Losses) (ring : RingState) (opening : CacheState) (order : Order) (texts outs : ℕ → List ℕ) (histories : ℕ → List Entry) (log : Log)
+    → Accounts losses ring opening order texts outs histories log → number_of joins log ≡ 0 → (tag : Tag) (place : ℕ) (atom : Atom (List ℕ))
     → command_at order tag ≡ Some (to_place place atom) → (key : List ℕ) → atom_key atom ≡ Some key → place ≡ owner_in ring key
-command_own ring opening order texts outs histories log h none tag place atom at key has =
+command_own losses ring opening order texts outs histories log h none tag place atom at key has =
     let found = in-request (asked_at order tag.session tag.request) tag.atom (to_place place atom) at in
     taken-own found.0.ring found.0.what tag.atom (to_place place atom) found.2 key has
-    ∙ ap (λ (r : RingState). owner_in r key) (ring_is ring opening order texts outs histories log h none tag.session tag.request found.0 found.1)
+    ∙ ap (λ (r : RingState). owner_in r key) (ring_is losses ring opening order texts outs histories log h none tag.session tag.request found.0 found.1)
 
 -- and is in what its client sent
-pub command_is_sent : (ring : RingState) (opening : CacheState) (order : Order) (texts outs : ℕ → List ℕ) (histories : ℕ → List Entry) (log : Log)
-    → Accounts ring opening order texts outs histories log → number_of joins log ≡ 0 → (tag : Tag) (command : Routed) → command_at order tag ≡ Some command
+pub command_is_sent : (losses : Losses) (ring : RingState) (opening : CacheState) (order : Order) (texts outs : ℕ → List ℕ) (histories : ℕ → List Entry) (log : Log)
+    → Accounts losses ring opening order texts outs histories log → number_of joins log ≡ 0 → (tag : Tag) (command : Routed) → command_at order tag ≡ Some command
     → sent_at ring texts tag ≡ Some command
-command_is_sent ring opening order texts outs histories log h none tag command at =
+command_is_sent losses ring opening order texts outs histories log h none tag command at =
     let found = in-request (asked_at order tag.session tag.request) tag.atom command at in
     let asked = h.asked tag.session in
     let sent : slice_get (requests_of (texts tag.session)) tag.request ≡ Some found.0.what =
@@ -109,5 +109,5 @@ command_is_sent ring opening order texts outs histories log h none tag command a
     ∙ got_there (taken_of tag.session order) asked.0 tag.request found.0.what (got_map (λ (x : Asked). x.what) (entries_of tag.session order) tag.request found.0 found.1) in
     ap (λ (o : Option Taken). command_sent ring o tag.atom) sent
     ∙ ap (λ (r : RingState). slice_get (route_of_taken r found.0.what) tag.atom)
-    (sym (ring_is ring opening order texts outs histories log h none tag.session tag.request found.0 found.1))
+    (sym (ring_is losses ring opening order texts outs histories log h none tag.session tag.request found.0 found.1))
     ∙ found.2

@@ -7,6 +7,7 @@ use Rattle.mc_request.specs.declared.parts.Taken.{Taken}
 use Rattle.mc_request.specs.declared.parts.Taken.TheVariants.{Whole}
 use Rattle.mc_request.specs.declared.parts.Update.TheVariants.{FlushAll, Store}
 use Rattle.mc_ring.specs.Rings.{RingState}
+use Rattle.mc_route.specs.declared.losses.Losses.TheVariants.{Told}
 use Rattle.mc_cache.specs.Replay.{granted}
 use Rattle.mc_cache_laws.specs.Pools.{Executed}
 use Rattle.mc_account.specs.Orders.{Entry as Asked, Order}
@@ -21,7 +22,7 @@ two_in_ring = record { servers = codes "a:1" ∷ codes "b:1" ∷ []; points = re
 
 -- a client's first request, as it was taken
 abbrev pub first_asked : ℕ → Taken → Asked
-first_asked client what = record { session = client; request = 0; what = what; ring = two_in_ring; outcomes = [] }
+first_asked client what = record { session = client; request = 0; what = what; ring = two_in_ring; losses = Told; outcomes = [] }
 
 -- client 7 sets a key, and client 8 flushes both servers
 abbrev pub set_and_flush : Order

@@ -44,5 +44,5 @@ ArePlainlyOfOneMap ring budget items look histories log =
 pub record ActsAsOneMap (w : WorldState) : Type 0 where
   pub account : GivesAccount w
   pub by_texts : ArePlainlyOfOneMap w.opening w.budget w.items (sent_at w.opening (text_of w.course)) (history_of w.course) w.course.log
-  pub by_order : (order : Order) → Accounts w.opening (cache_of w) order (text_of w.course) (put_out_of w.course) (history_of w.course) w.course.log
+  pub by_order : (order : Order) → Accounts w.losses w.opening (cache_of w) order (text_of w.course) (put_out_of w.course) (history_of w.course) w.course.log
       → ArePlainlyOfOneMap w.opening w.budget w.items (command_at order) (history_of w.course) w.course.log

@@ -1,6 +1,7 @@
 //! Laws of the histories of an account. The functions do nothing: their contracts are the laws.
 ghost use Rattle.std.specs.Prelude.{ℕ, List};
 ghost use Rattle.mc_ring.specs.Rings.{RingState};
+ghost use Rattle.mc_route.specs.declared.losses.Losses.{Losses};
 ghost use Rattle.mc_cache.specs.CacheState.{IsWithinBounds, opening_cache};
 ghost use Rattle.mc_account.specs.Lookups.{command_at};
 ghost use Rattle.mc_account.specs.Orders.{Order};
@@ -14,10 +15,10 @@ ghost use Rattle.mc_one_map.specs.OneMaps.{ArePlainlyOfOneMap};
 /// all histories of an account are those of one map, which takes the commands of all servers in the order of their turns. The commands of
 /// the entries may be looked up in what the clients sent, or in any order of the account.
 pub fn accounts_are_of_one_map()
-    ensures by_texts { (ring : RingState) (budget items : ℕ) (texts outs : ℕ → List ℕ) (histories : ℕ → List Entry) (log : Log)
-        → IsWithinBounds budget items → Account ring (opening_cache budget items 0) texts outs histories log
+    ensures by_texts { (losses : Losses) (ring : RingState) (budget items : ℕ) (texts outs : ℕ → List ℕ) (histories : ℕ → List Entry) (log : Log)
+        → IsWithinBounds budget items → Account losses ring (opening_cache budget items 0) texts outs histories log
         → ArePlainlyOfOneMap ring budget items (sent_at ring texts) histories log }
-    ensures by_order { (ring : RingState) (budget items : ℕ) (order : Order) (texts outs : ℕ → List ℕ) (histories : ℕ → List Entry) (log : Log)
-        → IsWithinBounds budget items → Accounts ring (opening_cache budget items 0) order texts outs histories log
+    ensures by_order { (losses : Losses) (ring : RingState) (budget items : ℕ) (order : Order) (texts outs : ℕ → List ℕ) (histories : ℕ → List Entry) (log : Log)
+        → IsWithinBounds budget items → Accounts losses ring (opening_cache budget items 0) order texts outs histories log
         → ArePlainlyOfOneMap ring budget items (command_at order) histories log }
 {}

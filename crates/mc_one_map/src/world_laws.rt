@@ -7,15 +7,16 @@ use mc_cache::is_within_bounds;
 use mc_ring::Ring;
 use mc_store::Store;
 use mc_text::Block;
-use mc_world::{Event, World, WorldError};
+use mc_world::{Event, Losses, World, WorldError};
 use std::alloc::Global;
 
-/// A law on public calls alone: for any ring, clients, bounds, stores of any kind and list of events, the world that took them gives
-/// account. Where its run is plain, the histories of all its servers are those of one map, which takes all their commands in the order of
-/// their turns.
+/// A law on public calls alone: for any ring, choice for lost commands, clients, bounds, stores of any kind and list of events, the world
+/// that took them gives account. Where its run is plain, the histories of all its servers are those of one map, which takes all their
+/// commands in the order of their turns.
 pub fn worlds_act_as_one_map<S: Store + Drop>(
     alloc: Global,
     ring: Ring,
+    losses: Losses,
     clients: usize,
     budget: u64,
     items: usize,
@@ -29,7 +30,7 @@ pub fn worlds_act_as_one_map<S: Store + Drop>(
     if !is_within_bounds(budget, items) {
         return Err(WorldError::BadWorld);
     }
-    let mut world = World::with_stores(alloc, ring, clients, budget, items, stores)?;
+    let mut world = World::with_losses(alloc, ring, losses, clients, budget, items, stores)?;
     world.run(events);
     Ok(world)
 }

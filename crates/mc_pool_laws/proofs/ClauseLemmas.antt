@@ -2,6 +2,7 @@
 use Rattle.std.proofs.Common.{◌≡◌, ◌≢◌, ◌∙◌, ◌↔◌, ℕ, Bool, true, false, List, refl, sym, ap}
 use Rattle.std.proofs.lemmas.Bool.{true≢false}
 use Rattle.mc_ring.specs.Rings.{RingState}
+use Rattle.mc_route.specs.declared.losses.Losses.{Losses}
 use Rattle.mc_cache.specs.CacheState.{CacheState}
 use Rattle.mc_account.specs.Orders.{Order}
 use Rattle.mc_history.specs.declared.entries.Entry.{Entry}
@@ -16,9 +17,9 @@ is_asked other = false
 others_apart : (one : Clause) → is_asked one ≡ false → Asked ≢ one
 others_apart one is same = true≢false (ap is_asked same ∙ is)
 
-pub each_clause : (ring : RingState) (opening : CacheState) (order : Order) (texts outs : ℕ → List ℕ) (histories : ℕ → List Entry) (log : Log)
-    → Accounts ring opening order texts outs histories log ↔ ((one : Clause) → AccountsBut one ring opening order texts outs histories log)
-each_clause ring opening order texts outs histories log = (
+pub each_clause : (losses : Losses) (ring : RingState) (opening : CacheState) (order : Order) (texts outs : ℕ → List ℕ) (histories : ℕ → List Entry) (log : Log)
+    → Accounts losses ring opening order texts outs histories log ↔ ((one : Clause) → AccountsBut one losses ring opening order texts outs histories log)
+each_clause losses ring opening order texts outs histories log = (
   λ h one. record {
     asked = λ keeps. h.asked;
     turns = λ keeps. h.turns;

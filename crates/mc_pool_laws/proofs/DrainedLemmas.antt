@@ -4,6 +4,7 @@ use Rattle.std.specs.List.{concat, list_all}
 use Rattle.std.proofs.lemmas.Bool.{and_from, and_parts, false≢true}
 use Rattle.mc_request.specs.Requests.{requests_of}
 use Rattle.mc_ring.specs.Rings.{RingState}
+use Rattle.mc_route.specs.declared.losses.Losses.{Losses}
 use Rattle.mc_cache.specs.CacheState.{CacheState}
 use Rattle.mc_event.specs.Bare.{bare}
 use Rattle.mc_event.specs.declared.events.Event.{Event}
@@ -52,12 +53,12 @@ pub drain_adds : (moment : ℕ) (old new : CourseState) → Drains moment old ne
 drain_adds moment old new h = events_add moment h.events old new h.all h.done
 
 -- a client that is there took the answers to all its requests
-pub all_answered : (ring : RingState) (opening : CacheState) (c : CourseState) → Account ring opening (text_of c) (put_out_of c) (history_of c) c.log → IsQuiet c
+pub all_answered : (losses : Losses) (ring : RingState) (opening : CacheState) (c : CourseState) → Account losses ring opening (text_of c) (put_out_of c) (history_of c) c.log → IsQuiet c
     → (client : ℕ) → IsThere client c.pool
     → (answers : List (List ℕ)) × (length answers ≡ length (requests_of (text_of c client))) × (taken_by c client ≡ concat answers)
-    × AreAnswersFrom ring (text_of c) (history_of c) c.log client 0 answers
-all_answered ring opening c account quiet client there =
-    let put = put_answers ring opening account.0 (text_of c) (put_out_of c) (history_of c) c.log account.1 client in
+    × AreAnswersFrom losses ring (text_of c) (history_of c) c.log client 0 answers
+all_answered losses ring opening c account quiet client there =
+    let put = put_answers losses ring opening account.0 (text_of c) (put_out_of c) (history_of c) c.log account.1 client in
     let all : put_out_of c client ≡ taken_by c client =
     ap (λ (bytes : List ℕ). taken_by c client ++ bytes) (quiet.taken client) ∙ append-nil (taken_by c client) in
     (put.0, put.1 ∙ quiet.answered client there, sym all ∙ put.2, put.3)

@@ -6,6 +6,7 @@ use Rattle.mc_reply.specs.Spelling.{spelling_of}
 use Rattle.mc_reply.specs.declared.replies.Reply.{Reply as AReply}
 use Rattle.mc_reply.specs.declared.replies.Reply.TheVariants.{Flushed}
 use Rattle.mc_route.specs.Routes.{route_of_taken, to_place}
+use Rattle.mc_route.specs.declared.losses.Losses.{Losses}
 use Rattle.mc_route.specs.declared.outcomes.Outcome.TheVariants as outcomes
 use Rattle.mc_route.specs.declared.routes.Routed.{Routed}
 use Rattle.mc_link.specs.declared.turns.Tag.{Tag}
@@ -54,19 +55,19 @@ late_reply tag place atom reply at became =
       ap₂ (λ (a : Atom (List ℕ)) (r : AReply (List ℕ)). spelling_of a r) (sym asked) (sym told),
     )
 
-late_but : AccountsBut Unanswered one_server a_cache (replied ∷ []) flush_text (outs_of (replied ∷ []) late_log) (first_only (flushed ∷ [])) late_log
-late_but =
+late_but : (losses : Losses) → AccountsBut Unanswered losses one_server a_cache (replied ∷ []) flush_text (outs_of losses (replied ∷ []) late_log) (first_only (flushed ∷ [])) late_log
+late_but losses =
     grind (arith, a_cache, asked_only, asked_text, complete_of, first_there, flush_asked, flushed, moments_one, no_loss, numbered_one, once_in_one, one_here, one_server, own_by, late_legal, late_reply, late_after, late_follows)
 
 pub without_unanswered : Allows Unanswered (λ ring opening texts outs histories log. (e : Entry) × (slice_get (histories 0) 0 ≡ Some e)
     × LinkHeld 0 (tag_in e) log × (NotAnswered (tag_in e) (before (serves 0) 0 log) → ⊥))
-without_unanswered = (
+without_unanswered losses = (
   one_server,
   a_cache,
   flush_text,
-  outs_of (replied ∷ []) late_log,
+  outs_of losses (replied ∷ []) late_log,
   first_only (flushed ∷ []),
   late_log,
-  (replied ∷ [], late_but),
+  (replied ∷ [], late_but losses),
   (flushed, refl, λ lost. (let inside = lost.1 in omega (arith, inside)), λ fresh. omega (arith, fresh)),
 )

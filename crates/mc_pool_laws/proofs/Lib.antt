@@ -12,3 +12,5 @@ pub mod OrderExample
 pub mod StrayExample
 pub mod ProxyLemmas
 pub mod LateExample
+pub mod ChoiceLemmas
+pub mod MissExample

@@ -3,6 +3,7 @@ use Rattle.std.proofs.Common.{◌≡◌, ◌≢◌, ◌∙◌, ⊎_elim, ℕ, �
 use Rattle.std.proofs.lemmas.Bool.{cases_lt, true≢false}
 use Rattle.mc_reply.specs.declared.replies.Reply.{Reply as AReply}
 use Rattle.mc_ring.specs.Rings.{RingState}
+use Rattle.mc_route.specs.declared.losses.Losses.{Losses}
 use Rattle.mc_route.specs.Routes.{to_place}
 use Rattle.mc_route.specs.declared.outcomes.Outcome.{Outcome}
 use Rattle.mc_route.specs.declared.outcomes.Outcome.TheVariants.{Awaited, Lost, Reply}
@@ -30,18 +31,18 @@ entry_or_loss histories log tag command (Reply reply) told = inl (told.0, told.1
 entry_or_loss histories log tag command Lost told = inr told
 entry_or_loss histories log tag command Awaited told = absurd told
 
-pub executed_or_lost : (ring : RingState) (opening : CacheState) (order : Order) (texts outs : ℕ → List ℕ) (histories : ℕ → List Entry) (log : Log)
-    → Accounts ring opening order texts outs histories log → (tag : Tag) (command : Routed) → IsSent ring texts log tag command → WasAnswered tag log
+pub executed_or_lost : (losses : Losses) (ring : RingState) (opening : CacheState) (order : Order) (texts outs : ℕ → List ℕ) (histories : ℕ → List Entry) (log : Log)
+    → Accounts losses ring opening order texts outs histories log → (tag : Tag) (command : Routed) → IsSent ring texts log tag command → WasAnswered tag log
     → HasEntry (histories command.server) tag ⊎ IsToldLost command.server tag (histories command.server) log
-executed_or_lost ring opening order texts outs histories log h tag command sent answered =
-    let at = sent_command ring opening order texts outs histories log h tag command sent in
-    let known = known_at ring opening order texts outs histories log h tag command at answered in
-    entry_or_loss histories log tag command known.0 (told_by ring opening order texts outs histories log h tag command known.0 at known.1 known.2)
+executed_or_lost losses ring opening order texts outs histories log h tag command sent answered =
+    let at = sent_command losses ring opening order texts outs histories log h tag command sent in
+    let known = known_at losses ring opening order texts outs histories log h tag command at answered in
+    entry_or_loss histories log tag command known.0 (told_by losses ring opening order texts outs histories log h tag command known.0 at known.1 known.2)
 
 -- an entry is the only one of its command
-only_entry : (ring : RingState) (opening : CacheState) (order : Order) (texts outs : ℕ → List ℕ) (histories : ℕ → List Entry) (log : Log)
-    → Accounts ring opening order texts outs histories log → (place : ℕ) (tag : Tag) → HasEntry (histories place) tag → HasOneEntry histories place tag
-only_entry ring opening order texts outs histories log h place tag entry = (
+only_entry : (losses : Losses) (ring : RingState) (opening : CacheState) (order : Order) (texts outs : ℕ → List ℕ) (histories : ℕ → List Entry) (log : Log)
+    → Accounts losses ring opening order texts outs histories log → (place : ℕ) (tag : Tag) → HasEntry (histories place) tag → HasOneEntry histories place tag
+only_entry losses ring opening order texts outs histories log h place tag entry = (
   entry.0,
   entry.1,
   entry.2,
@@ -49,38 +50,38 @@ only_entry ring opening order texts outs histories log h place tag entry = (
   λ other j d at same. h.once other place j entry.0 d entry.1 at entry.2 (same ∙ sym entry.3),
 )
 
-pub executed_once : (ring : RingState) (opening : CacheState) (order : Order) (texts outs : ℕ → List ℕ) (histories : ℕ → List Entry) (log : Log)
-    → Accounts ring opening order texts outs histories log → (tag : Tag) (command : Routed) → IsSent ring texts log tag command → WasAnswered tag log
+pub executed_once : (losses : Losses) (ring : RingState) (opening : CacheState) (order : Order) (texts outs : ℕ → List ℕ) (histories : ℕ → List Entry) (log : Log)
+    → Accounts losses ring opening order texts outs histories log → (tag : Tag) (command : Routed) → IsSent ring texts log tag command → WasAnswered tag log
     → number_of (loses command.server) log ≡ 0 → HasOneEntry histories command.server tag
-executed_once ring opening order texts outs histories log h tag command sent answered none =
-    elim (executed_or_lost ring opening order texts outs histories log h tag command sent answered) [
-      | inl entry ↦ only_entry ring opening order texts outs histories log h command.server tag entry
+executed_once losses ring opening order texts outs histories log h tag command sent answered none =
+    elim (executed_or_lost losses ring opening order texts outs histories log h tag command sent answered) [
+      | inl entry ↦ only_entry losses ring opening order texts outs histories log h command.server tag entry
       | inr lost ↦ absurd (nothing_lost command.server tag (histories command.server) log none lost)
     ]
 
 -- where its link was not lost before its answer, no command of an answered request is told lost
-not_lost_before : (ring : RingState) (opening : CacheState) (order : Order) (texts outs : ℕ → List ℕ) (histories : ℕ → List Entry) (log : Log)
-    → Accounts ring opening order texts outs histories log → (place : ℕ) (tag : Tag) → WasAnswered tag log
+not_lost_before : (losses : Losses) (ring : RingState) (opening : CacheState) (order : Order) (texts outs : ℕ → List ℕ) (histories : ℕ → List Entry) (log : Log)
+    → Accounts losses ring opening order texts outs histories log → (place : ℕ) (tag : Tag) → WasAnswered tag log
     → number_of (loses place) (before (puts tag.session) tag.request log) ≡ 0 → IsToldLost place tag (histories place) log → ⊥
-not_lost_before ring opening order texts outs histories log h place tag answered none (inl down) =
+not_lost_before losses ring opening order texts outs histories log h place tag answered none (inl down) =
     let front : Log = before (puts tag.session) tag.request log in
     let early = h.after tag.session tag.request answered in
     let same = before-front (takes tag.session) (puts tag.session) tag.request tag.request log early in
     let few = number-before (loses place) (takes tag.session) tag.request (before (puts tag.session) tag.request log) in
     let held = stays_up place (before (takes tag.session) tag.request (before (puts tag.session) tag.request log)) (omega (arith, none, few)) in
     true≢false (sym held ∙ ap (λ (l : Log). is_up place l) (sym same) ∙ down.0)
-not_lost_before ring opening order texts outs histories log h place tag answered none (inr lost) =
+not_lost_before losses ring opening order texts outs histories log h place tag answered none (inr lost) =
     let first = earlier (puts tag.session) (loses place) (puts_apart tag.session place) tag.request lost.1.0 log answered none in
     let later = lost.1.3 in
     omega (arith, first, later)
 
-pub executed_where_held : (ring : RingState) (opening : CacheState) (order : Order) (texts outs : ℕ → List ℕ) (histories : ℕ → List Entry) (log : Log)
-    → Accounts ring opening order texts outs histories log → (tag : Tag) (command : Routed) → IsSent ring texts log tag command → WasAnswered tag log
+pub executed_where_held : (losses : Losses) (ring : RingState) (opening : CacheState) (order : Order) (texts outs : ℕ → List ℕ) (histories : ℕ → List Entry) (log : Log)
+    → Accounts losses ring opening order texts outs histories log → (tag : Tag) (command : Routed) → IsSent ring texts log tag command → WasAnswered tag log
     → number_of (loses command.server) (before (puts tag.session) tag.request log) ≡ 0 → HasOneEntry histories command.server tag
-executed_where_held ring opening order texts outs histories log h tag command sent answered none =
-    elim (executed_or_lost ring opening order texts outs histories log h tag command sent answered) [
-      | inl entry ↦ only_entry ring opening order texts outs histories log h command.server tag entry
-      | inr lost ↦ absurd (not_lost_before ring opening order texts outs histories log h command.server tag answered none lost)
+executed_where_held losses ring opening order texts outs histories log h tag command sent answered none =
+    elim (executed_or_lost losses ring opening order texts outs histories log h tag command sent answered) [
+      | inl entry ↦ only_entry losses ring opening order texts outs histories log h command.server tag entry
+      | inr lost ↦ absurd (not_lost_before losses ring opening order texts outs histories log h command.server tag answered none lost)
     ]
 
 -- an entry whose link held was replied
@@ -92,31 +93,31 @@ replied_by histories log order place k e command Lost is at held (inl down) beca
 replied_by histories log order place k e command Lost is at held (inr lost) became = absurd (held lost.1)
 replied_by histories log order place k e command Awaited is at held told became = absurd told
 
-replied_at : (ring : RingState) (opening : CacheState) (order : Order) (texts outs : ℕ → List ℕ) (histories : ℕ → List Entry) (log : Log)
-    → Accounts ring opening order texts outs histories log → (place k : ℕ) (e : Entry) → slice_get (histories place) k ≡ Some e → WasAnswered (tag_in e) log
+replied_at : (losses : Losses) (ring : RingState) (opening : CacheState) (order : Order) (texts outs : ℕ → List ℕ) (histories : ℕ → List Entry) (log : Log)
+    → Accounts losses ring opening order texts outs histories log → (place k : ℕ) (e : Entry) → slice_get (histories place) k ≡ Some e → WasAnswered (tag_in e) log
     → LinkHeld place (tag_in e) log → (reply : AReply (List ℕ)) × (outcome_at order (tag_in e) ≡ Some (Reply reply))
-replied_at ring opening order texts outs histories log h place k e at answered held =
+replied_at losses ring opening order texts outs histories log h place k e at answered held =
     let atom = legal_at order place opening (histories place) k e (h.legal place) at in
-    let known = known_at ring opening order texts outs histories log h (tag_in e) (to_place place atom.0) atom.1 answered in
+    let known = known_at losses ring opening order texts outs histories log h (tag_in e) (to_place place atom.0) atom.1 answered in
     replied_by histories log order place k e (to_place place atom.0) known.0 refl at held
-    (told_by ring opening order texts outs histories log h (tag_in e) (to_place place atom.0) known.0 atom.1 known.1 known.2) known.1
+    (told_by losses ring opening order texts outs histories log h (tag_in e) (to_place place atom.0) known.0 atom.1 known.1 known.2) known.1
 
-pub order_kept : (ring : RingState) (opening : CacheState) (order : Order) (texts outs : ℕ → List ℕ) (histories : ℕ → List Entry) (log : Log)
-    → Accounts ring opening order texts outs histories log → (place j k : ℕ) (d e : Entry) → slice_get (histories place) j ≡ Some d
+pub order_kept : (losses : Losses) (ring : RingState) (opening : CacheState) (order : Order) (texts outs : ℕ → List ℕ) (histories : ℕ → List Entry) (log : Log)
+    → Accounts losses ring opening order texts outs histories log → (place j k : ℕ) (d e : Entry) → slice_get (histories place) j ≡ Some d
     → slice_get (histories place) k ≡ Some e → j < k → d.client ≡ e.client → WasAnswered (tag_in d) log → WasAnswered (tag_in e) log
     → LinkHeld place (tag_in d) log → LinkHeld place (tag_in e) log → IsBefore (tag_in d) (tag_in e)
-order_kept ring opening order texts outs histories log h place j k d e at also before same d_answered e_answered d_held e_held =
-    let r = replied_at ring opening order texts outs histories log h place j d at d_answered d_held in
-    let q = replied_at ring opening order texts outs histories log h place k e also e_answered e_held in
+order_kept losses ring opening order texts outs histories log h place j k d e at also before same d_answered e_answered d_held e_held =
+    let r = replied_at losses ring opening order texts outs histories log h place j d at d_answered d_held in
+    let q = replied_at losses ring opening order texts outs histories log h place k e also e_answered e_held in
     h.ordered place j k d e r.0 q.0 at also before same r.1 q.1
 
-pub answered_after : (ring : RingState) (opening : CacheState) (order : Order) (texts outs : ℕ → List ℕ) (histories : ℕ → List Entry) (log : Log)
-    → Accounts ring opening order texts outs histories log → (place k : ℕ) (e : Entry) → slice_get (histories place) k ≡ Some e
+pub answered_after : (losses : Losses) (ring : RingState) (opening : CacheState) (order : Order) (texts outs : ℕ → List ℕ) (histories : ℕ → List Entry) (log : Log)
+    → Accounts losses ring opening order texts outs histories log → (place k : ℕ) (e : Entry) → slice_get (histories place) k ≡ Some e
     → LinkHeld place (tag_in e) log → NotAnswered (tag_in e) (before (serves place) k log)
-answered_after ring opening order texts outs histories log h place k e at held =
+answered_after losses ring opening order texts outs histories log h place k e at held =
     ⊎_elim
     (λ answered.
-    let r = replied_at ring opening order texts outs histories log h place k e at answered held in
+    let r = replied_at losses ring opening order texts outs histories log h place k e at answered held in
     (h.placed place k e at).1 r.0 r.1)
     (λ later.
     let few = number-before (puts e.client) (serves place) k log in
@@ -124,16 +125,16 @@ answered_after ring opening order texts outs histories log h place k e at held =
     (cases_lt e.request (number_of (puts e.client) log))
 
 -- where a link was never lost, no command to its server is lost, and each of an answered request is replied
-pub never_lost : (ring : RingState) (opening : CacheState) (order : Order) (texts outs : ℕ → List ℕ) (histories : ℕ → List Entry) (log : Log)
-    → Accounts ring opening order texts outs histories log → (tag : Tag) (command : Routed) → command_at order tag ≡ Some command
+pub never_lost : (losses : Losses) (ring : RingState) (opening : CacheState) (order : Order) (texts outs : ℕ → List ℕ) (histories : ℕ → List Entry) (log : Log)
+    → Accounts losses ring opening order texts outs histories log → (tag : Tag) (command : Routed) → command_at order tag ≡ Some command
     → number_of (loses command.server) log ≡ 0 → outcome_at order tag ≢ Some Lost
-never_lost ring opening order texts outs histories log h tag command at none lost =
+never_lost losses ring opening order texts outs histories log h tag command at none lost =
     nothing_lost command.server tag (histories command.server) log none (h.lost tag command.server command.atom at lost)
 
-pub replied_without_loss : (ring : RingState) (opening : CacheState) (order : Order) (texts outs : ℕ → List ℕ) (histories : ℕ → List Entry) (log : Log)
-    → Accounts ring opening order texts outs histories log → (tag : Tag) (command : Routed) → command_at order tag ≡ Some command
+pub replied_without_loss : (losses : Losses) (ring : RingState) (opening : CacheState) (order : Order) (texts outs : ℕ → List ℕ) (histories : ℕ → List Entry) (log : Log)
+    → Accounts losses ring opening order texts outs histories log → (tag : Tag) (command : Routed) → command_at order tag ≡ Some command
     → number_of (loses command.server) log ≡ 0 → WasAnswered tag log → (reply : AReply (List ℕ)) × (outcome_at order tag ≡ Some (Reply reply))
-replied_without_loss ring opening order texts outs histories log h tag command at none answered =
-    let known = known_at ring opening order texts outs histories log h tag command at answered in
-    let reply = reply_known known.0 known.2 (λ lost. never_lost ring opening order texts outs histories log h tag command at none (known.1 ∙ ap (λ (o : Outcome). Some o) lost)) in
+replied_without_loss losses ring opening order texts outs histories log h tag command at none answered =
+    let known = known_at losses ring opening order texts outs histories log h tag command at answered in
+    let reply = reply_known known.0 known.2 (λ lost. never_lost losses ring opening order texts outs histories log h tag command at none (known.1 ∙ ap (λ (o : Outcome). Some o) lost)) in
     (reply.0, known.1 ∙ ap (λ (o : Outcome). Some o) reply.1)

@@ -22,6 +22,8 @@ use Rattle.mc_reply.specs.declared.replies.Reply.{Reply as AReply}
 use Rattle.mc_reply.specs.declared.replies.Reply.TheVariants.{Flushed}
 use Rattle.mc_ring.specs.Rings.{RingState}
 use Rattle.mc_route.specs.Routes.{to_place}
+use Rattle.mc_route.specs.declared.losses.Losses.{Losses}
+use Rattle.mc_route.specs.declared.losses.Losses.TheVariants.{Told}
 use Rattle.mc_route.specs.declared.outcomes.Outcome.{Outcome}
 use Rattle.mc_route.specs.declared.outcomes.Outcome.TheVariants as outcomes
 use Rattle.mc_route.specs.declared.routes.Routed.{Routed}
@@ -30,11 +32,11 @@ use Rattle.mc_session.specs.Sending.{tag_of}
 use Rattle.mc_cache.specs.CacheState.{CacheState, opening_cache}
 use Rattle.mc_cache.specs.Step.{step_of}
 use Rattle.mc_account.specs.Lookups.{asked_at, command_at, outcome_at, outcome_in}
-use Rattle.mc_account.specs.Orders.{AreInOrder, Entry as AskedFor, IsSized, Order, Tagged, answers_of, commands_to, entries_of, is_complete, taken_of}
+use Rattle.mc_account.specs.Orders.{AreInOrder, Entry as AskedFor, IsSized, Order, Tagged, commands_to, entries_of, is_complete, taken_of}
 use Rattle.mc_history.specs.declared.entries.Entry.{Entry}
 use Rattle.mc_history.specs.Histories.{IsLegal, tag_in}
 use Rattle.mc_history.specs.Named.{tags_of}
-use Rattle.mc_world.specs.Accounts.{WasTaken}
+use Rattle.mc_world.specs.Accounts.{WasTaken, answers_by}
 use Rattle.mc_world.specs.Logs.{IsRingAfter, Log, before, loses, moments_of, number_of, puts, serves, takes, turns_of}
 use Rattle.mc_event.specs.declared.events.Event.TheVariants.{Emit, LinkBack, LinkLost, ProxyTurn, ServerTurn}
 use Rattle.mc_world.specs.declared.logs.Logged.{Logged}
@@ -97,7 +99,7 @@ nothing_read = refl
 
 -- the order of one request
 abbrev pub asked_by : RingState → Taken → List Outcome → AskedFor
-asked_by ring what told = record { session = 0; request = 0; what = what; ring = ring; outcomes = told }
+asked_by ring what told = record { session = 0; request = 0; what = what; ring = ring; losses = Told; outcomes = told }
 
 -- in a list of one
 pub one_here : {X : Type 0} (x : X) (k : ℕ) (y : X) → slice_get (x ∷ []) k ≡ Some y → (k ≡ 0) × (y ≡ x)
@@ -216,18 +218,18 @@ no_loss ring what outcome other tag became = true≢false (ap is_lost (one_outco
 abbrev answered_log : Log
 answered_log = takes_one ∷ puts_one ∷ []
 
-abbrev pub outs_of : Order → Log → ℕ → List ℕ
-outs_of order log client = answers_of (take (number_of (puts client) log) (entries_of client order))
+abbrev pub outs_of : Losses → Order → Log → ℕ → List ℕ
+outs_of losses order log client = answers_by losses (take (number_of (puts client) log) (entries_of client order))
 
-answered_but : (one : Clause) (ring by : RingState) (what : Taken) (told : List Outcome) (texts : ℕ → List ℕ)
+answered_but : (one : Clause) (losses : Losses) (ring by : RingState) (what : Taken) (told : List Outcome) (texts : ℕ → List ℕ)
     → (one ≢ Asked → (client : ℕ) → (untaken : List Taken) × (taken_of client (asked_by by what told ∷ []) ++ untaken ≡ requests_of (texts client)))
     → (one ≢ Rings → by ≡ ring)
     → (one ≢ Sized → IsSized (asked_by by what told))
     → (one ≢ Answered → is_complete (asked_by by what told) ≡ true)
     → (one ≢ Replied → (tag : Tag) (reply : AReply (List ℕ)) → outcome_at (asked_by by what told ∷ []) tag ≡ Some (outcomes.Reply reply) → ⊥)
     → (one ≢ Lost → (tag : Tag) → outcome_at (asked_by by what told ∷ []) tag ≡ Some outcomes.Lost → ⊥)
-    → AccountsBut one ring a_cache (asked_by by what told ∷ []) texts (outs_of (asked_by by what told ∷ []) answered_log) no_history answered_log
-answered_but one ring by what told texts asked routed sized known replied lost =
+    → AccountsBut one losses ring a_cache (asked_by by what told ∷ []) texts (outs_of losses (asked_by by what told ∷ []) answered_log) no_history answered_log
+answered_but one losses ring by what told texts asked routed sized known replied lost =
     grind (arith, none_there, asked_only, one_of, complete_of, numbered_one, after_one)
 
 untold : IsUnaccounted one_server flush_text no_history answered_log
@@ -252,18 +254,18 @@ untold = record {
 
 -- a request is taken that no client sent
 pub without_asked : Allows Asked (λ ring opening texts outs histories log. length (requests_of (texts 0)) < number_of (takes 0) log)
-without_asked =
+without_asked losses =
     let e = asked_by one_server (Faulty UnknownCommand) [] in
     let none : length (requests_of []) ≡ 0 = ap (λ (ts : List Taken). length ts) nothing_read in (
       one_server,
       a_cache,
       no_text,
-      outs_of (e ∷ []) answered_log,
+      outs_of losses (e ∷ []) answered_log,
       no_history,
       answered_log,
       (
         e ∷ [],
-        answered_but Asked one_server one_server (Faulty UnknownCommand) [] no_text (λ keeps. absurd (keeps refl)) (λ keeps. refl) (λ keeps. refl) (λ keeps. refl)
+        answered_but Asked losses one_server one_server (Faulty UnknownCommand) [] no_text (λ keeps. absurd (keeps refl)) (λ keeps. refl) (λ keeps. refl) (λ keeps. refl)
             (λ keeps tag reply became. no_outcome one_server (Faulty UnknownCommand) tag (outcomes.Reply reply) became)
             (λ keeps tag became. no_outcome one_server (Faulty UnknownCommand) tag outcomes.Lost became),
       ),
@@ -272,17 +274,17 @@ without_asked =
 
 -- a request is routed by a ring of no server
 pub without_rings : Allows Rings (λ ring opening texts outs histories log. IsUnaccounted ring texts histories log)
-without_rings =
+without_rings losses =
     let e = asked_by no_server flush_asked [] in (
       one_server,
       a_cache,
       flush_text,
-      outs_of (e ∷ []) answered_log,
+      outs_of losses (e ∷ []) answered_log,
       no_history,
       answered_log,
       (
         e ∷ [],
-        answered_but Rings one_server no_server flush_asked [] flush_text (λ keeps client. asked_text client [] no_server) (λ keeps. absurd (keeps refl)) (λ keeps. refl) (λ keeps. refl)
+        answered_but Rings losses one_server no_server flush_asked [] flush_text (λ keeps client. asked_text client [] no_server) (λ keeps. absurd (keeps refl)) (λ keeps. refl) (λ keeps. refl)
             (λ keeps tag reply became. no_outcome no_server flush_asked tag (outcomes.Reply reply) became)
             (λ keeps tag became. no_outcome no_server flush_asked tag outcomes.Lost became),
       ),
@@ -291,17 +293,17 @@ without_rings =
 
 -- a command has no outcome
 pub without_sized : Allows Sized (λ ring opening texts outs histories log. IsUnaccounted ring texts histories log)
-without_sized =
+without_sized losses =
     let e = asked_by one_server flush_asked [] in (
       one_server,
       a_cache,
       flush_text,
-      outs_of (e ∷ []) answered_log,
+      outs_of losses (e ∷ []) answered_log,
       no_history,
       answered_log,
       (
         e ∷ [],
-        answered_but Sized one_server one_server flush_asked [] flush_text (λ keeps client. asked_text client [] one_server) (λ keeps. refl) (λ keeps. absurd (keeps refl)) (λ keeps. refl)
+        answered_but Sized losses one_server one_server flush_asked [] flush_text (λ keeps client. asked_text client [] one_server) (λ keeps. refl) (λ keeps. absurd (keeps refl)) (λ keeps. refl)
             (λ keeps tag reply became. no_outcome one_server flush_asked tag (outcomes.Reply reply) became)
             (λ keeps tag became. no_outcome one_server flush_asked tag outcomes.Lost became),
       ),
@@ -310,17 +312,17 @@ without_sized =
 
 -- a request is answered whose command is awaited
 pub without_answered : Allows Answered (λ ring opening texts outs histories log. IsUnaccounted ring texts histories log)
-without_answered =
+without_answered losses =
     let e = asked_by one_server flush_asked (outcomes.Awaited ∷ []) in (
       one_server,
       a_cache,
       flush_text,
-      outs_of (e ∷ []) answered_log,
+      outs_of losses (e ∷ []) answered_log,
       no_history,
       answered_log,
       (
         e ∷ [],
-        answered_but Answered one_server one_server flush_asked (outcomes.Awaited ∷ []) flush_text (λ keeps client. asked_text client (outcomes.Awaited ∷ []) one_server)
+        answered_but Answered losses one_server one_server flush_asked (outcomes.Awaited ∷ []) flush_text (λ keeps client. asked_text client (outcomes.Awaited ∷ []) one_server)
             (λ keeps. refl) (λ keeps. refl) (λ keeps. absurd (keeps refl))
             (λ keeps tag reply became. no_reply one_server flush_asked outcomes.Awaited refl tag reply became)
             (λ keeps tag became. no_loss one_server flush_asked outcomes.Awaited refl tag became),
@@ -330,17 +332,17 @@ without_answered =
 
 -- a reply that no server gave
 pub without_replied : Allows Replied (λ ring opening texts outs histories log. IsUnaccounted ring texts histories log)
-without_replied =
+without_replied losses =
     let e = asked_by one_server flush_asked (outcomes.Reply Flushed ∷ []) in (
       one_server,
       a_cache,
       flush_text,
-      outs_of (e ∷ []) answered_log,
+      outs_of losses (e ∷ []) answered_log,
       no_history,
       answered_log,
       (
         e ∷ [],
-        answered_but Replied one_server one_server flush_asked (outcomes.Reply Flushed ∷ []) flush_text (λ keeps client. asked_text client (outcomes.Reply Flushed ∷ []) one_server)
+        answered_but Replied losses one_server one_server flush_asked (outcomes.Reply Flushed ∷ []) flush_text (λ keeps client. asked_text client (outcomes.Reply Flushed ∷ []) one_server)
             (λ keeps. refl) (λ keeps. refl) (λ keeps. refl) (λ keeps. absurd (keeps refl))
             (λ keeps tag became. no_loss one_server flush_asked (outcomes.Reply Flushed) refl tag became),
       ),
@@ -349,17 +351,17 @@ without_replied =
 
 -- a loss that the log does not show
 pub without_lost : Allows Lost (λ ring opening texts outs histories log. IsUnaccounted ring texts histories log)
-without_lost =
+without_lost losses =
     let e = asked_by one_server flush_asked (outcomes.Lost ∷ []) in (
       one_server,
       a_cache,
       flush_text,
-      outs_of (e ∷ []) answered_log,
+      outs_of losses (e ∷ []) answered_log,
       no_history,
       answered_log,
       (
         e ∷ [],
-        answered_but Lost one_server one_server flush_asked (outcomes.Lost ∷ []) flush_text (λ keeps client. asked_text client (outcomes.Lost ∷ []) one_server)
+        answered_but Lost losses one_server one_server flush_asked (outcomes.Lost ∷ []) flush_text (λ keeps client. asked_text client (outcomes.Lost ∷ []) one_server)
             (λ keeps. refl) (λ keeps. refl) (λ keeps. refl)
             (λ keeps tag reply became. no_reply one_server flush_asked outcomes.Lost refl tag reply became)
             (λ keeps. absurd (keeps refl)),
@@ -368,18 +370,18 @@ without_lost =
     )
 
 -- nothing was taken
-nothing_but : (one : Clause) (outs : ℕ → List ℕ) (log : Log)
+nothing_but : (one : Clause) (losses : Losses) (outs : ℕ → List ℕ) (log : Log)
     → (one ≢ Turns → [] ≡ turns_of log)
-    → (one ≢ Put → (client : ℕ) → outs client ≡ outs_of [] log client)
+    → (one ≢ Put → (client : ℕ) → outs client ≡ outs_of losses [] log client)
     → (one ≢ After → (client request : ℕ) → request < number_of (puts client) log → request < number_of (takes client) (before (puts client) request log))
     → (one ≢ Answered → (client : ℕ) → list_all is_complete (take (number_of (puts client) log) []) ≡ true)
     → (one ≢ Moments → (place : ℕ) → [] ≡ moments_of place log)
-    → AccountsBut one one_server a_cache [] no_text outs no_history log
-nothing_but one outs log turns put after answered moments = grind (arith, nothing_read, none_there, no_command)
+    → AccountsBut one losses one_server a_cache [] no_text outs no_history log
+nothing_but one losses outs log turns put after answered moments = grind (arith, nothing_read, none_there, no_command)
 
 -- a turn takes nothing
 pub without_turns : Allows Turns (λ ring opening texts outs histories log. length (requests_of (texts 0)) < number_of (takes 0) log)
-without_turns =
+without_turns losses =
     let none : length (requests_of []) ≡ 0 = ap (λ (ts : List Taken). length ts) nothing_read in (
       one_server,
       a_cache,
@@ -387,20 +389,20 @@ without_turns =
       no_text,
       no_history,
       takes_one ∷ [],
-      ([], nothing_but Turns no_text (takes_one ∷ []) (λ keeps. absurd (keeps refl)) (λ keeps client. refl) (λ keeps client request early. absurd (omega (arith, early))) (λ keeps client. refl) (λ keeps place. refl)),
+      ([], nothing_but Turns losses no_text (takes_one ∷ []) (λ keeps. absurd (keeps refl)) (λ keeps client. refl) (λ keeps client request early. absurd (omega (arith, early))) (λ keeps client. refl) (λ keeps place. refl)),
       omega (arith, none),
     )
 
 -- bytes from nowhere
 pub without_put : Allows Put (λ ring opening texts outs histories log. (number_of (puts 0) log ≡ 0) × (outs 0 ≢ []))
-without_put = (
+without_put losses = (
   one_server,
   a_cache,
   no_text,
   λ client. 1 ∷ [],
   no_history,
   [],
-  ([], nothing_but Put (λ client. 1 ∷ []) [] (λ keeps. refl) (λ keeps. absurd (keeps refl)) (λ keeps client request early. absurd (omega (arith, early))) (λ keeps client. refl) (λ keeps place. refl)),
+  ([], nothing_but Put losses (λ client. 1 ∷ []) [] (λ keeps. refl) (λ keeps. absurd (keeps refl)) (λ keeps client request early. absurd (omega (arith, early))) (λ keeps client. refl) (λ keeps place. refl)),
   (refl, λ none. some_not_none none),
 )
 
@@ -410,16 +412,16 @@ put_nothing true = refl
 put_nothing false = refl
 
 pub without_after : Allows After (λ ring opening texts outs histories log. number_of (takes 0) log < number_of (puts 0) log)
-without_after = (
+without_after losses = (
   one_server,
   a_cache,
   no_text,
-  outs_of [] (puts_one ∷ []),
+  outs_of losses [] (puts_one ∷ []),
   no_history,
   puts_one ∷ [],
   (
     [],
-    nothing_but After (outs_of [] (puts_one ∷ [])) (puts_one ∷ []) (λ keeps. refl) (λ keeps client. refl) (λ keeps. absurd (keeps refl))
+    nothing_but After losses (outs_of losses [] (puts_one ∷ [])) (puts_one ∷ []) (λ keeps. refl) (λ keeps client. refl) (λ keeps. absurd (keeps refl))
         (λ keeps client. put_nothing (0 == client)) (λ keeps place. refl),
   ),
   omega arith,
@@ -427,14 +429,14 @@ without_after = (
 
 -- a turn without an entry
 pub without_moments : Allows Moments (λ ring opening texts outs histories log. length (histories 0) ≢ number_of (serves 0) log)
-without_moments = (
+without_moments losses = (
   one_server,
   a_cache,
   no_text,
   no_text,
   no_history,
   serves_one ∷ [],
-  ([], nothing_but Moments no_text (serves_one ∷ []) (λ keeps. refl) (λ keeps client. refl) (λ keeps client request early. absurd (omega (arith, early))) (λ keeps client. refl) (λ keeps. absurd (keeps refl))),
+  ([], nothing_but Moments losses no_text (serves_one ∷ []) (λ keeps. refl) (λ keeps client. refl) (λ keeps client request early. absurd (omega (arith, early))) (λ keeps client. refl) (λ keeps. absurd (keeps refl))),
   λ same. omega (arith, same),
 )
 
@@ -448,13 +450,13 @@ none_complete [] (suc n) none = refl
 none_complete (e ∷ es) zero none = refl
 none_complete (e ∷ es) (suc n) none = absurd (omega (arith, none))
 
-pub none_out : (order : Order) (n : ℕ) → n ≡ 0 → [] ≡ answers_of (take n order)
-none_out [] zero none = refl
-none_out [] (suc n) none = refl
-none_out (e ∷ es) zero none = refl
-none_out (e ∷ es) (suc n) none = absurd (omega (arith, none))
+pub none_out : (losses : Losses) (order : Order) (n : ℕ) → n ≡ 0 → [] ≡ answers_by losses (take n order)
+none_out losses [] zero none = refl
+none_out losses [] (suc n) none = refl
+none_out losses (e ∷ es) zero none = refl
+none_out losses (e ∷ es) (suc n) none = absurd (omega (arith, none))
 
-served_but : (one : Clause) (es : List Entry) (log : Log)
+served_but : (one : Clause) (losses : Losses) (es : List Entry) (log : Log)
     → map (λ (e : AskedFor). e.session) awaited ≡ turns_of log
     → IsRingAfter one_server (before (takes 0) 0 log) one_server
     → (one ≢ Legal → IsLegal awaited 0 a_cache es)
@@ -463,8 +465,8 @@ served_but : (one : Clause) (es : List Entry) (log : Log)
     → ((client : ℕ) → number_of (puts client) log ≡ 0)
     → ((place : ℕ) → map (λ (e : Entry). e.moment) (first_only es place) ≡ moments_of place log)
     → (one ≢ Placed → (k : ℕ) (e : Entry) → slice_get es k ≡ Some e → WasTaken (tag_in e) (before (serves 0) k log))
-    → AccountsBut one one_server a_cache awaited flush_text no_text (first_only es) log
-served_but one es log turns ring legal once followed none moments placed =
+    → AccountsBut one losses one_server a_cache awaited flush_text no_text (first_only es) log
+served_but one losses es log turns ring legal once followed none moments placed =
     let e = asked_by one_server flush_asked (outcomes.Awaited ∷ []) in
     record {
       asked = λ keeps client. asked_text client (outcomes.Awaited ∷ []) one_server;
@@ -490,7 +492,7 @@ served_but one es log turns ring legal once followed none moments placed =
       ordered = λ keeps place j k d x r q at also less same became. absurd (no_reply one_server flush_asked outcomes.Awaited refl (tag_in d) r became);
       followed = λ keeps. followed;
       answered = λ keeps client. none_complete (entries_of client awaited) (number_of (puts client) log) (none client);
-      put = λ keeps client. none_out (entries_of client awaited) (number_of (puts client) log) (none client);
+      put = λ keeps client. none_out losses (entries_of client awaited) (number_of (puts client) log) (none client);
       after = λ keeps client request early. (let nothing = none client in absurd (omega (arith, nothing, early)));
       moments = λ keeps. moments;
       placed = λ keeps place k x at.
@@ -524,7 +526,7 @@ not_replayed : IsReplayed one_server flush_text served_log 0 a_cache (misreplied
 not_replayed replayed = grind (arith, slice_get, same_Some, text_read, some_not_none)
 
 pub without_legal : Allows Legal (λ ring opening texts outs histories log. IsReplayed ring texts log 0 opening (histories 0) → ⊥)
-without_legal = (
+without_legal losses = (
   one_server,
   a_cache,
   flush_text,
@@ -533,7 +535,7 @@ without_legal = (
   served_log,
   (
     awaited,
-    served_but Legal (misreplied ∷ []) served_log refl refl (λ keeps. absurd (keeps refl))
+    served_but Legal losses (misreplied ∷ []) served_log refl refl (λ keeps. absurd (keeps refl))
         (λ keeps. once_in_one misreplied) (λ place none. follows_one (0 == place) misreplied (flush, tag_of 0 0 0) refl) (λ client. refl) (λ place. moments_one (0 == place) misreplied refl)
         (λ keeps k e at.
         let here = one_here misreplied k e at in
@@ -549,7 +551,7 @@ early_log = serves_one ∷ takes_one ∷ []
 
 pub without_placed : Allows Placed (λ ring opening texts outs histories log. (e : Entry) × (slice_get (histories 0) 0 ≡ Some e)
     × (WasTaken (tag_in e) (before (serves 0) 0 log) → ⊥))
-without_placed = (
+without_placed losses = (
   one_server,
   a_cache,
   flush_text,
@@ -558,7 +560,7 @@ without_placed = (
   early_log,
   (
     awaited,
-    served_but Placed (flushed ∷ []) early_log refl refl
+    served_but Placed losses (flushed ∷ []) early_log refl refl
         (λ keeps. legal_flush a_cache [] tt) (λ keeps. once_in_one flushed) (λ place none. follows_one (0 == place) flushed (flush, tag_of 0 0 0) refl) (λ client. refl) (λ place. moments_one (0 == place) flushed refl)
         (λ keeps. absurd (keeps refl)),
   ),
@@ -579,7 +581,7 @@ taken_twice (suc k) e at = grind (arith, one_here)
 
 pub without_once : Allows Once (λ ring opening texts outs histories log. (d : Entry) × (e : Entry) × (slice_get (histories 0) 0 ≡ Some d)
     × (slice_get (histories 0) 1 ≡ Some e) × (tag_in d ≡ tag_in e))
-without_once = (
+without_once losses = (
   one_server,
   a_cache,
   flush_text,
@@ -588,7 +590,7 @@ without_once = (
   twice_log,
   (
     awaited,
-    served_but Once (flushed ∷ flushed ∷ []) twice_log refl refl
+    served_but Once losses (flushed ∷ flushed ∷ []) twice_log refl refl
         (λ keeps. legal_flush a_cache (flushed ∷ []) (legal_flush (step_of a_cache flush 5 false).0 [] tt)) (λ keeps. absurd (keeps refl))
         (λ place none. follows_lost (0 == place) (flushed ∷ flushed ∷ []) (tags_of (commands_to place awaited)) none) (λ client. refl)
         (λ place. moments_two (0 == place)) (λ keeps. taken_twice),

@@ -14,6 +14,8 @@ use Rattle.mc_reply.specs.Spelling.{spelling_of}
 use Rattle.mc_reply.specs.declared.replies.Reply.{Reply as AReply}
 use Rattle.mc_reply.specs.declared.replies.Reply.TheVariants.{Flushed}
 use Rattle.mc_route.specs.Routes.{route_of_taken, to_place}
+use Rattle.mc_route.specs.declared.losses.Losses.{Losses}
+use Rattle.mc_route.specs.declared.losses.Losses.TheVariants.{Told}
 use Rattle.mc_route.specs.declared.outcomes.Outcome.{Outcome}
 use Rattle.mc_route.specs.declared.outcomes.Outcome.TheVariants as outcomes
 use Rattle.mc_route.specs.declared.routes.Routed.{Routed}
@@ -41,7 +43,7 @@ abbrev first_asked : AskedFor
 first_asked = asked_by one_server flush_asked (outcomes.Reply Flushed ∷ [])
 
 abbrev second_asked : AskedFor
-second_asked = record { session = 0; request = 1; what = flush_asked; ring = one_server; outcomes = outcomes.Reply Flushed ∷ [] }
+second_asked = record { session = 0; request = 1; what = flush_asked; ring = one_server; losses = Told; outcomes = outcomes.Reply Flushed ∷ [] }
 
 abbrev two_asked : Order
 two_asked = first_asked ∷ second_asked ∷ []
@@ -182,21 +184,21 @@ turned_legal = (
   (flush, refl, record { legal = λ h. absurd (false≢true h); refused = refl; reply = refl }, tt),
 )
 
-two_but : AccountsBut Ordered one_server a_cache two_asked two_text (outs_of two_asked two_log) (first_only turned) two_log
-two_but =
+two_but : (losses : Losses) → AccountsBut Ordered losses one_server a_cache two_asked two_text (outs_of losses two_asked two_log) (first_only turned) two_log
+two_but losses =
     grind (arith, true≢false, a_cache, first_there, follows_lost, is_lost, own_by, text_by, complete_by, numbered_by, after_two, moments_by, rings_by, two_outcome, replied_by, once_by, placed_by, turned_legal)
 
 pub without_ordered : Allows Ordered (λ ring opening texts outs histories log. (d : Entry) × (e : Entry) × (slice_get (histories 0) 0 ≡ Some d)
     × (slice_get (histories 0) 1 ≡ Some e) × (d.client ≡ e.client) × WasAnswered (tag_in d) log × WasAnswered (tag_in e) log
     × LinkHeld 0 (tag_in d) log × LinkHeld 0 (tag_in e) log × (IsBefore (tag_in d) (tag_in e) → ⊥))
-without_ordered = (
+without_ordered losses = (
   one_server,
   a_cache,
   two_text,
-  outs_of two_asked two_log,
+  outs_of losses two_asked two_log,
   first_only turned,
   two_log,
-  (two_asked, two_but),
+  (two_asked, two_but losses),
   (
     later,
     flushed,

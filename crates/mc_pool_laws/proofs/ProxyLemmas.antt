@@ -4,6 +4,7 @@ use Rattle.std.proofs.lemmas.List.{map-append}
 use Rattle.std.proofs.lemmas.Option.{same_Some}
 use Rattle.mc_request.specs.declared.parts.Taken.{Taken}
 use Rattle.mc_ring.specs.Rings.{RingState}
+use Rattle.mc_route.specs.declared.losses.Losses.{Losses}
 use Rattle.mc_route.specs.Routes.{route_of_taken}
 use Rattle.mc_cache.specs.CacheState.{CacheState}
 use Rattle.mc_account.specs.Lookups.{asked_at}
@@ -56,10 +57,10 @@ after_other order front back log done es x none h = record {
 }
 
 -- a turn takes the client's next request, and sends its commands
-taken_next : (ring : RingState) (opening : CacheState) (order : Order) (texts outs : ℕ → List ℕ) (histories : ℕ → List Entry) (log : Log)
-    → Accounts ring opening order texts outs histories log → (place : ℕ) (front back : Order) (done es : Log) (e : Asked) (client : ℕ)
+taken_next : (losses : Losses) (ring : RingState) (opening : CacheState) (order : Order) (texts outs : ℕ → List ℕ) (histories : ℕ → List Entry) (log : Log)
+    → Accounts losses ring opening order texts outs histories log → (place : ℕ) (front back : Order) (done es : Log) (e : Asked) (client : ℕ)
     → IsPart order front (e ∷ back) log done (Happened (ProxyTurn client) ∷ es) → e.session ≡ client → TakesNext ring texts place done client (commands_in place e)
-taken_next ring opening order texts outs histories log h place front back done es e client part own =
+taken_next losses ring opening order texts outs histories log h place front back done es e client part own =
     let is_own : (e.session == client) ≡ true = rw own (own_number client) in
     let all : entries_of client order ≡ entries_of client front ++ e ∷ entries_of client back =
     ap (λ (xs : Order). entries_of client xs) part.order_is ∙ entries-append client front (e ∷ back)
@@ -67,7 +68,7 @@ taken_next ring opening order texts outs histories log h place front back done e
     let number : number_of (takes client) done ≡ length (entries_of client front) = sym (turns-taken front done part.front_turns client) in
     let at : asked_at order client (number_of (takes client) done) ≡ Some e =
     ap (λ (xs : Order). slice_get xs (number_of (takes client) done)) all ∙ get_after (entries_of client front) (entries_of client back) e (number_of (takes client) done) number in
-    let taken = entry_taken ring opening order texts outs histories log h client (number_of (takes client) done) e at in
+    let taken = entry_taken losses ring opening order texts outs histories log h client (number_of (takes client) done) e at in
     let there : before (takes client) (number_of (takes client) done) log ≡ done =
     ap (λ (l : Log). before (takes client) (number_of (takes client) done) l) part.log_is ∙ before-here (takes client) done (Happened (ProxyTurn client)) es (own_number client) in
     let numbers : e.request ∷ map (λ (x : Asked). x.request) (entries_of client back)
@@ -84,37 +85,37 @@ taken_next ring opening order texts outs histories log h place front back done e
     }
 
 -- so the commands to a place are those that the log sent
-sent_by : (ring : RingState) (opening : CacheState) (order : Order) (texts outs : ℕ → List ℕ) (histories : ℕ → List Entry) (log : Log)
-    → Accounts ring opening order texts outs histories log → (place : ℕ) (front back : Order) (done es : Log) → IsPart order front back log done es
+sent_by : (losses : Losses) (ring : RingState) (opening : CacheState) (order : Order) (texts outs : ℕ → List ℕ) (histories : ℕ → List Entry) (log : Log)
+    → Accounts losses ring opening order texts outs histories log → (place : ℕ) (front back : Order) (done es : Log) → IsPart order front back log done es
     → AreSentBy ring texts place done es (commands_to place back)
-sent_by ring opening order texts outs histories log h place front [] done [] part = refl
-sent_by ring opening order texts outs histories log h place front (e ∷ back) done [] part =
+sent_by losses ring opening order texts outs histories log h place front [] done [] part = refl
+sent_by losses ring opening order texts outs histories log h place front (e ∷ back) done [] part =
     let clash : e.session ∷ map (λ (x : Asked). x.session) back ≡ [] = part.back_turns in absurd cc
-sent_by ring opening order texts outs histories log h place front [] done (Happened (ProxyTurn client) ∷ es) part =
+sent_by losses ring opening order texts outs histories log h place front [] done (Happened (ProxyTurn client) ∷ es) part =
     let clash : [] ≡ client ∷ turns_of es = part.back_turns in absurd cc
-sent_by ring opening order texts outs histories log h place front (e ∷ back) done (Happened (ProxyTurn client) ∷ es) part =
+sent_by losses ring opening order texts outs histories log h place front (e ∷ back) done (Happened (ProxyTurn client) ∷ es) part =
     let next = after_turn order front back log done es e client part in (
       commands_in place e,
       commands_to place back,
-      taken_next ring opening order texts outs histories log h place front back done es e client part next.0,
-      sent_by ring opening order texts outs histories log h place (front ++ e ∷ []) back (done ++ Happened (ProxyTurn client) ∷ []) es next.1,
+      taken_next losses ring opening order texts outs histories log h place front back done es e client part next.0,
+      sent_by losses ring opening order texts outs histories log h place (front ++ e ∷ []) back (done ++ Happened (ProxyTurn client) ∷ []) es next.1,
       refl,
     )
-sent_by ring opening order texts outs histories log h place front back done (x ∷ es) part = (
+sent_by losses ring opening order texts outs histories log h place front back done (x ∷ es) part = (
   [],
   commands_to place back,
   refl,
-  sent_by ring opening order texts outs histories log h place front back (done ++ x ∷ []) es (after_other order front back log done es x refl part),
+  sent_by losses ring opening order texts outs histories log h place front back (done ++ x ∷ []) es (after_other order front back log done es x refl part),
   refl,
 )
 
-pub follows : (ring : RingState) (opening : CacheState) (order : Order) (texts outs : ℕ → List ℕ) (histories : ℕ → List Entry) (log : Log)
-    → Accounts ring opening order texts outs histories log → (place : ℕ) → number_of (loses place) log ≡ 0 → FollowsProxy ring texts log place (histories place)
-follows ring opening order texts outs histories log h place none =
+pub follows : (losses : Losses) (ring : RingState) (opening : CacheState) (order : Order) (texts outs : ℕ → List ℕ) (histories : ℕ → List Entry) (log : Log)
+    → Accounts losses ring opening order texts outs histories log → (place : ℕ) → number_of (loses place) log ≡ 0 → FollowsProxy ring texts log place (histories place)
+follows losses ring opening order texts outs histories log h place none =
     let followed = h.followed place none in (
       commands_to place order,
       followed.0,
-      sent_by ring opening order texts outs histories log h place [] order [] log (record { order_is = refl; log_is = refl; front_turns = refl; back_turns = h.turns }),
+      sent_by losses ring opening order texts outs histories log h place [] order [] log (record { order_is = refl; log_is = refl; front_turns = refl; back_turns = h.turns }),
       followed.1,
     )
 

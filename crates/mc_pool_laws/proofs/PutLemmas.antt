@@ -2,10 +2,11 @@
 use Rattle.std.proofs.Common.{◌≡◌, ◌∙◌, ℕ, zero, ◌≤◌, List, [], length, take, refl, ap, arith}
 use Rattle.mc_request.specs.Requests.{requests_of, requests_within}
 use Rattle.mc_ring.specs.Rings.{RingState}
+use Rattle.mc_route.specs.declared.losses.Losses.{Losses}
 use Rattle.mc_cache.specs.CacheState.{CacheState}
-use Rattle.mc_account.specs.Orders.{Order, answers_of, entries_of}
+use Rattle.mc_account.specs.Orders.{Order, entries_of}
 use Rattle.mc_history.specs.declared.entries.Entry.{Entry}
-use Rattle.mc_world.specs.Accounts.{Accounts}
+use Rattle.mc_world.specs.Accounts.{Accounts, answers_by}
 use Rattle.mc_world.specs.Logs.{Log, number_of, puts}
 use Rattle.mc_pool_laws.proofs.SentLemmas.{puts_taken, taken_few}
 
@@ -16,26 +17,26 @@ nothing_in = refl
 take_none : (order : Order) → take zero order ≡ []
 take_none order = refl
 
-pub nothing_put : (ring : RingState) (opening : CacheState) (order : Order) (texts outs : ℕ → List ℕ) (histories : ℕ → List Entry) (log : Log)
-    → Accounts ring opening order texts outs histories log → (client : ℕ) → number_of (puts client) log ≡ 0 → outs client ≡ []
-nothing_put ring opening order texts outs histories log h client none =
-    h.put client ∙ ap (λ (n : ℕ). answers_of (take n (entries_of client order))) none ∙ ap (λ (es : Order). answers_of es) (take_none (entries_of client order))
+pub nothing_put : (losses : Losses) (ring : RingState) (opening : CacheState) (order : Order) (texts outs : ℕ → List ℕ) (histories : ℕ → List Entry) (log : Log)
+    → Accounts losses ring opening order texts outs histories log → (client : ℕ) → number_of (puts client) log ≡ 0 → outs client ≡ []
+nothing_put losses ring opening order texts outs histories log h client none =
+    h.put client ∙ ap (λ (n : ℕ). answers_by losses (take n (entries_of client order))) none ∙ ap (λ (es : Order). answers_by losses es) (take_none (entries_of client order))
 
 -- no answer is put out where no request was sent
-pub puts_asked : (ring : RingState) (opening : CacheState) (order : Order) (texts outs : ℕ → List ℕ) (histories : ℕ → List Entry) (log : Log)
-    → Accounts ring opening order texts outs histories log → (client : ℕ) → number_of (puts client) log ≤ length (requests_of (texts client))
-puts_asked ring opening order texts outs histories log h client =
-    let asked = taken_few ring opening order texts outs histories log h client in
-    let few = puts_taken ring opening order texts outs histories log h client in
+pub puts_asked : (losses : Losses) (ring : RingState) (opening : CacheState) (order : Order) (texts outs : ℕ → List ℕ) (histories : ℕ → List Entry) (log : Log)
+    → Accounts losses ring opening order texts outs histories log → (client : ℕ) → number_of (puts client) log ≤ length (requests_of (texts client))
+puts_asked losses ring opening order texts outs histories log h client =
+    let asked = taken_few losses ring opening order texts outs histories log h client in
+    let few = puts_taken losses ring opening order texts outs histories log h client in
     omega (arith, asked, few)
 
-pub none_put : (ring : RingState) (opening : CacheState) (order : Order) (texts outs : ℕ → List ℕ) (histories : ℕ → List Entry) (log : Log)
-    → Accounts ring opening order texts outs histories log → (client : ℕ) → texts client ≡ [] → number_of (puts client) log ≡ 0
-none_put ring opening order texts outs histories log h client silent =
-    let few = puts_asked ring opening order texts outs histories log h client in
+pub none_put : (losses : Losses) (ring : RingState) (opening : CacheState) (order : Order) (texts outs : ℕ → List ℕ) (histories : ℕ → List Entry) (log : Log)
+    → Accounts losses ring opening order texts outs histories log → (client : ℕ) → texts client ≡ [] → number_of (puts client) log ≡ 0
+none_put losses ring opening order texts outs histories log h client silent =
+    let few = puts_asked losses ring opening order texts outs histories log h client in
     grind (arith, nothing_in)
 
-pub nothing_asked : (ring : RingState) (opening : CacheState) (order : Order) (texts outs : ℕ → List ℕ) (histories : ℕ → List Entry) (log : Log)
-    → Accounts ring opening order texts outs histories log → (client : ℕ) → texts client ≡ [] → outs client ≡ []
-nothing_asked ring opening order texts outs histories log h client silent =
-    nothing_put ring opening order texts outs histories log h client (none_put ring opening order texts outs histories log h client silent)
+pub nothing_asked : (losses : Losses) (ring : RingState) (opening : CacheState) (order : Order) (texts outs : ℕ → List ℕ) (histories : ℕ → List Entry) (log : Log)
+    → Accounts losses ring opening order texts outs histories log → (client : ℕ) → texts client ≡ [] → outs client ≡ []
+nothing_asked losses ring opening order texts outs histories log h client silent =
+    nothing_put losses ring opening order texts outs histories log h client (none_put losses ring opening order texts outs histories log h client silent)

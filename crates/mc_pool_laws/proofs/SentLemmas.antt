@@ -7,6 +7,7 @@ use Rattle.mc_request.specs.declared.parts.Taken.{Taken}
 use Rattle.mc_request.specs.Requests.{requests_of}
 use Rattle.mc_reply.specs.Spelling.{spelling_of}
 use Rattle.mc_ring.specs.Rings.{RingState}
+use Rattle.mc_route.specs.declared.losses.Losses.{Losses}
 use Rattle.mc_route.specs.Routes.{route_of_taken, to_place}
 use Rattle.mc_route.specs.declared.routes.Routed.{Routed}
 use Rattle.mc_link.specs.declared.turns.Tag.{Tag}
@@ -25,31 +26,31 @@ use Rattle.mc_pool_laws.specs.Sent.{IsReplayed, IsSent, IsTaken}
 use Rattle.mc_pool_laws.proofs.OneRing.{ring_one}
 
 -- no more requests were taken than a client sent
-pub taken_few : (ring : RingState) (opening : CacheState) (order : Order) (texts outs : ℕ → List ℕ) (histories : ℕ → List Entry) (log : Log)
-    → Accounts ring opening order texts outs histories log → (client : ℕ) → number_of (takes client) log ≤ length (requests_of (texts client))
-taken_few ring opening order texts outs histories log h client =
+pub taken_few : (losses : Losses) (ring : RingState) (opening : CacheState) (order : Order) (texts outs : ℕ → List ℕ) (histories : ℕ → List Entry) (log : Log)
+    → Accounts losses ring opening order texts outs histories log → (client : ℕ) → number_of (takes client) log ≤ length (requests_of (texts client))
+taken_few losses ring opening order texts outs histories log h client =
     let asked = h.asked client in
     let turns = turns-taken order log h.turns client in
     grind (arith, length-append, length-map)
 
 -- what the order has of a client is the request of its number in the client's text
-sent_in_text : (ring : RingState) (opening : CacheState) (order : Order) (texts outs : ℕ → List ℕ) (histories : ℕ → List Entry) (log : Log)
-    → Accounts ring opening order texts outs histories log → (client request : ℕ) (e : Asked) → asked_at order client request ≡ Some e
+sent_in_text : (losses : Losses) (ring : RingState) (opening : CacheState) (order : Order) (texts outs : ℕ → List ℕ) (histories : ℕ → List Entry) (log : Log)
+    → Accounts losses ring opening order texts outs histories log → (client request : ℕ) (e : Asked) → asked_at order client request ≡ Some e
     → slice_get (requests_of (texts client)) request ≡ Some e.what
-sent_in_text ring opening order texts outs histories log h client request e at =
+sent_in_text losses ring opening order texts outs histories log h client request e at =
     let asked = h.asked client in
     ap (λ (ts : List Taken). slice_get ts request) (sym asked.1)
     ∙ got_there (taken_of client order) asked.0 request e.what (got_map (λ (x : Asked). x.what) (entries_of client order) request e at)
 
-pub entry_taken : (ring : RingState) (opening : CacheState) (order : Order) (texts outs : ℕ → List ℕ) (histories : ℕ → List Entry) (log : Log)
-    → Accounts ring opening order texts outs histories log → (client request : ℕ) (e : Asked) → asked_at order client request ≡ Some e
+pub entry_taken : (losses : Losses) (ring : RingState) (opening : CacheState) (order : Order) (texts outs : ℕ → List ℕ) (histories : ℕ → List Entry) (log : Log)
+    → Accounts losses ring opening order texts outs histories log → (client request : ℕ) (e : Asked) → asked_at order client request ≡ Some e
     → IsTaken ring texts log client request e.what e.ring
-entry_taken ring opening order texts outs histories log h client request e at =
+entry_taken losses ring opening order texts outs histories log h client request e at =
     let inside = got_inside (entries_of client order) request e at in
     let turns = turns-taken order log h.turns client in
     record {
       turn = omega (arith, inside, turns);
-      sent = sent_in_text ring opening order texts outs histories log h client request e at;
+      sent = sent_in_text losses ring opening order texts outs histories log h client request e at;
       then = h.rings client request e at;
     }
 
@@ -58,33 +59,33 @@ no_more : (answered taken : ℕ) → ((request : ℕ) → request < answered →
 no_more zero taken each = omega arith
 no_more (suc n) taken each = each n (omega arith)
 
-pub puts_taken : (ring : RingState) (opening : CacheState) (order : Order) (texts outs : ℕ → List ℕ) (histories : ℕ → List Entry) (log : Log)
-    → Accounts ring opening order texts outs histories log → (client : ℕ) → number_of (puts client) log ≤ number_of (takes client) log
-puts_taken ring opening order texts outs histories log h client =
+pub puts_taken : (losses : Losses) (ring : RingState) (opening : CacheState) (order : Order) (texts outs : ℕ → List ℕ) (histories : ℕ → List Entry) (log : Log)
+    → Accounts losses ring opening order texts outs histories log → (client : ℕ) → number_of (puts client) log ≤ number_of (takes client) log
+puts_taken losses ring opening order texts outs histories log h client =
     no_more (number_of (puts client) log) (number_of (takes client) log)
     (λ request early. let early_on = h.after client request early in let all = number-before (takes client) (puts client) request log in omega (arith, early_on, all))
 
-pub puts_few : (ring : RingState) (opening : CacheState) (order : Order) (texts outs : ℕ → List ℕ) (histories : ℕ → List Entry) (log : Log)
-    → Accounts ring opening order texts outs histories log → (client : ℕ) → number_of (puts client) log ≤ length (entries_of client order)
-puts_few ring opening order texts outs histories log h client =
-    let few = puts_taken ring opening order texts outs histories log h client in
+pub puts_few : (losses : Losses) (ring : RingState) (opening : CacheState) (order : Order) (texts outs : ℕ → List ℕ) (histories : ℕ → List Entry) (log : Log)
+    → Accounts losses ring opening order texts outs histories log → (client : ℕ) → number_of (puts client) log ≤ length (entries_of client order)
+puts_few losses ring opening order texts outs histories log h client =
+    let few = puts_taken losses ring opening order texts outs histories log h client in
     let turns = turns-taken order log h.turns client in
     omega (arith, few, turns)
 
 -- each request that the log takes is in the order
-taken_entry : (ring : RingState) (opening : CacheState) (order : Order) (texts outs : ℕ → List ℕ) (histories : ℕ → List Entry) (log : Log)
-    → Accounts ring opening order texts outs histories log → (client request : ℕ) → request < number_of (takes client) log
+taken_entry : (losses : Losses) (ring : RingState) (opening : CacheState) (order : Order) (texts outs : ℕ → List ℕ) (histories : ℕ → List Entry) (log : Log)
+    → Accounts losses ring opening order texts outs histories log → (client request : ℕ) → request < number_of (takes client) log
     → (e : Asked) × (asked_at order client request ≡ Some e)
-taken_entry ring opening order texts outs histories log h client request turn =
+taken_entry losses ring opening order texts outs histories log h client request turn =
     let turns = turns-taken order log h.turns client in
     got_some (entries_of client order) request (omega (arith, turn, turns))
 
-pub request_taken : (ring : RingState) (opening : CacheState) (order : Order) (texts outs : ℕ → List ℕ) (histories : ℕ → List Entry) (log : Log)
-    → Accounts ring opening order texts outs histories log → (client request : ℕ) → request < number_of (takes client) log
+pub request_taken : (losses : Losses) (ring : RingState) (opening : CacheState) (order : Order) (texts outs : ℕ → List ℕ) (histories : ℕ → List Entry) (log : Log)
+    → Accounts losses ring opening order texts outs histories log → (client request : ℕ) → request < number_of (takes client) log
     → (what : Taken) × (now : RingState) × IsTaken ring texts log client request what now
-request_taken ring opening order texts outs histories log h client request turn =
-    let e = taken_entry ring opening order texts outs histories log h client request turn in
-    (e.0.what, e.0.ring, entry_taken ring opening order texts outs histories log h client request e.0 e.1)
+request_taken losses ring opening order texts outs histories log h client request turn =
+    let e = taken_entry losses ring opening order texts outs histories log h client request turn in
+    (e.0.what, e.0.ring, entry_taken losses ring opening order texts outs histories log h client request e.0 e.1)
 
 -- a command that a look-up finds is one of a request that it finds
 pub in_request : (o : Option Asked) (atom : ℕ) (command : Routed) → command_in o atom ≡ Some command
@@ -93,36 +94,36 @@ in_request None atom command h = absurd (none-some command h)
 in_request (Some e) atom command h = (e, refl, h)
 
 -- a command of the order was sent
-pub command_sent : (ring : RingState) (opening : CacheState) (order : Order) (texts outs : ℕ → List ℕ) (histories : ℕ → List Entry) (log : Log)
-    → Accounts ring opening order texts outs histories log → (tag : Tag) (command : Routed) → command_at order tag ≡ Some command → IsSent ring texts log tag command
-command_sent ring opening order texts outs histories log h tag command at =
+pub command_sent : (losses : Losses) (ring : RingState) (opening : CacheState) (order : Order) (texts outs : ℕ → List ℕ) (histories : ℕ → List Entry) (log : Log)
+    → Accounts losses ring opening order texts outs histories log → (tag : Tag) (command : Routed) → command_at order tag ≡ Some command → IsSent ring texts log tag command
+command_sent losses ring opening order texts outs histories log h tag command at =
     let found = in_request (asked_at order tag.session tag.request) tag.atom command at in
     record {
       what = found.0.what;
       ring = found.0.ring;
-      taken = entry_taken ring opening order texts outs histories log h tag.session tag.request found.0 found.1;
+      taken = entry_taken losses ring opening order texts outs histories log h tag.session tag.request found.0 found.1;
       routed = found.2;
     }
 
 -- a command that was sent is in the order
-pub sent_command : (ring : RingState) (opening : CacheState) (order : Order) (texts outs : ℕ → List ℕ) (histories : ℕ → List Entry) (log : Log)
-    → Accounts ring opening order texts outs histories log → (tag : Tag) (command : Routed) → IsSent ring texts log tag command → command_at order tag ≡ Some command
-sent_command ring opening order texts outs histories log h tag command s =
-    let e = taken_entry ring opening order texts outs histories log h tag.session tag.request s.taken.turn in
+pub sent_command : (losses : Losses) (ring : RingState) (opening : CacheState) (order : Order) (texts outs : ℕ → List ℕ) (histories : ℕ → List Entry) (log : Log)
+    → Accounts losses ring opening order texts outs histories log → (tag : Tag) (command : Routed) → IsSent ring texts log tag command → command_at order tag ≡ Some command
+sent_command losses ring opening order texts outs histories log h tag command s =
+    let e = taken_entry losses ring opening order texts outs histories log h tag.session tag.request s.taken.turn in
     let what_is : e.0.what ≡ s.what =
-    same_Some e.0.what s.what (sym (sent_in_text ring opening order texts outs histories log h tag.session tag.request e.0 e.1) ∙ s.taken.sent) in
+    same_Some e.0.what s.what (sym (sent_in_text losses ring opening order texts outs histories log h tag.session tag.request e.0 e.1) ∙ s.taken.sent) in
     grind (arith, slice_get, ap₂, ring_one)
 
 -- a cache replays a history
-pub replayed : (ring : RingState) (opening : CacheState) (order : Order) (texts outs : ℕ → List ℕ) (histories : ℕ → List Entry) (log : Log)
-    → Accounts ring opening order texts outs histories log → (place : ℕ) (s : CacheState) (es : List Entry) → IsLegal order place s es
+pub replayed : (losses : Losses) (ring : RingState) (opening : CacheState) (order : Order) (texts outs : ℕ → List ℕ) (histories : ℕ → List Entry) (log : Log)
+    → Accounts losses ring opening order texts outs histories log → (place : ℕ) (s : CacheState) (es : List Entry) → IsLegal order place s es
     → IsReplayed ring texts log place s es
-replayed ring opening order texts outs histories log h place s [] legal = tt
-replayed ring opening order texts outs histories log h place s (e ∷ es) legal = (
+replayed losses ring opening order texts outs histories log h place s [] legal = tt
+replayed losses ring opening order texts outs histories log h place s (e ∷ es) legal = (
   legal.0,
-  command_sent ring opening order texts outs histories log h (tag_in e) (to_place place legal.0) legal.1,
+  command_sent losses ring opening order texts outs histories log h (tag_in e) (to_place place legal.0) legal.1,
   legal.2,
-  replayed ring opening order texts outs histories log h place (step_of s legal.0 e.moment e.refused).0 es legal.3,
+  replayed losses ring opening order texts outs histories log h place (step_of s legal.0 e.moment e.refused).0 es legal.3,
 )
 
 -- each entry of a legal history is of a command of its server
@@ -134,10 +135,10 @@ legal_at order place s (x ∷ xs) zero e legal at = (legal.0, ap (λ (d : Entry)
 legal_at order place s (x ∷ xs) (suc k) e legal at = legal_at order place (step_of s legal.0 x.moment x.refused).0 xs k e legal.3 at
 
 -- the first entry of a history is answered what the opening cache replies to its command
-pub first_reply : (ring : RingState) (opening : CacheState) (order : Order) (texts outs : ℕ → List ℕ) (histories : ℕ → List Entry) (log : Log)
-    → Accounts ring opening order texts outs histories log → (place : ℕ) (atom : Atom (List ℕ)) (e : Entry) (es : List Entry) → histories place ≡ e ∷ es
+pub first_reply : (losses : Losses) (ring : RingState) (opening : CacheState) (order : Order) (texts outs : ℕ → List ℕ) (histories : ℕ → List Entry) (log : Log)
+    → Accounts losses ring opening order texts outs histories log → (place : ℕ) (atom : Atom (List ℕ)) (e : Entry) (es : List Entry) → histories place ≡ e ∷ es
     → IsSent ring texts log (tag_in e) (to_place place atom) → e.reply ≡ spelling_of atom (step_of opening atom e.moment e.refused).1
-first_reply ring opening order texts outs histories log h place atom e es is sent =
+first_reply losses ring opening order texts outs histories log h place atom e es is sent =
     let legal = subst (λ (history : List Entry). IsLegal order place opening history) is (h.legal place) in
-    let known = sent_command ring opening order texts outs histories log h (tag_in e) (to_place place atom) sent in
+    let known = sent_command losses ring opening order texts outs histories log h (tag_in e) (to_place place atom) sent in
     grind (arith, same_Some)

@@ -11,6 +11,8 @@ use Rattle.mc_reply.specs.Spelling.{spelling_of}
 use Rattle.mc_reply.specs.declared.replies.Reply.TheVariants.{Flushed}
 use Rattle.mc_ring.specs.Rings.{RingState}
 use Rattle.mc_route.specs.Routes.{route_of_taken, to_place}
+use Rattle.mc_route.specs.declared.losses.Losses.{Losses}
+use Rattle.mc_route.specs.declared.losses.Losses.TheVariants.{Told}
 use Rattle.mc_route.specs.declared.outcomes.Outcome.{Outcome}
 use Rattle.mc_route.specs.declared.outcomes.Outcome.TheVariants as outcomes
 use Rattle.mc_link.specs.declared.turns.Tag.{Tag}
@@ -33,7 +35,7 @@ use Rattle.mc_pool_laws.proofs.OrderExample.{two_here, two_read, two_text}
 
 -- a flush of a client, that awaits its reply, and its entry
 abbrev flush_by : ℕ → ℕ → AskedFor
-flush_by client request = record { session = client; request = request; what = flush_asked; ring = one_server; outcomes = outcomes.Awaited ∷ [] }
+flush_by client request = record { session = client; request = request; what = flush_asked; ring = one_server; losses = Told; outcomes = outcomes.Awaited ∷ [] }
 
 abbrev entry_by : ℕ → ℕ → Entry
 entry_by client request = record { client = client; request = request; atom = 0; moment = 5; refused = false; reply = spelling_of flush Flushed }
@@ -113,15 +115,15 @@ taken_each : (x y : Entry) (k : ℕ) (e : Entry) (log : Log) → WasTaken (tag_i
 taken_each x y k e log first second at = grind (arith, two_here)
 
 -- such a run, by whose the requests are and which, in the order and in the history
-stray_but : (one : Clause) (a m b n p q r s second : ℕ)
+stray_but : (one : Clause) (losses : Losses) (a m b n p q r s second : ℕ)
     → (one ≢ Turns → a ∷ b ∷ [] ≡ 0 ∷ second ∷ [])
     → (one ≢ Numbered → (client : ℕ) → AreInOrder (entries_of client (flush_by a m ∷ flush_by b n ∷ [])))
     → (one ≢ Followed → (tag_of p q 0 ≡ tag_of a m 0) × (tag_of r s 0 ≡ tag_of b n 0))
     → IsLegal (flush_by a m ∷ flush_by b n ∷ []) 0 a_cache (entry_by p q ∷ entry_by r s ∷ [])
     → (tag_of p q 0 ≡ tag_of r s 0 → ⊥)
     → WasTaken (tag_of p q 0) (before (serves 0) 0 (two_turns second)) → WasTaken (tag_of r s 0) (before (serves 0) 1 (two_turns second))
-    → AccountsBut one one_server a_cache (flush_by a m ∷ flush_by b n ∷ []) two_text (λ _. []) (first_only (entry_by p q ∷ entry_by r s ∷ [])) (two_turns second)
-stray_but one a m b n p q r s second turns numbered followed legal apart first_taken second_taken =
+    → AccountsBut one losses one_server a_cache (flush_by a m ∷ flush_by b n ∷ []) two_text (λ _. []) (first_only (entry_by p q ∷ entry_by r s ∷ [])) (two_turns second)
+stray_but one losses a m b n p q r s second turns numbered followed legal apart first_taken second_taken =
     let x = flush_by a m in
     let y = flush_by b n in
     let waits : (tag : Tag) (o : Outcome) → outcome_at (flush_by a m ∷ flush_by b n ∷ []) tag ≡ Some o → o ≡ outcomes.Awaited = λ tag o became.
@@ -149,7 +151,7 @@ stray_but one a m b n p q r s second turns numbered followed legal apart first_t
       ordered = λ keeps place j k d e u w at also less same became. absurd (true≢false (ap is_reply (waits (tag_in d) (outcomes.Reply u) became)));
       followed = λ keeps place none. let tags = followed keeps in follows_each (0 == place) (flush, tag_of a m 0) (flush, tag_of b n 0) (entry_by p q) (entry_by r s) tags.0 tags.1;
       answered = λ keeps client. none_complete (entries_of client (flush_by a m ∷ flush_by b n ∷ [])) 0 refl;
-      put = λ keeps client. none_out (entries_of client (flush_by a m ∷ flush_by b n ∷ [])) 0 refl;
+      put = λ keeps client. none_out losses (entries_of client (flush_by a m ∷ flush_by b n ∷ [])) 0 refl;
       after = λ keeps client request early. absurd (omega (arith, early));
       moments = λ keeps place. moments_each (0 == place) (entry_by p q) (entry_by r s) refl refl;
       placed = λ keeps place k e at.
@@ -176,16 +178,16 @@ abbrev Stray : Clause → Type 0
 Stray one = Allows one (λ ring opening texts outs histories log. (number_of (loses 0) log ≡ 0) × (FollowsProxy ring texts log 0 (histories 0) → ⊥))
 
 stray : (one : Clause) (a m b n p q r s second : ℕ)
-    → AccountsBut one one_server a_cache (flush_by a m ∷ flush_by b n ∷ []) two_text (λ _. []) (first_only (entry_by p q ∷ entry_by r s ∷ [])) (two_turns second)
+    → ((losses : Losses) → AccountsBut one losses one_server a_cache (flush_by a m ∷ flush_by b n ∷ []) two_text (λ _. []) (first_only (entry_by p q ∷ entry_by r s ∷ [])) (two_turns second))
     → (tag_of p q 0 ≡ tag_of 0 0 0 → ⊥) → Stray one
-stray one a m b n p q r s second but differ = (
+stray one a m b n p q r s second but differ losses = (
   one_server,
   a_cache,
   two_text,
   λ _. [],
   first_only (entry_by p q ∷ entry_by r s ∷ []),
   two_turns second,
-  (flush_by a m ∷ flush_by b n ∷ [], but),
+  (flush_by a m ∷ flush_by b n ∷ [], but losses),
   (refl, strays (Happened (ProxyTurn second) ∷ serves_one ∷ serves_one ∷ []) (entry_by p q) (entry_by r s ∷ []) differ),
 )
 
@@ -226,17 +228,17 @@ other_request same = (let number : 1 ≡ 0 = ap (λ (t : Tag). t.request) same i
 -- the server takes the command of the second client first
 pub without_followed : Stray Followed
 without_followed = stray Followed 0 0 1 0 1 0 0 0 1
-    (stray_but Followed 0 0 1 0 1 0 0 0 1 (λ keeps. refl) (λ keeps client. numbered_two 0 1 client apart_two) (λ keeps. absurd (keeps refl))
+    (λ losses. stray_but Followed losses 0 0 1 0 1 0 0 0 1 (λ keeps. refl) (λ keeps client. numbered_two 0 1 client apart_two) (λ keeps. absurd (keeps refl))
     (legal_two (flush_by 0 0 ∷ flush_by 1 0 ∷ []) 1 0 0 0 refl refl) other_client (omega arith) (omega arith)) other_client
 
 -- the order has it first, and the log has the other turn first
 pub without_turns_in_order : Stray Turns
 without_turns_in_order = stray Turns 1 0 0 0 1 0 0 0 1
-    (stray_but Turns 1 0 0 0 1 0 0 0 1 (λ keeps. absurd (keeps refl)) (λ keeps client. numbered_two 1 0 client (λ same. apart_two (sym same))) (λ keeps. (refl, refl))
+    (λ losses. stray_but Turns losses 1 0 0 0 1 0 0 0 1 (λ keeps. absurd (keeps refl)) (λ keeps client. numbered_two 1 0 client (λ same. apart_two (sym same))) (λ keeps. (refl, refl))
     (legal_two (flush_by 1 0 ∷ flush_by 0 0 ∷ []) 1 0 0 0 refl refl) other_client (omega arith) (omega arith)) other_client
 
 -- the order numbers the requests of a client the other way round
 pub without_numbered : Stray Numbered
 without_numbered = stray Numbered 0 1 0 0 0 1 0 0 0
-    (stray_but Numbered 0 1 0 0 0 1 0 0 0 (λ keeps. refl) (λ keeps. absurd (keeps refl)) (λ keeps. (refl, refl))
+    (λ losses. stray_but Numbered losses 0 1 0 0 0 1 0 0 0 (λ keeps. refl) (λ keeps. absurd (keeps refl)) (λ keeps. (refl, refl))
     (legal_two (flush_by 0 1 ∷ flush_by 0 0 ∷ []) 0 1 0 0 refl refl) other_request (omega arith) (omega arith)) other_request

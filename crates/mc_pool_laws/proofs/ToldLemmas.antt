@@ -7,6 +7,7 @@ use Rattle.std.proofs.lemmas.List.{length-map}
 use Rattle.std.proofs.lemmas.List.Elements.{All-head, All-tail}
 use Rattle.std.proofs.lemmas.Option.{none-some, same_Some}
 use Rattle.mc_ring.specs.Rings.{RingState}
+use Rattle.mc_route.specs.declared.losses.Losses.{Losses}
 use Rattle.mc_route.specs.Routes.{route_of_taken}
 use Rattle.mc_route.specs.declared.outcomes.Outcome.{Outcome}
 use Rattle.mc_route.specs.declared.outcomes.Outcome.TheVariants.{Awaited, Lost, Reply}
@@ -16,9 +17,9 @@ use Rattle.mc_session.specs.Emits.{answer_by, is_told}
 use Rattle.mc_session.specs.Sending.{tag_of}
 use Rattle.mc_cache.specs.CacheState.{CacheState}
 use Rattle.mc_account.specs.Lookups.{asked_at, command_at, command_in, outcome_at, outcome_in}
-use Rattle.mc_account.specs.Orders.{Entry as Asked, IsSized, Order, answers_of, entries_of, is_complete}
+use Rattle.mc_account.specs.Orders.{Entry as Asked, IsSized, Order, entries_of, is_complete}
 use Rattle.mc_history.specs.declared.entries.Entry.{Entry}
-use Rattle.mc_world.specs.Accounts.{Accounts}
+use Rattle.mc_world.specs.Accounts.{Accounts, answers_by}
 use Rattle.mc_world.specs.Logs.{Log, number_of, puts}
 use Rattle.mc_world.proofs.LogEntryLemmas.{got_inside, got_some}
 use Rattle.mc_pool_laws.specs.Told.{AreAnswersFrom, AreToldBy, IsAnswerTo, IsToldBy, WasAnswered}
@@ -72,10 +73,10 @@ sized_at client (x ∷ xs) k e sized at =
     (λ j here. sized_at client xs j e (All-tail IsSized x xs sized) here) at
 
 -- of a command of an answered request it is known what became of it
-pub known_at : (ring : RingState) (opening : CacheState) (order : Order) (texts outs : ℕ → List ℕ) (histories : ℕ → List Entry) (log : Log)
-    → Accounts ring opening order texts outs histories log → (tag : Tag) (command : Routed) → command_at order tag ≡ Some command → WasAnswered tag log
+pub known_at : (losses : Losses) (ring : RingState) (opening : CacheState) (order : Order) (texts outs : ℕ → List ℕ) (histories : ℕ → List Entry) (log : Log)
+    → Accounts losses ring opening order texts outs histories log → (tag : Tag) (command : Routed) → command_at order tag ≡ Some command → WasAnswered tag log
     → (outcome : Outcome) × (outcome_at order tag ≡ Some outcome) × (is_told outcome ≡ true)
-known_at ring opening order texts outs histories log h tag command at answered =
+known_at losses ring opening order texts outs histories log h tag command at answered =
     let found = in_request (asked_at order tag.session tag.request) tag.atom command at in
     let e = found.0 in
     let sized : length e.outcomes ≡ length (route_of_taken e.ring e.what) = sized_at tag.session order tag.request e h.sized found.1 in
@@ -87,12 +88,12 @@ known_at ring opening order texts outs histories log h tag command at answered =
     (outcome.0, ap (λ (o : Option Asked). outcome_in o tag.atom) found.1 ∙ outcome.1, passes_at is_told e.outcomes tag.atom outcome.0 complete outcome.1)
 
 -- and the histories and the log tell it
-pub told_by : (ring : RingState) (opening : CacheState) (order : Order) (texts outs : ℕ → List ℕ) (histories : ℕ → List Entry) (log : Log)
-    → Accounts ring opening order texts outs histories log → (tag : Tag) (command : Routed) (outcome : Outcome) → command_at order tag ≡ Some command
+pub told_by : (losses : Losses) (ring : RingState) (opening : CacheState) (order : Order) (texts outs : ℕ → List ℕ) (histories : ℕ → List Entry) (log : Log)
+    → Accounts losses ring opening order texts outs histories log → (tag : Tag) (command : Routed) (outcome : Outcome) → command_at order tag ≡ Some command
     → outcome_at order tag ≡ Some outcome → is_told outcome ≡ true → IsToldBy histories log tag command outcome
-told_by ring opening order texts outs histories log h tag command (Reply reply) at became told = h.replied tag command.server command.atom reply at became
-told_by ring opening order texts outs histories log h tag command Lost at became told = h.lost tag command.server command.atom at became
-told_by ring opening order texts outs histories log h tag command Awaited at became told = absurd (false≢true told)
+told_by losses ring opening order texts outs histories log h tag command (Reply reply) at became told = h.replied tag command.server command.atom reply at became
+told_by losses ring opening order texts outs histories log h tag command Lost at became told = h.lost tag command.server command.atom at became
+told_by losses ring opening order texts outs histories log h tag command Awaited at became told = absurd (false≢true told)
 
 -- of all commands of a request
 are_told : (histories : ℕ → List Entry) (log : Log) (client request at : ℕ) (commands : List Routed) (outcomes : List Outcome) → length outcomes ≡ length commands
@@ -109,20 +110,20 @@ are_told histories log client request at (c ∷ cs) (o ∷ os) size each = (
 )
 
 -- the answer to a request of which all is known
-pub answer_to : (ring : RingState) (opening : CacheState) (order : Order) (texts outs : ℕ → List ℕ) (histories : ℕ → List Entry) (log : Log)
-    → Accounts ring opening order texts outs histories log → (client request : ℕ) (e : Asked) → asked_at order client request ≡ Some e → is_complete e ≡ true
-    → IsAnswerTo ring texts histories log client request (answer_by e.what e.outcomes)
-answer_to ring opening order texts outs histories log h client request e at complete =
+pub answer_to : (losses : Losses) (ring : RingState) (opening : CacheState) (order : Order) (texts outs : ℕ → List ℕ) (histories : ℕ → List Entry) (log : Log)
+    → Accounts losses ring opening order texts outs histories log → (client request : ℕ) (e : Asked) → asked_at order client request ≡ Some e → is_complete e ≡ true
+    → IsAnswerTo losses ring texts histories log client request (answer_by losses e.what e.outcomes)
+answer_to losses ring opening order texts outs histories log h client request e at complete =
     record {
       what = e.what;
       ring = e.ring;
-      taken = entry_taken ring opening order texts outs histories log h client request e at;
+      taken = entry_taken losses ring opening order texts outs histories log h client request e at;
       outcomes = e.outcomes;
       told =
           are_told histories log client request 0 (route_of_taken e.ring e.what) e.outcomes (sized_at client order request e h.sized at)
           (λ k n command outcome is there became.
           let same : n ≡ k = omega (arith, is) in
-          told_by ring opening order texts outs histories log h (tag_of client request n) command outcome
+          told_by losses ring opening order texts outs histories log h (tag_of client request n) command outcome
           (ap (λ (o : Option Asked). command_in o n) at ∙ ap (λ (m : ℕ). slice_get (route_of_taken e.ring e.what) m) same ∙ there)
           (ap (λ (o : Option Asked). outcome_in o n) at ∙ ap (λ (m : ℕ). slice_get e.outcomes m) same ∙ became)
           (passes_at is_told e.outcomes k outcome complete became));
@@ -130,34 +131,34 @@ answer_to ring opening order texts outs histories log h client request e at comp
     }
 
 -- answers, one after another
-answers_from : (ring : RingState) (texts : ℕ → List ℕ) (histories : ℕ → List Entry) (log : Log) (client request : ℕ) (es : Order)
-    → ((k n : ℕ) (e : Asked) → n ≡ request + k → slice_get es k ≡ Some e → IsAnswerTo ring texts histories log client n (answer_by e.what e.outcomes))
-    → AreAnswersFrom ring texts histories log client request (map (λ (e : Asked). answer_by e.what e.outcomes) es)
-answers_from ring texts histories log client request [] each = tt
-answers_from ring texts histories log client request (e ∷ es) each = (
+answers_from : (losses : Losses) (ring : RingState) (texts : ℕ → List ℕ) (histories : ℕ → List Entry) (log : Log) (client request : ℕ) (es : Order)
+    → ((k n : ℕ) (e : Asked) → n ≡ request + k → slice_get es k ≡ Some e → IsAnswerTo losses ring texts histories log client n (answer_by losses e.what e.outcomes))
+    → AreAnswersFrom losses ring texts histories log client request (map (λ (e : Asked). answer_by losses e.what e.outcomes) es)
+answers_from losses ring texts histories log client request [] each = tt
+answers_from losses ring texts histories log client request (e ∷ es) each = (
   each zero request e (omega arith) refl,
-  answers_from ring texts histories log client (suc request) es (λ k n d is there. each (suc k) n d (omega (arith, is)) there),
+  answers_from losses ring texts histories log client (suc request) es (λ k n d is there. each (suc k) n d (omega (arith, is)) there),
 )
 
-answers_join : (es : Order) → answers_of es ≡ concat (map (λ (e : Asked). answer_by e.what e.outcomes) es)
-answers_join [] = refl
-answers_join (e ∷ es) = ap (λ (bytes : List ℕ). answer_by e.what e.outcomes ++ bytes) (answers_join es)
+answers_join : (losses : Losses) (es : Order) → answers_by losses es ≡ concat (map (λ (e : Asked). answer_by losses e.what e.outcomes) es)
+answers_join losses [] = refl
+answers_join losses (e ∷ es) = ap (λ (bytes : List ℕ). answer_by losses e.what e.outcomes ++ bytes) (answers_join losses es)
 
 -- what was put out to a client
-pub put_answers : (ring : RingState) (opening : CacheState) (order : Order) (texts outs : ℕ → List ℕ) (histories : ℕ → List Entry) (log : Log)
-    → Accounts ring opening order texts outs histories log → (client : ℕ)
+pub put_answers : (losses : Losses) (ring : RingState) (opening : CacheState) (order : Order) (texts outs : ℕ → List ℕ) (histories : ℕ → List Entry) (log : Log)
+    → Accounts losses ring opening order texts outs histories log → (client : ℕ)
     → (answers : List (List ℕ)) × (length answers ≡ number_of (puts client) log) × (outs client ≡ concat answers)
-    × AreAnswersFrom ring texts histories log client 0 answers
-put_answers ring opening order texts outs histories log h client =
+    × AreAnswersFrom losses ring texts histories log client 0 answers
+put_answers losses ring opening order texts outs histories log h client =
     let n = number_of (puts client) log in
     let es = take n (entries_of client order) in (
-      map (λ (e : Asked). answer_by e.what e.outcomes) es,
-      length-map es (λ (e : Asked). answer_by e.what e.outcomes) ∙ length-take-le n (entries_of client order) (puts_few ring opening order texts outs histories log h client),
-      h.put client ∙ answers_join es,
-      answers_from ring texts histories log client 0 es
+      map (λ (e : Asked). answer_by losses e.what e.outcomes) es,
+      length-map es (λ (e : Asked). answer_by losses e.what e.outcomes) ∙ length-take-le n (entries_of client order) (puts_few losses ring opening order texts outs histories log h client),
+      h.put client ∙ answers_join losses es,
+      answers_from losses ring texts histories log client 0 es
           (λ k m e is there.
           let same : k ≡ m = omega (arith, is) in
-          answer_to ring opening order texts outs histories log h client m e
+          answer_to losses ring opening order texts outs histories log h client m e
           (ap (λ (j : ℕ). slice_get (entries_of client order) j) (sym same) ∙ got_front n (entries_of client order) k e there)
           (passes_at is_complete es k e (h.answered client) there)),
     )

@@ -4,6 +4,7 @@ use Rattle.mc_request.specs.declared.parts.Taken.{Taken}
 use Rattle.mc_reply.specs.Spelling.{spelling_of}
 use Rattle.mc_ring.specs.Rings.{RingState}
 use Rattle.mc_route.specs.Routes.{route_of_taken}
+use Rattle.mc_route.specs.declared.losses.Losses.{Losses}
 use Rattle.mc_route.specs.declared.outcomes.Outcome.{Outcome}
 use Rattle.mc_route.specs.declared.outcomes.Outcome.TheVariants.{Awaited, Lost, Reply}
 use Rattle.mc_route.specs.declared.routes.Routed.{Routed}
@@ -56,17 +57,17 @@ AreToldBy histories log client request at (command ∷ commands) [] = ⊥
 AreToldBy histories log client request at (command ∷ commands) (outcome ∷ outcomes) =
     IsToldBy histories log (tag_of client request at) command outcome × AreToldBy histories log client request (suc at) commands outcomes
 
--- the answer to a client's request of a number, by what became of its commands
-pub record IsAnswerTo (opening : RingState) (texts : ℕ → List ℕ) (histories : ℕ → List Entry) (log : Log) (client request : ℕ) (answer : List ℕ) : Type 0 where
+-- the answer to a client's request of a number, by a choice for lost commands, and by what became of its commands
+pub record IsAnswerTo (losses : Losses) (opening : RingState) (texts : ℕ → List ℕ) (histories : ℕ → List Entry) (log : Log) (client request : ℕ) (answer : List ℕ) : Type 0 where
   pub what : Taken
   pub ring : RingState
   pub taken : IsTaken opening texts log client request what ring
   pub outcomes : List Outcome
   pub told : AreToldBy histories log client request 0 (route_of_taken ring what) outcomes
-  pub bytes : answer ≡ answer_by what outcomes
+  pub bytes : answer ≡ answer_by losses what outcomes
 
 -- the answers to a client's requests, one after another, the first of them being that to the request of a number
-abbrev pub AreAnswersFrom : RingState → (ℕ → List ℕ) → (ℕ → List Entry) → Log → ℕ → ℕ → List (List ℕ) → Type 0
-AreAnswersFrom opening texts histories log client request [] = Unit {0}
-AreAnswersFrom opening texts histories log client request (answer ∷ answers) =
-    IsAnswerTo opening texts histories log client request answer × AreAnswersFrom opening texts histories log client (suc request) answers
+abbrev pub AreAnswersFrom : Losses → RingState → (ℕ → List ℕ) → (ℕ → List Entry) → Log → ℕ → ℕ → List (List ℕ) → Type 0
+AreAnswersFrom losses opening texts histories log client request [] = Unit {0}
+AreAnswersFrom losses opening texts histories log client request (answer ∷ answers) =
+    IsAnswerTo losses opening texts histories log client request answer × AreAnswersFrom losses opening texts histories log client (suc request) answers

@@ -7,16 +7,17 @@ use Rattle.mc_request.specs.Requests.{requests_of}
 use Rattle.mc_reply.specs.declared.replies.Reply.{Reply as AReply}
 use Rattle.mc_reply.specs.Spelling.{spelling_of}
 use Rattle.mc_ring.specs.Rings.{RingState}
+use Rattle.mc_route.specs.declared.losses.Losses.{Losses}
 use Rattle.mc_route.specs.Routes.{to_place}
 use Rattle.mc_route.specs.declared.outcomes.Outcome.TheVariants as outcomes
 use Rattle.mc_link.specs.declared.turns.Tag.{Tag}
 use Rattle.mc_cache.specs.CacheState.{CacheState}
 use Rattle.mc_account.specs.Lookups.{IsBefore, asked_at, command_at, outcome_at}
-use Rattle.mc_account.specs.Orders.{AreInOrder, Entry as AskedFor, IsSized, Order, answers_of, commands_to, entries_of, is_complete, taken_of}
+use Rattle.mc_account.specs.Orders.{AreInOrder, Entry as AskedFor, IsSized, Order, commands_to, entries_of, is_complete, taken_of}
 use Rattle.mc_history.specs.declared.entries.Entry.{Entry}
 use Rattle.mc_history.specs.Histories.{HasReply, IsLegal, tag_in}
 use Rattle.mc_history.specs.Named.{tags_of}
-use Rattle.mc_world.specs.Accounts.{IsToldLost, NotAnswered, WasTaken}
+use Rattle.mc_world.specs.Accounts.{IsToldLost, NotAnswered, WasTaken, answers_by}
 use Rattle.mc_world.specs.Logs.{IsRingAfter, Log, before, loses, moments_of, number_of, puts, serves, takes, turns_of}
 
 -- the clauses of an account, by their names there; the second part of `placed` is by itself
@@ -40,7 +41,7 @@ pub data Clause : Type 0 where
   Unanswered : Clause
 
 -- the clauses of an account, but for one, as they are there
-pub record AccountsBut (one : Clause) (ring : RingState) (opening : CacheState) (order : Order) (texts outs : ℕ → List ℕ) (histories : ℕ → List Entry) (log : Log) : Type 0 where
+pub record AccountsBut (one : Clause) (losses : Losses) (ring : RingState) (opening : CacheState) (order : Order) (texts outs : ℕ → List ℕ) (histories : ℕ → List Entry) (log : Log) : Type 0 where
   pub asked : one ≢ Asked → (client : ℕ) → (untaken : List Taken) × (taken_of client order ++ untaken ≡ requests_of (texts client))
   pub turns : one ≢ Turns → map (λ (e : AskedFor). e.session) order ≡ turns_of log
   pub numbered : one ≢ Numbered → (client : ℕ) → AreInOrder (entries_of client order)
@@ -59,15 +60,15 @@ pub record AccountsBut (one : Clause) (ring : RingState) (opening : CacheState) 
   pub followed : one ≢ Followed → (place : ℕ) → number_of (loses place) log ≡ 0
       → (untaken : List Tag) × (map tag_in (histories place) ++ untaken ≡ tags_of (commands_to place order))
   pub answered : one ≢ Answered → (client : ℕ) → list_all is_complete (take (number_of (puts client) log) (entries_of client order)) ≡ true
-  pub put : one ≢ Put → (client : ℕ) → outs client ≡ answers_of (take (number_of (puts client) log) (entries_of client order))
+  pub put : one ≢ Put → (client : ℕ) → outs client ≡ answers_by losses (take (number_of (puts client) log) (entries_of client order))
   pub after : one ≢ After → (client request : ℕ) → request < number_of (puts client) log → request < number_of (takes client) (before (puts client) request log)
   pub moments : one ≢ Moments → (place : ℕ) → map (λ (e : Entry). e.moment) (histories place) ≡ moments_of place log
   pub placed : one ≢ Placed → (place k : ℕ) (e : Entry) → slice_get (histories place) k ≡ Some e → WasTaken (tag_in e) (before (serves place) k log)
   pub unanswered : one ≢ Unanswered → (place k : ℕ) (e : Entry) → slice_get (histories place) k ≡ Some e → (reply : AReply (List ℕ))
       → outcome_at order (tag_in e) ≡ Some (outcomes.Reply reply) → NotAnswered (tag_in e) (before (serves place) k log)
 
--- there is a run of which by some order all clauses but one hold, and this holds too
+-- for each choice for lost commands, there is a run of which by some order all clauses but one hold, and this holds too
 abbrev pub Allows : Clause → (RingState → CacheState → (ℕ → List ℕ) → (ℕ → List ℕ) → (ℕ → List Entry) → Log → Type 0) → Type 0
 Allows one P =
-    (ring : RingState) × (opening : CacheState) × (texts : ℕ → List ℕ) × (outs : ℕ → List ℕ) × (histories : ℕ → List Entry) × (log : Log)
-    × ((order : Order) × AccountsBut one ring opening order texts outs histories log) × P ring opening texts outs histories log
+    (losses : Losses) → (ring : RingState) × (opening : CacheState) × (texts : ℕ → List ℕ) × (outs : ℕ → List ℕ) × (histories : ℕ → List Entry) × (log : Log)
+    × ((order : Order) × AccountsBut one losses ring opening order texts outs histories log) × P ring opening texts outs histories log

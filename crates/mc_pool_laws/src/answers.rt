@@ -2,6 +2,7 @@
 ghost use Rattle.std.specs.Prelude.{ℕ, ◌≡◌, ◌<◌, ◌≤◌, List, [], length};
 ghost use Rattle.std.specs.List.{concat};
 ghost use Rattle.mc_ring.specs.Rings.{RingState};
+ghost use Rattle.mc_route.specs.declared.losses.Losses.{Losses};
 ghost use Rattle.mc_cache.specs.CacheState.{CacheState};
 ghost use Rattle.mc_history.specs.declared.entries.Entry.{Entry};
 ghost use Rattle.mc_world.specs.Accounts.{Account};
@@ -10,26 +11,27 @@ ghost use Rattle.mc_pool_laws.specs.Told.{AreAnswersFrom};
 
 /// An answer is put out only to a request that was taken before.
 pub fn answers_follow_requests()
-    ensures few { (ring : RingState) (opening : CacheState) (texts outs : ℕ → List ℕ) (histories : ℕ → List Entry) (log : Log)
-        → Account ring opening texts outs histories log → (client : ℕ) → number_of (puts client) log ≤ number_of (takes client) log }
-    ensures each { (ring : RingState) (opening : CacheState) (texts outs : ℕ → List ℕ) (histories : ℕ → List Entry) (log : Log)
-        → Account ring opening texts outs histories log → (client request : ℕ) → request < number_of (puts client) log
+    ensures few { (losses : Losses) (ring : RingState) (opening : CacheState) (texts outs : ℕ → List ℕ) (histories : ℕ → List Entry) (log : Log)
+        → Account losses ring opening texts outs histories log → (client : ℕ) → number_of (puts client) log ≤ number_of (takes client) log }
+    ensures each { (losses : Losses) (ring : RingState) (opening : CacheState) (texts outs : ℕ → List ℕ) (histories : ℕ → List Entry) (log : Log)
+        → Account losses ring opening texts outs histories log → (client request : ℕ) → request < number_of (puts client) log
         → request < number_of (takes client) (before (puts client) request log) }
 {}
 
 /// What is put out to a client is one answer for each put of the log, to its first requests, in their order. Each is the answer by replies
-/// to its commands whose spellings the servers' histories have. Or it says that one was lost, which the log then shows.
+/// to its commands whose spellings the servers' histories have. If one was lost, which the log then shows, the answer is by the choice for lost
+/// commands.
 pub fn answers_are_those_of_the_histories()
-    ensures { (ring : RingState) (opening : CacheState) (texts outs : ℕ → List ℕ) (histories : ℕ → List Entry) (log : Log)
-        → Account ring opening texts outs histories log → (client : ℕ)
+    ensures { (losses : Losses) (ring : RingState) (opening : CacheState) (texts outs : ℕ → List ℕ) (histories : ℕ → List Entry) (log : Log)
+        → Account losses ring opening texts outs histories log → (client : ℕ)
         → (answers : List (List ℕ)) × (length answers ≡ number_of (puts client) log) × (outs client ≡ concat answers)
-        × AreAnswersFrom ring texts histories log client 0 answers }
+        × AreAnswersFrom losses ring texts histories log client 0 answers }
 {}
 
 /// Nothing is put out to a client where the log has no put for it, nor where it sent nothing.
 pub fn nothing_is_put_out_unasked()
-    ensures without_put { (ring : RingState) (opening : CacheState) (texts outs : ℕ → List ℕ) (histories : ℕ → List Entry) (log : Log)
-        → Account ring opening texts outs histories log → (client : ℕ) → number_of (puts client) log ≡ 0 → outs client ≡ [] }
-    ensures without_text { (ring : RingState) (opening : CacheState) (texts outs : ℕ → List ℕ) (histories : ℕ → List Entry) (log : Log)
-        → Account ring opening texts outs histories log → (client : ℕ) → texts client ≡ [] → outs client ≡ [] }
+    ensures without_put { (losses : Losses) (ring : RingState) (opening : CacheState) (texts outs : ℕ → List ℕ) (histories : ℕ → List Entry) (log : Log)
+        → Account losses ring opening texts outs histories log → (client : ℕ) → number_of (puts client) log ≡ 0 → outs client ≡ [] }
+    ensures without_text { (losses : Losses) (ring : RingState) (opening : CacheState) (texts outs : ℕ → List ℕ) (histories : ℕ → List Entry) (log : Log)
+        → Account losses ring opening texts outs histories log → (client : ℕ) → texts client ≡ [] → outs client ≡ [] }
 {}

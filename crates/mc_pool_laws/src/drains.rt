@@ -3,6 +3,7 @@ ghost use Rattle.std.specs.Prelude.{ℕ, ◌≡◌, ◌++◌, true, List, length
 ghost use Rattle.std.specs.List.{concat, list_all};
 ghost use Rattle.mc_request.specs.Requests.{requests_of};
 ghost use Rattle.mc_ring.specs.Rings.{RingState};
+ghost use Rattle.mc_route.specs.declared.losses.Losses.{Losses};
 ghost use Rattle.mc_cache.specs.CacheState.{CacheState};
 ghost use Rattle.mc_world.specs.Accounts.{Account};
 ghost use Rattle.mc_world.specs.Applies.{IsThere};
@@ -22,8 +23,8 @@ pub fn drains_add_what_is_left()
 
 /// Where nothing is left to do, each client that has not gone took the answers to all its requests.
 pub fn quiet_worlds_have_answered()
-    ensures { (ring : RingState) (opening : CacheState) (c : CourseState)
-        → Account ring opening (text_of c) (put_out_of c) (history_of c) c.log → IsQuiet c → (client : ℕ) → IsThere client c.pool
+    ensures { (losses : Losses) (ring : RingState) (opening : CacheState) (c : CourseState)
+        → Account losses ring opening (text_of c) (put_out_of c) (history_of c) c.log → IsQuiet c → (client : ℕ) → IsThere client c.pool
         → (answers : List (List ℕ)) × (length answers ≡ length (requests_of (text_of c client))) × (taken_by c client ≡ concat answers)
-        × AreAnswersFrom ring (text_of c) (history_of c) c.log client 0 answers }
+        × AreAnswersFrom losses ring (text_of c) (history_of c) c.log client 0 answers }
 {}

@@ -3,11 +3,12 @@
 //! No program uses this crate. Its functions do nothing: their contracts are the laws. Each is proved from `Account` of `mc_world` alone,
 //! whatever order it has, but those of a drain. Each clause of the record `Accounts` has a law here that needs it: `docs/LAWS.md` has
 //! the table. `specs/Sent.antt` says what a client's text tells of a command, `specs/Followed.antt` what the proxy sent to a server, and
-//! `specs/Told.antt` what the histories and the log tell of a command. `specs/Wanted.antt` says which commands memory may be refused to,
-//! `specs/Drained.antt` what a drain adds to a log.
+//! `specs/Told.antt` what the histories and the log tell of a command. `specs/Choices.antt` says what an answer shows by the choice for
+//! lost commands, `specs/Wanted.antt` which commands memory may be refused to, `specs/Drained.antt` what a drain adds to a log.
 #![tactic(auto)]
 
 mod answers;
+mod choices;
 mod drains;
 mod histories;
 mod losses;
@@ -18,6 +19,7 @@ mod requests;
 pub use answers::{
     answers_are_those_of_the_histories, answers_follow_requests, nothing_is_put_out_unasked,
 };
+pub use choices::{a_miss_says_nothing_of_its_server, done_is_executed, shown_values_are_replies};
 pub use drains::{drains_add_what_is_left, quiet_worlds_have_answered};
 pub use histories::{
     commands_are_executed_once, commands_are_executed_when_taken, histories_are_replayed,

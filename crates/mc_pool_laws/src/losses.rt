@@ -2,6 +2,7 @@
 ghost use Rattle.std.specs.Prelude.{ℕ, ◌≡◌, ◌≢◌, ◌<◌, ◌⊎◌, List, Some, slice_get};
 ghost use Rattle.mc_reply.specs.declared.replies.Reply.{Reply as AReply};
 ghost use Rattle.mc_ring.specs.Rings.{RingState};
+ghost use Rattle.mc_route.specs.declared.losses.Losses.{Losses};
 ghost use Rattle.mc_route.specs.declared.outcomes.Outcome.TheVariants.{Lost, Reply};
 ghost use Rattle.mc_route.specs.declared.routes.Routed.{Routed};
 ghost use Rattle.mc_link.specs.declared.turns.Tag.{Tag};
@@ -19,51 +20,51 @@ ghost use Rattle.mc_pool_laws.specs.Told.{HasEntry, HasOneEntry, LinkHeld, WasAn
 /// Each command of an answered request was executed by its server, or was lost. Then its link was down when its request was taken, and it was
 /// never executed; or its link was lost between then and the answer.
 pub fn answered_commands_are_executed_or_lost()
-    ensures { (ring : RingState) (opening : CacheState) (texts outs : ℕ → List ℕ) (histories : ℕ → List Entry) (log : Log)
-        → Account ring opening texts outs histories log → (tag : Tag) (command : Routed) → IsSent ring texts log tag command → WasAnswered tag log
+    ensures { (losses : Losses) (ring : RingState) (opening : CacheState) (texts outs : ℕ → List ℕ) (histories : ℕ → List Entry) (log : Log)
+        → Account losses ring opening texts outs histories log → (tag : Tag) (command : Routed) → IsSent ring texts log tag command → WasAnswered tag log
         → HasEntry (histories command.server) tag ⊎ IsToldLost command.server tag (histories command.server) log }
 {}
 
 /// A server's link is never lost. Then each command of an answered request that goes to that server was executed there, exactly once, and
 /// nowhere else.
 pub fn without_losses_each_command_is_executed_once()
-    ensures { (ring : RingState) (opening : CacheState) (texts outs : ℕ → List ℕ) (histories : ℕ → List Entry) (log : Log)
-        → Account ring opening texts outs histories log → (tag : Tag) (command : Routed) → IsSent ring texts log tag command → WasAnswered tag log
+    ensures { (losses : Losses) (ring : RingState) (opening : CacheState) (texts outs : ℕ → List ℕ) (histories : ℕ → List Entry) (log : Log)
+        → Account losses ring opening texts outs histories log → (tag : Tag) (command : Routed) → IsSent ring texts log tag command → WasAnswered tag log
         → number_of (loses command.server) log ≡ 0 → HasOneEntry histories command.server tag }
 {}
 
 /// The same where the link may be lost later: a command of an answered request, whose server's link was not lost before the answer.
 pub fn commands_whose_links_held_are_executed_once()
-    ensures { (ring : RingState) (opening : CacheState) (texts outs : ℕ → List ℕ) (histories : ℕ → List Entry) (log : Log)
-        → Account ring opening texts outs histories log → (tag : Tag) (command : Routed) → IsSent ring texts log tag command → WasAnswered tag log
+    ensures { (losses : Losses) (ring : RingState) (opening : CacheState) (texts outs : ℕ → List ℕ) (histories : ℕ → List Entry) (log : Log)
+        → Account losses ring opening texts outs histories log → (tag : Tag) (command : Routed) → IsSent ring texts log tag command → WasAnswered tag log
         → number_of (loses command.server) (before (puts tag.session) tag.request log) ≡ 0 → HasOneEntry histories command.server tag }
 {}
 
 /// A server's link is never lost. Then no command to it is lost, and each of an answered request has its reply. The server's history is of the
 /// first of the commands that were sent to it, in the order in which the proxy took the requests.
 pub fn without_losses_histories_follow_the_proxy()
-    ensures never_lost { (ring : RingState) (opening : CacheState) (order : Order) (texts outs : ℕ → List ℕ) (histories : ℕ → List Entry) (log : Log)
-        → Accounts ring opening order texts outs histories log → (tag : Tag) (command : Routed) → command_at order tag ≡ Some command
+    ensures never_lost { (losses : Losses) (ring : RingState) (opening : CacheState) (order : Order) (texts outs : ℕ → List ℕ) (histories : ℕ → List Entry) (log : Log)
+        → Accounts losses ring opening order texts outs histories log → (tag : Tag) (command : Routed) → command_at order tag ≡ Some command
         → number_of (loses command.server) log ≡ 0 → outcome_at order tag ≢ Some Lost }
-    ensures replied { (ring : RingState) (opening : CacheState) (order : Order) (texts outs : ℕ → List ℕ) (histories : ℕ → List Entry) (log : Log)
-        → Accounts ring opening order texts outs histories log → (tag : Tag) (command : Routed) → command_at order tag ≡ Some command
+    ensures replied { (losses : Losses) (ring : RingState) (opening : CacheState) (order : Order) (texts outs : ℕ → List ℕ) (histories : ℕ → List Entry) (log : Log)
+        → Accounts losses ring opening order texts outs histories log → (tag : Tag) (command : Routed) → command_at order tag ≡ Some command
         → number_of (loses command.server) log ≡ 0 → WasAnswered tag log → (reply : AReply (List ℕ)) × (outcome_at order tag ≡ Some (Reply reply)) }
-    ensures follows { (ring : RingState) (opening : CacheState) (texts outs : ℕ → List ℕ) (histories : ℕ → List Entry) (log : Log)
-        → Account ring opening texts outs histories log → (place : ℕ) → number_of (loses place) log ≡ 0
+    ensures follows { (losses : Losses) (ring : RingState) (opening : CacheState) (texts outs : ℕ → List ℕ) (histories : ℕ → List Entry) (log : Log)
+        → Account losses ring opening texts outs histories log → (place : ℕ) → number_of (loses place) log ≡ 0
         → FollowsProxy ring texts log place (histories place) }
 {}
 
 /// A server executes the commands of one client in its order, as far as they are answered and their links held.
 pub fn clients_keep_their_order()
-    ensures { (ring : RingState) (opening : CacheState) (texts outs : ℕ → List ℕ) (histories : ℕ → List Entry) (log : Log)
-        → Account ring opening texts outs histories log → (place j k : ℕ) (d e : Entry) → slice_get (histories place) j ≡ Some d
+    ensures { (losses : Losses) (ring : RingState) (opening : CacheState) (texts outs : ℕ → List ℕ) (histories : ℕ → List Entry) (log : Log)
+        → Account losses ring opening texts outs histories log → (place j k : ℕ) (d e : Entry) → slice_get (histories place) j ≡ Some d
         → slice_get (histories place) k ≡ Some e → j < k → d.client ≡ e.client → WasAnswered (tag_in d) log → WasAnswered (tag_in e) log
         → LinkHeld place (tag_in d) log → LinkHeld place (tag_in e) log → IsBefore (tag_in d) (tag_in e) }
 {}
 
 /// A command whose link held is executed before its request is answered.
 pub fn answers_come_after_their_turns()
-    ensures { (ring : RingState) (opening : CacheState) (texts outs : ℕ → List ℕ) (histories : ℕ → List Entry) (log : Log)
-        → Account ring opening texts outs histories log → (place k : ℕ) (e : Entry) → slice_get (histories place) k ≡ Some e
+    ensures { (losses : Losses) (ring : RingState) (opening : CacheState) (texts outs : ℕ → List ℕ) (histories : ℕ → List Entry) (log : Log)
+        → Account losses ring opening texts outs histories log → (place k : ℕ) (e : Entry) → slice_get (histories place) k ≡ Some e
         → LinkHeld place (tag_in e) log → NotAnswered (tag_in e) (before (serves place) k log) }
 {}

@@ -3,6 +3,7 @@
 ghost use Rattle.std.specs.Prelude.{ℕ, ◌≡◌, ◌≢◌, ◌<◌, ◌↔◌, List, [], Some, length, slice_get};
 ghost use Rattle.mc_request.specs.Requests.{requests_of};
 ghost use Rattle.mc_ring.specs.Rings.{RingState};
+ghost use Rattle.mc_route.specs.declared.losses.Losses.{Losses};
 ghost use Rattle.mc_cache.specs.CacheState.{CacheState};
 ghost use Rattle.mc_account.specs.Orders.{Order};
 ghost use Rattle.mc_account.specs.Lookups.{IsBefore};
@@ -17,8 +18,8 @@ ghost use Rattle.mc_pool_laws.specs.Without.{AccountsBut, After, Allows, Answere
 
 /// The clauses that are left out one by one are those of the account.
 pub fn clauses_are_those_of_the_account()
-    ensures { (ring : RingState) (opening : CacheState) (order : Order) (texts outs : ℕ → List ℕ) (histories : ℕ → List Entry) (log : Log)
-        → Accounts ring opening order texts outs histories log ↔ ((one : Clause) → AccountsBut one ring opening order texts outs histories log) }
+    ensures { (losses : Losses) (ring : RingState) (opening : CacheState) (order : Order) (texts outs : ℕ → List ℕ) (histories : ℕ → List Entry) (log : Log)
+        → Accounts losses ring opening order texts outs histories log ↔ ((one : Clause) → AccountsBut one losses ring opening order texts outs histories log) }
 {}
 
 /// Without `asked` or `turns` requests could be taken that no client sent. Without `turns`, `numbered` or `followed` two commands could be

@@ -3,6 +3,7 @@ ghost use Rattle.std.specs.Prelude.{ℕ, ◌≡◌, ◌≤◌, ◌<◌, List, []
 ghost use Rattle.mc_request.specs.Requests.{requests_of};
 ghost use Rattle.mc_request.specs.declared.parts.Taken.{Taken};
 ghost use Rattle.mc_ring.specs.Rings.{RingState};
+ghost use Rattle.mc_route.specs.declared.losses.Losses.{Losses};
 ghost use Rattle.mc_cache.specs.CacheState.{CacheState};
 ghost use Rattle.mc_account.specs.Orders.{Tagged};
 ghost use Rattle.mc_history.specs.declared.entries.Entry.{Entry};
@@ -14,10 +15,10 @@ ghost use Rattle.mc_pool_laws.specs.Sent.{IsTaken};
 /// A request is taken only where its client sent it whole. It is the one of its number in the client's text, and there is a ring of that
 /// moment.
 pub fn requests_are_taken_as_sent()
-    ensures few { (ring : RingState) (opening : CacheState) (texts outs : ℕ → List ℕ) (histories : ℕ → List Entry) (log : Log)
-        → Account ring opening texts outs histories log → (client : ℕ) → number_of (takes client) log ≤ length (requests_of (texts client)) }
-    ensures each { (ring : RingState) (opening : CacheState) (texts outs : ℕ → List ℕ) (histories : ℕ → List Entry) (log : Log)
-        → Account ring opening texts outs histories log → (client request : ℕ) → request < number_of (takes client) log
+    ensures few { (losses : Losses) (ring : RingState) (opening : CacheState) (texts outs : ℕ → List ℕ) (histories : ℕ → List Entry) (log : Log)
+        → Account losses ring opening texts outs histories log → (client : ℕ) → number_of (takes client) log ≤ length (requests_of (texts client)) }
+    ensures each { (losses : Losses) (ring : RingState) (opening : CacheState) (texts outs : ℕ → List ℕ) (histories : ℕ → List Entry) (log : Log)
+        → Account losses ring opening texts outs histories log → (client request : ℕ) → request < number_of (takes client) log
         → (what : Taken) × (now : RingState) × IsTaken ring texts log client request what now }
 {}
 

@@ -34,7 +34,7 @@ plays_after opening (l ∷ ls) (s ∷ ss) line step old now new h plays =
     (h.0, h.1, plays_after opening ls ss line step h.0 now new h.2 plays)
 
 keeps_both : (first old new : WorldState) → KeepsOpening first old → KeepsOpening old new → KeepsOpening first new
-keeps_both first old new a b = record { ring = b.ring ∙ a.ring; budget = b.budget ∙ a.budget; items = b.items ∙ a.items }
+keeps_both first old new a b = record { ring = b.ring ∙ a.ring; losses = b.losses ∙ a.losses; budget = b.budget ∙ a.budget; items = b.items ∙ a.items }
 
 -- one more of them
 pub plays_one : (script : PoolSeen) (i : ℕ) (steps : List Step) (line : PoolLine) (step : Step) (old new : WorldState) → i < length script.lines

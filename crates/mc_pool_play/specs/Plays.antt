@@ -2,7 +2,7 @@
 use Rattle.std.specs.Prelude.{◌≡◌, ℕ, List, [], ◌∷◌, map}
 use Rattle.std.specs.List.{range_with_len}
 use Rattle.mc_cache.specs.CacheState.{CacheState, opening_cache}
-use Rattle.mc_pool_script.specs.PoolScripts.{IsOpeningRing, PoolSeen}
+use Rattle.mc_pool_script.specs.PoolScripts.{IsOpeningRing, PoolSeen, losses_of}
 use Rattle.mc_pool_script.specs.declared.lines.PoolLine.{PoolLine}
 use Rattle.mc_pool_script.specs.declared.lines.PoolLine.TheVariants.{Drain, Event, Join}
 use Rattle.mc_world.specs.Drains.{Drains}
@@ -10,7 +10,7 @@ use Rattle.mc_world.specs.Joins.{HasServerJoined}
 use Rattle.mc_world.specs.Quiet.{IsQuiet}
 use Rattle.mc_world.specs.Rounds.{DrainsInRounds}
 use Rattle.mc_world.specs.Steps.{GivesAccount, StepsTo}
-use Rattle.mc_world.specs.Worlds.{CourseState, WorldState, opening_world, put_out_of}
+use Rattle.mc_world.specs.Worlds.{CourseState, WorldState, put_out_of, world_opened}
 use Rattle.mc_world.specs.declared.errors.Step.{Step}
 use Rattle.mc_world.specs.declared.errors.Step.TheVariants.{Done}
 
@@ -31,14 +31,15 @@ PlaysAll opening [] [] old new = new ≡ old
 PlaysAll opening (line ∷ lines) (step ∷ steps) old new = (next : CourseState) × Plays opening line step old next × PlaysAll opening lines steps next new
 PlaysAll opening lines steps old new = ⊥
 
--- the world that a script begins with
+-- the world that a script begins with, with its choice for lost commands
 pub record IsOpenedFor (script : PoolSeen) (world : WorldState) : Type 0 where
   pub ring : IsOpeningRing script world.opening
-  pub is : world ≡ opening_world world.opening script.clients script.budget script.items
+  pub is : world ≡ world_opened (losses_of script) world.opening script.clients script.budget script.items
 
--- a world has the ring and the bounds with which another was opened
+-- a world has the ring, the choice for lost commands and the bounds with which another was opened
 pub record KeepsOpening (old new : WorldState) : Type 0 where
   pub ring : new.opening ≡ old.opening
+  pub losses : new.losses ≡ old.losses
   pub budget : new.budget ≡ old.budget
   pub items : new.items ≡ old.items
 

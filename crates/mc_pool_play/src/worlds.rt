@@ -9,7 +9,7 @@ use mc_script::{ScriptStore, SimError};
 use mc_world::World;
 use std::alloc::Global;
 
-/// The world that a script begins with: nothing has happened in it.
+/// The world that a script begins with, with its choice for lost commands: nothing has happened in it.
 pub fn opened_world<S: ScriptStore>(
     alloc: Global,
     script: &PoolScript,
@@ -19,9 +19,10 @@ pub fn opened_world<S: ScriptStore>(
     ensures only_memory { IsOkUnless result SimError.Memory }
 {
     let (clients, budget, items) = (script.clients(), script.budget(), script.items());
+    let losses = script.losses();
     let ring = script.ring(alloc)?;
     let stores = empty_stores(alloc, script.servers(), items)?;
-    let Ok(world) = World::with_stores(alloc, ring, clients, budget, items, stores) else {
+    let Ok(world) = World::with_losses(alloc, ring, losses, clients, budget, items, stores) else {
         return Err(SimError::Memory);
     };
     Ok(world)

@@ -5,7 +5,7 @@
 
 use mc_fixtures::again;
 use mc_proxy::LinkTurn::{self, Idle, Strange, Took};
-use mc_proxy::{Emit, Proxy, ProxyError, Turn};
+use mc_proxy::{Emit, Losses, Proxy, ProxyError, Turn};
 use mc_ring::{Address, Point, Ring, RingError};
 use std::alloc::Global;
 use std::test::Fail;
@@ -251,6 +251,58 @@ const DIALOGUES: [&[Step]; 10] = [
     ],
 ];
 
+/// The same pool, whose lost commands are missed.
+const MISSED: [&[Step]; 3] = [
+    // of four keys those of the living server are shown: where the link is lost while they wait, and where it is down
+    &[
+        Asks(0, b"get abc a b a\r\n", 1),
+        Sends(0, b"get abc\r\nget b\r\n"),
+        Hears(
+            0,
+            b"VALUE abc 0 1\r\ny\r\nEND\r\nVALUE b 0 1\r\nz\r\nEND\r\n",
+            Took,
+        ),
+        Tells(0, 0, b""),
+        Loses(1, b"get a\r\nget a\r\n"),
+        Tells(0, 1, b"VALUE abc 0 1\r\ny\r\nVALUE b 0 1\r\nz\r\nEND\r\n"),
+        Asks(0, b"gat 60 a abc\r\ngets a\r\n", 2),
+        Sends(0, b"gat 60 abc\r\n"),
+        Hears(0, b"VALUE abc 0 1\r\ny\r\nEND\r\n", Took),
+        Tells(0, 2, b"VALUE abc 0 1\r\ny\r\nEND\r\nEND\r\n"),
+    ],
+    // what hides its reply is silent, so that the next answer is that of the next request
+    &[
+        Asks(0, b"set a 0 0 1 noreply\r\nx\r\n", 1),
+        Loses(1, b"set a 0 0 1\r\nx\r\n"),
+        Asks(0, b"add a 0 0 1 noreply\r\nx\r\nget abc\r\n", 2),
+        Asks(
+            0,
+            b"mg a v\r\nmg a v q\r\nms a 1 q\r\nx\r\nmd a q\r\nmn\r\n",
+            5,
+        ),
+        Sends(0, b"get abc\r\n"),
+        Hears(0, b"VALUE abc 0 1\r\ny\r\nEND\r\n", Took),
+        Tells(0, 8, b"VALUE abc 0 1\r\ny\r\nEND\r\nEN\r\nMN\r\n"),
+    ],
+    // what changes items, and does not hide its reply, is told of its loss; and a fault is told
+    &[
+        Loses(1, b""),
+        Asks(0, b"incr a 1\r\nadd a 0 0 1\r\nx\r\ndelete a\r\n", 3),
+        Asks(
+            0,
+            b"flush_all\r\nflush_all noreply\r\nincr a x noreply\r\n",
+            3,
+        ),
+        Sends(0, b"flush_all 0\r\nflush_all 0\r\n"),
+        Hears(0, b"OK\r\nOK\r\n", Took),
+        Tells(
+            0,
+            6,
+            b"SERVER_ERROR link lost\r\nSERVER_ERROR link lost\r\nSERVER_ERROR link lost\r\nSERVER_ERROR link lost\r\nCLIENT_ERROR invalid numeric delta argument\r\n",
+        ),
+    ],
+];
+
 /// The addresses of a pool's servers.
 const ADDRESSES: [&[u8]; 2] = [b"127.0.0.1:11211", b"127.0.0.1:11212"];
 
@@ -280,7 +332,12 @@ pub fn ring(alloc: Global, points: &[Point]) -> Result<Ring, RingError> {
 
 /// A proxy over as many servers as there are points, with two clients, whose links are up.
 pub fn pool(alloc: Global, points: &[Point]) -> Result<Proxy, ProxyError> {
-    let mut proxy = Proxy::new(alloc, ring(alloc, points)?)?;
+    pool_with(alloc, points, Losses::Told)
+}
+
+/// Likewise, with this choice for lost commands.
+fn pool_with(alloc: Global, points: &[Point], losses: Losses) -> Result<Proxy, ProxyError> {
+    let mut proxy = Proxy::with_losses(alloc, ring(alloc, points)?, losses)?;
     for place in 0..points.len() {
         proxy.back(place)?;
     }
@@ -289,8 +346,8 @@ pub fn pool(alloc: Global, points: &[Point]) -> Result<Proxy, ProxyError> {
     Ok(proxy)
 }
 
-fn pool_of_two(alloc: Global) -> Result<Proxy, ProxyError> {
-    again!(pool(alloc, &TWO))
+fn pool_of_two(alloc: Global, losses: Losses) -> Result<Proxy, ProxyError> {
+    again!(pool_with(alloc, &TWO, losses))
 }
 
 fn admit(proxy: &mut Proxy) -> Result<u64, ProxyError> {
@@ -399,8 +456,8 @@ fn hears(proxy: &mut Proxy, server: usize, bytes: &[u8]) -> Result<LinkTurn, Pro
 }
 
 /// Whether each step of a dialogue brings what it is to bring.
-fn goes_on_so(alloc: Global, steps: &[Step]) -> Result<bool, ProxyError> {
-    let mut proxy = pool_of_two(alloc)?;
+fn goes_on_so(alloc: Global, losses: Losses, steps: &[Step]) -> Result<bool, ProxyError> {
+    let mut proxy = pool_of_two(alloc, losses)?;
     for step in steps {
         if !goes_so(alloc, &mut proxy, step)? {
             return Ok(false);
@@ -412,7 +469,15 @@ fn goes_on_so(alloc: Global, steps: &[Step]) -> Result<bool, ProxyError> {
 #[test]
 fn dialogues_of_a_pool_go_so(rt: HostRuntime) -> Result<(), Fail> {
     for steps in DIALOGUES {
-        assert!(rt; goes_on_so(rt.alloc(), steps)?);
+        assert!(rt; goes_on_so(rt.alloc(), Losses::Told, steps)?);
+    }
+    Ok(())
+}
+
+#[test]
+fn dialogues_with_missed_losses_go_so(rt: HostRuntime) -> Result<(), Fail> {
+    for steps in MISSED {
+        assert!(rt; goes_on_so(rt.alloc(), Losses::Missed, steps)?);
     }
     Ok(())
 }

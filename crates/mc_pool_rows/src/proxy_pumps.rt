@@ -5,7 +5,7 @@ use crate::pools::{ONE, pool};
 use mc_fixtures::Call::{Fails, Moves};
 use mc_fixtures::{Call, MANY, MOMENT, MeagreStore, SCRIPTS, Sides, Stream, WIDE, new_server};
 use mc_proxy::Proxy;
-use mc_proxy_pump::{Pumped, pump_client, pump_link};
+use mc_proxy_pump::{ClientTally, Pumped, pump_client, pump_link};
 use mc_server::Server;
 use mc_watch::Tally;
 use std::alloc::{AllocError, Global};
@@ -151,7 +151,7 @@ fn pumped(
             source,
             sink,
             &mut piece,
-            &mut Tally::new(),
+            &mut ClientTally::new(false),
         );
         if last == Pumped::Done || last == Pumped::Failed {
             return Ok(last);

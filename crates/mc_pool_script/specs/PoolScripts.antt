@@ -1,13 +1,15 @@
 -- Pool scripts. Source: this project's own.
-use Rattle.std.specs.Prelude.{◌≡◌, Bool, true, false, ℕ, ◌^◌, ◌+◌, ◌*◌, ◌==◌, ◌&&◌, ◌<◌, ◌≤◌, All, List, [], ◌∷◌, ◌++◌, length, map, Option, Some, None, Result, Ok, Err, option_and_then, codes, decimal, if◌then◌else◌}
+use Rattle.std.specs.Prelude.{◌≡◌, Bool, true, false, ℕ, ◌^◌, ◌+◌, ◌*◌, ◌==◌, ◌&&◌, ◌<◌, ◌≤◌, All, List, [], ◌∷◌, ◌++◌, length, map, Option, Some, None, is_some, Result, Ok, Err, option_and_then, codes, decimal, if◌then◌else◌}
 use Rattle.std.specs.List.{flat_map, range_with_len}
-use Rattle.std.specs.Option.{option_map, option_map_or}
+use Rattle.std.specs.Option.{option_map, option_map_or, unwrap_or}
 use Rattle.std.specs.Str.{bytes_eq}
 use Rattle.mc_ring.specs.Points.{pair_at, pairs_of}
 use Rattle.mc_ring.specs.Refusals.{refusal_of, refusal_of_points}
 use Rattle.mc_ring.specs.Rings.{RingState, Shows}
 use Rattle.mc_ring.specs.declared.errors.RingError.{RingError}
 use Rattle.mc_ring.specs.declared.points.Point.{Point}
+use Rattle.mc_route.specs.declared.losses.Losses.{Losses}
+use Rattle.mc_route.specs.declared.losses.Losses.TheVariants.{Told, Missed}
 use Rattle.mc_script.specs.Escapes.{hex_value}
 use Rattle.mc_script.specs.Lines.{lines_from, cut_at_space}
 use Rattle.mc_script.specs.Numbers.{limit_of, place_of}
@@ -27,6 +29,8 @@ pub record PoolSeen : Type 0 where
   pub items : ℕ
   -- the points of the ring, where they are given
   pub points : List Point
+  -- the choice for lost commands, if a line says it
+  pub losses : Option Losses
   -- what comes, in order
   pub lines : List PoolLine
 
@@ -63,7 +67,7 @@ limits_of line = do
 
 -- a script of these limits that says no more
 abbrev pub opening_script : ℕ × ℕ × ℕ × ℕ → PoolSeen
-opening_script limits = record { servers = limits.0; clients = limits.1; budget = limits.2; items = limits.3; points = []; lines = [] }
+opening_script limits = record { servers = limits.0; clients = limits.1; budget = limits.2; items = limits.3; points = []; losses = None; lines = [] }
 
 -- the script of a first line
 abbrev pub head_of : List ℕ → Option PoolSeen
@@ -90,9 +94,23 @@ point_of servers text = do
   place ← place_of servers words.1
   Some (pair_at place point)
 
--- a script with one point more, or one line that is no point
+-- the choice for lost commands that a word names
+abbrev pub losses_named : List ℕ → Option Losses
+losses_named word =
+    if bytes_eq word (codes "told") then Some Told
+    else if bytes_eq word (codes "missed") then Some Missed
+    else None
+
+-- the choice of a script: `told` if no line says it
+abbrev pub losses_of : PoolSeen → Losses
+losses_of seen = unwrap_or seen.losses Told
+
+-- a script with one point more, with a choice for lost commands, or with one line more of what comes
 abbrev pub pointed : PoolSeen → Point → PoolSeen
 pointed seen point = record seen { points = seen.points ++ point ∷ [] }
+
+abbrev pub chosen : PoolSeen → Losses → PoolSeen
+chosen seen losses = record seen { losses = Some losses }
 
 abbrev pub followed : PoolSeen → PoolLine → PoolSeen
 followed seen line = record seen { lines = seen.lines ++ line ∷ [] }
@@ -101,15 +119,21 @@ followed seen line = record seen { lines = seen.lines ++ line ∷ [] }
 abbrev pub with_point : PoolSeen → Option Point → Option PoolSeen
 with_point seen point = option_map (λ p. pointed seen p) point
 
+-- a choice is named at most once
+abbrev pub with_losses : PoolSeen → Option Losses → Option PoolSeen
+with_losses seen losses = if is_some seen.losses then None else option_map (λ l. chosen seen l) losses
+
 abbrev pub with_line : PoolSeen → Option PoolLine → Option PoolSeen
 with_line seen line = option_map (λ l. followed seen l) line
 
--- a script goes on by a line: points come before all else
+-- a script goes on by a line: points, and a choice for lost commands, come before all else
 unfoldable pub read_more : PoolSeen → List ℕ → Option PoolSeen
 read_more seen line = do
   words ← cut_at_space line
   if bytes_eq words.0 (codes "point") && length seen.lines == 0
       then with_point seen (point_of seen.servers words.1)
+      else if bytes_eq words.0 (codes "losses") && length seen.lines == 0
+      then with_losses seen (losses_named words.1)
       else with_line seen (line_of seen.clients (servers_of seen) line)
 
 -- and by all that follow, or the number of the first of them that is bad

@@ -1,12 +1,14 @@
 //! Worked examples, computed from the definitions alone.
-#![tactic(auto, unfolding(mc_script::specs::Lines::cut_at_space, mc_script::specs::Escapes::hex_value, mc_script::specs::Escapes::letter_value, mc_script::specs::Escapes::text_from, crate::specs::Commands::client_command, crate::specs::Commands::way_command, crate::specs::Commands::link_command, crate::specs::PoolLines::bytes_line, crate::specs::PoolLines::takes_line, crate::specs::PoolLines::to_server_line, crate::specs::PoolLines::serve_line, crate::specs::PoolLines::end_line, crate::specs::PoolLines::join_line, crate::specs::PoolLines::line_of, crate::specs::PoolScripts::point_of))]
+#![tactic(auto, unfolding(mc_script::specs::Lines::cut_at_space, mc_script::specs::Escapes::hex_value, mc_script::specs::Escapes::letter_value, mc_script::specs::Escapes::text_from, crate::specs::Commands::client_command, crate::specs::Commands::way_command, crate::specs::Commands::link_command, crate::specs::PoolLines::bytes_line, crate::specs::PoolLines::takes_line, crate::specs::PoolLines::to_server_line, crate::specs::PoolLines::serve_line, crate::specs::PoolLines::end_line, crate::specs::PoolLines::join_line, crate::specs::PoolLines::line_of, crate::specs::PoolScripts::point_of, crate::specs::PoolScripts::read_more))]
 
-ghost use Rattle.std.specs.Prelude.{◌≡◌, ◌^◌, ◌-◌, [], ◌∷◌, None, Some, codes};
+ghost use Rattle.std.specs.Prelude.{◌≡◌, ◌^◌, ◌-◌, [], ◌∷◌, None, Some, option_and_then, codes};
+ghost use Rattle.std.specs.Option.{option_map};
 ghost use Rattle.mc_pool_script.specs.PoolLines.{line_of};
-ghost use Rattle.mc_pool_script.specs.PoolScripts.{point_of};
+ghost use Rattle.mc_pool_script.specs.PoolScripts.{followed, losses_named, losses_of, opening_script, point_of, read_more};
 ghost use Rattle.mc_pool_script.specs.declared.lines.PoolLine.TheVariants.{Drain, Event, Join};
 ghost use Rattle.mc_event.specs.declared.events.Event.TheVariants.{ClientBytes, ClientTakes, ServerSeesEnd, ServerTurn, ToServer};
 ghost use Rattle.mc_ring.specs.Points.{pair_at};
+ghost use Rattle.mc_route.specs.declared.losses.Losses.TheVariants.{Missed, Told};
 
 /// Lines of clients, where two are there: the text of `bytes` is the rest of the line, and a client that is not there makes
 /// a line bad.
@@ -48,4 +50,15 @@ pub fn points_of_servers()
     ensures point { point_of 2 (codes "b975C10c 1") ≡ Some (pair_at 1 3111502092) }
     ensures short { point_of 2 (codes "b975c10 1") ≡ None }
     ensures absent { point_of 2 (codes "b975c10c 2") ≡ None }
+{}
+
+/// A choice for lost commands is one of two words. A line names it at most once, before all that comes; if none does, it is `told`.
+pub fn losses_of_scripts()
+    ensures told { losses_named (codes "told") ≡ Some Told }
+    ensures missed { losses_named (codes "missed") ≡ Some Missed }
+    ensures unknown { losses_named (codes "Missed") ≡ None }
+    ensures unnamed { losses_of (opening_script (1, 1, 1, 1)) ≡ Told }
+    ensures named { option_map losses_of (read_more (opening_script (1, 1, 1, 1)) (codes "losses missed")) ≡ Some Missed }
+    ensures twice { option_and_then (λ seen. read_more seen (codes "losses missed")) (read_more (opening_script (1, 1, 1, 1)) (codes "losses missed")) ≡ None }
+    ensures late { read_more (followed (opening_script (1, 1, 1, 1)) (Drain 1)) (codes "losses missed") ≡ None }
 {}

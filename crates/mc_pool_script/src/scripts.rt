@@ -5,14 +5,16 @@ ghost use Rattle.mc_ring.specs.Refusals.{cause_of, refusal_in};
 ghost use Rattle.mc_ring.specs.Rings.{Shows};
 ghost use Rattle.mc_script.specs.ScriptSeen.{Explains};
 ghost use Rattle.mc_pool_script.specs.PoolLines.{HasMoment, line_of};
-ghost use Rattle.mc_pool_script.specs.PoolScripts.{Gives, IsOpeningRing, IsPoolScript, followed, head_of, limits_of, pairs_of_pool, point_of, pool_script_of, read_all, read_more, refusal_of_pool, servers_of, with_line, with_point};
+ghost use Rattle.mc_pool_script.specs.PoolScripts.{Gives, IsOpeningRing, IsPoolScript, followed, head_of, limits_of, losses_named, losses_of, pairs_of_pool, point_of, pool_script_of, read_all, read_more, refusal_of_pool, servers_of, with_line, with_losses, with_point};
 
 use crate::addresses::first_addresses;
 use crate::lines::PoolLine;
+use crate::losses::losses_named;
 use crate::points::read_point;
 use crate::reading::read_line;
 use mc_cache::{MAX_BUDGET, MAX_ITEMS};
 use mc_ring::{Address, Point, Ring, RingError, SERVER_LIMIT};
+use mc_route::Losses;
 use mc_script::{LineIter, SimError, cut_at_space, lines_of, read_limit};
 use std::alloc::{AllocError, Global};
 use std::marker::Model;
@@ -28,6 +30,8 @@ pub struct PoolScript {
     budget: u64,
     items: usize,
     points: Vec<Point>,
+    /// The choice for lost commands, if a line says it.
+    losses: Option<Losses>,
     lines: Vec<PoolLine>,
     /// The addresses of all servers, those that join included.
     addresses: Vec<Address>,
@@ -39,10 +43,10 @@ impl Model for PoolScript {
 
     ghost Value = { PoolSeen };
 
-    ghost view = { λ s. record { servers = s.servers; clients = s.clients; budget = s.budget; items = s.items; points = s.points.items; lines = s.lines.items } };
+    ghost view = { λ s. record { servers = s.servers; clients = s.clients; budget = s.budget; items = s.items; points = s.points.items; losses = s.losses; lines = s.lines.items } };
 
-    ghost invariant = { λ s. IsPoolScript (record { servers = s.servers; clients = s.clients; budget = s.budget; items = s.items; points = s.points.items; lines = s.lines.items })
-        × (s.addresses.items ≡ servers_of (record { servers = s.servers; clients = s.clients; budget = s.budget; items = s.items; points = s.points.items; lines = s.lines.items })) };
+    ghost invariant = { λ s. IsPoolScript (record { servers = s.servers; clients = s.clients; budget = s.budget; items = s.items; points = s.points.items; losses = s.losses; lines = s.lines.items })
+        × (s.addresses.items ≡ servers_of (record { servers = s.servers; clients = s.clients; budget = s.budget; items = s.items; points = s.points.items; losses = s.losses; lines = s.lines.items })) };
 }
 
 impl PoolScript {
@@ -76,6 +80,14 @@ impl PoolScript {
         ensures script { IsPoolScript self.now }
     {
         self.items
+    }
+
+    /// The choice for lost commands: [`Losses::Told`] if no line says it.
+    pub fn losses(&self) -> Losses
+        ensures losses { result ≡ losses_of self.now }
+        ensures script { IsPoolScript self.now }
+    {
+        self.losses.unwrap_or(Losses::Told)
     }
 
     /// What comes, in order.
@@ -118,6 +130,9 @@ impl PoolScript {
         if name == b"point".as_slice() && self.lines.is_empty() {
             return self.add_point(text);
         }
+        if name == b"losses".as_slice() && self.lines.is_empty() {
+            return Ok(self.add_losses(text));
+        }
         self.add_line(alloc, line)
     }
 
@@ -133,7 +148,21 @@ impl PoolScript {
         Ok(true)
     }
 
-    /// Goes on by a line that is no point.
+    /// Goes on by a choice for lost commands, if no line has named one before.
+    fn add_losses(&mut self, word: &[u8]) -> bool
+        ensures { Gives result (with_losses self.old (losses_named word.now)) self.new }
+    {
+        if self.losses.is_some() {
+            return false;
+        }
+        let Some(losses) = losses_named(word) else {
+            return false;
+        };
+        self.losses = Some(losses);
+        true
+    }
+
+    /// Goes on by a line that says what comes.
     fn add_line(&mut self, alloc: Global, line: &[u8]) -> Result<bool, SimError>
         ensures read { IfOk result (λ more. Gives more (with_line self.old (line_of self.old.clients (servers_of self.old) line.now)) self.new) }
         ensures only_memory { IsOkUnless result SimError.Memory }
@@ -239,6 +268,7 @@ fn read_head(alloc: Global, line: &[u8]) -> Result<Option<PoolScript>, SimError>
         budget,
         items,
         points: Vec::new(alloc),
+        losses: None,
         lines: Vec::new(alloc),
         addresses,
     }))

@@ -38,5 +38,5 @@ all_lost-none [] cs none = refl
 all_lost-none (first ∷ others) cs none = absurd (omega (arith, none))
 
 -- two proxies are the same where each part is
-pub same_proxy : (p q : ProxyState) → p.ring ≡ q.ring → p.sessions ≡ q.sessions → p.admitted ≡ q.admitted → p.links ≡ q.links → p ≡ q
-same_proxy p q ring sessions admitted links = λ i. record { ring = ring i; sessions = sessions i; admitted = admitted i; links = links i }
+pub same_proxy : (p q : ProxyState) → p.losses ≡ q.losses → p.ring ≡ q.ring → p.sessions ≡ q.sessions → p.admitted ≡ q.admitted → p.links ≡ q.links → p ≡ q
+same_proxy p q losses ring sessions admitted links = λ i. record { losses = losses i; ring = ring i; sessions = sessions i; admitted = admitted i; links = links i }

@@ -16,7 +16,7 @@ steps_at number old new Step h = ap (λ (sessions : Sessions). session_in sessio
 pub steps_still : (number : ℕ) (old new : ProxyState) (Step : List LinkState → List LinkState → SessionState → SessionState → Type 0) (h : Steps number old new Step)
     → h.after ≡ h.before → new.links ≡ old.links → new ≡ old
 steps_still number old new Step h same links =
-    same_proxy new old h.ring
+    same_proxy new old h.losses h.ring
     (h.is ∙ ap (λ (s : SessionState). updated number s old.sessions) same ∙ updated_same number h.before old.sessions h.was)
     h.admitted links
 

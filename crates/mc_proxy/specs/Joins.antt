@@ -19,6 +19,7 @@ pub record JoinsServer (address : List ℕ) (up : Bool) (place : ℕ) (old new :
   pub points : Shows (old.ring.points ++ pairs_at place (points_of address)) new.ring.points
   pub moves : MovesOnlyTo place old.ring.points new.ring.points
   pub sessions : new.sessions ≡ old.sessions
+  pub losses : new.losses ≡ old.losses
   pub admitted : new.admitted ≡ old.admitted
   pub links : new.links ≡ old.links ++ joined_link up ∷ []
 

@@ -26,6 +26,7 @@ pub record Answers (place : ℕ) (old new : ProxyState) : Type 0 where
   pub links : new.links ≡ with_link place link old.links
   pub sessions : new.sessions ≡ noted tag (Reply reply) old.sessions
   pub ring : new.ring ≡ old.ring
+  pub losses : new.losses ≡ old.losses
   pub admitted : new.admitted ≡ old.admitted
 
 -- what a turn of the link of a place does

@@ -1,21 +1,27 @@
 -- A proxy, as contracts see it.
-use Rattle.std.specs.Prelude.{ℕ, ◌+◌, ◌==◌, ◌&&◌, Bool, false, List, [], ◌∷◌, ◌++◌, length, drop, Option, Some, None}
+use Rattle.std.specs.Prelude.{ℕ, ◌+◌, ◌==◌, ◌&&◌, Bool, false, List, [], ◌∷◌, ◌++◌, length, replicate, drop, Option, Some, None}
 use Rattle.mc_numbered.specs.Entries.{entry_of, updated as with_entry, without as without_entry}
 use Rattle.mc_ring.specs.Rings.{RingState}
-use Rattle.mc_link.specs.LinkState.{LinkState}
+use Rattle.mc_route.specs.declared.losses.Losses.{Losses}
+use Rattle.mc_link.specs.LinkState.{LinkState, down_link}
 use Rattle.mc_session.specs.SessionState.{SessionState, fresh_session}
 
 -- the open sessions, by their numbers
 abbrev pub Sessions : Type 0
 Sessions = List (ℕ × SessionState)
 
--- a proxy: its ring, its open sessions, how many it has admitted, which is the number of the next one, and its links by the
--- places of their servers
+-- a proxy: its choice for lost commands, its ring, its open sessions, how many it has admitted, which is the number of the next one,
+-- and its links by the places of their servers
 pub record ProxyState : Type 0 where
+  pub losses : Losses
   pub ring : RingState
   pub sessions : Sessions
   pub admitted : ℕ
   pub links : List LinkState
+
+-- a proxy that has admitted nobody, whose links are down and have never been up
+abbrev pub opened : Losses → RingState → ProxyState
+opened losses ring = record { losses = losses; ring = ring; sessions = []; admitted = 0; links = replicate (length ring.servers) (down_link 0) }
 
 -- the session of a number, if it is open
 abbrev pub session_in : Sessions → ℕ → Option SessionState

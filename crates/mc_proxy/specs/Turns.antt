@@ -28,6 +28,7 @@ pub record Steps (number : ℕ) (old new : ProxyState) (Step : List LinkState �
   pub was : session_at old number ≡ Some before
   pub is : new.sessions ≡ updated number after old.sessions
   pub ring : new.ring ≡ old.ring
+  pub losses : new.losses ≡ old.losses
   pub admitted : new.admitted ≡ old.admitted
   pub step : Step old.links new.links before after
 

@@ -1,7 +1,8 @@
 //! A proxy: clients' requests over links to servers.
 //!
 //! A [`Proxy`] is made over a ring ([`Proxy::new`]), with a link to each of its servers, all of them down at first. A link
-//! that is up again ([`Proxy::back`]) takes commands, until it is lost ([`Proxy::lost`]).
+//! that is up again ([`Proxy::back`]) takes commands, until it is lost ([`Proxy::lost`]). What a request is answered if a command of it was
+//! lost is the site's choice ([`Losses`], [`Proxy::with_losses`]), one for all clients of a proxy.
 //!
 //! A session is admitted under a number that none had before ([`Proxy::admit`]), fed the bytes that its client sends in
 //! whatever pieces they come ([`Proxy::feed`]), and takes a request a turn ([`Proxy::turn`]): each of the request's
@@ -31,6 +32,7 @@ mod turns;
 pub use errors::ProxyError;
 pub use laws::steps_that_change_nothing_are_still;
 pub use limits::MAX_SESSIONS;
+pub use mc_route::Losses;
 pub use mc_session::{Emit, LINK_MARK, MAX_UNANSWERED, Turn, UNSENT_MARK};
 pub use proxies::Proxy;
 pub use turns::LinkTurn;

@@ -6,7 +6,7 @@ use crate::limits::MAX_SESSIONS;
 use mc_link::Link;
 use mc_numbered::Numbered;
 use mc_ring::Ring;
-use mc_route::Routed;
+use mc_route::{Losses, Routed};
 use mc_session::{Emit, Session, Turn};
 use std::alloc::Global;
 use std::collections::VecDeque;
@@ -17,6 +17,8 @@ use std::marker::Model;
 #[derive(Drop)]
 pub struct Proxy {
     pub(crate) alloc: Global,
+    /// The choice for lost commands.
+    pub(crate) losses: Losses,
     pub(crate) ring: Ring,
     /// The open sessions.
     pub(crate) sessions: Numbered<Session>,
@@ -33,23 +35,31 @@ impl Model for Proxy {
 
     ghost Value = { ProxyState };
 
-    ghost view = { λ p. record { ring = p.ring; sessions = p.sessions.entries; admitted = p.sessions.next; links = states p.links.items } };
+    ghost view = { λ p. record { losses = p.losses; ring = p.ring; sessions = p.sessions.entries; admitted = p.sessions.next; links = states p.links.items } };
 
     ghost invariant = { IsProxy };
 }
 
 impl Proxy {
-    ghost use Rattle.mc_link.specs.LinkState.{down_link};
     ghost use Rattle.mc_session.specs.Emits.{IsEmit, emitted};
     ghost use Rattle.mc_session.specs.SessionState.{fresh_session};
     ghost use Rattle.mc_session.specs.Looks.{IsReady, waits_for};
     ghost use Rattle.mc_session.specs.Turns.{IsFed, IsTurn};
-    ghost use Rattle.mc_proxy.specs.ProxyState.{is_finished, output_of, sent_by, session_at, unanswered_of, with_fresh, without};
+    ghost use Rattle.mc_route.specs.declared.losses.Losses.TheVariants.{Told};
+    ghost use Rattle.mc_proxy.specs.ProxyState.{is_finished, opened, output_of, sent_by, session_at, unanswered_of, with_fresh, without};
     ghost use Rattle.mc_proxy.specs.Turns.{Alone, CanTurn, HasAnswer, Steps, waiting_of};
 
-    /// A proxy with no session, whose links are down and have never been up.
+    /// A proxy with no session, whose links are down and have never been up. Its choice for lost commands is [`Losses::Told`].
     pub fn new(alloc: Global, ring: Ring) -> Result<Proxy, ProxyError>
-        ensures new { IfOk result (λ p. p ≡ record { ring = ring; sessions = []; admitted = 0; links = replicate (length ring.servers) (down_link 0) }) }
+        ensures new { IfOk result (λ p. p ≡ opened Told ring) }
+        ensures only_memory { IsOkUnless result ProxyError.Memory }
+    {
+        Proxy::with_losses(alloc, ring, Losses::Told)
+    }
+
+    /// Likewise, with this choice for the lost commands of all clients.
+    pub fn with_losses(alloc: Global, ring: Ring, losses: Losses) -> Result<Proxy, ProxyError>
+        ensures new { IfOk result (λ p. p ≡ opened losses ring) }
         ensures only_memory { IsOkUnless result ProxyError.Memory }
     {
         let mut links = Vec::with_capacity(alloc, ring.servers().len())?;
@@ -58,6 +68,7 @@ impl Proxy {
         }
         Ok(Proxy {
             alloc,
+            losses,
             ring,
             sessions: Numbered::new(alloc),
             links,
@@ -119,7 +130,7 @@ impl Proxy {
     /// a mark, no memory is taken.
     #[tactic(auto, using(mc_numbered::proofs::EntryLemmas::updated_same))]
     pub fn turn(&mut self, number: u64) -> Result<Turn, ProxyError>
-        ensures turn { IfOk result (λ turn. Steps number self.old self.new (IsTurn number turn self.old.ring)) }
+        ensures turn { IfOk result (λ turn. Steps number self.old self.new (IsTurn number turn self.old.ring self.old.losses)) }
         ensures memory { IsErrOf result ProxyError.Memory → IfSome (session_at self.old number) (IsReady self.old.ring self.old.links) }
         ensures no_session { IsErrOf result ProxyError.NoSession ↔ (session_at self.old number ≡ None) }
         ensures only { IfErr result (λ e. (e ≡ ProxyError.NoSession) ⊎ (e ≡ ProxyError.Memory)) }
@@ -128,7 +139,14 @@ impl Proxy {
         match self.sessions.get_mut(number) {
             Some(session) => {
                 let links = self.links.as_mut_slice();
-                Ok(session.turn(self.alloc, number, &self.ring, links, &mut self.queue)?)
+                Ok(session.turn(
+                    self.alloc,
+                    number,
+                    &self.ring,
+                    self.losses,
+                    links,
+                    &mut self.queue,
+                )?)
             }
             None => Err(ProxyError::NoSession),
         }

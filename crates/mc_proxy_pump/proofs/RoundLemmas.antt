@@ -6,6 +6,7 @@ use Rattle.std.specs.Io.KnownBytes.{Appends}
 use Rattle.mc_request.specs.declared.parts.Taken.{Taken}
 use Rattle.mc_request_reader.specs.Reader.{ReaderState, rest_of}
 use Rattle.mc_ring.specs.Rings.{RingState}
+use Rattle.mc_route.specs.declared.losses.Losses.{Losses}
 use Rattle.mc_link.specs.LinkState.{LinkState}
 use Rattle.mc_session.specs.Emits.{IsEmit, emitted, emitted_from, is_known, answer_of_one}
 use Rattle.mc_session.specs.SessionState.{SessionState, Unanswered}
@@ -25,25 +26,25 @@ use Rattle.mc_proxy.proofs.StepLemmas.{sent_at, steps_at, steps_still}
 use Rattle.mc_proxy_pump.proofs.StretchLemmas.{is_open, stretch_none, stretch_one, the_open}
 
 -- a turn is a call
-pub stretch_turned : (number : ℕ) (turn : Turn) (old new : ProxyState) → Steps number old new (IsTurn number turn old.ring) → Stretch number old new [] []
+pub stretch_turned : (number : ℕ) (turn : Turn) (old new : ProxyState) → Steps number old new (IsTurn number turn old.ring old.losses) → Stretch number old new [] []
 stretch_turned number turn old new steps =
-    stretch_one number (Turned turn) old new steps (is_open (session_at new number) steps.after (steps_at number old new (IsTurn number turn old.ring) steps))
+    stretch_one number (Turned turn) old new steps (is_open (session_at new number) steps.after (steps_at number old new (IsTurn number turn old.ring old.losses) steps))
 
 -- a request that is taken is one less to take, and one more to answer
-took_less : (number : ℕ) (ring : RingState) (links now : List LinkState) (before after : SessionState) (what : Taken) → Takes number ring links now before after what
-    → work_of (Some after) < work_of (Some before)
-took_less number ring links now before after what takes =
+took_less : (number : ℕ) (ring : RingState) (losses : Losses) (links now : List LinkState) (before after : SessionState) (what : Taken)
+    → Takes number ring losses links now before after what → work_of (Some after) < work_of (Some before)
+took_less number ring losses links now before after what takes =
     let fewer : length (rest_of before.reader []) ≡ suc (length (rest_of after.reader [])) = ap (λ (ts : List Taken). length ts) (takes.first.rest []) in
     let more : length after.unanswered ≡ length before.unanswered + 1 =
     ap (λ (us : List Unanswered). length us) takes.unanswered ∙ length_push before.unanswered _ in
     omega (arith, fewer, more)
 
-pub took_one : (number : ℕ) (old new : ProxyState) → Steps number old new (IsTurn number turns.Took old.ring) → work_of (session_at new number) < work_of (session_at old number)
+pub took_one : (number : ℕ) (old new : ProxyState) → Steps number old new (IsTurn number turns.Took old.ring old.losses) → work_of (session_at new number) < work_of (session_at old number)
 took_one number old new steps =
-    let less = took_less number old.ring old.links new.links steps.before steps.after steps.step.0 steps.step.1 in
+    let less = took_less number old.ring old.losses old.links new.links steps.before steps.after steps.step.0 steps.step.1 in
     let P : Option SessionState → Type 0 = λ o. work_of o < work_of (session_at old number) in
     let Q : Option SessionState → Type 0 = λ o. work_of (Some steps.after) < work_of o in
-    subst P (sym (steps_at number old new (IsTurn number turns.Took old.ring) steps)) (subst Q (sym steps.was) less)
+    subst P (sym (steps_at number old new (IsTurn number turns.Took old.ring old.losses) steps)) (subst Q (sym steps.was) less)
 
 -- a turn that takes nothing changes nothing, and says why
 turn_stops : (number : ℕ) (turn : Turn) (old new : ProxyState) (stop : (s : SessionState) → session_at old number ≡ Some s → StopsAt turn old (Some s))
@@ -54,35 +55,35 @@ turn_stops number turn old new stop same there =
     let Q : ProxyState → Type 0 = λ p. (StopsAt turn p (session_at p number)) × (work_of (session_at p number) ≤ work_of (session_at old number)) in
     subst Q (sym same) (subst P (sym own.1) (stop own.0 own.1), omega arith)
 
-pub idle_stops : (number : ℕ) (old new : ProxyState) → Steps number old new (IsTurn number turns.Idle old.ring)
+pub idle_stops : (number : ℕ) (old new : ProxyState) → Steps number old new (IsTurn number turns.Idle old.ring old.losses)
     → (StopsAt turns.Idle new (session_at new number)) × (work_of (session_at new number) ≤ work_of (session_at old number))
 idle_stops number old new steps =
     turn_stops number turns.Idle old new
     (λ s was. let both : Some steps.before ≡ Some s = sym steps.was ∙ was in let same : steps.before ≡ s = cc in
     subst (λ (x : SessionState). StopsAt turns.Idle old (Some x)) same (steps.step.0.none, steps.step.0.is_open))
-    (steps_still number old new (IsTurn number turns.Idle old.ring) steps steps.step.1.1 steps.step.1.0)
+    (steps_still number old new (IsTurn number turns.Idle old.ring old.losses) steps steps.step.1.1 steps.step.1.0)
     (is_open (session_at old number) steps.before steps.was)
 
-pub waiting_stops : (number : ℕ) (old new : ProxyState) → Steps number old new (IsTurn number turns.Waiting old.ring)
+pub waiting_stops : (number : ℕ) (old new : ProxyState) → Steps number old new (IsTurn number turns.Waiting old.ring old.losses)
     → (StopsAt turns.Waiting new (session_at new number)) × (work_of (session_at new number) ≤ work_of (session_at old number))
 waiting_stops number old new steps =
     turn_stops number turns.Waiting old new
     (λ s was. let both : Some steps.before ≡ Some s = sym steps.was ∙ was in let same : steps.before ≡ s = cc in
     subst (λ (x : SessionState). IsHeldUp old.ring old.links x) same steps.step.0)
-    (steps_still number old new (IsTurn number turns.Waiting old.ring) steps steps.step.1.1 steps.step.1.0)
+    (steps_still number old new (IsTurn number turns.Waiting old.ring old.losses) steps steps.step.1.1 steps.step.1.0)
     (is_open (session_at old number) steps.before steps.was)
 
 closed_has_none : (r : ReaderState) → r.closed ≡ true → rest_of r [] ≡ []
 closed_has_none r closed = rw closed refl
 
-pub closing_stops : (number : ℕ) (old new : ProxyState) → Steps number old new (IsTurn number turns.Closing old.ring)
+pub closing_stops : (number : ℕ) (old new : ProxyState) → Steps number old new (IsTurn number turns.Closing old.ring old.losses)
     → (StopsAt turns.Closing new (session_at new number)) × (work_of (session_at new number) ≤ work_of (session_at old number))
 closing_stops number old new steps =
     turn_stops number turns.Closing old new
     (λ s was. let both : Some steps.before ≡ Some s = sym steps.was ∙ was in let same : steps.before ≡ s = cc in
     let closed : s.reader.closed ≡ true = ap (λ (x : SessionState). x.reader.closed) (sym same) ∙ steps.step.0 in
     (closed_has_none s.reader closed, closed))
-    (steps_still number old new (IsTurn number turns.Closing old.ring) steps steps.step.1.1 steps.step.1.0)
+    (steps_still number old new (IsTurn number turns.Closing old.ring old.losses) steps steps.step.1.1 steps.step.1.0)
     (is_open (session_at old number) steps.before steps.was)
 
 -- putting an answer out is a call

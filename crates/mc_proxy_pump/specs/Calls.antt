@@ -24,7 +24,7 @@ pub data Call : Type 0 where
 abbrev pub IsCall : ℕ → Call → ProxyState → ProxyState → Type 0
 IsCall number (Fed came) old new =
     Steps number old new (Alone (IsFed came)) × (waiting_of (session_at old number) ≡ []) × (length (output_of (session_at old number)) < UNSENT_MARK)
-IsCall number (Turned turn) old new = Steps number old new (IsTurn number turn old.ring)
+IsCall number (Turned turn) old new = Steps number old new (IsTurn number turn old.ring old.losses)
 IsCall number (Emitted emit) old new = Steps number old new (Alone (IsEmit emit)) × (length (output_of (session_at old number)) < UNSENT_MARK)
 IsCall number (Sent count went) old new =
     (count ≤ length (output_of (session_at old number))) × (went ≡ take count (output_of (session_at old number))) × (new ≡ sent_by number count (session_at old number) old)

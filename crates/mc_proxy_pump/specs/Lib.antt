@@ -1,3 +1,4 @@
+pub mod Tallies
 pub mod Calls
 pub mod Clients
 pub mod Rounds

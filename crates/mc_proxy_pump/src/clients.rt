@@ -7,9 +7,9 @@ ghost use Rattle.mc_proxy_pump.specs.Calls.{Stretch};
 ghost use Rattle.mc_proxy_pump.specs.Clients.{PumpsClient, emitted_at, is_closed_at, is_owed_at};
 ghost use Rattle.mc_proxy_pump.specs.Rounds.{HasAnswered, HowMany, Receives, Sends, StopsAt, TakesTurns, ends_by, reads_by};
 
+use crate::tallies::ClientTally;
 use mc_proxy::{Emit, Proxy, ProxyError, Turn, UNSENT_MARK};
 use mc_stream::{MAX_ROUNDS, Pumped, read_once, write_once};
-use mc_watch::Tally;
 use std::io::{Read, Write};
 
 /// Carries a session's bytes between a proxy and the two sides of a stream that do not wait, takes its requests, and puts out
@@ -19,7 +19,7 @@ use std::io::{Read, Write};
 /// in one call, and reads once into `piece`, whose bytes before and after mean nothing. While a request has to wait for a mark,
 /// or [`UNSENT_MARK`] bytes or more are unsent, nothing is read. `ended` says whether the input has ended: the pump sets it when
 /// a read gives no byte, and then reads no more; a caller hands in `false` at first. The tally counts the requests that are taken,
-/// and the bytes.
+/// those for a server that is down among them, and the bytes.
 ///
 /// Where it says [`Pumped::Blocked`], the stream may move, a server may answer one of the session's commands, or a link whose
 /// mark a request waits for may be sent more of its bytes: then the pump is called again. Where the session is not open it says
@@ -31,18 +31,19 @@ pub fn pump_client<R: Read, W: Write>(
     reader: &mut R,
     writer: &mut W,
     piece: &mut [u8],
-    tally: &mut Tally,
+    tally: &mut ClientTally,
 ) -> Pumped
     requires piece { 0 < length piece.old }
     ensures pumps { IsSome (session_at proxy.old session) → PumpsClient session result proxy.old proxy.new
         (R.remaining reader.old) (R.remaining reader.new) (W.contents writer.old) (W.contents writer.new) ended.old ended.new }
     ensures not_open { session_at proxy.old session ≡ None → (result ≡ Pumped.Failed) × (proxy.new ≡ proxy.old) }
 {
+    let lacked = tally.counts() && lacks_server(proxy, session);
     // A session that is not open takes no turn.
     let Ok(turn) = proxy.turn(session) else {
         return Pumped::Failed;
     };
-    count_turn(turn, tally);
+    count_turn(turn, lacked, tally);
     for _ in 0..MAX_ROUNDS {
         if let Err(pump) = round(proxy, session, ended, reader, writer, piece, tally) {
             return pump;
@@ -60,7 +61,7 @@ pub fn pump_answers<W: Write>(
     proxy: &mut Proxy,
     session: u64,
     writer: &mut W,
-    tally: &mut Tally,
+    tally: &mut ClientTally,
 ) -> Result<bool, Pumped>
     ensures pumps { (unread : Option (List ℕ)) (ended : Bool) → IsSome (session_at proxy.old session)
         → PumpsClient session (pump_of result) proxy.old proxy.new unread unread (W.contents writer.old) (W.contents writer.new) ended ended }
@@ -82,10 +83,16 @@ pub fn is_owed(proxy: &Proxy, session: u64) -> bool
     proxy.unanswered(session) > 0 || !proxy.output(session).is_empty()
 }
 
-/// Counts a request that a turn took, if it did.
-fn count_turn(turn: Turn, tally: &mut Tally) {
+/// Whether the first request of a session that was not taken has a command for a server that is down.
+fn lacks_server(proxy: &Proxy, session: u64) -> bool {
+    let servers = proxy.ring().servers().len();
+    (0..servers).any(|place| !proxy.is_up(place) && proxy.waits_for(session, place))
+}
+
+/// Counts a request that a turn took, if it did, for a server that was down or not.
+fn count_turn(turn: Turn, lacked: bool, tally: &mut ClientTally) {
     if turn == Turn::Took {
-        tally.took();
+        tally.took(lacked);
     }
 }
 
@@ -97,7 +104,7 @@ fn round<R: Read, W: Write>(
     reader: &mut R,
     writer: &mut W,
     piece: &mut [u8],
-    tally: &mut Tally,
+    tally: &mut ClientTally,
 ) -> Result<(), Pumped>
     requires is_open { IsSome (session_at proxy.old session) }
     requires piece { 0 < length piece.old }
@@ -143,7 +150,7 @@ fn is_read(turn: Turn, ended: bool, is_marked: bool) -> bool
 }
 
 /// Takes requests and puts answers out, as far as it goes, and says why no more is taken.
-fn advance(proxy: &mut Proxy, session: u64, tally: &mut Tally) -> Result<Turn, ProxyError>
+fn advance(proxy: &mut Proxy, session: u64, tally: &mut ClientTally) -> Result<Turn, ProxyError>
     requires is_open { IsSome (session_at proxy.old session) }
     ensures calls { Stretch session proxy.old proxy.new [] [] }
     ensures stop { IfOk result (λ turn. StopsAt turn proxy.new (session_at proxy.new session)) }
@@ -158,14 +165,15 @@ fn advance(proxy: &mut Proxy, session: u64, tally: &mut Tally) -> Result<Turn, P
 }
 
 /// Takes requests until none waits, or none can be taken, and says why.
-fn take_turns(proxy: &mut Proxy, session: u64, tally: &mut Tally) -> Result<Turn, ProxyError>
+fn take_turns(proxy: &mut Proxy, session: u64, tally: &mut ClientTally) -> Result<Turn, ProxyError>
     requires is_open { IsSome (session_at proxy.old session) }
     ensures turns { TakesTurns session proxy.old proxy.new }
     ensures stop { IfOk result (λ turn. StopsAt turn proxy.new (session_at proxy.new session)) }
 {
     loop {
+        let lacked = tally.counts() && lacks_server(proxy, session);
         match proxy.turn(session)? {
-            Turn::Took => tally.took(),
+            Turn::Took => tally.took(lacked),
             Turn::Idle => return Ok(Turn::Idle),
             Turn::Waiting => return Ok(Turn::Waiting),
             Turn::Closing => return Ok(Turn::Closing),
@@ -195,7 +203,7 @@ fn send<W: Write>(
     proxy: &mut Proxy,
     session: u64,
     writer: &mut W,
-    tally: &mut Tally,
+    tally: &mut ClientTally,
 ) -> Result<bool, Pumped>
     requires { IsSome (session_at proxy.old session) }
     ensures { Sends session result proxy.old proxy.new (W.contents writer.old) (W.contents writer.new) }
@@ -205,7 +213,7 @@ fn send<W: Write>(
         return Ok(false);
     }
     proxy.taken_out(session, count);
-    tally.went(count);
+    tally.passed.went(count);
     Ok(true)
 }
 
@@ -217,7 +225,7 @@ fn read_or_block<R: Read>(
     reader: &mut R,
     piece: &mut [u8],
     can_send: bool,
-    tally: &mut Tally,
+    tally: &mut ClientTally,
 ) -> Result<(), Pumped>
     requires is_open { IsSome (session_at proxy.old session) }
     requires none_waits { waiting_of (session_at proxy.old session) ≡ [] }
@@ -243,7 +251,7 @@ fn receive<R: Read>(
     ended: &mut bool,
     reader: &mut R,
     piece: &mut [u8],
-    tally: &mut Tally,
+    tally: &mut ClientTally,
 ) -> Result<bool, Pumped>
     requires is_open { IsSome (session_at proxy.old session) }
     requires none_waits { waiting_of (session_at proxy.old session) ≡ [] }
@@ -257,7 +265,7 @@ fn receive<R: Read>(
         return Ok(*ended);
     }
     let (came, _) = piece.split_at(count);
-    tally.came(count);
+    tally.passed.came(count);
     match proxy.feed(session, came) {
         Ok(()) => Ok(true),
         Err(_) => Err(Pumped::Failed),

@@ -8,3 +8,4 @@ pub mod Rooms
 pub mod Servers
 pub mod Turns
 pub mod Waits
+pub mod Losses

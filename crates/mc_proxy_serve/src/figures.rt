@@ -2,11 +2,22 @@
 
 use crate::pools::Pool;
 use crate::settings::ProxySettings;
-use mc_admin::{ClientFigures, Setting, Sheet, Value, push_client_figures, push_link_figures};
+use mc_admin::{
+    ClientFigures, Setting, Sheet, Value, push_client_figures, push_link_figures, push_missed,
+};
 use mc_clients::Listed;
 use mc_operators::Operators;
-use mc_proxy::{MAX_SESSIONS, Proxy};
+use mc_proxy::{Losses, MAX_SESSIONS, Proxy};
 use std::alloc::{AllocError, Global};
+
+/// What a proxy has done for its clients.
+#[derive(Clone, Copy, Debug)]
+pub struct Done {
+    /// Who they are, and what passed of them.
+    pub clients: ClientFigures,
+    /// Their requests for a server that was down; none if these are not counted.
+    pub missed: Option<u64>,
+}
 
 /// Serves operators, by the clients that one of them is told of next, what a proxy has done for its clients, what became of its servers,
 /// and its settings. Those for whom there is no memory are turned away.
@@ -14,12 +25,12 @@ pub fn show(
     alloc: Global,
     operators: &mut Operators,
     listed: &Option<Listed>,
-    clients: &ClientFigures,
+    done: &Done,
     pool: &Pool,
     proxy: &Proxy,
     settings: &ProxySettings,
 ) {
-    let shown = try_show(alloc, operators, listed, clients, pool, proxy, settings);
+    let shown = try_show(alloc, operators, listed, done, pool, proxy, settings);
     if shown.is_err() {
         operators.turn_away();
     }
@@ -30,14 +41,15 @@ fn try_show(
     alloc: Global,
     operators: &mut Operators,
     listed: &Option<Listed>,
-    clients: &ClientFigures,
+    done: &Done,
     pool: &Pool,
     proxy: &Proxy,
     settings: &ProxySettings,
 ) -> Result<(), AllocError> {
     let links = pool.figures(proxy)?;
     let mut figures = Vec::new(alloc);
-    push_client_figures(clients, &mut figures)?;
+    push_client_figures(&done.clients, &mut figures)?;
+    push_missed(done.missed, &mut figures)?;
     push_link_figures(links.as_slice(), &mut figures)?;
     let settings = settings_of(settings, pool.len());
     operators.serve(&Sheet {
@@ -49,7 +61,7 @@ fn try_show(
 }
 
 /// The settings of a proxy of so many servers, by memcached's names where it has them.
-fn settings_of(settings: &ProxySettings, servers: usize) -> [Setting<'static>; 7] {
+fn settings_of(settings: &ProxySettings, servers: usize) -> [Setting<'static>; 8] {
     [
         setting(b"maxconns", MAX_SESSIONS as u64),
         setting(b"num_threads", 1),
@@ -57,8 +69,20 @@ fn settings_of(settings: &ProxySettings, servers: usize) -> [Setting<'static>; 7
         setting(b"servers", servers as u64),
         setting(b"held", settings.held),
         setting(b"timeout", settings.timeout),
+        Setting {
+            name: b"lost",
+            value: Value::Word(word_of(settings.losses)),
+        },
         setting(b"report", settings.terms.report),
     ]
+}
+
+/// The word of `--lost` for a choice.
+fn word_of(losses: Losses) -> &'static [u8] {
+    match losses {
+        Losses::Told => b"told",
+        Losses::Missed => b"missed",
+    }
 }
 
 /// A number under its name.

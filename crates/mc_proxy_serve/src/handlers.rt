@@ -3,8 +3,8 @@ ghost use Rattle.std.specs.Prelude.{◌≡◌, ◌<◌, vec_len};
 
 use mc_clients::{Client, Guard, Handler};
 use mc_program::ServeError;
-use mc_proxy::{MAX_SESSIONS, Proxy};
-use mc_proxy_pump::{Pumped, is_owed, pump_answers, pump_client};
+use mc_proxy::{Losses, MAX_SESSIONS, Proxy};
+use mc_proxy_pump::{ClientTally, Pumped, is_owed, pump_answers, pump_client};
 use mc_ring::Ring;
 use mc_socket::{Input, PIECE_LEN, Step, step_after};
 use mc_watch::Tally;
@@ -23,22 +23,23 @@ pub struct ProxyHandler {
     keys: HashMap<u64, usize>,
     /// What reads fill: made once.
     pub piece: Vec<u8>,
-    /// What passed of all clients.
-    pub tally: Tally,
+    /// What passed of all clients. Requests for a server that is down are counted if their losses are missed.
+    pub tally: ClientTally,
     /// As many bytes kept for one client stop its turns and reads.
     most: u64,
     ghost reads: { 0 < vec_len piece },
 }
 
 impl ProxyHandler {
-    /// The handler of the clients of a new proxy over a ring. Where more bytes than so many are kept for a client, it is sent its
-    /// answers alone.
-    pub fn new(alloc: Global, ring: Ring, most: u64) -> Result<Self, ServeError> {
+    /// The handler of the clients of a new proxy over a ring, with this choice for lost commands. Where more bytes than so many are
+    /// kept for a client, it is sent its answers alone.
+    pub fn new(alloc: Global, ring: Ring, losses: Losses, most: u64) -> Result<Self, ServeError> {
+        let proxy = Proxy::with_losses(alloc, ring, losses);
         Ok(ProxyHandler {
-            proxy: Proxy::new(alloc, ring).map_err(|_| ServeError::Memory)?,
+            proxy: proxy.map_err(|_| ServeError::Memory)?,
             keys: HashMap::with_capacity(alloc, MAX_SESSIONS)?,
             piece: Vec::from_elem(alloc, 0, PIECE_LEN)?,
-            tally: Tally::new(),
+            tally: ClientTally::new(losses == Losses::Missed),
             most,
         })
     }
@@ -123,10 +124,10 @@ impl Handler<Held> for ProxyHandler {
         if client.kept > self.most {
             return self.drain(client);
         }
-        let before = self.tally.read;
+        let before = self.tally.passed.read;
         let pumped = self.pump(client);
         if is_owed(&self.proxy, client.number) {
-            let came = self.tally.read.saturating_sub(before);
+            let came = self.tally.passed.read.saturating_sub(before);
             client.kept = client.kept.saturating_add(came);
         } else {
             client.kept = 0;
@@ -143,6 +144,6 @@ impl Handler<Held> for ProxyHandler {
     }
 
     fn tally(&self) -> Tally {
-        self.tally
+        self.tally.passed
     }
 }

@@ -1,7 +1,7 @@
 //! A proxy, its clients, and its upstream servers.
 ghost use Rattle.std.specs.Prelude.{◌<◌, ◌^◌};
 
-use crate::figures::show;
+use crate::figures::{Done, show};
 use crate::handlers::{Held, ProxyHandler};
 use crate::joining::Joining;
 use crate::limits::MAX_PASSES;
@@ -89,7 +89,7 @@ impl<'a> Host<'a> {
             alloc,
             settings,
             operators,
-            handler: ProxyHandler::new(alloc, ring, settings.held)?,
+            handler: ProxyHandler::new(alloc, ring, settings.losses, settings.held)?,
             clients: Clients::new(alloc, MAX_SESSIONS, settings.terms.idle)?,
             pool,
             joining: Joining::new(&settings.join),
@@ -253,7 +253,7 @@ impl<'a> Host<'a> {
     /// What was done for its clients, where so many were accepted.
     fn done(&self, accepted: u64) -> Report {
         self.clients
-            .report(self.second, accepted, self.handler.tally)
+            .report(self.second, accepted, self.handler.tally.passed)
     }
 
     /// The clients that an operator is to be told of next, if one has asked.
@@ -280,15 +280,20 @@ impl<'a> Host<'a> {
             self.operators.turn_away();
             return;
         };
-        let done = self.done(accepted);
+        let report = self.done(accepted);
         let (pid, time, resident) = (process_number(), wall_clock(rt), resident_memory(rt));
-        let clients = done.figures(pid, time, resident, MAX_SESSIONS);
-        let (pool, proxy) = (&self.pool, &self.handler.proxy);
+        let clients = report.figures(pid, time, resident, MAX_SESSIONS);
+        let handler = &self.handler;
+        let done = Done {
+            clients,
+            missed: handler.tally.missed,
+        };
+        let (pool, proxy) = (&self.pool, &handler.proxy);
         show(
             self.alloc,
             &mut self.operators,
             &listed,
-            &clients,
+            &done,
             pool,
             proxy,
             self.settings,
@@ -299,7 +304,10 @@ impl<'a> Host<'a> {
     fn report<R: Eprint>(&self, rt: &R, accepted: u64) {
         let report = self.done(accepted);
         // Where it cannot be said, all are served all the same.
-        let _ = eprintln!(rt; "{PROGRAM}: {report}");
+        let _ = match self.handler.tally.missed {
+            None => eprintln!(rt; "{PROGRAM}: {report}"),
+            Some(missed) => eprintln!(rt; "{PROGRAM}: {report} missed={missed}"),
+        };
         self.pool.report(rt, &self.handler.proxy);
     }
 }

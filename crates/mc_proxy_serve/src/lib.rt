@@ -9,6 +9,8 @@
 //! [`mc_proxy_pump::pump_client`] and [`mc_proxy_pump::pump_link`], which have the law of a client's stream and of a
 //! server's. [`command`] and [`Options`] are the command line of [`PROGRAM`], and a [`Server`] is what a word of it names.
 //!
+//! What a request is answered if a command of it is lost is a choice of [`ProxySettings`] too, the same for all clients.
+//!
 //! On standard error it says what becomes of its servers: a line `mc_proxyd: <server> <what>` where that is another than was said
 //! of the server last, and in each second at most one of each. Of a server that is there at first nothing is said.
 //!
@@ -27,6 +29,7 @@ mod listings;
 mod lists;
 mod looks;
 mod lookups;
+mod losses;
 mod notices;
 mod options;
 mod pools;

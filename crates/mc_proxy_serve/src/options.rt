@@ -4,6 +4,7 @@ ghost use Rattle.mc_proxy_serve.specs.Lists.{list_error_by};
 ghost use Rattle.mc_proxy_serve.specs.declared.options.ListError.TheVariants.{Memory};
 
 use crate::lists::{Mistake, servers_in, text_of};
+use crate::losses::{losses_named, lost};
 use crate::servers::Server;
 use crate::settings::ProxySettings;
 use clap::builder::ValueParser;
@@ -105,6 +106,7 @@ impl<'a> Options<'a> {
             ring,
             settings: ProxySettings {
                 terms: Terms::of(matches),
+                losses: losses_named(matches.get_str("lost").unwrap_or("")),
                 held: size_within(held, 1, MOST_HELD).ok_or(ListError::Held)?,
                 timeout: matches.get_one::<u64>("timeout").ok_or(ListError::Bad)?,
                 addresses,
@@ -170,6 +172,7 @@ pub fn command<'a>(alloc: Global) -> Result<Command<'a>, AllocError> {
         .arg(listen(alloc, "127.0.0.1:11212"))?
         .arg(held(alloc))?
         .arg(timeout(alloc))?
+        .arg(lost(alloc))?
         .arg(idle(alloc))?
         .arg(report(alloc))?
         .arg(admin(alloc))?

@@ -2,6 +2,7 @@
 
 use crate::servers::Server;
 use mc_program::Terms;
+use mc_proxy::Losses;
 use mc_ring::Address;
 use mc_socket::spelled_address;
 
@@ -10,6 +11,8 @@ use mc_socket::spelled_address;
 pub struct ProxySettings {
     /// On which terms all clients are served.
     pub terms: Terms,
+    /// What a request is answered if a command of it is lost.
+    pub losses: Losses,
     /// As many bytes kept for one client stop its turns and reads, until it is owed nothing.
     pub held: u64,
     /// After how many milliseconds a server that owes a reply and sends nothing loses its link; 0 for never.

@@ -11,7 +11,7 @@ ghost use Rattle.mc_program.specs.Statuses.{status_of};
 use mc_program::{
     EprintSeldom, Failure, LogOption, Logged, ServeError, exit_status, is_read, read_words,
 };
-use mc_proxy::MAX_SESSIONS;
+use mc_proxy::{Losses, MAX_SESSIONS};
 use mc_proxy_serve::{
     ListError, Mistake, Operators, Options, PROGRAM, ProxySettings, command, other_files, serve,
 };
@@ -59,7 +59,7 @@ where
     } = Options::of(rt, alloc, &matches).map_err(|error| refusal_of(&logged, list, error))?;
     admin.check().map_err(Failure::Refused)?;
     if check {
-        return print_size(rt, &ring);
+        return print_size(rt, &ring, settings.losses);
     }
     let is_read = is_read(rt, log.is_any());
     let operators = Operators::new(rt, alloc, &admin).map_err(|error| Failure::at(
@@ -128,10 +128,14 @@ fn failure_of(error: ListError) -> Failure
     }
 }
 
-/// Prints how many servers and points a ring has.
-fn print_size<R: Print>(rt: &R, ring: &Ring) -> Result<(), Failure> {
+/// Prints how many servers and points a ring has, and the choice for lost commands if it is not the default.
+fn print_size<R: Print>(rt: &R, ring: &Ring, losses: Losses) -> Result<(), Failure> {
     let servers = ring.servers().len();
     let points = ring.points().len();
-    let written = println!(rt; "servers {servers} points {points}");
+    let lost = match losses {
+        Losses::Told => "",
+        Losses::Missed => " lost missed",
+    };
+    let written = println!(rt; "servers {servers} points {points}{lost}");
     written.map_err(|_| Failure::Output)
 }

@@ -9,6 +9,7 @@ use Rattle.mc_reply.specs.Spelling.{key_part, end_line, blocks_of, answer_of}
 use Rattle.mc_route.specs.declared.outcomes.Outcome.{Outcome}
 use Rattle.mc_route.specs.declared.outcomes.Outcome.TheVariants as outcomes
 use Rattle.mc_route.specs.Joins.{has_lost, replies_in, joined_answer, lost_line}
+use Rattle.mc_route.specs.Losses.{reply_or_miss}
 
 -- where there is one command, its reply's part is the whole answer
 pub one_part : (request : Request) (reply : Reply (List ℕ)) (replies : List (Reply (List ℕ))) → length (atoms_of request) ≡ 1
@@ -29,13 +30,20 @@ blocks_of-none (key ∷ keys) = refl
 
 -- past the last key or the last reply, nothing is left
 pub blocks_past : (keys : List (List ℕ)) (outcomes : List Outcome) (n : ℕ) → min (length keys) (length outcomes) ≤ n
-    → blocks_of (drop n keys) (replies_in (drop n outcomes)) ≡ []
+    → blocks_of (drop n keys) (map reply_or_miss (drop n outcomes)) ≡ []
 blocks_past [] outcomes zero past = refl
 blocks_past [] outcomes (suc n) past = refl
 blocks_past (key ∷ keys) [] zero past = refl
 blocks_past (key ∷ keys) [] (suc n) past = blocks_of-none (drop n keys)
 blocks_past (key ∷ keys) (outcome ∷ outcomes) zero past = absurd (omega arith)
 blocks_past (key ∷ keys) (outcome ∷ outcomes) (suc n) past = blocks_past keys outcomes n (omega arith)
+
+-- if each reply came, none of them is a miss for a loss
+pub replies_told : (outcomes : List Outcome) → has_lost outcomes ≡ false → map reply_or_miss outcomes ≡ replies_in outcomes
+replies_told [] came = refl
+replies_told (outcomes.Reply reply ∷ others) came = ap (λ (rs : List (Reply (List ℕ))). reply ∷ rs) (replies_told others came)
+replies_told (outcomes.Lost ∷ others) came = absurd cc
+replies_told (outcomes.Awaited ∷ others) came = absurd cc
 
 -- ---- the laws
 

@@ -1,5 +1,5 @@
 -- A data block plays no part in an answer.
-use Rattle.std.proofs.Common.{◌≡◌, Bool, true, false, List, ℕ, [], ◌∷◌, if◌then◌else◌, refl, ap}
+use Rattle.std.proofs.Common.{◌≡◌, Bool, true, false, List, map, ℕ, [], ◌∷◌, if◌then◌else◌, refl, ap}
 use Rattle.mc_request.specs.declared.meta.MetaCommand.{MetaCommand}
 use Rattle.mc_request.specs.declared.meta.MetaCommand.TheVariants as metas
 use Rattle.mc_request.specs.declared.parts.Request.{Request}
@@ -14,6 +14,9 @@ use Rattle.mc_reply.specs.Spelling.{shown_line, answer_of}
 use Rattle.mc_reply.specs.MetaRooms.{part_room}
 use Rattle.mc_route.specs.declared.outcomes.Outcome.{Outcome}
 use Rattle.mc_route.specs.Joins.{lost_line, has_lost, replies_in, joined_answer}
+use Rattle.mc_route.specs.declared.losses.Losses.{Losses}
+use Rattle.mc_route.specs.declared.losses.Losses.TheVariants.{Told, Missed}
+use Rattle.mc_route.specs.Losses.{hides_any, is_missed, is_retrieval, is_silent, joined_with, reply_or_miss}
 use Rattle.mc_route.specs.Kept.{emptied, emptied_meta, without_block}
 use Rattle.mc_route.specs.Rooms.{join_room}
 
@@ -59,6 +62,37 @@ answer_of-kept Quit replies = refl
 pub joined-kept : (request : Request) (outcomes : List Outcome) → joined_answer (without_block request) outcomes ≡ joined_answer request outcomes
 joined-kept request outcomes =
     ap (λ (bytes : List ℕ). if has_lost outcomes then lost_line else bytes) (answer_of-kept request (replies_in outcomes))
+
+-- ---- by the site's choice
+
+retrieval-kept : (request : Request) → is_retrieval (without_block request) ≡ is_retrieval request
+retrieval-kept (Get keys exptime with_cas) = refl
+retrieval-kept (Update update noreply) = refl
+retrieval-kept (Meta (metas.Get key get) form) = refl
+retrieval-kept (Meta (metas.Update update show) form) = refl
+retrieval-kept MetaNoop = refl
+retrieval-kept Version = refl
+retrieval-kept Quit = refl
+
+hides-kept : (request : Request) → hides_of (without_block request) ≡ hides_of request
+hides-kept (Get keys exptime with_cas) = refl
+hides-kept (Update update noreply) = hides-update update noreply
+hides-kept (Meta command form) = hides-meta command form.quiet
+hides-kept MetaNoop = refl
+hides-kept Version = refl
+hides-kept Quit = refl
+
+missed-kept : (losses : Losses) (request : Request) → is_missed losses (without_block request) ≡ is_missed losses request
+missed-kept Told request = refl
+missed-kept Missed request = retrieval-kept request
+
+silent-kept : (losses : Losses) (request : Request) → is_silent losses (without_block request) ≡ is_silent losses request
+silent-kept Told request = refl
+silent-kept Missed request = ap (λ (hides : Hides). hides_any hides) (hides-kept request)
+
+pub with-kept : (losses : Losses) (request : Request) (outcomes : List Outcome) → joined_with losses (without_block request) outcomes ≡ joined_with losses request outcomes
+with-kept losses request outcomes =
+    rw (missed-kept losses request, silent-kept losses request, answer_of-kept request (map reply_or_miss outcomes), answer_of-kept request (replies_in outcomes)) refl
 
 part_room-kept : (request : Request) → part_room (without_block request) ≡ part_room request
 part_room-kept (Get keys exptime with_cas) = refl

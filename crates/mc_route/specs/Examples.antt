@@ -14,6 +14,8 @@ use Rattle.mc_route.specs.declared.outcomes.Outcome.{Outcome}
 use Rattle.mc_route.specs.declared.routes.Routed.{Routed}
 use Rattle.mc_route.specs.Routes.{route_of_taken}
 use Rattle.mc_route.specs.Joins.{joined_answer}
+use Rattle.mc_route.specs.Losses.{joined_with}
+use Rattle.mc_route.specs.declared.losses.Losses.TheVariants.{Missed}
 
 -- where the commands of a line go, with a data block of `x` where one follows
 abbrev pub route_to : RingState → List ℕ → List Routed
@@ -27,6 +29,15 @@ joined_in (Faulty fault) outcomes = []
 -- the same of a line
 abbrev pub joined_to : List ℕ → List Outcome → List ℕ
 joined_to line outcomes = joined_in (taken_with (meaning (words line))) outcomes
+
+-- the answer to what was taken if losses count as misses; none to a fault
+abbrev pub missed_in : Taken → List Outcome → List ℕ
+missed_in (Whole request) outcomes = joined_with Missed request outcomes
+missed_in (Faulty fault) outcomes = []
+
+-- likewise for a line
+abbrev pub missed_to : List ℕ → List Outcome → List ℕ
+missed_to line outcomes = missed_in (taken_with (meaning (words line))) outcomes
 
 -- the first server owns what is where `abc` is, the second what is where `a` is
 abbrev pub two_servers : RingState

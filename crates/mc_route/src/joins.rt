@@ -1,17 +1,19 @@
 //! From what became of a request's commands to its answer.
-ghost use Rattle.std.specs.Prelude.{◌≡◌, ◌+◌, ◌-◌, ◌^◌, ◌<◌, ◌≤◌, ◌++◌, ◌∷◌, List, min, false, length, vec_len, vec_capacity, IsOk, OnOk, OnErr};
+ghost use Rattle.std.specs.Prelude.{◌≡◌, ◌+◌, ◌-◌, ◌^◌, ◌<◌, ◌≤◌, ◌++◌, ◌∷◌, ◌||◌, not, List, map, min, length, vec_len, vec_capacity, IsOk, OnOk, OnErr};
 ghost use Rattle.mc_request.specs.Atoms.{atoms_of};
 ghost use Rattle.mc_reply.specs.Spelling.{answer_of, blocks_of, end_line};
 ghost use Rattle.mc_reply.specs.MetaRooms.{part_room};
-ghost use Rattle.mc_reply.specs.Seen.{value_len};
+ghost use Rattle.mc_reply.specs.Seen.{bytes_seen, value_len};
 ghost use Rattle.mc_route.specs.declared.outcomes.Outcome.{Outcome};
-ghost use Rattle.mc_route.specs.Joins.{has_lost, replies_in, outcome_part, joined_answer};
+ghost use Rattle.mc_route.specs.Joins.{has_lost, outcome_part, joined_answer};
+ghost use Rattle.mc_route.specs.Losses.{hides_any, is_missed, is_retrieval, is_silent, joined_with, reply_or_miss};
 ghost use Rattle.mc_route.specs.Rooms.{outcome_room, outcomes_room, join_room};
 
 use crate::errors::RouteError;
+use crate::losses::Losses;
 use crate::outcomes::Outcome;
 use mc_reply::{KEY_ROOM, LINE_ROOM, Reply, part_room, write_end, write_key, write_part};
-use mc_request::{Keys, Request};
+use mc_request::{Hides, Keys, MetaCommand, Request};
 use mc_text::{Block, Key};
 
 /// What a client is told where a command of its request was lost.
@@ -29,13 +31,84 @@ pub fn join(request: &Request, outcomes: &[Outcome], out: &mut Vec<u8>) -> Resul
     ensures err { OnErr result (out.new.items ≡ out.old.items) }
     ensures room { vec_capacity out.old ≤ vec_capacity out.new }
 {
+    join_with(Losses::Told, request, outcomes, out)
+}
+
+/// Appends the answer to a request by what became of its commands, in their order. If one was lost, or its reply is pending, the answer
+/// is as [`Losses`] says, else it is what one server would give.
+///
+/// It takes memory as [`join`] does.
+#[tactic(auto, using(crate::proofs::LossLemmas::joined_answered, crate::proofs::LossLemmas::joined_unanswered))]
+pub fn join_with(
+    losses: Losses,
+    request: &Request,
+    outcomes: &[Outcome],
+    out: &mut Vec<u8>,
+) -> Result<(), RouteError>
+    ensures ok { OnOk result (out.new.items ≡ out.old.items ++ joined_with losses request.now outcomes.now) }
+    ensures len { vec_len out.new ≤ vec_len out.old + join_room request.now outcomes.now }
+    ensures succeeds { vec_len out.old + join_room request.now outcomes.now ≤ vec_capacity out.old → IsOk result }
+    ensures err { OnErr result (out.new.items ≡ out.old.items) }
+    ensures room { vec_capacity out.old ≤ vec_capacity out.new }
+{
     out.reserve(join_room(request, outcomes))?;
-    if has_lost(outcomes) {
-        out.extend_from_slice(LOST_LINE)?;
-    } else {
+    if is_answered(losses, request, outcomes) {
         append_answer(request, outcomes, out);
+    } else if !is_silent(losses, request) {
+        out.extend_from_slice(LOST_LINE)?;
     }
     Ok(())
+}
+
+/// Whether a request is answered by replies: no command was lost, or its lost commands count as misses.
+fn is_answered(losses: Losses, request: &Request, outcomes: &[Outcome]) -> bool
+    ensures { result ≡ (not (has_lost outcomes.now) || is_missed losses request.now) }
+{
+    !has_lost(outcomes) || is_missed(losses, request)
+}
+
+/// Whether a request counts its lost commands as misses.
+fn is_missed(losses: Losses, request: &Request) -> bool
+    ensures { result ≡ is_missed losses request.now }
+{
+    match losses {
+        Losses::Told => false,
+        Losses::Missed => is_retrieval(request),
+    }
+}
+
+/// Whether a request, if it is no retrieval, gets no answer if a command of it was lost.
+fn is_silent(losses: Losses, request: &Request) -> bool
+    ensures { result ≡ is_silent losses request.now }
+{
+    match losses {
+        Losses::Told => false,
+        Losses::Missed => hides_any(request.hides()),
+    }
+}
+
+/// Whether a request asks for items.
+fn is_retrieval(request: &Request) -> bool
+    ensures { result ≡ is_retrieval request.now }
+{
+    match request {
+        Request::Get { .. } => true,
+        Request::Meta { command, .. } => match command {
+            MetaCommand::Get { .. } => true,
+            MetaCommand::Update { .. } => false,
+        },
+        Request::Update { .. } | Request::MetaNoop | Request::Version | Request::Quit => false,
+    }
+}
+
+/// Whether a request that hides this hides any of its replies.
+fn hides_any(hides: Hides) -> bool
+    ensures { result ≡ hides_any hides }
+{
+    match hides {
+        Hides::Nothing => false,
+        Hides::ReplyLine | Hides::Misses | Hides::Success | Hides::SuccessAndMisses => true,
+    }
 }
 
 /// The most bytes that [`join`] appends; [`usize::MAX`] where it is that or more.
@@ -101,11 +174,10 @@ fn has_lost(outcomes: &[Outcome]) -> bool
     false
 }
 
-/// Appends the answer to a request of which no command was lost.
+/// Appends the answer to a request by the replies to its commands. One that was lost counts as a miss.
 fn append_answer(request: &Request, outcomes: &[Outcome], out: &mut Vec<u8>)
-    requires came { has_lost outcomes.now ≡ false }
     requires room { vec_len out.old + join_room request.now outcomes.now ≤ vec_capacity out.old }
-    ensures items { out.new.items ≡ out.old.items ++ answer_of request.now (replies_in outcomes.now) }
+    ensures items { out.new.items ≡ out.old.items ++ answer_of request.now (map reply_or_miss outcomes.now) }
     ensures len { vec_len out.new ≤ vec_len out.old + join_room request.now outcomes.now }
     ensures room { vec_capacity out.old ≤ vec_capacity out.new }
 {
@@ -121,9 +193,8 @@ fn append_answer(request: &Request, outcomes: &[Outcome], out: &mut Vec<u8>)
 /// Appends the answer to a request of one command, by what became of it.
 fn append_line(request: &Request, outcomes: &[Outcome], out: &mut Vec<u8>)
     requires one { length (atoms_of request.now) ≡ 1 }
-    requires came { has_lost outcomes.now ≡ false }
     requires room { vec_len out.old + join_room request.now outcomes.now ≤ vec_capacity out.old }
-    ensures items { out.new.items ≡ out.old.items ++ answer_of request.now (replies_in outcomes.now) }
+    ensures items { out.new.items ≡ out.old.items ++ answer_of request.now (map reply_or_miss outcomes.now) }
     ensures len { vec_len out.new ≤ vec_len out.old + join_room request.now outcomes.now }
     ensures room { vec_capacity out.old ≤ vec_capacity out.new }
 {
@@ -134,25 +205,33 @@ fn append_line(request: &Request, outcomes: &[Outcome], out: &mut Vec<u8>)
     }
 }
 
-/// Appends what a command that came adds to the answer to its request, which has no other.
+/// Appends what a command adds to the answer to its request, which has no other.
 fn append_part(request: &Request, outcome: &Outcome, out: &mut Vec<u8>)
     requires one { length (atoms_of request.now) ≡ 1 }
     requires room { vec_len out.old + outcome_room outcome.now + part_room request.now ≤ vec_capacity out.old }
-    ensures items { (others : List Outcome) → has_lost (outcome.now ∷ others) ≡ false
-        → out.new.items ≡ out.old.items ++ answer_of request.now (replies_in (outcome.now ∷ others)) }
+    ensures items { (others : List Outcome) → out.new.items ≡ out.old.items ++ answer_of request.now (map reply_or_miss (outcome.now ∷ others)) }
     ensures len { vec_len out.new ≤ vec_len out.old + outcome_room outcome.now + part_room request.now }
     ensures room { vec_capacity out.old ≤ vec_capacity out.new }
 {
-    if let Outcome::Reply(reply) = outcome {
-        write_part(request, 0, Some(&reply.lent()), out).unwrap();
+    let reply = reply_or_miss(outcome);
+    write_part(request, 0, Some(&reply), out).unwrap();
+}
+
+/// The reply to a command, with its value's bytes borrowed; a miss if it was lost, or if its reply is pending.
+fn reply_or_miss(outcome: &Outcome) -> Reply<&[u8]>
+    ensures reply { bytes_seen result ≡ reply_or_miss outcome.now }
+    ensures room { value_len (bytes_seen result) ≤ outcome_room outcome.now }
+{
+    match outcome {
+        Outcome::Reply(reply) => reply.lent(),
+        Outcome::Lost | Outcome::Awaited => Reply::Miss,
     }
 }
 
-/// Appends the answer to a retrieval command: the items of its keys, and the end.
+/// Appends the answer to a retrieval command: the items of its keys, and the end. A key whose command was lost is a miss.
 fn append_items(keys: &Keys, outcomes: &[Outcome], out: &mut Vec<u8>)
-    requires came { has_lost outcomes.now ≡ false }
     requires room { vec_len out.old + (outcomes_room outcomes.now + LINE_ROOM) ≤ vec_capacity out.old }
-    ensures items { out.new.items ≡ out.old.items ++ (blocks_of keys.now (replies_in outcomes.now) ++ end_line) }
+    ensures items { out.new.items ≡ out.old.items ++ (blocks_of keys.now (map reply_or_miss outcomes.now) ++ end_line) }
     ensures len { vec_len out.new ≤ vec_len out.old + (outcomes_room outcomes.now + LINE_ROOM) }
     ensures room { vec_capacity out.old ≤ vec_capacity out.new }
 {

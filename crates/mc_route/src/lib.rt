@@ -9,14 +9,17 @@
 //!
 //! A key's command goes to the owner of the key, a flush to each server; `mn`, `version` and `quit` have no command. The
 //! answer is the one that a single server would give, or, where any command was lost, the line of a lost link alone.
+//! [`join_with`] takes the site's choice for lost commands, [`Losses`]: with [`Losses::Missed`] a retrieval counts them as misses.
 //!
 //! `specs/Routes.antt` says which server gets which command (`route_of`), `specs/Joins.antt` what the client is answered
-//! (`joined_answer`). The laws say that nothing else depends on how many servers there are
-//! ([`one_server_answers_alike`], [`commands_are_those_of_one_server`], [`answers_are_those_of_one_server`]).
+//! (`joined_answer`), `specs/Losses.antt` what by the site's choice (`joined_with`). The laws say that nothing else depends on how many
+//! servers there are ([`one_server_answers_alike`], [`commands_are_those_of_one_server`], [`answers_are_those_of_one_server`]),
+//! and what each choice promises ([`choices_differ_in_losses_alone`], [`shown_values_are_replies`], [`losses_look_like_misses`],
+//! [`lost_requests_are_not_confirmed`]).
 //!
 //! [`goes_to`] says of what a reader lends whether a server gets any command of it.
 //!
-//! `route`, `atoms`, `into_atoms` and `without_block` take memory, and `join` where there is not room enough; a call that gives up
+//! `route`, `atoms`, `into_atoms` and `without_block` take memory, and `join` and `join_with` where there is not room enough; a call that gives up
 //! has changed nothing. `join_room` and `goes_to` take none.
 #![tactic(auto)]
 
@@ -26,22 +29,26 @@ mod kept;
 mod laws;
 mod lent;
 mod looks;
+mod losses;
 mod outcomes;
 mod routes;
 mod rows;
 
 pub use errors::RouteError;
-pub use joins::{join, join_room};
+pub use joins::{join, join_room, join_with};
 pub use kept::without_block;
 pub use laws::{
-    answers_are_those_of_one_server, blocks_play_no_part, commands_are_those_of_one_server,
-    one_server_answers_alike, routes_stay_inside,
+    answers_are_those_of_one_server, blocks_play_no_part, choices_differ_in_losses_alone,
+    commands_are_those_of_one_server, losses_look_like_misses, lost_requests_are_not_confirmed,
+    one_server_answers_alike, routes_stay_inside, shown_values_are_replies,
 };
 pub use lent::route;
 pub use looks::goes_to;
+pub use losses::Losses;
 pub use outcomes::Outcome;
 pub use routes::{Routed, atoms, into_atoms};
 pub use rows::{
-    flush_over_three_servers, get_over_two_servers, items_of_two_servers, one_lost_of_three,
-    quiet_request_that_is_lost, requests_without_commands,
+    flush_over_three_servers, get_of_four_keys_with_a_dead_server, get_over_two_servers,
+    items_of_two_servers, meta_get_that_is_lost, one_lost_of_three, quiet_request_that_is_lost,
+    requests_without_commands, update_that_is_lost,
 };

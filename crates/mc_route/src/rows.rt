@@ -4,7 +4,7 @@
 ghost use Rattle.std.specs.Prelude.{◌≡◌, ◌∷◌, [], None, codes};
 ghost use Rattle.mc_reply.specs.declared.replies.Reply.TheVariants.{Flushed, Hit, Miss, Stored};
 ghost use Rattle.mc_ring.specs.Rings.{RingState};
-ghost use Rattle.mc_route.specs.Examples.{flush, get_of, joined_to, route_to, three_servers, two_servers};
+ghost use Rattle.mc_route.specs.Examples.{flush, get_of, joined_to, missed_to, route_to, three_servers, two_servers};
 ghost use Rattle.mc_route.specs.Joins.{lost_line};
 ghost use Rattle.mc_route.specs.Routes.{to_place};
 ghost use Rattle.mc_route.specs.declared.outcomes.Outcome.TheVariants.{Lost, Reply};
@@ -49,4 +49,34 @@ pub fn quiet_request_that_is_lost()
     ensures quiet_lost { joined_to (codes "mg a v q") (Lost ∷ []) ≡ lost_line }
     ensures hidden_line { joined_to (codes "set a 0 0 1 noreply") (Reply Stored ∷ []) ≡ [] }
     ensures hidden_lost { joined_to (codes "set a 0 0 1 noreply") (Lost ∷ []) ≡ lost_line }
+{}
+
+/// If losses count as misses, a `get` over two servers, of which one is dead, shows what the other has, before one end.
+pub fn get_of_four_keys_with_a_dead_server()
+    ensures items { missed_to (codes "get a b c d") (Reply (Hit 1 None (codes "x")) ∷ Lost ∷ Reply (Hit 2 None (codes "yz")) ∷ Lost ∷ [])
+        ≡ codes "VALUE a 1 1\r\nx\r\nVALUE c 2 2\r\nyz\r\nEND\r\n" }
+    ensures first_lost { missed_to (codes "get a b") (Lost ∷ Reply (Hit 1 None (codes "x")) ∷ []) ≡ codes "VALUE b 1 1\r\nx\r\nEND\r\n" }
+    ensures all_lost { missed_to (codes "gets a b") (Lost ∷ Lost ∷ []) ≡ codes "END\r\n" }
+    ensures touched { missed_to (codes "gat 60 a b") (Lost ∷ Reply (Hit 1 None (codes "x")) ∷ []) ≡ codes "VALUE b 1 1\r\nx\r\nEND\r\n" }
+{}
+
+/// If losses count as misses, `mg` is answered by `EN`, or by nothing if it is quiet.
+pub fn meta_get_that_is_lost()
+    ensures shown { missed_to (codes "mg a v") (Lost ∷ []) ≡ codes "EN\r\n" }
+    ensures quiet { missed_to (codes "mg a v q") (Lost ∷ []) ≡ [] }
+    ensures with_key { missed_to (codes "mg a k v O7") (Lost ∷ []) ≡ codes "EN\r\n" }
+{}
+
+/// If losses count as misses, a request that is no retrieval gets the line of a lost link, and nothing if it hides its reply.
+pub fn update_that_is_lost()
+    ensures stored { missed_to (codes "set a 0 0 1") (Lost ∷ []) ≡ lost_line }
+    ensures hidden { missed_to (codes "set a 0 0 1 noreply") (Lost ∷ []) ≡ [] }
+    ensures added { missed_to (codes "add a 0 0 1 noreply") (Lost ∷ []) ≡ [] }
+    ensures deleted { missed_to (codes "delete a") (Lost ∷ []) ≡ lost_line }
+    ensures counted { missed_to (codes "incr a 1") (Lost ∷ []) ≡ lost_line }
+    ensures touched { missed_to (codes "touch a 60") (Lost ∷ []) ≡ lost_line }
+    ensures meta_stored { missed_to (codes "ms a 1") (Lost ∷ []) ≡ lost_line }
+    ensures meta_quiet { missed_to (codes "ms a 1 q") (Lost ∷ []) ≡ [] }
+    ensures flushed { missed_to (codes "flush_all 5") (Reply Flushed ∷ Lost ∷ Reply Flushed ∷ []) ≡ lost_line }
+    ensures flushed_hidden { missed_to (codes "flush_all 5 noreply") (Reply Flushed ∷ Lost ∷ Reply Flushed ∷ []) ≡ [] }
 {}

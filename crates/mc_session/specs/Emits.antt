@@ -4,7 +4,8 @@ use Rattle.std.specs.List.{list_all}
 use Rattle.mc_request.specs.Faults.{fault_line}
 use Rattle.mc_request.specs.declared.parts.Taken.{Taken}
 use Rattle.mc_request.specs.declared.parts.Taken.TheVariants.{Whole, Faulty}
-use Rattle.mc_route.specs.Joins.{joined_answer}
+use Rattle.mc_route.specs.Losses.{joined_with}
+use Rattle.mc_route.specs.declared.losses.Losses.{Losses}
 use Rattle.mc_route.specs.declared.outcomes.Outcome.{Outcome}
 use Rattle.mc_route.specs.declared.outcomes.Outcome.TheVariants.{Awaited, Reply, Lost}
 use Rattle.mc_session.specs.SessionState.{Unanswered, SessionState}
@@ -25,10 +26,10 @@ abbrev pub awaited_in : List Outcome → ℕ
 awaited_in [] = 0
 awaited_in (outcome ∷ outcomes) = count_awaited outcome + awaited_in outcomes
 
--- the answer to what was taken, by what became of its commands
-abbrev pub answer_by : Taken → List Outcome → List ℕ
-answer_by (Whole request) outcomes = joined_answer request outcomes
-answer_by (Faulty fault) outcomes = fault_line fault
+-- the answer to what was taken, by the choice for lost commands and by what became of its commands
+abbrev pub answer_by : Losses → Taken → List Outcome → List ℕ
+answer_by losses (Whole request) outcomes = joined_with losses request outcomes
+answer_by losses (Faulty fault) outcomes = fault_line fault
 
 -- whether it is known of each of its commands what became of it
 abbrev pub is_known : Unanswered → Bool
@@ -36,7 +37,7 @@ is_known open_one = list_all is_told open_one.outcomes
 
 -- the answer to a request that was taken
 abbrev pub answer_of_one : Unanswered → List ℕ
-answer_of_one open_one = answer_by open_one.what open_one.outcomes
+answer_of_one open_one = answer_by open_one.losses open_one.what open_one.outcomes
 
 -- a session whose oldest request that is not answered has been, where it can be
 abbrev pub emitted_from : SessionState → List Unanswered → Option SessionState

@@ -4,3 +4,4 @@ pub mod Noting
 pub mod Emits
 pub mod Turns
 pub mod Looks
+pub mod Examples

@@ -2,12 +2,15 @@
 use Rattle.std.specs.Prelude.{ℕ, ◌-◌, List, [], length, map, slice_index_or, slice_set}
 use Rattle.mc_request.specs.declared.parts.Taken.{Taken}
 use Rattle.mc_request_reader.specs.Reader.{ReaderState, fresh_reader}
+use Rattle.mc_route.specs.declared.losses.Losses.{Losses}
 use Rattle.mc_route.specs.declared.outcomes.Outcome.{Outcome}
 use Rattle.mc_link.specs.LinkState.{LinkState, RoomyLink, down_link}
 
--- a request or fault that was taken and is not answered, without its data block, and what became of its commands so far
+-- a request or fault that was taken and is not answered, without its data block, the choice for its lost commands, and what became of
+-- its commands so far
 pub record Unanswered : Type 0 where
   pub what : Taken
+  pub losses : Losses
   pub outcomes : List Outcome
 
 -- a session: its reader, the answers that were not taken out, how many requests and faults were taken of it, and those of

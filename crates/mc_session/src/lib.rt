@@ -4,8 +4,8 @@
 //! a turn ([`Session::turn`]): each of the request's commands goes to the link of its key's owner, under a tag that says whose
 //! it is, or is lost at once where that link is down. They pass through a queue that the caller keeps, empty between turns. What
 //! became of a command is noted under its tag ([`Session::note`]). Once it is known of each command of the oldest unanswered
-//! request, its answer is put out ([`Session::emit`]), and the caller takes it out ([`Session::output`],
-//! [`Session::taken_out`]). So answers are in the order of the requests, in whatever order replies come.
+//! request, its answer is put out ([`Session::emit`]), by the choice for lost commands that its turn was given ([`mc_route::Losses`]), and the
+//! caller takes it out ([`Session::output`], [`Session::taken_out`]). So answers are in the order of the requests, in whatever order replies come.
 //! [`Session::unanswered`], [`Session::is_finished`], [`Session::ready`] and [`Session::waits_for`] say what state it is in, and
 //! [`Session::give_back`] gives large empty buffers back.
 //!
@@ -16,6 +16,7 @@
 
 mod errors;
 mod limits;
+mod rows;
 mod sending;
 mod sessions;
 mod turns;
@@ -23,5 +24,6 @@ mod unanswered;
 
 pub use errors::SessionError;
 pub use limits::{LINK_MARK, MAX_UNANSWERED, UNSENT_MARK};
+pub use rows::lost_store_before_a_get;
 pub use sessions::Session;
 pub use turns::{Emit, Turn};

@@ -12,7 +12,7 @@ use mc_link::{Link, Tag};
 use mc_request::{Asked, Taken};
 use mc_request_reader::{Front, LentGet, Peek, Reader};
 use mc_ring::Ring;
-use mc_route::{Outcome, Routed, goes_to, route};
+use mc_route::{Losses, Outcome, Routed, goes_to, route};
 use mc_text::{give_back, let_go};
 use std::alloc::Global;
 use std::collections::VecDeque;
@@ -88,7 +88,7 @@ impl Session {
     }
 
     /// Takes the first request or fault that has come whole, and sends its commands, each to the link of its key's owner,
-    /// under tags with the session's number.
+    /// under tags with the session's number. Its lost commands are answered by this choice.
     ///
     /// What it may need of memory is taken before anything is. Where none has come, or the first has to wait for a mark, it
     /// needs none. The commands go through a queue, which the caller keeps: it is empty before and after each turn, and has
@@ -98,11 +98,12 @@ impl Session {
         alloc: Global,
         number: u64,
         ring: &Ring,
+        losses: Losses,
         links: &mut [Link],
         queue: &mut VecDeque<Routed>,
     ) -> Result<Turn, SessionError>
         requires { queue.old.items ≡ [] }
-        ensures turn { IfOk result (λ turn. IsTurn number turn ring.now (states links.old) (states links.new) self.old self.new) }
+        ensures turn { IfOk result (λ turn. IsTurn number turn ring.now losses (states links.old) (states links.new) self.old self.new) }
         ensures cause { OnErr result (IsReady ring.now (states links.old) self.old) }
         ensures only_memory { IsOkUnless result SessionError.Memory }
         ensures err { OnErr result (self.new ≡ self.old) }
@@ -113,7 +114,7 @@ impl Session {
             return Ok(Turn::Idle);
         }
         let Some(get) = self.reader.peek_get() else {
-            return self.turn_other(alloc, number, ring, links, queue);
+            return self.turn_other(alloc, number, ring, losses, links, queue);
         };
         let (kept, front) = {
             let LentGet {
@@ -132,7 +133,7 @@ impl Session {
             start_at_front(alloc, queue);
             (route(alloc, &asked, ring, queue)?, front)
         };
-        self.take(alloc, number, links, queue, kept, front)?;
+        self.take(alloc, number, losses, links, queue, kept, front)?;
         Ok(Turn::Took)
     }
 
@@ -144,11 +145,12 @@ impl Session {
         alloc: Global,
         number: u64,
         ring: &Ring,
+        losses: Losses,
         links: &mut [Link],
         queue: &mut VecDeque<Routed>,
     ) -> Result<Turn, SessionError>
         requires { queue.old.items ≡ [] }
-        ensures turn { IfOk result (λ turn. IsTurn number turn ring.now (states links.old) (states links.new) self.old self.new) }
+        ensures turn { IfOk result (λ turn. IsTurn number turn ring.now losses (states links.old) (states links.new) self.old self.new) }
         ensures cause { OnErr result (IsReady ring.now (states links.old) self.old) }
         ensures only_memory { IsOkUnless result SessionError.Memory }
         ensures err { OnErr result (self.new ≡ self.old) }
@@ -164,7 +166,7 @@ impl Session {
                 (route(alloc, asked, ring, queue)?, *front)
             }
         };
-        self.take(alloc, number, links, queue, kept, front)?;
+        self.take(alloc, number, losses, links, queue, kept, front)?;
         Ok(Turn::Took)
     }
 
@@ -183,6 +185,7 @@ impl Session {
         &mut self,
         alloc: Global,
         number: u64,
+        losses: Losses,
         links: &mut [Link],
         queue: &mut VecDeque<Routed>,
         kept: Taken,
@@ -194,7 +197,7 @@ impl Session {
         ensures output { OnOk result (self.new.output ≡ self.old.output) }
         ensures taken { OnOk result (self.new.taken ≡ self.old.taken + 1) }
         ensures unanswered { OnOk result (self.new.unanswered ≡ self.old.unanswered
-            ++ record { what = kept; outcomes = map (at_once (states links.old)) queue.old.items } ∷ []) }
+            ++ record { what = kept; losses = losses; outcomes = map (at_once (states links.old)) queue.old.items } ∷ []) }
         ensures sent { OnOk result (states links.new ≡ handed number self.old.taken 0 queue.old.items (states links.old)) }
         ensures only_memory { IsOkUnless result SessionError.Memory }
         ensures err { OnErr result (self.new ≡ self.old) }
@@ -209,7 +212,7 @@ impl Session {
         self.reader.consume(front);
         send_all(links, queue, number, self.taken);
         self.unanswered
-            .push_back_reserved(Unanswered::new(kept, outcomes));
+            .push_back_reserved(Unanswered::new(kept, losses, outcomes));
         self.taken += 1;
         Ok(())
     }

@@ -5,13 +5,15 @@ ghost use Rattle.mc_session.specs.Emits.{awaited_in, count_awaited};
 use crate::errors::SessionError;
 use mc_reply::write_fault;
 use mc_request::Taken;
-use mc_route::{Outcome, join};
+use mc_route::{Losses, Outcome, join_with};
 use std::marker::Model;
 
 /// A request or fault that was taken, and what became of its commands so far.
 #[derive(Drop)]
 pub struct Unanswered {
     what: Taken,
+    /// The choice for its lost commands.
+    losses: Losses,
     outcomes: Vec<Outcome>,
     /// How many of the replies are awaited.
     awaited: usize,
@@ -24,7 +26,7 @@ impl Model for Unanswered {
 
     ghost Value = { Unanswered };
 
-    ghost view = { λ u. record { what = u.what; outcomes = u.outcomes.items } };
+    ghost view = { λ u. record { what = u.what; losses = u.losses; outcomes = u.outcomes.items } };
 
     ghost invariant = { λ u. u.awaited ≡ awaited_in u.outcomes.items };
 }
@@ -33,13 +35,14 @@ impl Unanswered {
     ghost use Rattle.mc_session.specs.Emits.{answer_of_one, is_known};
     ghost use Rattle.mc_session.specs.Noting.{with_outcome};
 
-    /// A request or fault that was just taken, and what became of its commands at once.
-    pub fn new(what: Taken, outcomes: Vec<Outcome>) -> Unanswered
-        ensures { result ≡ record { what = what; outcomes = outcomes.items } }
+    /// A request or fault that was just taken, the choice for its lost commands, and what became of its commands at once.
+    pub fn new(what: Taken, losses: Losses, outcomes: Vec<Outcome>) -> Unanswered
+        ensures { result ≡ record { what = what; losses = losses; outcomes = outcomes.items } }
     {
         let awaited = awaited_in(outcomes.as_slice());
         Unanswered {
             what,
+            losses,
             outcomes,
             awaited,
         }
@@ -71,7 +74,9 @@ impl Unanswered {
         ensures err { OnErr result (out.new.items ≡ out.old.items) }
     {
         match &self.what {
-            Taken::Whole(request) => join(request, self.outcomes.as_slice(), out)?,
+            Taken::Whole(request) => {
+                join_with(self.losses, request, self.outcomes.as_slice(), out)?;
+            },
             Taken::Faulty(fault) => write_fault(*fault, out)?,
         }
         Ok(())

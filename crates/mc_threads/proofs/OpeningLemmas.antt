@@ -4,10 +4,11 @@ use Rattle.std.specs.Prelude.{replicate}
 use Rattle.std.proofs.lemmas.List.Elements.{All-nil}
 use Rattle.mc_request.specs.Requests.{requests_of, requests_within}
 use Rattle.mc_ring.specs.Rings.{IsRing, RingState}
+use Rattle.mc_route.specs.declared.losses.Losses.TheVariants.{Told}
 use Rattle.mc_link.specs.LinkState.{LinkState, down_link, up_link}
 use Rattle.mc_session.specs.SessionState.{link_at, with_link}
 use Rattle.mc_account.specs.Lanes.{LinkHolds, fresh_lane}
-use Rattle.mc_account.specs.Orders.{Entry, IsSized}
+use Rattle.mc_account.specs.Orders.{IsToldAs, Entry, IsSized}
 use Rattle.mc_account.proofs.LaneLemmas.{lane_fresh}
 use Rattle.mc_threads.specs.Talks.{Talks}
 
@@ -57,12 +58,13 @@ unfolding requests_of requests_within
 no_requests = refl
 
 pub talks_opens : (ring : RingState) → IsRing ring
-    → Talks ring 0 (λ _. []) (λ _. []) (λ _. []) (λ _. []) (record { ring = ring; sessions = []; admitted = 0; links = replicate (length ring.servers) (up_link 1) })
+    → Talks ring 0 (λ _. []) (λ _. []) (λ _. []) (λ _. []) (record { losses = Told; ring = ring; sessions = []; admitted = 0; links = replicate (length ring.servers) (up_link 1) })
 talks_opens ring is_ring = record {
   order = [];
   lanes = λ _. fresh_lane 0;
   holds = record {
     sized = All-nil IsSized;
+    chosen = All-nil (IsToldAs Told);
     numbered = λ number. refl;
     sessions = λ number. record { untaken = []; rest = sym no_requests; done = []; incomplete = []; split = refl; complete = refl; unsent = []; answered = refl };
     unused = λ number above. record { not_open = refl; nothing_came = refl; nothing_taken = refl; nothing_sent = refl };
@@ -71,6 +73,7 @@ talks_opens ring is_ring = record {
   is_ring = is_ring;
   rings = All-nil (λ (e : Entry). e.ring ≡ ring);
   ring_is = refl;
+  losses_is = refl;
   admitted = refl;
   is_open = λ client low. absurd (omega (arith, low));
   bytes = λ client. All-nil (λ (b : ℕ). b < 256);

@@ -11,6 +11,7 @@ use Rattle.mc_ring.specs.Rings.{RingState}
 use Rattle.mc_route.specs.Routes.{route_of_taken}
 use Rattle.mc_route.specs.declared.outcomes.Outcome.{Outcome}
 use Rattle.mc_route.specs.declared.outcomes.Outcome.TheVariants.{Reply}
+use Rattle.mc_route.specs.declared.losses.Losses.{Losses}
 use Rattle.mc_link.specs.LinkState.{LinkState}
 use Rattle.mc_link.specs.declared.turns.Tag.{Tag}
 use Rattle.mc_session.specs.Emits.{IsEmit}
@@ -55,6 +56,7 @@ talks_as ring clients texts texts' outs outs' went went' came came' proxy text_i
   is_ring = h.is_ring;
   rings = h.rings;
   ring_is = h.ring_is;
+  losses_is = h.losses_is;
   admitted = h.admitted;
   is_open = h.is_open;
   bytes = λ n. subst (λ (t : List ℕ). All (λ b. b < 256) t) (text_is n) (h.bytes n);
@@ -108,15 +110,15 @@ rings_noted ring tag outcome (e ∷ es) h =
     (rings_noted ring tag outcome es (All-tail (λ (x : Entry). x.ring ≡ ring) e es h))
 
 -- `turn`
-unchanged : (number : ℕ) (turn : Turn) (ring : RingState) (links now : List LinkState) (before after : SessionState) → turn ≢ turns.Took
-    → IsTurn number turn ring links now before after → IsUnchanged links now before after
-unchanged number turns.Took ring links now before after differ step = absurd (differ refl)
-unchanged number turns.Idle ring links now before after differ step = step.1
-unchanged number turns.Waiting ring links now before after differ step = step.1
-unchanged number turns.Closing ring links now before after differ step = step.1
+unchanged : (number : ℕ) (turn : Turn) (ring : RingState) (losses : Losses) (links now : List LinkState) (before after : SessionState) → turn ≢ turns.Took
+    → IsTurn number turn ring losses links now before after → IsUnchanged links now before after
+unchanged number turns.Took ring losses links now before after differ step = absurd (differ refl)
+unchanged number turns.Idle ring losses links now before after differ step = step.1
+unchanged number turns.Waiting ring losses links now before after differ step = step.1
+unchanged number turns.Closing ring losses links now before after differ step = step.1
 
 talks_took : (ring : RingState) (clients : ℕ) (texts outs went came : ℕ → List ℕ) (number : ℕ) (old new : ProxyState) → Talks ring clients texts outs went came old
-    → Steps number old new (IsTurn number turns.Took old.ring) → Talks ring clients texts outs went came new
+    → Steps number old new (IsTurn number turns.Took old.ring old.losses) → Talks ring clients texts outs went came new
 talks_took ring clients texts outs went came number old new h steps = record {
   order = h.order ++ entry_taken steps ∷ [];
   lanes = h.lanes;
@@ -124,6 +126,7 @@ talks_took ring clients texts outs went came number old new h steps = record {
   is_ring = h.is_ring;
   rings = All-push (λ (e : Entry). e.ring ≡ ring) h.order (entry_taken steps) h.rings h.ring_is;
   ring_is = steps.ring ∙ h.ring_is;
+  losses_is = steps.losses ∙ h.losses_is;
   admitted = steps.admitted ∙ h.admitted;
   is_open = λ client below. open_stepped number steps.before steps.after old new client steps.was steps.is (h.is_open client below);
   bytes = h.bytes;
@@ -134,9 +137,9 @@ talks_took ring clients texts outs went came number old new h steps = record {
 }
 
 talks_idled : (ring : RingState) (clients : ℕ) (texts outs went came : ℕ → List ℕ) (number : ℕ) (turn : Turn) (old new : ProxyState) → turn ≢ turns.Took
-    → Talks ring clients texts outs went came old → Steps number old new (IsTurn number turn old.ring) → Talks ring clients texts outs went came new
+    → Talks ring clients texts outs went came old → Steps number old new (IsTurn number turn old.ring old.losses) → Talks ring clients texts outs went came new
 talks_idled ring clients texts outs went came number turn old new differ h steps =
-    let same = unchanged number turn old.ring old.links new.links steps.before steps.after differ steps.step in
+    let same = unchanged number turn old.ring old.losses old.links new.links steps.before steps.after differ steps.step in
     record {
       order = h.order;
       lanes = h.lanes;
@@ -144,6 +147,7 @@ talks_idled ring clients texts outs went came number turn old new differ h steps
       is_ring = h.is_ring;
       rings = h.rings;
       ring_is = steps.ring ∙ h.ring_is;
+      losses_is = steps.losses ∙ h.losses_is;
       admitted = steps.admitted ∙ h.admitted;
       is_open = λ client below. open_stepped number steps.before steps.after old new client steps.was steps.is (h.is_open client below);
       bytes = h.bytes;
@@ -154,7 +158,7 @@ talks_idled ring clients texts outs went came number turn old new differ h steps
     }
 
 pub talks_turned : (ring : RingState) (clients : ℕ) (texts outs went came : ℕ → List ℕ) (number : ℕ) (turn : Turn) (old new : ProxyState) → Talks ring clients texts outs went came old
-    → Steps number old new (IsTurn number turn old.ring) → Talks ring clients texts outs went came new
+    → Steps number old new (IsTurn number turn old.ring old.losses) → Talks ring clients texts outs went came new
 talks_turned ring clients texts outs went came number turns.Took old new h steps = talks_took ring clients texts outs went came number old new h steps
 talks_turned ring clients texts outs went came number turns.Idle old new h steps = talks_idled ring clients texts outs went came number turns.Idle old new (λ is. absurd cc) h steps
 talks_turned ring clients texts outs went came number turns.Waiting old new h steps = talks_idled ring clients texts outs went came number turns.Waiting old new (λ is. absurd cc) h steps
@@ -170,6 +174,7 @@ emitted_alone ring clients texts outs went came number emit old new h steps hold
   is_ring = h.is_ring;
   rings = h.rings;
   ring_is = steps.ring ∙ h.ring_is;
+  losses_is = steps.losses ∙ h.losses_is;
   admitted = steps.admitted ∙ h.admitted;
   is_open = λ client below. open_stepped number steps.before steps.after old new client steps.was steps.is (h.is_open client below);
   bytes = h.bytes;
@@ -200,6 +205,10 @@ ring_sent : (number count : ℕ) (session : Option SessionState) (old : ProxySta
 ring_sent number count None old = refl
 ring_sent number count (Some before) old = refl
 
+losses_sent : (number count : ℕ) (session : Option SessionState) (old : ProxyState) → (sent_by number count session old).losses ≡ old.losses
+losses_sent number count None old = refl
+losses_sent number count (Some before) old = refl
+
 admitted_sent : (number count : ℕ) (session : Option SessionState) (old : ProxyState) → (sent_by number count session old).admitted ≡ old.admitted
 admitted_sent number count None old = refl
 admitted_sent number count (Some before) old = refl
@@ -213,6 +222,7 @@ talks_sent ring clients texts outs went came number count old h = record {
   is_ring = h.is_ring;
   rings = h.rings;
   ring_is = ring_sent number count (session_at old number) old ∙ h.ring_is;
+  losses_is = losses_sent number count (session_at old number) old ∙ h.losses_is;
   admitted = admitted_sent number count (session_at old number) old ∙ h.admitted;
   is_open = λ client below. open_sent number count (session_at old number) old client refl (h.is_open client below);
   bytes = h.bytes;
@@ -244,6 +254,7 @@ relinked : (texts sent : ℕ → List ℕ) (order : Order) (lanes : ℕ → Lane
     → LinkHolds place order lane link → ProxyHolds texts sent order lanes old → ProxyHolds texts sent order (changed place lane lanes) (record old { links = with_link place link old.links })
 relinked texts sent order lanes place lane link old inside own h = record {
   sized = h.sized;
+  chosen = h.chosen;
   numbered = h.numbered;
   sessions = h.sessions;
   unused = h.unused;
@@ -310,6 +321,7 @@ talks_pushed ring clients texts outs went came place count now old below is h =
       is_ring = h.is_ring;
       rings = h.rings;
       ring_is = h.ring_is;
+      losses_is = h.losses_is;
       admitted = h.admitted;
       is_open = h.is_open;
       bytes = h.bytes;
@@ -346,6 +358,7 @@ talks_pulled ring clients texts outs went came place piece now old below is h =
       is_ring = h.is_ring;
       rings = h.rings;
       ring_is = h.ring_is;
+      losses_is = h.losses_is;
       admitted = h.admitted;
       is_open = h.is_open;
       bytes = h.bytes;
@@ -368,6 +381,7 @@ talks_replied ring clients texts outs went came place old new below h answers =
       is_ring = h.is_ring;
       rings = rings_noted ring answers.tag (Reply answers.reply) h.order h.rings;
       ring_is = answers.ring ∙ h.ring_is;
+      losses_is = answers.losses ∙ h.losses_is;
       admitted = answers.admitted ∙ h.admitted;
       is_open = λ client low. open_noted answers.tag (Reply answers.reply) old new client answers.sessions (h.is_open client low);
       bytes = h.bytes;
@@ -398,6 +412,7 @@ talks_admitted ring clients texts outs went came old none h = record {
   is_ring = h.is_ring;
   rings = h.rings;
   ring_is = h.ring_is;
+  losses_is = h.losses_is;
   admitted = ap (λ (n : ℕ). n + 1) h.admitted;
   is_open = λ client low. ⊎_elim
       (λ e. (fresh_session, subst (λ (n : ℕ). session_at (with_fresh old) n ≡ Some fresh_session) e.1 (fresh_own old.admitted fresh_session old.sessions none)))
@@ -430,6 +445,7 @@ talks_fed ring clients texts outs went came number piece old new own h steps = r
   is_ring = h.is_ring;
   rings = h.rings;
   ring_is = steps.ring ∙ h.ring_is;
+  losses_is = steps.losses ∙ h.losses_is;
   admitted = steps.admitted ∙ h.admitted;
   is_open = λ client below. open_stepped number steps.before steps.after old new client steps.was steps.is (h.is_open client below);
   bytes = bytes_grown number piece texts h.bytes own;

@@ -5,10 +5,11 @@ use Rattle.std.specs.declared.vec.Vec.{Vec}
 use Rattle.std.specs.declared.alloc.Global.{Global}
 use Rattle.mc_request.specs.Requests.{requests_of}
 use Rattle.mc_ring.specs.Rings.{RingState}
+use Rattle.mc_route.specs.declared.losses.Losses.TheVariants.{Told}
 use Rattle.mc_route.specs.declared.outcomes.Outcome.{Outcome}
 use Rattle.mc_route.specs.declared.outcomes.Outcome.TheVariants.{Reply}
 use Rattle.mc_cache.specs.CacheState.{CacheState}
-use Rattle.mc_account.specs.Orders.{AreInOrder, Entry as Asked, IsSized, Order, answers_of, commands_to, entries_of, taken_of}
+use Rattle.mc_account.specs.Orders.{AreInOrder, Entry as Asked, IsSized, IsToldAs, Order, answers_of, commands_to, entries_of, taken_of}
 use Rattle.mc_history.specs.Histories.{IsLegal, tag_in}
 use Rattle.mc_history.specs.Named.{AreReplied, tags_of}
 use Rattle.mc_history.specs.declared.entries.Entry.{Entry}
@@ -40,10 +41,12 @@ is_reply other = false
 -- What a run of threads gives account of, by an order in which all requests were taken: the clients' texts, what was put out to them,
 -- the servers' histories, and what the servers' clocks had given before the run and after it, all by number.
 pub record Accounts (ring : RingState) (opening : CacheState) (order : Order) (texts outs : ℕ → List ℕ) (histories : ℕ → List Entry) (began ended : ℕ → List ℕ) : Type 0 where
-  -- the order has all requests of each client, in the client's order; each was routed by this ring, and each of its commands was replied
+  -- the order has all requests of each client, in the client's order; each was routed by this ring, its
+  -- choice for lost commands is `Told`, and each of its commands was replied
   pub asked : (client : ℕ) → taken_of client order ≡ requests_of (texts client)
   pub numbered : (client : ℕ) → AreInOrder (entries_of client order)
   pub rings : All (λ (e : Asked). e.ring ≡ ring) order
+  pub chosen : All (IsToldAs Told) order
   pub sized : All IsSized order
   pub all_replied : All (λ (e : Asked). list_all is_reply e.outcomes ≡ true) order
   -- each history is legal, and has the commands of the order to its server, each once and in that order

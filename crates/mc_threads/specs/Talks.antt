@@ -2,6 +2,7 @@
 use Rattle.std.specs.Prelude.{ℕ, ◌≡◌, ◌<◌, ◌+◌, true, List, [], ◌++◌, length, map, Some, All, codes}
 use Rattle.rtrb.specs.Ring.{sent, received}
 use Rattle.mc_ring.specs.Rings.{IsRing, RingState}
+use Rattle.mc_route.specs.declared.losses.Losses.TheVariants.{Told}
 use Rattle.mc_session.specs.SessionState.{SessionState, link_at}
 use Rattle.mc_proxy.specs.ProxyState.{ProxyState, output_of, session_at, unanswered_of}
 use Rattle.mc_proxy.specs.Turns.{waiting_of}
@@ -15,8 +16,8 @@ use Rattle.mc_threads.specs.declared.links.Ends.{Ends}
 abbrev pub IsOpen : ProxyState → ℕ → Type 0
 IsOpen proxy client = (session : SessionState) × (session_at proxy client ≡ Some session)
 
--- A proxy over the servers of a ring, whose links are up and were never lost: so many clients were admitted, which sent these texts
--- and were moved these outputs; to and from each server these bytes went and came.
+-- A proxy over the servers of a ring, whose links are up and were never lost, and whose choice for lost commands is `Told`: so many
+-- clients were admitted, which sent these texts and were moved these outputs; to and from each server these bytes went and came.
 pub record Talks (ring : RingState) (clients : ℕ) (texts outs went came : ℕ → List ℕ) (proxy : ProxyState) : Type 0 where
   pub order : Order
   pub lanes : ℕ → Lane
@@ -24,6 +25,7 @@ pub record Talks (ring : RingState) (clients : ℕ) (texts outs went came : ℕ 
   pub is_ring : IsRing ring
   pub rings : All (λ (e : Entry). e.ring ≡ ring) order
   pub ring_is : proxy.ring ≡ ring
+  pub losses_is : proxy.losses ≡ Told
   pub admitted : proxy.admitted ≡ clients
   pub is_open : (client : ℕ) → client < clients → IsOpen proxy client
   pub bytes : (client : ℕ) → All (λ b. b < 256) (texts client)

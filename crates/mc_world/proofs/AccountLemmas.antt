@@ -6,6 +6,7 @@ use Rattle.mc_request.specs.Requests.{requests_of, requests_within}
 use Rattle.mc_ring.specs.Rings.{RingState}
 use Rattle.mc_reply.specs.Spelling.{spelling_of}
 use Rattle.mc_reply.specs.declared.replies.Reply.{Reply as AReply}
+use Rattle.mc_route.specs.declared.losses.Losses.{Losses}
 use Rattle.mc_link.specs.LinkState.{LinkState}
 use Rattle.mc_cache.specs.CacheState.{CacheState}
 use Rattle.mc_cache.specs.Refusals.{is_refusal}
@@ -40,8 +41,8 @@ pub legal_site : (place : ℕ) (order : Order) (lane : Lane) (link : LinkState) 
 legal_site place order lane link opening site h =
     subst (λ (es : List Entry). IsLegal order place opening es) (sym h.history) (legal_history place order opening h.made h.answers h.named)
 
-pub nothing_accounts : (ring : RingState) (opening : CacheState) → Accounts ring opening [] (λ _. []) (λ _. []) (λ _. []) []
-nothing_accounts ring opening = record {
+pub nothing_accounts : (losses : Losses) (ring : RingState) (opening : CacheState) → Accounts losses ring opening [] (λ _. []) (λ _. []) (λ _. []) []
+nothing_accounts losses ring opening = record {
   asked = λ client. ([], sym no_requests);
   turns = refl;
   numbered = λ client. refl;

@@ -74,7 +74,7 @@ lives_nowhere place generation pool none = (λ never. absurd cc, λ h. absurd (n
 nothing_closed : (s : ReaderState) → s.closed ≡ true → rest_of s [] ≡ []
 nothing_closed s closed = ap (λ (v : Bool). rest_from v s.dropping (s.unread ++ [])) closed
 
-pub not_ready : (number : ℕ) (turn : Turn) (old new : ProxyState) → turn ≢ turns.Took → Steps number old new (IsTurn number turn old.ring)
+pub not_ready : (number : ℕ) (turn : Turn) (old new : ProxyState) → turn ≢ turns.Took → Steps number old new (IsTurn number turn old.ring old.losses)
     → (session : SessionState) → session_at old number ≡ Some session → IsReady old.ring old.links session → ⊥
 not_ready number turns.Took old new differ h session at ready = differ refl
 not_ready number turns.Idle old new differ h session at ready =
@@ -95,7 +95,7 @@ not_ready number turns.Closing old new differ h session at ready =
     absurd cc
 
 -- one that takes a request finds one
-pub was_ready : (number : ℕ) (old new : ProxyState) (sites : List SiteState) → Steps number old new (IsTurn number turns.Took old.ring) → CanTakeRequest number (pool_of old sites)
+pub was_ready : (number : ℕ) (old new : ProxyState) (sites : List SiteState) → Steps number old new (IsTurn number turns.Took old.ring old.losses) → CanTakeRequest number (pool_of old sites)
 was_ready number old new sites h = (
   h.before,
   h.was,

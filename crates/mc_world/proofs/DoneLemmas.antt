@@ -172,7 +172,7 @@ course_done ring opening (ClientGone client) old new h e =
     (generations_stay (ClientGone client) old.pool new.pool e.pool h.generations) (connections_stay ring opening (ClientGone client) old new h e)
 course_done ring opening (ProxyTurn client) old new h e =
     same_clients ring opening (h.order ++ asked_by e.pool ∷ []) h.lanes old new e.clients
-    (unsent_kept client old.pool.proxy new.pool.proxy (IsTurn client turns.Took old.pool.proxy.ring) e.pool.steps e.pool.steps.step.1.output)
+    (unsent_kept client old.pool.proxy new.pool.proxy (IsTurn client turns.Took old.pool.proxy.ring old.pool.proxy.losses) e.pool.steps e.pool.steps.step.1.output)
     e.pool.steps.admitted h.numbered
     (pool_takes opening (text_of old) (taken_by old) h.order h.lanes client old.pool new.pool e.pool h.pool)
     (logged ring (h.order ++ asked_by e.pool ∷ []) (put_out_of old) new.pool (old.log ++ Happened (ProxyTurn client) ∷ []) new.log e.log

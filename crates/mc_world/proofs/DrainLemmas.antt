@@ -87,7 +87,7 @@ all_append p (e ∷ es) fs first second =
 
 -- no event, and a part after a part
 pub drained_none : (moment : ℕ) (w : WorldState) → HasDrained moment w w
-drained_none moment w = record { drains = record { events = []; all = refl; done = refl }; opening = refl; budget = refl; items = refl }
+drained_none moment w = record { drains = record { events = []; all = refl; done = refl }; losses = refl; opening = refl; budget = refl; items = refl }
 
 pub drained_then : (moment : ℕ) (a b c : WorldState) → HasDrained moment a b → HasDrained moment b c → HasDrained moment a c
 drained_then moment a b c first second = record {
@@ -96,6 +96,7 @@ drained_then moment a b c first second = record {
     all = all_append (is_of_drain moment) first.drains.events second.drains.events first.drains.all second.drains.all;
     done = done_append first.drains.events second.drains.events a.course b.course c.course first.drains.done second.drains.done;
   };
+  losses = second.losses ∙ first.losses;
   opening = second.opening ∙ first.opening;
   budget = second.budget ∙ first.budget;
   items = second.items ∙ first.items;
@@ -136,7 +137,7 @@ act_is (TakeBytes client) moment pool = refl
 
 -- what a world was opened with stays
 abbrev IsOpenedSo : WorldState → WorldState → Type 0
-IsOpenedSo old new = (new.opening ≡ old.opening) × (new.budget ≡ old.budget) × (new.items ≡ old.items)
+IsOpenedSo old new = (new.opening ≡ old.opening) × (new.budget ≡ old.budget) × (new.items ≡ old.items) × (new.losses ≡ old.losses)
 
 -- an act that was done, and one that did not apply
 pub act_done : (act : Act) (moment : ℕ) (old new : WorldState) → WorldHolds old → StepsTo (event_of act moment old.course.pool) Done old.course new.course → IsOpenedSo old new
@@ -149,6 +150,7 @@ act_done act moment old new h steps opened = record {
         all = and_from (is_of_drain moment (event_of act moment old.course.pool)) true (act_is act moment old.course.pool) refl;
         done = (new.course, steps.does, refl);
       };
+      losses = opened.3;
       opening = opened.0;
       budget = opened.1;
       items = opened.2;

@@ -37,7 +37,7 @@ took_less client old new h =
     ap (work_of_requests ring) (takes.first.rest []) in
     let longer : length after.unanswered ≡ length before.unanswered + 1 =
     ap (λ (us : List Unanswered). length us) takes.unanswered
-    ∙ length-append before.unanswered (record { what = kept_of h.steps.step.0; outcomes = map (at_once old.proxy.links) commands } ∷ []) in
+    ∙ length-append before.unanswered (record { what = kept_of h.steps.step.0; losses = old.proxy.losses; outcomes = map (at_once old.proxy.links) commands } ∷ []) in
     let output : moves_of after.output ≡ moves_of before.output = ap moves_of takes.output in
     omega (arith, now, first, longer, output, sessions_updated ring client before after old.proxy.sessions h.steps.was, sites_handed client before.taken 0 commands old.proxy.links old.sites)
 

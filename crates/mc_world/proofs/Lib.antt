@@ -26,6 +26,7 @@ pub mod LogLivingLemmas
 pub mod LogHoldsLemmas
 pub mod LogTurnLemmas
 pub mod FollowLemmas
+pub mod PolicyLemmas
 pub mod LogAccountLemmas
 pub mod WorldOpeningLemmas
 pub mod CourseLemmas

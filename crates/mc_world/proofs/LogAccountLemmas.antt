@@ -21,12 +21,13 @@ use Rattle.mc_history.specs.declared.entries.Entry.{Entry}
 use Rattle.mc_world.specs.Accounts.{Accounts, NotAnswered}
 use Rattle.mc_world.specs.CourseHolds.{HaveOneConnection}
 use Rattle.mc_world.specs.LogHolds.{AreOrdered, IsFresh, IsPlaced, LogHolds}
-use Rattle.mc_world.specs.Logs.{Log, before, serves}
+use Rattle.mc_world.specs.Logs.{Log, before, number_of, puts, serves}
 use Rattle.mc_world.specs.Pools.{PoolHolds}
 use Rattle.mc_world.specs.WorldState.{PoolState, WayState, histories_of}
 use Rattle.mc_world.proofs.CommandLemmas.{commands_accounted}
 use Rattle.mc_world.proofs.FollowLemmas.{followed}
 use Rattle.mc_world.proofs.LogEntryLemmas.{got_some, history_at}
+use Rattle.mc_world.proofs.PolicyLemmas.{answers_chosen}
 
 none_at : {X : Type 0} (k : ℕ) → ◌≡◌ {A = Option X} (slice_get [] k) None
 none_at zero = refl
@@ -104,7 +105,7 @@ replied_at opening texts sent order lanes pool place tag atom reply h inside com
 -- the whole account
 pub log_accounts : (ring : RingState) (opening : CacheState) (texts sent : ℕ → List ℕ) (order : Order) (lanes : ℕ → Lane) (outs : ℕ → List ℕ) (log : Log) (pool : PoolState)
     → PoolHolds opening texts sent order lanes pool → LogHolds ring order outs log pool → HaveOneConnection log pool
-    → Accounts ring opening order texts outs (histories_of pool.sites) log
+    → Accounts pool.proxy.losses ring opening order texts outs (histories_of pool.sites) log
 log_accounts ring opening texts sent order lanes outs log pool holds h first =
     let commands = commands_accounted opening texts sent order lanes pool holds in
     record {
@@ -121,7 +122,7 @@ log_accounts ring opening texts sent order lanes outs log pool holds h first =
       ordered = λ place j k d e r q first second lt same replied also. ordered_replies order d e r q (h.histories.ordered place j k d e first second lt) same replied also;
       followed = followed ring opening texts sent order lanes outs log pool holds h first;
       answered = λ client. (h.answers.put client).complete;
-      put = λ client. sym (append-nil (outs client)) ∙ (h.answers.put client).answers;
+      put = λ client. sym (append-nil (outs client)) ∙ (h.answers.put client).answers ∙ answers_chosen pool.proxy.losses client (number_of (puts client) log) order holds.proxy.chosen;
       after = h.answers.after;
       moments = h.histories.moments;
       placed = λ place k e at.

@@ -97,7 +97,7 @@ log_takes opening order outs log client old new e h =
           routed h.requests;
       answers = answers_go order (order ++ asked_by e ∷ []) outs log (Happened (ProxyTurn client)) old.proxy new.proxy (λ c. refl)
           (λ c count out k. answers_push c order (asked_by e) count out [] k)
-          (open_as_many old.proxy new.proxy (answered-turn client turns.Took old.proxy.ring old.proxy new.proxy e.steps)) h.answers;
+          (open_as_many old.proxy new.proxy (answered-turn client turns.Took old.proxy.ring old.proxy.losses old.proxy new.proxy e.steps)) h.answers;
       histories = histories_go order (order ++ asked_by e ∷ []) log (Happened (ProxyTurn client)) (histories_of old.sites) (histories_of new.sites) (λ place. refl) (lost_pushed order (asked_by e))
           (λ place. ap (λ (ss : List SiteState). histories_of ss place) e.sites) h.histories;
       commands = commands_take opening (length old.sites) order (asked_by e) log (Happened (ProxyTurn client)) old.proxy.links old.sites new.sites h.requests h.histories (own_number client) refl routed

@@ -12,6 +12,7 @@ use Rattle.mc_ring.specs.Rings.{IsRing, RingState}
 use Rattle.mc_route.specs.declared.outcomes.Outcome.{Outcome}
 use Rattle.mc_route.specs.declared.outcomes.Outcome.TheVariants.{Awaited, Reply}
 use Rattle.mc_link.specs.LinkState.{LinkState, Waiting}
+use Rattle.mc_route.specs.declared.losses.Losses.{Losses}
 use Rattle.mc_cache.specs.CacheState.{CacheState, IsWithinBounds, opening_cache}
 use Rattle.mc_cache_laws.proofs.GoodStepLemmas.{opening_is_good}
 use Rattle.mc_server.specs.ServerState.{connection_at, output_of}
@@ -30,7 +31,7 @@ use Rattle.mc_world.specs.CourseHolds.{CourseHolds}
 use Rattle.mc_world.specs.Logs.{number_of, puts, takes}
 use Rattle.mc_world.specs.Runs.{Call, Calls}
 use Rattle.mc_world.specs.WorldState.{PoolState, SiteState, WayState}
-use Rattle.mc_world.specs.Worlds.{CourseState, opening_world, taken_by, text_of}
+use Rattle.mc_world.specs.Worlds.{CourseState, taken_by, text_of, world_opened}
 use Rattle.mc_event.specs.declared.events.Event.{Event}
 use Rattle.mc_event.specs.declared.events.Event.TheVariants.{ClientTakes, Emit, ProxyTurn, ReplyTurn, ServerSeesEnd, ServerTurn, ToProxy, ToServer}
 use Rattle.mc_world.proofs.LogOrderLemmas.{turns-taken}
@@ -175,11 +176,11 @@ course_quiet ring opening c h few stuck = record {
 }
 
 -- so it is of each course that calls lead to
-pub calls_quiet : (ring : RingState) (clients budget items : ℕ) (calls : List Call) (c : CourseState) → IsRing ring → IsWithinBounds budget items
-    → Calls (opening_cache budget items 0) calls (opening_world ring clients budget items).course c
+pub calls_quiet : (losses : Losses) (ring : RingState) (clients budget items : ℕ) (calls : List Call) (c : CourseState) → IsRing ring → IsWithinBounds budget items
+    → Calls (opening_cache budget items 0) calls (world_opened losses ring clients budget items).course c
     → ((client : ℕ) → number_of (takes client) c.log < 2 ^ 64 - 1) → IsStuck c.pool → IsQuiet c
-calls_quiet ring clients budget items calls c is_ring bounds run few stuck =
+calls_quiet losses ring clients budget items calls c is_ring bounds run few stuck =
     course_quiet ring (opening_cache budget items 0) c
-    (course_called ring (opening_cache budget items 0) calls (opening_world ring clients budget items).course c
+    (course_called ring (opening_cache budget items 0) calls (world_opened losses ring clients budget items).course c
     (opening_is_good budget items 0 bounds.some_items (omega arith))
-    (course_opens ring clients budget items is_ring bounds.some_items) run) (λ client _. few client) stuck
+    (course_opens losses ring clients budget items is_ring bounds.some_items) run) (λ client _. few client) stuck

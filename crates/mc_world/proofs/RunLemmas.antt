@@ -1,22 +1,25 @@
 -- A course holds after every list of events and joins of servers, and so gives account.
-use Rattle.std.proofs.Common.{ℕ, List, [], ◌∷◌, inl, inr, sym, subst, arith}
+use Rattle.std.proofs.Common.{◌≡◌, ℕ, List, [], ◌∷◌, inl, inr, sym, subst, arith}
 use Rattle.mc_ring.specs.Rings.{IsRing, RingState}
+use Rattle.mc_route.specs.declared.losses.Losses.{Losses}
 use Rattle.mc_cache.specs.CacheState.{CacheState, IsWithinBounds, opening_cache}
 use Rattle.mc_cache_laws.specs.GoodCaches.{IsGoodCache}
 use Rattle.mc_cache_laws.proofs.GoodStepLemmas.{opening_is_good}
 use Rattle.mc_world.specs.Accounts.{Account}
 use Rattle.mc_world.specs.CourseHolds.{CourseHolds}
 use Rattle.mc_world.specs.Runs.{Call, Calls, Join, Step}
-use Rattle.mc_world.specs.Worlds.{CourseState, history_of, opening_world, put_out_of, taken_by, text_of}
+use Rattle.mc_world.specs.Worlds.{CourseState, history_of, put_out_of, taken_by, text_of, world_opened}
 use Rattle.mc_world.proofs.DoneLemmas.{course_done}
 use Rattle.mc_world.proofs.JoinLemmas.{course_joins}
 use Rattle.mc_world.proofs.LogAccountLemmas.{log_accounts}
+use Rattle.mc_world.proofs.PolicyLemmas.{called_losses}
 use Rattle.mc_world.proofs.WorldOpeningLemmas.{course_opens}
 
 -- a course that holds gives account
-pub course_accounts : (ring : RingState) (opening : CacheState) (c : CourseState) → CourseHolds ring opening c
-    → Account ring opening (text_of c) (put_out_of c) (history_of c) c.log
-course_accounts ring opening c h =
+pub course_accounts : (losses : Losses) (ring : RingState) (opening : CacheState) (c : CourseState) → CourseHolds ring opening c → c.pool.proxy.losses ≡ losses
+    → Account losses ring opening (text_of c) (put_out_of c) (history_of c) c.log
+course_accounts losses ring opening c h chosen =
+    subst (λ (l : Losses). Account l ring opening (text_of c) (put_out_of c) (history_of c) c.log) chosen
     (h.order, log_accounts ring opening (text_of c) (taken_by c) h.order h.lanes (put_out_of c) c.log c.pool h.pool h.log h.connections)
 
 -- and so it does after every list of calls
@@ -37,11 +40,12 @@ course_called ring opening (Join address ∷ calls) old new good h run =
     ]) run.2
 
 -- every list of calls
-pub calls_account : (ring : RingState) (clients budget items : ℕ) (calls : List Call) (c : CourseState) → IsRing ring → IsWithinBounds budget items
-    → Calls (opening_cache budget items 0) calls (opening_world ring clients budget items).course c
-    → Account ring (opening_cache budget items 0) (text_of c) (put_out_of c) (history_of c) c.log
-calls_account ring clients budget items calls c is_ring bounds run =
-    course_accounts ring (opening_cache budget items 0) c
-    (course_called ring (opening_cache budget items 0) calls (opening_world ring clients budget items).course c
+pub calls_account : (losses : Losses) (ring : RingState) (clients budget items : ℕ) (calls : List Call) (c : CourseState) → IsRing ring → IsWithinBounds budget items
+    → Calls (opening_cache budget items 0) calls (world_opened losses ring clients budget items).course c
+    → Account losses ring (opening_cache budget items 0) (text_of c) (put_out_of c) (history_of c) c.log
+calls_account losses ring clients budget items calls c is_ring bounds run =
+    course_accounts losses ring (opening_cache budget items 0) c
+    (course_called ring (opening_cache budget items 0) calls (world_opened losses ring clients budget items).course c
     (opening_is_good budget items 0 bounds.some_items (omega arith))
-    (course_opens ring clients budget items is_ring bounds.some_items) run)
+    (course_opens losses ring clients budget items is_ring bounds.some_items) run)
+    (called_losses (opening_cache budget items 0) calls (world_opened losses ring clients budget items).course c run)

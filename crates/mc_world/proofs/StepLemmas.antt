@@ -2,6 +2,7 @@
 use Rattle.std.proofs.Common.{◌≡◌, ◌∙◌, ◌↔◌, ◌+◌, ◌<◌, inl, inr, ℕ, zero, suc, true, false, List, [], ◌∷◌, ◌++◌, length, take, get_or, Result, Ok, Err, IfOk, OnOk, OnErr, MatchResult, is_ok, refl, sym, ap, subst, arith}
 use Rattle.std.specs.Result.{is_err}
 use Rattle.mc_ring.specs.Rings.{IsRing, RingState}
+use Rattle.mc_route.specs.declared.losses.Losses.{Losses}
 use Rattle.mc_cache.specs.CacheState.{CacheState, IsWithinBounds, opening_cache}
 use Rattle.mc_cache_laws.proofs.GoodStepLemmas.{opening_is_good}
 use Rattle.mc_world.specs.Courses.{Applies, CourseServes, IsDone}
@@ -9,7 +10,7 @@ use Rattle.mc_world.specs.CourseHolds.{CourseHolds, WorldHolds}
 use Rattle.mc_world.specs.Happens.{Does}
 use Rattle.mc_world.specs.Joins.{HasServerJoined}
 use Rattle.mc_world.specs.Steps.{GivesAccount, IsTried, RunsTo, StepsTo}
-use Rattle.mc_world.specs.Worlds.{CourseState, WorldState, cache_of, opening_world}
+use Rattle.mc_world.specs.Worlds.{CourseState, WorldState, cache_of, world_opened}
 use Rattle.mc_world.specs.declared.errors.Step.{Step}
 use Rattle.mc_world.specs.declared.errors.Step.TheVariants.{Done, Nothing}
 use Rattle.mc_world.specs.declared.errors.WorldError.{WorldError}
@@ -44,11 +45,11 @@ course_steps ring opening event Done old new h does = course_done ring opening e
 course_steps ring opening event Nothing old new h does = subst (λ (c : CourseState). CourseHolds ring opening c) (sym does) h
 
 -- a world that was just opened holds, and each that holds gives account
-pub world_opens : (ring : RingState) (clients budget items : ℕ) → IsRing ring → IsWithinBounds budget items → WorldHolds (opening_world ring clients budget items)
-world_opens ring clients budget items is_ring bounds = record { bounds = bounds; course = course_opens ring clients budget items is_ring bounds.some_items }
+pub world_opens : (losses : Losses) (ring : RingState) (clients budget items : ℕ) → IsRing ring → IsWithinBounds budget items → WorldHolds (world_opened losses ring clients budget items)
+world_opens losses ring clients budget items is_ring bounds = record { bounds = bounds; losses = refl; course = course_opens losses ring clients budget items is_ring bounds.some_items }
 
 pub world_accounts : (w : WorldState) → WorldHolds w → GivesAccount w
-world_accounts w h = course_accounts w.opening (cache_of w) w.course h.course
+world_accounts w h = course_accounts w.losses w.opening (cache_of w) w.course h.course h.losses
 
 -- after a step that may have been refused
 pub course_stepped : (ring : RingState) (opening : CacheState) (event : Event (List ℕ)) (r : Result Step WorldError) (old new : CourseState) → CourseHolds ring opening old

@@ -28,15 +28,15 @@ updated-same number s (x ∷ xs) was =
 steps_still : (number : ℕ) (old new : ProxyState) (Step : List LinkState → List LinkState → SessionState → SessionState → Type 0) (h : Steps number old new Step)
     → h.after ≡ h.before → new.links ≡ old.links → new ≡ old
 steps_still number old new Step h same links =
-    same_proxy new old h.ring
+    same_proxy new old h.losses h.ring
     (h.is ∙ ap (λ (s : SessionState). updated number s old.sessions) same ∙ updated-same number h.before old.sessions h.was)
     h.admitted links
 
-pub turn_still : (number : ℕ) (turn : Turn) (old new : ProxyState) → turn ≢ turns.Took → Steps number old new (IsTurn number turn old.ring) → new ≡ old
+pub turn_still : (number : ℕ) (turn : Turn) (old new : ProxyState) → turn ≢ turns.Took → Steps number old new (IsTurn number turn old.ring old.losses) → new ≡ old
 turn_still number turns.Took old new differ h = absurd (differ refl)
-turn_still number turns.Idle old new differ h = steps_still number old new (IsTurn number turns.Idle old.ring) h h.step.1.1 h.step.1.0
-turn_still number turns.Waiting old new differ h = steps_still number old new (IsTurn number turns.Waiting old.ring) h h.step.1.1 h.step.1.0
-turn_still number turns.Closing old new differ h = steps_still number old new (IsTurn number turns.Closing old.ring) h h.step.1.1 h.step.1.0
+turn_still number turns.Idle old new differ h = steps_still number old new (IsTurn number turns.Idle old.ring old.losses) h h.step.1.1 h.step.1.0
+turn_still number turns.Waiting old new differ h = steps_still number old new (IsTurn number turns.Waiting old.ring old.losses) h h.step.1.1 h.step.1.0
+turn_still number turns.Closing old new differ h = steps_still number old new (IsTurn number turns.Closing old.ring old.losses) h h.step.1.1 h.step.1.0
 
 pub emit_still : (number : ℕ) (emit : Emit) (old new : ProxyState) → emit ≢ emits.Done → Steps number old new (Alone (IsEmit emit)) → new ≡ old
 emit_still number emits.Done old new differ h = absurd (differ refl)

@@ -7,6 +7,7 @@ use Rattle.std.proofs.lemmas.List.{drop_all, length-replicate}
 use Rattle.std.proofs.lemmas.Option.{none-some, same_Some}
 use Rattle.mc_request.specs.Requests.{requests_of, requests_within}
 use Rattle.mc_ring.specs.Rings.{IsRing, RingState}
+use Rattle.mc_route.specs.declared.losses.Losses.{Losses}
 use Rattle.mc_link.specs.LinkState.{LinkState, down_link, up_link}
 use Rattle.mc_cache.specs.CacheState.{CacheState, opening_cache}
 use Rattle.mc_cache_laws.specs.GoodCaches.{IsGoodCache}
@@ -16,7 +17,7 @@ use Rattle.mc_server.proofs.HoldsLemmas.{ServerHolds-admitted, ServerHolds-new}
 use Rattle.mc_session.specs.SessionState.{SessionState, answered, fresh_session, link_at}
 use Rattle.mc_proxy.specs.ProxyState.{ProxyState, Sessions, output_of, session_in, with_fresh}
 use Rattle.mc_account.specs.Lanes.{LinkHolds, fresh_lane}
-use Rattle.mc_account.specs.Orders.{IsSized, Order, Tagged, commands_to}
+use Rattle.mc_account.specs.Orders.{IsSized, IsToldAs, Order, Tagged, commands_to}
 use Rattle.mc_account.specs.Holds.{ProxyHolds}
 use Rattle.mc_account.proofs.LaneLemmas.{lane_fresh}
 use Rattle.mc_account.proofs.OpenSessions.{other_number}
@@ -29,7 +30,7 @@ use Rattle.mc_world.specs.LogHolds.{IsFresh, LogHolds}
 use Rattle.mc_world.specs.Pools.{PoolHolds}
 use Rattle.mc_world.specs.Sites.{SiteHolds}
 use Rattle.mc_world.specs.WorldState.{SiteState, histories_of}
-use Rattle.mc_world.specs.Worlds.{ClientState, client_at, first_site, fresh_sessions, nobody, opening_pool, opening_proxy, opening_world}
+use Rattle.mc_world.specs.Worlds.{ClientState, client_at, first_site, fresh_sessions, nobody, opening_pool, opening_proxy, world_opened}
 use Rattle.mc_world.proofs.DoneLemmas.{stood_as}
 use Rattle.mc_world.proofs.GenerationStayLemmas.{first_of_link}
 use Rattle.mc_world.proofs.LogAccountLemmas.{log_begins}
@@ -67,26 +68,27 @@ link_opens n place =
     (up_or_none n place)
 
 -- one client more is admitted
-pub one_admitted : (ring : RingState) (clients : ℕ) → with_fresh (opening_proxy ring clients) ≡ opening_proxy ring (suc clients)
-one_admitted ring clients =
+pub one_admitted : (losses : Losses) (ring : RingState) (clients : ℕ) → with_fresh (opening_proxy losses ring clients) ≡ opening_proxy losses ring (suc clients)
+one_admitted losses ring clients =
     let zero_more : 0 + clients ≡ clients = omega arith in
     let one_more : clients + 1 ≡ suc clients = omega arith in
     let sessions : fresh_sessions 0 clients ++ (clients, fresh_session) ∷ [] ≡ fresh_sessions 0 (suc clients) =
     sym (fresh-push 0 clients ∙ ap (λ (n : ℕ). fresh_sessions 0 clients ++ (n, fresh_session) ∷ []) zero_more) in
-    ap (λ (s : Sessions). record { ring = ring; sessions = s; admitted = clients + 1; links = replicate (length ring.servers) (up_link 1) }) sessions
-    ∙ ap (λ (n : ℕ). record { ring = ring; sessions = fresh_sessions 0 (suc clients); admitted = n; links = replicate (length ring.servers) (up_link 1) }) one_more
+    ap (λ (s : Sessions). record { losses = losses; ring = ring; sessions = s; admitted = clients + 1; links = replicate (length ring.servers) (up_link 1) }) sessions
+    ∙ ap (λ (n : ℕ). record { losses = losses; ring = ring; sessions = fresh_sessions 0 (suc clients); admitted = n; links = replicate (length ring.servers) (up_link 1) }) one_more
 
-proxy_opens : (ring : RingState) (clients : ℕ) → ProxyHolds (λ _. []) (λ _. []) [] (λ _. fresh_lane 0) (opening_proxy ring clients)
-proxy_opens ring zero = record {
+proxy_opens : (losses : Losses) (ring : RingState) (clients : ℕ) → ProxyHolds (λ _. []) (λ _. []) [] (λ _. fresh_lane 0) (opening_proxy losses ring clients)
+proxy_opens losses ring zero = record {
   sized = All-nil IsSized;
+  chosen = All-nil (IsToldAs losses);
   numbered = λ number. refl;
   sessions = λ number. record { untaken = []; rest = sym no_requests; done = []; incomplete = []; split = refl; complete = refl; unsent = []; answered = refl };
   unused = λ number above. record { not_open = refl; nothing_came = refl; nothing_taken = refl; nothing_sent = refl };
   links = λ place. link_opens (length ring.servers) place;
 }
-proxy_opens ring (suc clients) =
-    subst (λ (p : ProxyState). ProxyHolds (λ _. []) (λ _. []) [] (λ _. fresh_lane 0) p) (one_admitted ring clients)
-    (holds-admitted (λ _. []) (λ _. []) [] (λ _. fresh_lane 0) (opening_proxy ring clients) (proxy_opens ring clients) (session_above 0 clients clients (omega arith)))
+proxy_opens losses ring (suc clients) =
+    subst (λ (p : ProxyState). ProxyHolds (λ _. []) (λ _. []) [] (λ _. fresh_lane 0) p) (one_admitted losses ring clients)
+    (holds-admitted (λ _. []) (λ _. []) [] (λ _. fresh_lane 0) (opening_proxy losses ring clients) (proxy_opens losses ring clients) (session_above 0 clients clients (omega arith)))
 
 same_site : (opening : CacheState) (n place : ℕ) (site : SiteState) → slice_get (replicate n (first_site opening)) place ≡ Some site → first_site opening ≡ site
 same_site opening zero zero site at = absurd (none-some site at)
@@ -125,10 +127,10 @@ first_site_holds place order link opening good none replied = record {
   apart_living = λ up i way at. absurd (none-some way at);
 }
 
-pub opening_pool_holds : (opening : CacheState) (ring : RingState) (clients : ℕ) → IsGoodCache opening
-    → PoolHolds opening (λ _. []) (λ _. []) [] (λ _. fresh_lane 0) (opening_pool opening ring clients)
-opening_pool_holds opening ring clients good = record {
-  proxy = proxy_opens ring clients;
+pub opening_pool_holds : (losses : Losses) (opening : CacheState) (ring : RingState) (clients : ℕ) → IsGoodCache opening
+    → PoolHolds opening (λ _. []) (λ _. []) [] (λ _. fresh_lane 0) (opening_pool losses opening ring clients)
+opening_pool_holds losses opening ring clients good = record {
+  proxy = proxy_opens losses ring clients;
   sites = λ place site at. subst (λ (s : SiteState). SiteHolds place [] (fresh_lane 0) (link_at (replicate (length ring.servers) (up_link 1)) place) opening s)
       (same_site opening (length ring.servers) place site at)
       (first_site_holds place [] (link_at (replicate (length ring.servers) (up_link 1)) place) opening good refl (λ tag atom reply is. absurd (none-some _ is)));
@@ -172,8 +174,8 @@ no_history opening (suc n) (suc place) = no_history opening n place
 none_lost : (opening : CacheState) (n place : ℕ) (site : SiteState) → slice_get (replicate n (first_site opening)) place ≡ Some site → site.lost ≡ []
 none_lost opening n place site at = ap (λ (s : SiteState). s.lost) (sym (same_site opening n place site at))
 
-fresh_pool : (ring : RingState) (opening : CacheState) → IsRing ring → IsFresh ring (opening_pool opening ring 0)
-fresh_pool ring opening is_ring = record {
+fresh_pool : (losses : Losses) (ring : RingState) (opening : CacheState) → IsRing ring → IsFresh ring (opening_pool losses opening ring 0)
+fresh_pool losses ring opening is_ring = record {
   ring = refl;
   is_ring = is_ring;
   linked = length-replicate (length ring.servers) (up_link 1);
@@ -185,9 +187,9 @@ fresh_pool ring opening is_ring = record {
 }
 
 -- where nothing was done, the log leaves the pool so
-pub log_opens : (ring : RingState) (opening : CacheState) (clients : ℕ) → IsRing ring → LogHolds ring [] (λ _. []) [] (opening_pool opening ring clients)
-log_opens ring opening clients is_ring =
-    let begun = log_begins ring (opening_pool opening ring 0) (fresh_pool ring opening is_ring) in
+pub log_opens : (losses : Losses) (ring : RingState) (opening : CacheState) (clients : ℕ) → IsRing ring → LogHolds ring [] (λ _. []) [] (opening_pool losses opening ring clients)
+log_opens losses ring opening clients is_ring =
+    let begun = log_begins ring (opening_pool losses opening ring 0) (fresh_pool losses ring opening is_ring) in
     record {
       servers = record {
         ring = begun.servers.ring;
@@ -218,15 +220,15 @@ opening_generations opening (suc n) zero site at = subst (λ (s : SiteState). Is
 opening_generations opening (suc n) (suc place) site at = opening_generations opening n place site at
 
 -- a world that was just opened
-pub course_opens : (ring : RingState) (clients budget items : ℕ) → IsRing ring → 1 ≤ items
-    → CourseHolds ring (opening_cache budget items 0) (opening_world ring clients budget items).course
-course_opens ring clients budget items is_ring some =
-    stood_as ring (opening_cache budget items 0) [] (λ _. fresh_lane 0) (opening_world ring clients budget items).course (λ _. []) (λ _. []) (λ _. [])
+pub course_opens : (losses : Losses) (ring : RingState) (clients budget items : ℕ) → IsRing ring → 1 ≤ items
+    → CourseHolds ring (opening_cache budget items 0) (world_opened losses ring clients budget items).course
+course_opens losses ring clients budget items is_ring some =
+    stood_as ring (opening_cache budget items 0) [] (λ _. fresh_lane 0) (world_opened losses ring clients budget items).course (λ _. []) (λ _. []) (λ _. [])
     (λ n. sym (ap (λ (c : ClientState). c.text) (nobody_there clients n)))
     (λ n. sym (ap (λ (c : ClientState). c.taken) (nobody_there clients n)))
     (λ n. sym (ap (λ (c : ClientState). c.taken ++ output_of (session_in (fresh_sessions 0 clients) n)) (nobody_there clients n) ∙ nothing_put clients n))
-    (opening_pool_holds (opening_cache budget items 0) ring clients (opening_is_good budget items 0 some (omega arith)))
-    (log_opens ring (opening_cache budget items 0) clients is_ring)
+    (opening_pool_holds losses (opening_cache budget items 0) ring clients (opening_is_good budget items 0 some (omega arith)))
+    (log_opens losses ring (opening_cache budget items 0) clients is_ring)
     (sym (length-replicate clients nobody))
     (opening_generations (opening_cache budget items 0) (length ring.servers))
     (λ place site at never. ap (λ (s : SiteState). s.server.admitted) (sym (same_site (opening_cache budget items 0) (length ring.servers) place site at)))

@@ -1,5 +1,5 @@
 -- The account of a run: this project's own.
-use Rattle.std.specs.Prelude.{ℕ, ◌≡◌, ◌<◌, ◌≤◌, ◌⊎◌, true, false, List, ◌++◌, map, take, Some, slice_get, All}
+use Rattle.std.specs.Prelude.{ℕ, ◌≡◌, ◌<◌, ◌≤◌, ◌⊎◌, true, false, List, [], ◌∷◌, ◌++◌, map, take, Some, slice_get, All}
 use Rattle.std.specs.List.{list_all}
 use Rattle.mc_request.specs.declared.parts.Atom.{Atom}
 use Rattle.mc_request.specs.declared.parts.Taken.{Taken}
@@ -8,10 +8,12 @@ use Rattle.mc_reply.specs.declared.replies.Reply.{Reply as AReply}
 use Rattle.mc_reply.specs.Spelling.{spelling_of}
 use Rattle.mc_ring.specs.Rings.{RingState}
 use Rattle.mc_route.specs.Routes.{to_place}
+use Rattle.mc_route.specs.declared.losses.Losses.{Losses}
 use Rattle.mc_route.specs.declared.outcomes.Outcome.TheVariants.{Lost, Reply}
 use Rattle.mc_link.specs.declared.turns.Tag.{Tag}
+use Rattle.mc_session.specs.Emits.{answer_by}
 use Rattle.mc_cache.specs.CacheState.{CacheState}
-use Rattle.mc_account.specs.Orders.{AreInOrder, Entry as Asked, IsSized, Order, answers_of, commands_to, entries_of, is_complete, taken_of}
+use Rattle.mc_account.specs.Orders.{AreInOrder, Entry as Asked, IsSized, Order, commands_to, entries_of, is_complete, taken_of}
 use Rattle.mc_history.specs.declared.entries.Entry.{Entry}
 use Rattle.mc_world.specs.Logs.{IsRingAfter, Log, before, is_up, loses, moments_of, number_of, puts, serves, takes, turns_of}
 use Rattle.mc_history.specs.Histories.{HasNone, HasReply, IsLegal, tag_in}
@@ -43,9 +45,14 @@ WasLost place tag log =
 abbrev pub IsToldLost : ℕ → Tag → List Entry → Log → Type 0
 IsToldLost place tag history log = (down_when_taken place tag log × HasNone history tag) ⊎ (up_when_taken place tag log × WasLost place tag log)
 
--- What a run gives account of, by an order in which the requests were taken with what became of each command: the clients' texts,
--- what was put out to them, the servers' histories, all by number, and the log.
-pub record Accounts (ring : RingState) (opening : CacheState) (order : Order) (texts outs : ℕ → List ℕ) (histories : ℕ → List Entry) (log : Log) : Type 0 where
+-- the answers to requests that were taken, joined, by a choice for lost commands
+abbrev pub answers_by : Losses → Order → List ℕ
+answers_by losses [] = []
+answers_by losses (e ∷ es) = answer_by losses e.what e.outcomes ++ answers_by losses es
+
+-- What a run gives account of, by its choice for lost commands, and by an order in which the requests were taken with what became of each
+-- command: the clients' texts, what was put out to them, the servers' histories, all by number, and the log.
+pub record Accounts (losses : Losses) (ring : RingState) (opening : CacheState) (order : Order) (texts outs : ℕ → List ℕ) (histories : ℕ → List Entry) (log : Log) : Type 0 where
   -- each client's requests were taken in order, by the turns of the log in theirs, and routed by the ring of then; each of their commands
   -- has its outcome
   pub asked : (client : ℕ) → (untaken : List Taken) × (taken_of client order ++ untaken ≡ requests_of (texts client))
@@ -70,7 +77,7 @@ pub record Accounts (ring : RingState) (opening : CacheState) (order : Order) (t
   pub followed : (place : ℕ) → number_of (loses place) log ≡ 0 → (untaken : List Tag) × (map tag_in (histories place) ++ untaken ≡ tags_of (commands_to place order))
   -- what was put out to a client is the answers to its first requests, one for each put, and each was taken before it was answered
   pub answered : (client : ℕ) → list_all is_complete (take (number_of (puts client) log) (entries_of client order)) ≡ true
-  pub put : (client : ℕ) → outs client ≡ answers_of (take (number_of (puts client) log) (entries_of client order))
+  pub put : (client : ℕ) → outs client ≡ answers_by losses (take (number_of (puts client) log) (entries_of client order))
   pub after : (client request : ℕ) → request < number_of (puts client) log → request < number_of (takes client) (before (puts client) request log)
   -- a history has one entry for each turn of its server, at its moment; its request was taken before, and answered after where it was replied
   pub moments : (place : ℕ) → map (λ (e : Entry). e.moment) (histories place) ≡ moments_of place log
@@ -79,8 +86,8 @@ pub record Accounts (ring : RingState) (opening : CacheState) (order : Order) (t
       × ((reply : AReply (List ℕ)) → outcome_at order (tag_in e) ≡ Some (Reply reply) → NotAnswered (tag_in e) (before (serves place) k log))
 
 -- the account: there is such an order
-abbrev pub Account : RingState → CacheState → (ℕ → List ℕ) → (ℕ → List ℕ) → (ℕ → List Entry) → Log → Type 0
-Account ring opening texts outs histories log = (order : Order) × Accounts ring opening order texts outs histories log
+abbrev pub Account : Losses → RingState → CacheState → (ℕ → List ℕ) → (ℕ → List ℕ) → (ℕ → List Entry) → Log → Type 0
+Account losses ring opening texts outs histories log = (order : Order) × Accounts losses ring opening order texts outs histories log
 
 -- The clauses of the account that speak of no place of the log: each client's requests were taken in order, each command has its outcome,
 -- each history is legal, and no command has two entries in all of them.

@@ -66,6 +66,7 @@ pub record IsRested (moment : ℕ) (c : CourseState) : Type 0 where
 -- a world after some events of a drain: it is opened as it was
 pub record HasDrained (moment : ℕ) (old new : WorldState) : Type 0 where
   pub drains : Drains moment old.course new.course
+  pub losses : new.losses ≡ old.losses
   pub opening : new.opening ≡ old.opening
   pub budget : new.budget ≡ old.budget
   pub items : new.items ≡ old.items

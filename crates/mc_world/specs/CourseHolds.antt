@@ -38,7 +38,8 @@ pub record CourseHolds (ring : RingState) (opening : CacheState) (c : CourseStat
   pub generations : HaveOneGeneration c.pool
   pub connections : HaveOneConnection c.log c.pool
 
--- the same of a world, whose caches may have their bounds
+-- likewise for a world, whose caches may have their bounds, and whose proxy has the choice for lost commands that it was opened with
 pub record WorldHolds (w : WorldState) : Type 0 where
   pub bounds : IsWithinBounds w.budget w.items
+  pub losses : w.course.pool.proxy.losses ≡ w.losses
   pub course : CourseHolds w.opening (opening_cache w.budget w.items 0) w.course

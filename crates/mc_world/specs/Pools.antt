@@ -27,7 +27,7 @@ pub record HearsClient (client : ℕ) (piece : List ℕ) (old new : PoolState) :
   pub sites : new.sites ≡ old.sites
 
 pub record TakesRequest (client : ℕ) (old new : PoolState) : Type 0 where
-  pub steps : Steps client old.proxy new.proxy (IsTurn client turns.Took old.proxy.ring)
+  pub steps : Steps client old.proxy new.proxy (IsTurn client turns.Took old.proxy.ring old.proxy.losses)
   pub sites : new.sites ≡ old.sites
 
 -- the request that was taken, as the order has it
@@ -37,6 +37,7 @@ asked_by {client = client} {old = old} taking = record {
   request = taking.steps.before.taken;
   what = taking.steps.step.0;
   ring = old.proxy.ring;
+  losses = old.proxy.losses;
   outcomes = map (at_once old.proxy.links) (route_of_taken old.proxy.ring taking.steps.step.0);
 }
 

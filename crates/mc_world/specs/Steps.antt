@@ -24,6 +24,6 @@ RunsTo [] old new refusals = (new ≡ old) × (refusals ≡ 0)
 RunsTo (event ∷ events) old new refusals =
     (next : CourseState) × (first : ℕ) × (more : ℕ) × IsTried event old next first × RunsTo events next new more × (refusals ≡ first + more)
 
--- the account of a world: of its clients' texts and what was put out to them, its servers' histories, and its log
+-- the account of a world: of its choice for lost commands, its clients' texts and what was put out to them, its servers' histories, and its log
 abbrev pub GivesAccount : WorldState → Type 0
-GivesAccount w = Account w.opening (cache_of w) (text_of w.course) (put_out_of w.course) (history_of w.course) w.course.log
+GivesAccount w = Account w.losses w.opening (cache_of w) (text_of w.course) (put_out_of w.course) (history_of w.course) w.course.log

@@ -1,6 +1,8 @@
 -- A world, as contracts see it, and what can be read of it.
 use Rattle.std.specs.Prelude.{ℕ, zero, suc, List, [], ◌∷◌, ◌++◌, length, replicate, slice_index_or, slice_set}
 use Rattle.mc_ring.specs.Rings.{RingState}
+use Rattle.mc_route.specs.declared.losses.Losses.{Losses}
+use Rattle.mc_route.specs.declared.losses.Losses.TheVariants.{Told}
 use Rattle.mc_link.specs.LinkState.{up_link}
 use Rattle.mc_session.specs.SessionState.{fresh_session}
 use Rattle.mc_cache.specs.CacheState.{CacheState, opening_cache}
@@ -21,9 +23,10 @@ pub record CourseState : Type 0 where
   pub clients : List ClientState
   pub log : Log
 
--- a world: its course, and what it was opened with: the ring, and the bounds of each server's cache
+-- a world: its course, and what it was opened with: the choice for lost commands, the ring, and the bounds of each server's cache
 pub record WorldState : Type 0 where
   pub course : CourseState
+  pub losses : Losses
   pub opening : RingState
   pub budget : ℕ
   pub items : ℕ
@@ -66,8 +69,9 @@ abbrev pub first_site : CacheState → SiteState
 first_site opening = with_server (with_fresh (record { cache = opening; connections = []; admitted = 0 }))
 
 -- a proxy that has admitted so many clients, whose links are all up
-abbrev pub opening_proxy : RingState → ℕ → ProxyState
-opening_proxy ring clients = record {
+abbrev pub opening_proxy : Losses → RingState → ℕ → ProxyState
+opening_proxy losses ring clients = record {
+  losses = losses;
   ring = ring;
   sessions = fresh_sessions 0 clients;
   admitted = clients;
@@ -75,14 +79,18 @@ opening_proxy ring clients = record {
 }
 
 -- a pool in which nothing has happened: so many clients, and a server at each place of the ring
-abbrev pub opening_pool : CacheState → RingState → ℕ → PoolState
-opening_pool opening ring clients = record { proxy = opening_proxy ring clients; sites = replicate (length ring.servers) (first_site opening) }
+abbrev pub opening_pool : Losses → CacheState → RingState → ℕ → PoolState
+opening_pool losses opening ring clients = record { proxy = opening_proxy losses ring clients; sites = replicate (length ring.servers) (first_site opening) }
 
--- a world in which nothing has happened
-abbrev pub opening_world : RingState → ℕ → ℕ → ℕ → WorldState
-opening_world ring clients budget items = record {
-  course = record { pool = opening_pool (opening_cache budget items 0) ring clients; clients = replicate clients nobody; log = [] };
+-- a world in which nothing has happened, with a choice for lost commands; an opening world has the choice `Told`
+abbrev pub world_opened : Losses → RingState → ℕ → ℕ → ℕ → WorldState
+world_opened losses ring clients budget items = record {
+  course = record { pool = opening_pool losses (opening_cache budget items 0) ring clients; clients = replicate clients nobody; log = [] };
+  losses = losses;
   opening = ring;
   budget = budget;
   items = items;
 }
+
+abbrev pub opening_world : RingState → ℕ → ℕ → ℕ → WorldState
+opening_world ring clients budget items = world_opened Told ring clients budget items

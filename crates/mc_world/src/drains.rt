@@ -28,7 +28,7 @@ impl<S: Store + Drop> World<S> {
         ensures drains { Drains moment self.old.course self.new.course }
         ensures rounds { OnOk result (DrainsInRounds moment self.old.course self.new.course) }
         ensures quiet { OnOk result (IsQuiet self.new.course) }
-        ensures opened { (self.new.opening ≡ self.old.opening) × (self.new.budget ≡ self.old.budget) × (self.new.items ≡ self.old.items) }
+        ensures opened { (self.new.opening ≡ self.old.opening) × (self.new.budget ≡ self.old.budget) × (self.new.items ≡ self.old.items) × (self.new.losses ≡ self.old.losses) }
         ensures account { GivesAccount self.new }
         ensures err { IfErr result (λ e. e ≡ WorldError.Memory) }
     {

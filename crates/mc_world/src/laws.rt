@@ -1,6 +1,7 @@
 //! Laws of worlds. The functions do nothing: their contracts are the laws.
 ghost use Rattle.std.specs.Prelude.{◌≡◌, ◌∷◌, ◌++◌, ◌+◌, ◌^◌, ◌<◌, ℕ, Bool, List, [], All, Some, length, map, slice_get, take, true, if◌then◌else◌};
 ghost use Rattle.mc_ring.specs.Rings.{RingState};
+ghost use Rattle.mc_route.specs.declared.losses.Losses.{Losses};
 ghost use Rattle.mc_route.specs.declared.outcomes.Outcome.TheVariants.{Lost, Reply};
 ghost use Rattle.mc_cache.specs.CacheState.{CacheState};
 ghost use Rattle.mc_server.specs.ServerState.{connection_at, output_of};
@@ -18,7 +19,7 @@ ghost use Rattle.mc_history.specs.Named.{AreReplied};
 
 /// Where nothing has happened, the account is given.
 pub fn nothing_gives_account()
-    ensures { (ring : RingState) (opening : CacheState) → Account ring opening (λ _. []) (λ _. []) (λ _. []) [] }
+    ensures { (losses : Losses) (ring : RingState) (opening : CacheState) → Account losses ring opening (λ _. []) (λ _. []) (λ _. []) [] }
 {}
 
 /// What a client does, or the proxy for it, keeps a pool's standing.

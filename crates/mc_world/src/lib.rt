@@ -47,6 +47,7 @@ pub use laws::{
 pub use logs::Logged;
 pub use mc_event::Event;
 pub use mc_history::Entry;
+pub use mc_route::Losses;
 pub use pools::Pool;
 pub use sites::Site;
 pub use ways::Way;

@@ -1,7 +1,7 @@
 //! How a world is opened: its proxy with all clients admitted and all links up, and its servers.
 ghost use Rattle.std.specs.Prelude.{◌≡◌, [], length, replicate, All, IfOk, IsOkUnless};
 ghost use Rattle.mc_cache.specs.CacheState.{HasRoom, IsWithinBounds, opening_cache};
-ghost use Rattle.mc_world.specs.Worlds.{first_site, nobody, opening_proxy, opening_world};
+ghost use Rattle.mc_world.specs.Worlds.{first_site, nobody, opening_proxy, world_opened};
 ghost use Rattle.mc_world.specs.declared.errors.WorldError.TheVariants as errors;
 
 use crate::clients::Client;
@@ -13,6 +13,7 @@ use mc_cache::Cache;
 use mc_item::CasCounter;
 use mc_proxy::Proxy;
 use mc_ring::Ring;
+use mc_route::Losses;
 use mc_server::Server;
 use mc_store::{ListStore, Store};
 use std::alloc::{AllocError, Global};
@@ -21,6 +22,7 @@ use std::alloc::{AllocError, Global};
 pub(crate) fn opened_course<S: Store + Drop>(
     alloc: Global,
     ring: Ring,
+    losses: Losses,
     clients: usize,
     budget: u64,
     items: usize,
@@ -30,11 +32,11 @@ pub(crate) fn opened_course<S: Store + Drop>(
     requires each { length stores.items ≡ length ring.servers }
     requires empty { All (λ store. S.items store ≡ []) stores.items }
     requires room { All (λ store. HasRoom items (S.most store)) stores.items }
-    ensures opened { IfOk result (λ course. course ≡ (opening_world ring clients budget items).course) }
+    ensures opened { IfOk result (λ course. course ≡ (world_opened losses ring clients budget items).course) }
     ensures only_memory { IsOkUnless result errors.Memory }
 {
     let sites = opened_sites(alloc, budget, items, stores)?;
-    let proxy = opened_proxy(alloc, ring, clients)?;
+    let proxy = opened_proxy(alloc, ring, losses, clients)?;
     let clients = opened_clients(alloc, clients)?;
     Ok(Course {
         alloc,
@@ -45,12 +47,17 @@ pub(crate) fn opened_course<S: Store + Drop>(
 }
 
 /// A proxy that has admitted so many clients, and whose links are all up with the first generation.
-fn opened_proxy(alloc: Global, ring: Ring, clients: usize) -> Result<Proxy, WorldError>
-    ensures opened { IfOk result (λ proxy. proxy ≡ opening_proxy ring clients) }
+fn opened_proxy(
+    alloc: Global,
+    ring: Ring,
+    losses: Losses,
+    clients: usize,
+) -> Result<Proxy, WorldError>
+    ensures opened { IfOk result (λ proxy. proxy ≡ opening_proxy losses ring clients) }
     ensures only_memory { IsOkUnless result errors.Memory }
 {
     let places = ring.servers().len();
-    let mut proxy = Proxy::new(alloc, ring)?;
+    let mut proxy = Proxy::with_losses(alloc, ring, losses)?;
     for place in 0..places {
         proxy.back(place)?;
     }

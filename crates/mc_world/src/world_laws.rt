@@ -1,6 +1,7 @@
 //! Laws of the course of a world. The functions do nothing: their contracts are the laws.
 ghost use Rattle.std.specs.Prelude.{◌≡◌, ◌<◌, ◌-◌, ◌^◌, ℕ, [], List, true, All, IfOk};
 ghost use Rattle.mc_ring.specs.Rings.{IsRing, RingState};
+ghost use Rattle.mc_route.specs.declared.losses.Losses.{Losses};
 ghost use Rattle.mc_cache.specs.CacheState.{CacheState, HasRoom, IsWithinBounds, opening_cache};
 ghost use Rattle.mc_cache_laws.specs.GoodCaches.{IsGoodCache};
 ghost use Rattle.mc_account.specs.Lanes.{fresh_lane};
@@ -13,21 +14,22 @@ ghost use Rattle.mc_world.specs.Logs.{number_of, takes};
 ghost use Rattle.mc_world.specs.Quiet.{IsQuiet, is_inner};
 ghost use Rattle.mc_world.specs.Runs.{Call, Calls};
 ghost use Rattle.mc_world.specs.Steps.{RunsTo};
-ghost use Rattle.mc_world.specs.Worlds.{CourseState, history_of, opening_pool, opening_world, put_out_of, text_of};
+ghost use Rattle.mc_world.specs.Worlds.{CourseState, history_of, opening_pool, put_out_of, text_of, world_opened};
 ghost use Rattle.mc_event.specs.declared.events.Event.{Event};
 
 use crate::errors::WorldError;
 use crate::worlds::World;
 use mc_event::Event;
 use mc_ring::Ring;
+use mc_route::Losses;
 use mc_store::Store;
 use mc_text::Block;
 use std::alloc::Global;
 
 /// A pool that was just opened is where nothing was taken (`PoolHolds`): its links are up, and each server has taken nothing.
 pub fn opening_pools_hold()
-    ensures { (opening : CacheState) (ring : RingState) (clients : ℕ) → IsGoodCache opening
-        → PoolHolds opening (λ _. []) (λ _. []) [] (λ _. fresh_lane 0) (opening_pool opening ring clients) }
+    ensures { (losses : Losses) (opening : CacheState) (ring : RingState) (clients : ℕ) → IsGoodCache opening
+        → PoolHolds opening (λ _. []) (λ _. []) [] (λ _. fresh_lane 0) (opening_pool losses opening ring clients) }
 {}
 
 /// Where a course is after all that was done (`CourseHolds`) is kept by each event that is done.
@@ -45,15 +47,17 @@ pub fn courses_serve()
 /// gap; each server's executed commands are one history that the abstract cache replays; each answered command is once in its
 /// owner's history, each lost one at most once. The owner is that of the moment at which the request was taken.
 pub fn every_run_gives_account()
-    ensures { (ring : RingState) (clients budget items : ℕ) (calls : List Call) (c : CourseState) → IsRing ring → IsWithinBounds budget items
-        → Calls (opening_cache budget items 0) calls (opening_world ring clients budget items).course c
-        → Account ring (opening_cache budget items 0) (text_of c) (put_out_of c) (history_of c) c.log }
+    ensures { (losses : Losses) (ring : RingState) (clients budget items : ℕ) (calls : List Call) (c : CourseState) → IsRing ring → IsWithinBounds budget items
+        → Calls (opening_cache budget items 0) calls (world_opened losses ring clients budget items).course c
+        → Account losses ring (opening_cache budget items 0) (text_of c) (put_out_of c) (history_of c) c.log }
 {}
 
-/// The same on public calls alone: for any ring, clients, bounds, stores and list of events, the world that took them gives account.
+/// The same on public calls alone: for any ring, choice for lost commands, clients, bounds, stores and list of events, the world that took
+/// them gives account.
 pub fn every_world_gives_account<S: Store + Drop>(
     alloc: Global,
     ring: Ring,
+    losses: Losses,
     clients: usize,
     budget: u64,
     items: usize,
@@ -62,11 +66,11 @@ pub fn every_world_gives_account<S: Store + Drop>(
 ) -> Result<World<S>, WorldError>
     requires empty { All (λ store. S.items store ≡ []) stores.items }
     requires room { All (λ store. HasRoom items (S.most store)) stores.items }
-    ensures took { IfOk result (λ world. (refusals : ℕ) × RunsTo events.now (opening_world ring clients budget items).course world.course refusals) }
-    ensures account { IfOk result (λ world. Account ring (opening_cache budget items 0) (text_of world.course) (put_out_of world.course) (history_of world.course)
+    ensures took { IfOk result (λ world. (refusals : ℕ) × RunsTo events.now (world_opened losses ring clients budget items).course world.course refusals) }
+    ensures account { IfOk result (λ world. Account losses ring (opening_cache budget items 0) (text_of world.course) (put_out_of world.course) (history_of world.course)
         world.course.log) }
 {
-    let mut world = World::with_stores(alloc, ring, clients, budget, items, stores)?;
+    let mut world = World::with_losses(alloc, ring, losses, clients, budget, items, stores)?;
     world.run(events);
     Ok(world)
 }
@@ -75,8 +79,8 @@ pub fn every_world_gives_account<S: Store + Drop>(
 /// put out and ends are seen, the pool is quiet. Each request of each client that has not gone is answered, and nothing is left on any
 /// way. No client had 2^64 - 1 requests.
 pub fn nothing_is_stuck()
-    ensures { (ring : RingState) (clients budget items : ℕ) (calls : List Call) (c : CourseState) → IsRing ring → IsWithinBounds budget items
-        → Calls (opening_cache budget items 0) calls (opening_world ring clients budget items).course c
+    ensures { (losses : Losses) (ring : RingState) (clients budget items : ℕ) (calls : List Call) (c : CourseState) → IsRing ring → IsWithinBounds budget items
+        → Calls (opening_cache budget items 0) calls (world_opened losses ring clients budget items).course c
         → ((client : ℕ) → number_of (takes client) c.log < 2 ^ 64 - 1)
         → ((event : Event (List ℕ)) → is_inner event ≡ true → Applies event c.pool → ⊥) → IsQuiet c }
 {}

@@ -11,6 +11,7 @@ use mc_event::Event;
 use mc_history::Entry;
 use mc_item::CasCounter;
 use mc_ring::{Address, Ring};
+use mc_route::Losses;
 use mc_server::Server;
 use mc_store::{ListStore, Store};
 use mc_text::Block;
@@ -27,6 +28,8 @@ pub const MAX_CLIENTS: usize = 1024;
 pub struct World<S: Store + Drop> {
     alloc: Global,
     pub(crate) course: Course<S>,
+    /// The choice for lost commands.
+    losses: Losses,
     /// The ring at first: servers that joined are not in it.
     opening: Ring,
     budget: u64,
@@ -39,9 +42,9 @@ impl<S: Store + Drop> Model for World<S> {
 
     ghost Value = { WorldState };
 
-    ghost view = { λ w. record { course = w.course; opening = w.opening; budget = w.budget; items = w.items } };
+    ghost view = { λ w. record { course = w.course; losses = w.losses; opening = w.opening; budget = w.budget; items = w.items } };
 
-    ghost invariant = { λ w. WorldHolds (record { course = w.course; opening = w.opening; budget = w.budget; items = w.items }) };
+    ghost invariant = { λ w. WorldHolds (record { course = w.course; losses = w.losses; opening = w.opening; budget = w.budget; items = w.items }) };
 }
 
 impl World<ListStore> {
@@ -50,7 +53,7 @@ impl World<ListStore> {
     ghost use Rattle.mc_world.specs.Worlds.{opening_world};
 
     /// A world over plain lists in which nothing has happened: its clients are admitted, and all links are up with the first
-    /// generation.
+    /// generation. The choice for lost commands is [`Losses::Told`].
     ///
     /// `BadWorld` is answered for more than [`MAX_CLIENTS`] clients, and for bounds that no cache may have: 1 to 1,099,511,627,776
     /// bytes, and 1 to 16,777,216 items.
@@ -81,10 +84,11 @@ impl<S: Store + Drop> World<S> {
     ghost use Rattle.mc_world.specs.Refusals.{refusal_in, refusal_of};
     ghost use Rattle.mc_world.specs.Openings.{CanOpen};
     ghost use Rattle.mc_world.specs.Steps.{GivesAccount, RunsTo, StepsTo};
-    ghost use Rattle.mc_world.specs.Worlds.{cache_of, history_of, opening_world, put_out_of, text_of};
+    ghost use Rattle.mc_world.specs.Worlds.{cache_of, history_of, opening_world, put_out_of, text_of, world_opened};
 
     /// A world in which nothing has happened: its clients are admitted, and all links are up with the first generation. There is a
-    /// store for each server of the ring; each holds nothing, and may hold more items than the limit.
+    /// store for each server of the ring; each holds nothing, and may hold more items than the limit. The choice for
+    /// lost commands is [`Losses::Told`].
     ///
     /// `BadWorld` is answered for more than [`MAX_CLIENTS`] clients, for bounds that no cache may have, and for another number
     /// of stores than of servers.
@@ -103,6 +107,26 @@ impl<S: Store + Drop> World<S> {
         ensures only { IfErr result (λ e. (e ≡ WorldError.BadWorld) ⊎ (e ≡ WorldError.Memory)) }
         ensures account { IfOk result GivesAccount }
     {
+        World::with_losses(alloc, ring, Losses::Told, clients, budget, items, stores)
+    }
+
+    /// Likewise, with a choice for lost commands.
+    pub fn with_losses(
+        alloc: Global,
+        ring: Ring,
+        losses: Losses,
+        clients: usize,
+        budget: u64,
+        items: usize,
+        stores: Vec<S>,
+    ) -> Result<World<S>, WorldError>
+        requires empty { All (λ store. S.items store ≡ []) stores.items }
+        requires room { All (λ store. HasRoom items (S.most store)) stores.items }
+        ensures opened { IfOk result (λ world. world ≡ world_opened losses ring clients budget items) }
+        ensures bad { IsErrOf result WorldError.BadWorld ↔ (CanOpen ring clients budget items (length stores.items) → ⊥) }
+        ensures only { IfErr result (λ e. (e ≡ WorldError.BadWorld) ⊎ (e ≡ WorldError.Memory)) }
+        ensures account { IfOk result GivesAccount }
+    {
         if clients > MAX_CLIENTS
             || !is_within_bounds(budget, items)
             || stores.len() != ring.servers().len()
@@ -110,10 +134,11 @@ impl<S: Store + Drop> World<S> {
             return Err(WorldError::BadWorld);
         }
         let opening = copy_of(&ring)?;
-        let course = opened_course(alloc, ring, clients, budget, items, stores)?;
+        let course = opened_course(alloc, ring, losses, clients, budget, items, stores)?;
         Ok(World {
             alloc,
             course,
+            losses,
             opening,
             budget,
             items,
@@ -123,7 +148,7 @@ impl<S: Store + Drop> World<S> {
     /// Does what an event says, where it applies. At `Memory` nothing has changed, and the event applies.
     pub fn step(&mut self, event: &Event<Block>) -> Result<Step, WorldError>
         ensures steps { IfOk result (λ step. StepsTo event.now step self.old.course self.new.course) }
-        ensures opened { (self.new.opening ≡ self.old.opening) × (self.new.budget ≡ self.old.budget) × (self.new.items ≡ self.old.items) }
+        ensures opened { (self.new.opening ≡ self.old.opening) × (self.new.budget ≡ self.old.budget) × (self.new.items ≡ self.old.items) × (self.new.losses ≡ self.old.losses) }
         ensures account { GivesAccount self.new }
         ensures err { OnErr result (self.new ≡ self.old) }
         ensures err_applies { OnErr result (Applies event.now self.old.course.pool) }
@@ -135,7 +160,7 @@ impl<S: Store + Drop> World<S> {
     /// Does what events say, one after another, and gives how many were refused memory: those have changed nothing.
     pub fn run(&mut self, events: &[Event<Block>]) -> usize
         ensures runs { RunsTo events.now self.old.course self.new.course result }
-        ensures opened { (self.new.opening ≡ self.old.opening) × (self.new.budget ≡ self.old.budget) × (self.new.items ≡ self.old.items) }
+        ensures opened { (self.new.opening ≡ self.old.opening) × (self.new.budget ≡ self.old.budget) × (self.new.items ≡ self.old.items) × (self.new.losses ≡ self.old.losses) }
         ensures account { GivesAccount self.new }
     {
         let mut refused = 0;
@@ -165,7 +190,7 @@ impl<S: Store + Drop> World<S> {
         requires room { HasRoom self.old.items (S.most store) }
         ensures joined { OnOk result (HasServerJoined address (cache_of self.old) self.old.course self.new.course) }
         ensures place { IfOk result (λ place. place ≡ length self.old.course.pool.proxy.ring.servers) }
-        ensures opened { (self.new.opening ≡ self.old.opening) × (self.new.budget ≡ self.old.budget) × (self.new.items ≡ self.old.items) }
+        ensures opened { (self.new.opening ≡ self.old.opening) × (self.new.budget ≡ self.old.budget) × (self.new.items ≡ self.old.items) × (self.new.losses ≡ self.old.losses) }
         ensures account { GivesAccount self.new }
         ensures refused { refusal_in result ≡ refusal_of self.old.course.pool.proxy.ring.servers address }
         ensures given_back { IfErr result (λ refused. (S.items refused.1 ≡ []) × HasRoom self.old.items (S.most refused.1)) }

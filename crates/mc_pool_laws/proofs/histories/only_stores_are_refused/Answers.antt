@@ -3,6 +3,6 @@ use Rattle.mc_pool_laws.proofs.WantedLemmas.{are_wanted}
 use Rattle.mc_pool_laws.proofs.histories.only_stores_are_refused.Goals as goal
 
 pub returns : goal.returns
-returns c ring opening texts outs histories log account place =
+returns c losses ring opening texts outs histories log account place =
     are_wanted ring texts log place opening (histories place)
-    (replayed ring opening account.0 texts outs histories log account.1 place opening (histories place) (account.1.legal place))
+    (replayed losses ring opening account.0 texts outs histories log account.1 place opening (histories place) (account.1.legal place))

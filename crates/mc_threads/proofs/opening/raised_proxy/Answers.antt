@@ -1,5 +1,6 @@
 use Rattle.std.proofs.Common.{◌≡◌, ◌∙◌, ℕ, suc, ◌+◌, ◌<◌, List, [], length, sym, subst, ap, arith}
 use Rattle.std.specs.Prelude.{replicate}
+use Rattle.mc_route.specs.declared.losses.Losses.TheVariants.{Told}
 use Rattle.mc_link.specs.LinkState.{LinkState, up_link}
 use Rattle.mc_proxy.specs.ProxyState.{ProxyState}
 use Rattle.mc_session.specs.SessionState.{link_at, with_link}
@@ -23,7 +24,7 @@ loop-place-preserved c =
     c.in_ok-back.ensures.back
     ∙ ap (λ (generation : ℕ). record c.loop-place.proxy { links = with_link place (up_link generation) c.loop-place.proxy.links }) first
     ∙ ap (λ (p : ProxyState). record p { links = with_link place (up_link 1) p.links }) c.loop-place.invariant
-    ∙ ap (λ (ls : List LinkState). record { ring = c.args.ring; sessions = []; admitted = 0; links = ls })
+    ∙ ap (λ (ls : List LinkState). record { losses = Told; ring = c.args.ring; sessions = []; admitted = 0; links = ls })
     (raised-next place many inside ∙ ap (λ (n : ℕ). raised n many) next)
 
 -- and at the end all are
@@ -32,7 +33,7 @@ returns c =
     let many = length c.args.ring.servers in
     let servers : length c.servers-places.result.now ≡ many = ap (λ (servers : List (List ℕ)). length servers) c.servers-places.ensures.servers in
     let all : c.loop-place.place ≡ many = omega (arith, c.loop-place-test.false, c.loop-place.auto.place-end, servers) in
-    let is : c.loop-place.proxy ≡ record { ring = c.args.ring; sessions = []; admitted = 0; links = replicate many (up_link 1) } =
+    let is : c.loop-place.proxy ≡ record { losses = Told; ring = c.args.ring; sessions = []; admitted = 0; links = replicate many (up_link 1) } =
     c.loop-place.invariant
-    ∙ ap (λ (ls : List LinkState). record { ring = c.args.ring; sessions = []; admitted = 0; links = ls }) (ap (λ (n : ℕ). raised n many) all ∙ raised-all many) in
+    ∙ ap (λ (ls : List LinkState). record { losses = Told; ring = c.args.ring; sessions = []; admitted = 0; links = ls }) (ap (λ (n : ℕ). raised n many) all ∙ raised-all many) in
     subst (λ (p : ProxyState). Talks c.args.ring 0 (λ _. []) (λ _. []) (λ _. []) (λ _. []) p) (sym is) (talks_opens c.args.ring c.servers-places.ensures.ring)

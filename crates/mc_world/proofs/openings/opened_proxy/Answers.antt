@@ -23,7 +23,7 @@ loop-place-preserved c =
     c.in_ok-back.ensures.back
     ∙ ap (λ (generation : ℕ). record c.loop-place.proxy { links = with_link place (up_link generation) c.loop-place.proxy.links }) first
     ∙ ap (λ (p : ProxyState). record p { links = with_link place (up_link 1) p.links }) c.loop-place.invariant
-    ∙ ap (λ (ls : List LinkState). record { ring = c.args.ring; sessions = []; admitted = 0; links = ls })
+    ∙ ap (λ (ls : List LinkState). record { losses = c.args.losses; ring = c.args.ring; sessions = []; admitted = 0; links = ls })
     (raised-next place many inside ∙ ap (λ (n : ℕ). raised n many) next)
 
 -- and at the end all are
@@ -33,7 +33,7 @@ loop-init c =
     let servers : length c.servers-places.result.now ≡ many = ap (λ (servers : List (List ℕ)). length servers) c.servers-places.ensures.servers in
     let all : c.loop-place.place ≡ many = omega (arith, c.loop-place-test.false, c.loop-place.auto.place-end, servers) in
     c.loop-place.invariant
-    ∙ ap (λ (ls : List LinkState). record { ring = c.args.ring; sessions = []; admitted = 0; links = ls }) (ap (λ (n : ℕ). raised n many) all ∙ raised-all many)
+    ∙ ap (λ (ls : List LinkState). record { losses = c.args.losses; ring = c.args.ring; sessions = []; admitted = 0; links = ls }) (ap (λ (n : ℕ). raised n many) all ∙ raised-all many)
 
 -- one client more is admitted
 pub loop-preserved : goal.loop-preserved
@@ -41,5 +41,5 @@ loop-preserved c =
     let next : suc c.loop.counter ≡ c.loop.counter + 1 = omega arith in
     c.in_ok-admit.ensures.admitted
     ∙ ap (λ (p : ProxyState). with_fresh p) c.loop.invariant
-    ∙ one_admitted c.args.ring c.loop.counter
-    ∙ ap (λ (n : ℕ). opening_proxy c.args.ring n) next
+    ∙ one_admitted c.args.losses c.args.ring c.loop.counter
+    ∙ ap (λ (n : ℕ). opening_proxy c.args.losses c.args.ring n) next

@@ -5,8 +5,8 @@ use Rattle.mc_world.proofs.openings.opened_proxy.Given as goal
 
 -- so many clients are admitted
 abbrev pub invariant-loop : goal.invariant-loop
-invariant-loop l = l.proxy ≡ opening_proxy l.fn.ring l.counter
+invariant-loop l = l.proxy ≡ opening_proxy l.fn.losses l.fn.ring l.counter
 
 -- the first links are up
 abbrev pub invariant-loop-place : goal.invariant-loop-place
-invariant-loop-place l = l.proxy ≡ record { ring = l.fn.ring; sessions = []; admitted = 0; links = raised l.place (length l.fn.ring.servers) }
+invariant-loop-place l = l.proxy ≡ record { losses = l.fn.losses; ring = l.fn.ring; sessions = []; admitted = 0; links = raised l.place (length l.fn.ring.servers) }

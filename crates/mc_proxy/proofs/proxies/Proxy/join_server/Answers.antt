@@ -16,6 +16,7 @@ returns-clause-joined c =
       points = rw last c.in_ok-ring.ensures.points;
       moves = rw last c.in_ok-ring.ensures.moves;
       sessions = refl;
+      losses = refl;
       admitted = refl;
       links =
           let split : states (own.links.items ++ c.joining-link.result ∷ []) ≡ states own.links.items ++ joined_link c.args.up ∷ [] =

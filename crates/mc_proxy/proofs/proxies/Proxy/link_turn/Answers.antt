@@ -37,6 +37,7 @@ returns-in-Took-clause-turn c =
       links = states-set links c.args.server c.turn.new.self;
       sessions = refl;
       ring = refl;
+      losses = refl;
       admitted = refl;
     })
 

@@ -14,6 +14,7 @@ returns-in_err-lost-clause-err c =
 pub loop-tag-preserved : goal.loop-tag-preserved
 loop-tag-preserved c = record {
   sessions = rw c.note.ensures (rw c.in-Some-2.ensures.steps.0 at c.loop-tag.invariant.sessions);
+  losses = rw c.note.ensures c.loop-tag.invariant.losses;
   ring = rw c.note.ensures c.loop-tag.invariant.ring;
   admitted = rw c.note.ensures c.loop-tag.invariant.admitted;
   links = rw c.note.ensures c.loop-tag.invariant.links;
@@ -34,6 +35,7 @@ returns-clause-lost c =
     let none : length left.items ≡ 0 = omega (arith, c.in-None.ensures.steps.0, left.ok) in
     let all = rw (c.into_iter-tag-iterator.ensures.into_iter_gives.0, c.in_ok-lost.ensures.waiting) at c.loop-tag.invariant.sessions in
     rw (← c.self.view_is, here) (same_proxy _ _
+    c.loop-tag.invariant.losses
     c.loop-tag.invariant.ring
     (sym (all_lost-none left.items c.loop-tag.self.sessions none) ∙ all)
     c.loop-tag.invariant.admitted

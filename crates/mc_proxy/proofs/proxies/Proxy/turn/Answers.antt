@@ -23,6 +23,7 @@ returns-in_ok-turn-in-Some-clause-turn c =
       was = sym c.in-Some.ensures.value;
       is = refl;
       ring = refl;
+      losses = refl;
       admitted = refl;
       step = rw c.as_mut_slice-links.ensures.value at c.in_ok-turn-in-Some.ensures.turn;
     })

@@ -18,6 +18,6 @@ returns-in_default g c =
 
 pub returns-clause-applies : goal.returns-clause-applies
 returns-clause-applies g c =
-    let steps : Steps c.args.client c.self.inside.proxy c.turn.new.self (IsTurn c.args.client turns.Took c.self.inside.proxy.ring) =
-    subst (λ (t : Turn). Steps c.args.client c.self.inside.proxy c.turn.new.self (IsTurn c.args.client t c.self.inside.proxy.ring)) c.in-Took.is c.in-Ok.ensures.turn in
+    let steps : Steps c.args.client c.self.inside.proxy c.turn.new.self (IsTurn c.args.client turns.Took c.self.inside.proxy.ring c.self.inside.proxy.losses) =
+    subst (λ (t : Turn). Steps c.args.client c.self.inside.proxy c.turn.new.self (IsTurn c.args.client t c.self.inside.proxy.ring c.self.inside.proxy.losses)) c.in-Took.is c.in-Ok.ensures.turn in
     rw (← c.self.view_is) (it_applies (was_ready c.args.client c.self.inside.proxy c.turn.new.self c.self.inside.sites.items steps))

@@ -4,4 +4,4 @@ use Rattle.mc_world.proofs.worlds.World.gives_account.Goals as goal
 
 pub returns : goal.returns
 returns g c =
-    rw (← c.self.view_is) (world_accounts (world_of c.self.inside.course c.self.inside.opening c.self.inside.budget c.self.inside.items) c.self.invariant)
+    rw (← c.self.view_is) (world_accounts (world_of c.self.inside.course c.self.inside.losses c.self.inside.opening c.self.inside.budget c.self.inside.items) c.self.invariant)

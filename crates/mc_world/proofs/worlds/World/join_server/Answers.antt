@@ -1,5 +1,6 @@
-use Rattle.std.proofs.Common.{rules, ◌≡◌}
+use Rattle.std.proofs.Common.{rules, ◌≡◌, ◌∙◌}
 use Rattle.mc_cache.specs.CacheState.{opening_cache}
+use Rattle.mc_world.proofs.PolicyLemmas.{joined_losses}
 use Rattle.mc_world.proofs.StepLemmas.{course_joined, world_accounts}
 use Rattle.mc_world.proofs.worlds.World.join_server.Goals as goal
 
@@ -9,6 +10,7 @@ invariant_of-self g c =
     let opens : c.new.result.cache ≡ opening_cache c.self.inside.budget c.self.inside.items 0 = search rules in
     record {
       bounds = c.self.invariant.bounds;
+      losses = joined_losses c.args.address c.new.result.cache c.join.result c.self.inside.course c.join.new.self c.join.ensures.joined c.join.ensures.err ∙ c.self.invariant.losses;
       course = course_joined c.self.inside.opening c.self.inside.budget c.self.inside.items c.args.address c.new.result.cache c.join.result c.self.inside.course c.join.new.self
           c.self.invariant.bounds opens c.self.invariant.course c.join.ensures.joined c.join.ensures.err;
     }
@@ -16,8 +18,9 @@ invariant_of-self g c =
 pub returns-clause-account : goal.returns-clause-account
 returns-clause-account g c =
     let opens : c.new.result.cache ≡ opening_cache c.self.inside.budget c.self.inside.items 0 = search rules in
-    world_accounts (record { course = c.join.new.self; opening = c.self.inside.opening; budget = c.self.inside.budget; items = c.self.inside.items }) (record {
+    world_accounts (record { course = c.join.new.self; losses = c.self.inside.losses; opening = c.self.inside.opening; budget = c.self.inside.budget; items = c.self.inside.items }) (record {
       bounds = c.self.invariant.bounds;
+      losses = joined_losses c.args.address c.new.result.cache c.join.result c.self.inside.course c.join.new.self c.join.ensures.joined c.join.ensures.err ∙ c.self.invariant.losses;
       course = course_joined c.self.inside.opening c.self.inside.budget c.self.inside.items c.args.address c.new.result.cache c.join.result c.self.inside.course c.join.new.self
           c.self.invariant.bounds opens c.self.invariant.course c.join.ensures.joined c.join.ensures.err;
     })

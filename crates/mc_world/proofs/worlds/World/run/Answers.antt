@@ -25,7 +25,7 @@ loop-event-preserved g c =
                 (runs-more (take i c.args.events.now) item c.args.self.now.course c.loop-event.self.course c.step.new.self.course c.loop-event.refused 1 c.loop-event.invariant.runs
                 (tried_in_vain item c.step.result c.loop-event.self c.step.new.self failed c.step.ensures.err)));
             few = omega (arith, few, counted);
-            opened = (step.0 ∙ before.0, step.1 ∙ before.1, step.2 ∙ before.2);
+            opened = (step.0 ∙ before.0, step.1 ∙ before.1, step.2 ∙ before.2, step.3 ∙ before.3);
           }
       | else-is_err w ↦
           let answered : is_err c.step.result ≡ false = sym c.is_err.ensures.value ∙ w.if-is_err.false in
@@ -37,6 +37,6 @@ loop-event-preserved g c =
                 (runs-more (take i c.args.events.now) item c.args.self.now.course c.loop-event.self.course c.step.new.self.course c.loop-event.refused 0 c.loop-event.invariant.runs
                 (tried item c.step.result c.loop-event.self.course c.step.new.self.course answered c.step.ensures.steps)));
             few = omega (arith, few, counted);
-            opened = (step.0 ∙ before.0, step.1 ∙ before.1, step.2 ∙ before.2);
+            opened = (step.0 ∙ before.0, step.1 ∙ before.1, step.2 ∙ before.2, step.3 ∙ before.3);
           }
     ]

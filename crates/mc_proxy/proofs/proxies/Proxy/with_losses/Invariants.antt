@@ -1,7 +1,7 @@
 use Rattle.std.proofs.Common.{◌≡◌, replicate}
 use Rattle.mc_link.specs.LinkState.{down_link}
 use Rattle.mc_session.specs.SessionState.{states}
-use Rattle.mc_proxy.proofs.proxies.Proxy.new.Given as goal
+use Rattle.mc_proxy.proofs.proxies.Proxy.with_losses.Given as goal
 
 -- so many links are there, all of them down, and none was ever up
 abbrev pub invariant-loop : goal.invariant-loop

@@ -1,6 +1,6 @@
 use Rattle.std.proofs.Common.{◌≡◌, ℕ, List, length, ap, arith}
 use Rattle.mc_proxy.proofs.LinkLemmas.{states-push, length_never_up}
-use Rattle.mc_proxy.proofs.proxies.Proxy.new.Goals as goal
+use Rattle.mc_proxy.proofs.proxies.Proxy.with_losses.Goals as goal
 
 -- one more link is there
 pub loop-preserved : goal.loop-preserved
