@@ -56,7 +56,8 @@ def batch(mix, first):
         return b"".join(store(key, 10 + key * 7919 % 391) for key in range(first, first + PIPELINE))
     if mix == "deletes":
         stores = [store(key, VALUE_SIZE) for key in range(first, first + PIPELINE * 7 // 10)]
-        deletes = [b"delete key-%016d\r\n" % (first - 1_000 - k) for k in range(PIPELINE - len(stores))]
+        stored_before = first - 20 * PIPELINE  # the first key of a batch that was stored
+        deletes = [b"delete key-%016d\r\n" % (stored_before + k) for k in range(PIPELINE - len(stores))]
         return b"".join(stores + deletes)
     return b"".join(store(key, VALUE_SIZE) for key in range(first, first + PIPELINE))
 

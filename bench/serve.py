@@ -1,14 +1,15 @@
 #!/usr/bin/env python3
 """Measures what a request costs a server, beside Debian's memcached with one thread; or a proxy, beside Debian's nutcracker.
 
-Usage: serve.py SERVER [--through PROXY] [--stores KIND,KIND] [--beside PROGRAM] [--cases NAME,NAME ..] [--seconds S] [--rounds N]
+Usage: serve.py SERVER [--through PROXY] [--stores KIND,KIND] [--beside PROGRAM] [--cases NAME,NAME ..] [--seconds S] [--rounds N] [--free]
 
 SERVER is the built mc_serverd. It is measured with each of its stores, `table` and `lru`, or those of --stores. (memcached in its
 place measures memcached beside itself, with --stores table: all ratios are to be about 1.)
 Both servers are filled, and loaded in turn within one run: for each case many short rounds, each of both servers.
 The load is load.c, which is built by `cc -O2` into a temporary folder: it keeps a batch of requests of each connection
 outstanding and looks at every reply. Where there are two processors or more, both servers have one of their own and the
-load another.
+load another. With --free nothing is kept on a processor, and two processes load, each by half of the connections: a figure counts if both
+ways show it.
 
 With --through, PROXY (the built mc_proxyd) is measured beside nutcracker (`distribution: ketama`, `hash: md5`): both are in
 front of the same two servers, which are SERVER's, on processors of their own where there are enough. What these servers spend
@@ -68,17 +69,23 @@ class Case(NamedTuple):
 
 
 LARGE, MILLION = Data(10_000, 10_240), Data(1_000_000, 100)
+PAGES, FILES = Data(1_000, 102_400), Data(200, 512_000)
+CONNECTIONS = 50  # of a load, where no case says otherwise
 CASES = [
-    Case("get1", "get, one at a time", 0.95),
-    Case("get32", "get, 32 at a time", 0.12, words="pipeline=32"),
-    Case("set1", "set, one at a time", 0.95, words="get=0 set=100"),
-    Case("set32", "set, 32 at a time", 0.45, words="get=0 set=100 pipeline=32"),
-    Case("mg32", "mg with v, 32 at a time", 0.45, words="get=0 mg=100 pipeline=32"),
-    Case("keys24", "get of 24 keys", 0.40, words="many=24"),
-    Case("get500", "get of 500 connections", 0.95, words="connections=500"),
-    Case("zipf", "9 gets to a set, keys by Zipf's law", 0.90, words="get=90 set=10 zipf=0.99"),
-    Case("get10k", "get of 10,240 bytes, 10,000 keys", 1.00, LARGE),
-    Case("set10k", "set of 10,240 bytes, 10,000 keys", 1.00, LARGE, "get=0 set=100"),
+    Case("get1", "get, one at a time", 0.92),
+    Case("get32", "get, 32 at a time", 0.09, words="pipeline=32"),
+    Case("set1", "set, one at a time", 0.83, words="get=0 set=100"),
+    Case("set32", "set, 32 at a time", 0.28, words="get=0 set=100 pipeline=32"),
+    Case("mg32", "mg with v, 32 at a time", 0.33, words="get=0 mg=100 pipeline=32"),
+    Case("keys24", "get of 24 keys", 0.37, words="many=24"),
+    Case("get500", "get of 500 connections", 0.90, words="connections=500"),
+    Case("zipf", "9 gets to a set, keys by Zipf's law", 0.92, words="get=90 set=10 zipf=0.99"),
+    Case("get10k", "get of 10,240 bytes, 10,000 keys", 0.85, LARGE),
+    Case("set10k", "set of 10,240 bytes, 10,000 keys", 0.85, LARGE, "get=0 set=100"),
+    Case("get100k", "get of 102,400 bytes, 1,000 keys", 0.85, PAGES),
+    Case("set100k", "set of 102,400 bytes, 1,000 keys", 0.85, PAGES, "get=0 set=100"),
+    Case("get500k", "get of 512,000 bytes, 200 keys", 0.85, FILES),
+    Case("set500k", "set of 512,000 bytes, 200 keys", 0.85, FILES, "get=0 set=100"),
     Case("million32", "get of 1,000,000 keys, 32 at a time", 0.35, MILLION, "pipeline=32"),
 ]
 OTHERS = ["memory", "flush"]
@@ -91,6 +98,8 @@ CASES_OF_PROXIES = [
     Case("get500", "get of 500 connections", None, words="connections=500"),
     Case("get10k", "get of 10,240 bytes, 10,000 keys", None, LARGE),
     Case("set10k", "set of 10,240 bytes, 10,000 keys", None, LARGE, "get=0 set=100"),
+    Case("get100k", "get of 102,400 bytes, 1,000 keys", None, PAGES),
+    Case("set100k", "set of 102,400 bytes, 1,000 keys", None, PAGES, "get=0 set=100"),
 ]
 OTHERS_OF_PROXIES = ["memory"]
 MANY_CLIENTS = 500
@@ -98,32 +107,38 @@ SERVERS_OF_A_PROXY = 2
 
 
 class Load:
-    """The load program, connected to a server."""
+    """The load program, connected to a server: one process of it, or more that share its connections."""
 
-    def __init__(self, program, server, processor, data, words):
-        words = [f"keys={data.keys}", f"size={data.size}", *words.split()]
-        self.process = subprocess.Popen(
-            [program, str(server.port), *words], stdin=subprocess.PIPE, stdout=subprocess.PIPE, text=True
-        )
-        pin(self.process.pid, processor)
+    def __init__(self, program, server, processor, data, words, parts=1):
+        settings = dict(word.split("=") for word in words.split())
+        connections = int(settings.pop("connections", CONNECTIONS))
+        rest = [f"keys={data.keys}", f"size={data.size}", *(f"{name}={number}" for name, number in settings.items())]
+        self.processes = []
+        for part in range(parts):
+            share = (connections + part) // parts
+            line = [program, str(server.port), f"connections={share}", *rest]
+            self.processes.append(subprocess.Popen(line, stdin=subprocess.PIPE, stdout=subprocess.PIPE, text=True))
+            pin(self.processes[-1].pid, processor)
 
     def tell(self, line):
-        """Gives it a line, and gives back the requests that it made and the seconds that it took."""
-        self.process.stdin.write(line + "\n")
-        self.process.stdin.flush()
-        answer = self.process.stdout.readline().split()
-        if len(answer) != 2:
+        """Gives each process a line, and gives back the requests that they made in all and the seconds that the slowest took."""
+        for each in self.processes:
+            each.stdin.write(line + "\n")
+            each.stdin.flush()
+        answers = [each.stdout.readline().split() for each in self.processes]
+        if any(len(answer) != 2 for answer in answers):
             raise SystemExit("bench/serve.py: the load ended")
-        return int(answer[0]), float(answer[1])
+        return sum(int(answer[0]) for answer in answers), max(float(answer[1]) for answer in answers)
 
     def __enter__(self):
         return self
 
     def __exit__(self, *_):
-        self.process.kill()
-        self.process.wait()
-        self.process.stdin.close()
-        self.process.stdout.close()
+        for each in self.processes:
+            each.kill()
+            each.wait()
+            each.stdin.close()
+            each.stdout.close()
 
 
 class Round(NamedTuple):
@@ -182,8 +197,8 @@ class Pair:
         words = self.bench.words_of(program)
         return self.stack.enter_context(Server(program, budget, self.data.keys * 11 // 10, words=words))
 
-    def load(self, each, words):
-        return Load(self.bench.load, each, self.bench.processor(1), self.data, words)
+    def load(self, each, words, parts=1):
+        return Load(self.bench.load, each, self.bench.processor(1), self.data, words, parts)
 
     def fill(self, each):
         with self.load(each, "connections=10 pipeline=64 get=0 set=100") as load:
@@ -201,8 +216,8 @@ class Pair:
     def measure(self, case):
         """The rounds of a case, of each of both; who comes first changes from round to round."""
         rounds = [[], []]
-        with self.load(self.measured[0], case.words) as first, self.load(self.measured[1], case.words) as second:
-            loads = (first, second)
+        with contextlib.ExitStack() as stack:
+            loads = [stack.enter_context(self.load(each, case.words, self.bench.loops)) for each in self.measured]
             for each, load in zip(self.measured, loads):
                 self.round(each, load, WARM_UP)
             for number in range(self.bench.rounds):
@@ -235,7 +250,7 @@ class Bench:
         self.server, self.store, self.is_of_proxies = asked.server, store, asked.through is not None
         self.programs = [asked.through or asked.server, asked.beside]
         self.seconds, self.rounds = asked.seconds, asked.rounds
-        self.processors = processors()
+        self.processors, self.loops = ([], 2) if asked.free else (processors(), 1)
         self.load = str(folder / "load")
         subprocess.run(["cc", "-O2", "-o", self.load, str(HERE / "load.c"), "-lm"], check=True)
 
@@ -327,7 +342,7 @@ def told_machine(bench, versions):
     models = [line for line in pathlib.Path("/proc/cpuinfo").read_text().splitlines() if line.startswith("model name")]
     model = models[0].partition(": ")[2] if models else platform.machine()
     memory = os.sysconf("SC_PHYS_PAGES") * os.sysconf("SC_PAGE_SIZE") / 2**30
-    where = "nothing was kept on a processor"
+    where = f"nothing was kept on a processor, {bench.loops} processes loaded"
     if bench.processors:
         what = "proxies" if bench.is_of_proxies else "servers"
         where = f"{what} on processor {bench.processor(0)}, the load on {bench.processor(1)}"
@@ -385,7 +400,7 @@ def run(bench, all_cases, wanted):
     rows = {"memory": memory_rows_of_proxies if bench.is_of_proxies else memory_rows, "flush": flush_rows}
     data_of = {"memory": Data() if bench.is_of_proxies else MILLION, "flush": MILLION}
     others = {}
-    for data in (Data(), LARGE, MILLION):
+    for data in (Data(), LARGE, PAGES, FILES, MILLION):
         cases = [case for case in all_cases if case.data == data and case.name in wanted]
         asked = [name for name in wanted if data_of.get(name) == data]
         if not cases and not asked:
@@ -410,6 +425,7 @@ def main():
     words.add_argument("--cases", help="the names of some, with commas; all, where none are given")
     words.add_argument("--seconds", type=float, default=0.25, help="of a round, for each server (0.25)")
     words.add_argument("--rounds", type=int, default=30, help="of a case (30)")
+    words.add_argument("--free", action="store_true", help="keep nothing on a processor, and load by two processes")
     asked = words.parse_args()
     cases, others = (CASES_OF_PROXIES, OTHERS_OF_PROXIES) if asked.through else (CASES, OTHERS)
     names = [case.name for case in cases] + others

@@ -39,9 +39,9 @@ class Tails(Load):
 
     def waits(self, seconds):
         """The requests of a second, and within which microseconds half of the replies came, 99 and 99.9 in a hundred, and all."""
-        self.process.stdin.write(f"wait {seconds}\n")
-        self.process.stdin.flush()
-        requests, took, *waits = map(float, self.process.stdout.readline().split())
+        self.processes[0].stdin.write(f"wait {seconds}\n")
+        self.processes[0].stdin.flush()
+        requests, took, *waits = map(float, self.processes[0].stdout.readline().split())
         return requests / took, waits
 
 
