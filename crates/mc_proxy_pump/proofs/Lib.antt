@@ -1,3 +1,4 @@
+pub mod LackLemmas
 pub mod StretchLemmas
 pub mod RoundLemmas
 pub mod PumpLemmas

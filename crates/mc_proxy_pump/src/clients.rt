@@ -4,6 +4,7 @@ ghost use Rattle.mc_proxy.specs.ProxyState.{output_of, session_at, unanswered_of
 ghost use Rattle.mc_proxy.specs.Turns.{waiting_of};
 ghost use Rattle.mc_stream.specs.Sides.{pump_of};
 ghost use Rattle.mc_proxy_pump.specs.Calls.{Stretch};
+ghost use Rattle.mc_proxy_pump.specs.Lacks.{lacks_server};
 ghost use Rattle.mc_proxy_pump.specs.Clients.{PumpsClient, emitted_at, is_closed_at, is_owed_at};
 ghost use Rattle.mc_proxy_pump.specs.Rounds.{HasAnswered, HowMany, Receives, Sends, StopsAt, TakesTurns, ends_by, reads_by};
 
@@ -84,9 +85,16 @@ pub fn is_owed(proxy: &Proxy, session: u64) -> bool
 }
 
 /// Whether the first request of a session that was not taken has a command for a server that is down.
-fn lacks_server(proxy: &Proxy, session: u64) -> bool {
-    let servers = proxy.ring().servers().len();
-    (0..servers).any(|place| !proxy.is_up(place) && proxy.waits_for(session, place))
+#[tactic(auto, using(crate::proofs::LackLemmas::lacks_next))]
+fn lacks_server(proxy: &Proxy, session: u64) -> bool
+    ensures { result ≡ lacks_server proxy.now session }
+{
+    for place in 0..proxy.ring().servers().len() {
+        if !proxy.is_up(place) && proxy.waits_for(session, place) {
+            return true;
+        }
+    }
+    false
 }
 
 /// Counts a request that a turn took, if it did, for a server that was down or not.

@@ -1,1 +1,3 @@
 pub mod ListLemmas
+pub mod MistakeLemmas
+pub mod NameLemmas

@@ -4,6 +4,8 @@ pub mod Delays
 pub mod Files
 pub mod Lists
 pub mod Lookups
+pub mod Mistakes
+pub mod Names
 pub mod Rooms
 pub mod Servers
 pub mod Turns

@@ -19,7 +19,7 @@ pub struct Done {
     pub missed: Option<u64>,
 }
 
-/// Serves operators, by the clients that one of them is told of next, what a proxy has done for its clients, what became of its servers,
+/// Serves operators, by the clients that are listed to one of them next, what a proxy has done for its clients, what became of its servers,
 /// and its settings. Those for whom there is no memory are turned away.
 pub fn show(
     alloc: Global,

@@ -32,6 +32,8 @@ use std::time::Duration;
 #[derive(Drop)]
 pub struct Host<'a> {
     alloc: Global,
+    /// Where the listener is: `<host>:<port>`.
+    listen: &'a str,
     settings: &'a ProxySettings,
     operators: Operators,
     handler: ProxyHandler,
@@ -60,10 +62,11 @@ pub struct Host<'a> {
 }
 
 impl<'a> Host<'a> {
-    /// A host without a client, whose upstreams were not tried, and what looks their hosts up. A random number says when upstreams that
-    /// failed are tried again.
+    /// A host without a client, whose listener is at a place and whose upstreams were not tried, and what looks their hosts up. A random
+    /// number says when upstreams that failed are tried again.
     pub fn new(
         alloc: Global,
+        listen: &'a str,
         ring: Ring,
         settings: &'a ProxySettings,
         operators: Operators,
@@ -87,6 +90,7 @@ impl<'a> Host<'a> {
         };
         Ok(Host {
             alloc,
+            listen,
             settings,
             operators,
             handler: ProxyHandler::new(alloc, ring, settings.losses, settings.held)?,
@@ -208,7 +212,7 @@ impl<'a> Host<'a> {
         self.clients.serve_all(&mut self.handler, self.second);
     }
 
-    /// Loses the upstreams on which a reply is late, and has clients told so.
+    /// Loses the upstreams on which a reply is late, and answers the clients whose commands are lost by that.
     fn give_up(&mut self) {
         if self.pool.give_up(&mut self.handler.proxy, self.now) {
             self.carried = false;
@@ -239,7 +243,8 @@ impl<'a> Host<'a> {
         self.joining.note(joined);
     }
 
-    /// Looks at the file that lists the servers, if there is one, and has the pool follow it. Clients are told of a link that is lost.
+    /// Looks at the file that lists the servers, if there is one, and has the pool follow it. If a link is lost by that, the clients whose
+    /// commands are lost are answered.
     fn look<R: Files + Eprint>(&mut self, rt: &R) {
         let Some(listing) = &mut self.listing else {
             return;
@@ -256,7 +261,7 @@ impl<'a> Host<'a> {
             .report(self.second, accepted, self.handler.tally.passed)
     }
 
-    /// The clients that an operator is to be told of next, if one has asked.
+    /// The clients that are listed to an operator next, if one has asked.
     fn listed(&mut self) -> Result<Option<Listed>, AllocError> {
         let Some(from) = self.operators.listing() else {
             return Ok(None);
@@ -312,7 +317,12 @@ impl<'a> Host<'a> {
     }
 }
 
-impl<'a, R: Net + Clock + Files + EprintSeldom> Rounds<R, Stopwatch> for Host<'a> {
+impl<'a, R: Net + Clock + Files + Print + EprintSeldom> Rounds<R, Stopwatch> for Host<'a> {
+    fn ready(&mut self, rt: &R) {
+        // Whom the line does not reach is served all the same.
+        let _ = println!(rt; "listening {}", self.listen);
+    }
+
     /// Follows the list of servers, tries the upstreams that are down where it is time for them, and says what is new of the servers, of
     /// each at most once in a second.
     fn before(&mut self, rt: &R, registry: &Registry, backlog: Backlog) -> Option<Duration> {
@@ -346,7 +356,7 @@ impl<'a, R: Net + Clock + Files + EprintSeldom> Rounds<R, Stopwatch> for Host<'a
         }
     }
 
-    /// Upstreams on which a reply is late once all that came was taken are lost, and clients are told so.
+    /// Upstreams on which a reply is late once all that arrived was taken are lost, and clients whose commands are lost are answered.
     fn carry_on(&mut self, registry: &Registry) {
         self.carry();
         self.give_up();

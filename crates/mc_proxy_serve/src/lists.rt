@@ -1,16 +1,22 @@
 //! Lists of servers in files.
-ghost use Rattle.std.specs.Prelude.{◌≡◌, ◌<◌, ◌≤◌, ◌∷◌, ◌++◌, [], map, filter, vec_len, length, IfOk, OnOk, MatchOption};
-ghost use Rattle.std.specs.List.{after_first, before_first, position_or_len};
+ghost use Rattle.std.specs.Prelude.{◌≡◌, ◌<◌, ◌≤◌, ◌⊎◌, ◌∷◌, ◌++◌, [], true, false, map, filter, vec_len, length, Some, None, IfNone, IfOk, IfErr, OnOk, IsErrAnd, IsOkUnless, MatchOption};
+ghost use Rattle.std.specs.List.{after_first, before_first, list_any, position_or_len};
+ghost use Rattle.std.specs.Str.{bytes_eq};
+ghost use Rattle.std.specs.IoError.{error_kind, raw_os_error};
+ghost use Rattle.mc_program.specs.Sockets.{socket_error_of};
 ghost use Rattle.mc_proxy_serve.specs.Files.{is_hash, is_line_feed, is_some_word, word_of, words_of};
-ghost use Rattle.mc_proxy_serve.specs.Servers.{address_of, name_of};
+ghost use Rattle.mc_proxy_serve.specs.Mistakes.{line_mistake, mistake_in, name_mistake, names_after};
+ghost use Rattle.mc_proxy_serve.specs.Servers.{address_of, is_server, name_of};
+ghost use Rattle.mc_proxy_serve.specs.declared.lists.Mistake.TheVariants.{Unread, Memory};
 
 use crate::limits::LIST_LIMIT;
 use crate::options::ListError;
 use crate::servers::Server;
-use mc_ring::SERVER_LIMIT;
+use mc_program::SocketError;
+use mc_ring::{Address, SERVER_LIMIT};
 use std::alloc::{AllocError, AllocFailed, Global};
 use std::fs::Files;
-use std::io::{ErrorKind, Read};
+use std::io::Read;
 use std::{fs, io};
 use thiserror::Error;
 
@@ -19,7 +25,7 @@ use thiserror::Error;
 pub enum Mistake {
     /// The system does not give the file, and calls the reason so.
     #[error("{0}")]
-    Unread(ErrorKind),
+    Unread(SocketError),
     /// What is there is no file: a folder, a pipe or a device.
     #[error("not a file")]
     NoFile,
@@ -47,20 +53,26 @@ pub enum Mistake {
 }
 
 impl From<AllocError> for Mistake {
+    ghost from_gives = { λ _ mistake. mistake ≡ Memory };
+
     fn from(_e: AllocError) -> Mistake {
         Mistake::Memory
     }
 }
 
 impl<T: Drop> From<AllocFailed<T>> for Mistake {
+    ghost from_gives = { λ _ mistake. mistake ≡ Memory };
+
     fn from(_e: AllocFailed<T>) -> Mistake {
         Mistake::Memory
     }
 }
 
 impl From<io::Error> for Mistake {
+    ghost from_gives = { λ error mistake. mistake ≡ Unread (socket_error_of (raw_os_error error) (error_kind error)) };
+
     fn from(error: io::Error) -> Mistake {
-        Mistake::Unread(error.kind())
+        Mistake::Unread(SocketError::of(&error))
     }
 }
 
@@ -79,12 +91,14 @@ pub fn text_of<R: Files>(rt: &R, alloc: Global, path: &str) -> Result<String, Mi
     Ok(String::from_utf8_lossy(alloc, bytes.as_slice())?)
 }
 
-/// The servers that the lines of a text name, in their order. The error is the first mistake in it.
+/// The servers that the lines of a text name, in their order. The error is the first mistake in it, or `Memory`.
 pub fn servers_in(alloc: Global, text: &str) -> Result<Vec<Server>, Mistake>
     ensures names { IfOk result (λ servers. map (λ server. server.name) servers.items ≡ map name_of (words_of text.now)) }
     ensures addresses { IfOk result (λ servers. map (λ server. server.address) servers.items ≡ map address_of (words_of text.now)) }
     ensures some { IfOk result (λ servers. 1 ≤ vec_len servers) }
     ensures few { IfOk result (λ servers. vec_len servers ≤ SERVER_LIMIT) }
+    ensures right { OnOk result (mistake_in text.now ≡ None) }
+    ensures mistake { IfErr result (λ mistake. (mistake ≡ Mistake.Memory) ⊎ (mistake_in text.now ≡ Some mistake)) }
 {
     let mut servers = Vec::new(alloc);
     let mut number = 1u64;
@@ -97,39 +111,65 @@ pub fn servers_in(alloc: Global, text: &str) -> Result<Vec<Server>, Mistake>
     if !word_of(rest).is_empty() {
         return Err(Mistake::Unended(number));
     }
-    if servers.is_empty() {
+    if servers.as_slice().is_empty() {
         return Err(Mistake::NoneAtAll);
     }
     Ok(servers)
 }
 
-/// Adds the server of the word of a line, if it has one.
+/// Adds the server of the word of a line of this number, if it has one. The error is the mistake of that line, or `Memory`.
 fn add(alloc: Global, servers: &mut Vec<Server>, word: &str, number: u64) -> Result<(), Mistake>
     requires { vec_len servers.old ≤ SERVER_LIMIT }
     ensures names { OnOk result (map (λ server. server.name) servers.new.items
-        ≡ map (λ server. server.name) servers.old.items ++ map name_of (filter is_some_word (word.now ∷ []))) }
+        ≡ names_after (map (λ server. server.name) servers.old.items) word.now) }
     ensures addresses { OnOk result (map (λ server. server.address) servers.new.items
         ≡ map (λ server. server.address) servers.old.items ++ map address_of (filter is_some_word (word.now ∷ []))) }
     ensures few { vec_len servers.new ≤ SERVER_LIMIT }
+    ensures right { OnOk result (line_mistake number (map (λ server. server.name) servers.old.items) word.now ≡ None) }
+    ensures mistake { IfErr result (λ mistake. (mistake ≡ Mistake.Memory)
+        ⊎ (line_mistake number (map (λ server. server.name) servers.old.items) word.now ≡ Some mistake)) }
 {
     if word.is_empty() {
         return Ok(());
     }
     let server = server_at(alloc, word, number)?;
-    if servers.iter().any(|other| other.name == server.name) {
-        return Err(Mistake::Doubled(number));
-    }
-    if servers.len() >= SERVER_LIMIT {
-        return Err(Mistake::TooMany(number));
+    if let Some(mistake) = name_mistake(servers.as_slice(), &server.name, number) {
+        return Err(mistake);
     }
     servers.push(server)?;
     Ok(())
+}
+
+/// What is wrong with a server of this name in the line of this number, after those of earlier lines.
+fn name_mistake(servers: &[Server], name: &Address, number: u64) -> Option<Mistake>
+    ensures mistake { result ≡ name_mistake number (map (λ server. server.name) servers.now) name.now }
+    ensures few { IfNone result (length servers.now < SERVER_LIMIT) }
+{
+    if has_name(servers, name) {
+        return Some(Mistake::Doubled(number));
+    }
+    if servers.len() >= SERVER_LIMIT {
+        return Some(Mistake::TooMany(number));
+    }
+    None
+}
+
+/// Whether one of the servers has this name.
+fn has_name(servers: &[Server], name: &Address) -> bool
+    ensures { result ≡ list_any (λ other. bytes_eq other name.now) (map (λ server. server.name) servers.now) }
+{
+    let [server, servers @ ..] = servers else {
+        return false;
+    };
+    server.name == *name || has_name(servers, name)
 }
 
 /// The server of the word of a line of this number.
 fn server_at(alloc: Global, word: &str, number: u64) -> Result<Server, Mistake>
     ensures name { IfOk result (λ server. server.name ≡ name_of word.now) }
     ensures address { IfOk result (λ server. server.address ≡ address_of word.now) }
+    ensures no_server { is_server word.now ≡ false → IsErrAnd result (λ mistake. mistake ≡ Mistake.NoServer number) }
+    ensures memory { is_server word.now ≡ true → IsOkUnless result Mistake.Memory }
 {
     match Server::new(alloc, word) {
         Ok(server) => Ok(server),

@@ -4,7 +4,7 @@ ghost use Rattle.std.specs.Prelude.{◌≡◌, ◌&&◌, ◌+◌, ◌-◌, ◌^�
 use crate::limits::{LOOK_MILLIS, SETTLE_MILLIS};
 
 /// When a file is looked at that may change, and whether what was found last is taken. What a look finds that is new is taken once another
-/// look, [`SETTLE_MILLIS`] later, has found the same: so a file that is being written is let be.
+/// look, [`SETTLE_MILLIS`] later, has found the same: so nothing is taken of a file that is still being written.
 #[derive(Clone, Copy, Debug)]
 pub struct Looks {
     /// When it is looked at next, in milliseconds.

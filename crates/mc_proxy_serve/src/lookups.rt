@@ -1,6 +1,7 @@
 //! Looking up where servers are, beside the loop that serves clients.
 ghost use Rattle.std.specs.Prelude.{◌≡◌};
-ghost use Rattle.mc_proxy_serve.specs.Lookups.{next_by};
+ghost use Rattle.mc_proxy_serve.specs.Lookups.{IsKnown, after_a_try, known_by, late_answer, next_by};
+ghost use Rattle.mc_proxy_serve.specs.declared.lookups.Standing.TheVariants.{Unwanted};
 
 use crate::limits::LOOKED_UP;
 use crate::notices::Cause;
@@ -48,27 +49,81 @@ pub fn next_by(lookup: Option<Known>) -> Next
     }
 }
 
+/// How a look-up stands.
+#[derive(Clone, Copy, Debug, PartialEq, Eq)]
+pub enum Standing {
+    /// The try that began it waits for it.
+    Wanted,
+    /// That try was given up, and a later one waits for it.
+    Late,
+    /// It was begun for an address that the server has no more.
+    Unwanted,
+}
+
+impl Standing {
+    /// How it stands once the try that waits for it is given up.
+    pub fn after_a_try(self) -> Standing
+        ensures { result ≡ after_a_try self }
+    {
+        match self {
+            Standing::Wanted | Standing::Late => Standing::Late,
+            Standing::Unwanted => Standing::Unwanted,
+        }
+    }
+}
+
+/// What is known of a look-up by its answer, if it has ended, and by how it stands.
+pub fn known_by(found: Option<Found>, standing: Standing) -> Known
+    ensures { result ≡ known_by found standing }
+{
+    let Some(found) = found else {
+        return Known::Nothing;
+    };
+    match standing {
+        Standing::Wanted => Known::Answer(found),
+        Standing::Late => Known::Answer(late_answer(found)),
+        Standing::Unwanted => Known::Other,
+    }
+}
+
+/// What a look-up has found that took longer than a try. If it found no address it timed out: the system names a host unknown too if no
+/// name server answers.
+fn late_answer(found: Found) -> Found
+    ensures { result ≡ late_answer found }
+{
+    match found {
+        Err(Cause::UnknownHost) => Err(Cause::LookUp),
+        Ok(_) | Err(_) => found,
+    }
+}
+
 /// A look-up that was begun. One that is dropped goes on, and nobody sees what it finds.
 #[derive(Drop)]
 pub struct Lookup {
     question: Arc<Question, Global>,
-    /// Whether the server still has the address for which it was begun.
-    wanted: bool,
+    standing: Standing,
 }
 
 impl Lookup {
     /// What is known of it.
-    pub fn known(&self) -> Known {
-        match self.question.found() {
-            Some(found) if self.wanted => Known::Answer(found),
-            Some(_) => Known::Other,
-            None => Known::Nothing,
-        }
+    pub fn known(&self) -> Known
+        ensures { IsKnown self.now.standing result }
+    {
+        known_by(self.question.found(), self.standing)
+    }
+
+    /// Notes that the try that waits for it is given up.
+    pub fn outlast(&mut self)
+        ensures { self.new ≡ record self.old { standing = after_a_try self.old.standing } }
+    {
+        self.standing = self.standing.after_a_try();
     }
 
     /// Notes that the server has another address than that for which it was begun.
-    pub fn give_up(&mut self) {
-        self.wanted = false;
+    pub fn give_up(&mut self)
+        ensures { self.new ≡ record self.old { standing = Unwanted } }
+    {
+        self.standing = Standing::Unwanted;
     }
 }
 
@@ -111,7 +166,7 @@ impl Lookups {
         self.bell.unpark();
         Ok(Lookup {
             question,
-            wanted: true,
+            standing: Standing::Wanted,
         })
     }
 

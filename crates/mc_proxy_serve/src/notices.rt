@@ -20,10 +20,13 @@ pub enum Cause {
     /// The system knows no IPv4 address of the host's name.
     #[error("unknown host")]
     UnknownHost,
-    /// The look-up of the host had not come back after [`CONNECT_MILLIS`](crate::limits::CONNECT_MILLIS).
+    /// The look-up of the host had not ended after [`CONNECT_MILLIS`](crate::limits::CONNECT_MILLIS), or ended later without an address.
     #[error("look-up timed out")]
     LookUp,
-    /// The system refused the connection, or ended it, or gives no thread for a look-up, and calls it so.
+    /// The system gives no thread for the look-up of the host.
+    #[error("no thread for a look-up")]
+    NoThread,
+    /// The system refused the connection, or ended it, and calls it so.
     #[error("{0}")]
     Connect(SocketError),
     /// The connection was not there after [`CONNECT_MILLIS`](crate::limits::CONNECT_MILLIS).

@@ -33,7 +33,7 @@ pub struct Options<'a> {
     pub ring: Ring,
     /// What to serve with.
     pub settings: ProxySettings,
-    /// In which form its operator is told on standard error what happens.
+    /// In which form it says on standard error what happens.
     pub log: LogOption,
     /// Where operators are answered.
     pub admin: AdminTerms<'a>,

@@ -74,7 +74,7 @@ where
     }
 }
 
-/// Begins a thread that answers a question and ends. The error is why there is none.
+/// Begins a thread that answers a question and ends. The error is that there is no memory, or that the system gives no thread.
 fn look_up_beside<R>(rt: &R, alloc: Global, question: &Arc<Question, Global>) -> Result<(), Cause>
 where
     R: Net<Listener = net::TcpListener, Stream = net::TcpStream>,
@@ -85,7 +85,8 @@ where
     let system = *rt;
     let thread = Builder::new()
         .name(name)
-        .spawn(rt, move || question.look_up(&system))?;
+        .spawn(rt, move || question.look_up(&system))
+        .map_err(|_| Cause::NoThread)?;
     // Nobody joins it: its end is the answer, and one that hangs must hold up nobody.
     drop(thread);
     Ok(())

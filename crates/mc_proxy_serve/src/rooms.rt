@@ -1,24 +1,39 @@
 //! How many files a proxy has open beside its clients.
 ghost use Rattle.std.specs.Prelude.{◌≡◌, ◌<◌, ◌^◌};
-ghost use Rattle.mc_proxy_serve.specs.Rooms.{files_beside};
+ghost use Rattle.mc_proxy_serve.specs.Rooms.{files_beside, files_of_each};
 
-use crate::limits::{LISTING_FILES, WAKING_FILES};
+use crate::limits::{LISTING_FILES, LOOKUP_FILES, WAKING_FILES};
 use mc_ring::SERVER_LIMIT;
 use mc_watch::OWN_FILES;
 
-/// How many files a proxy over that many servers has open beside its clients: its own, and the one by which look-ups wake it, if a
-/// server may have a host's name (`named`). Then a socket for each server, also for the one that joins, if one does (`joins`); or, if a file
-/// lists the servers (`listed`), that file and a socket for each of the most servers that a ring may have.
+/// How many files a proxy over that many servers has open at most beside its clients: its own, and the one by which look-ups wake it, if a
+/// server may have a host's name (`named`). Then a socket for each server, also for the one that joins, if one does (`joins`), or those of its
+/// look-up in place of it. If a file lists the servers (`listed`), that file, and for each of the most servers of a ring a socket and those of
+/// a look-up beside it.
 pub fn other_files(servers: usize, joins: bool, listed: bool, named: bool) -> u64
-    ensures { servers < 2 ^ 63 → result ≡ files_beside servers joins listed named }
+    ensures { servers < 2 ^ 61 → result ≡ files_beside servers joins listed named }
 {
     let waking = if named { WAKING_FILES } else { 0 };
-    let own = OWN_FILES.saturating_add(waking);
+    let each = files_of_each(listed, named);
     if listed {
-        return own
-            .saturating_add(LISTING_FILES)
-            .saturating_add(SERVER_LIMIT as u64);
+        return OWN_FILES + waking + LISTING_FILES + SERVER_LIMIT as u64 * each;
     }
-    own.saturating_add(servers as u64)
-        .saturating_add(u64::from(joins))
+    let servers = (servers as u64).saturating_add(u64::from(joins));
+    servers
+        .saturating_mul(each)
+        .saturating_add(OWN_FILES + waking)
+}
+
+/// How many files each server has open at most. The look-up of an address that a file gave a server before may go on beside the link to the
+/// new one; without a file a link begins once its look-up has ended.
+fn files_of_each(listed: bool, named: bool) -> u64
+    ensures { result ≡ files_of_each listed named }
+{
+    if listed {
+        1 + LOOKUP_FILES
+    } else if named {
+        LOOKUP_FILES
+    } else {
+        1
+    }
 }

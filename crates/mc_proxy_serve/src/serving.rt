@@ -19,7 +19,10 @@ use std::rt::Clock;
 use std::sync::Wait;
 use std::thread::Threads;
 
-/// Serves the clients that a listener accepts, over the servers of a ring.
+/// Serves the clients that a listener accepts at a place, over the servers of a ring.
+///
+/// Once all is reserved that it needs at the start, the thread that begins look-ups too, it prints `listening` and that place. Who waits for
+/// that line is served.
 ///
 /// Each server is tried once before the first client is let in, and while it is down again and again, less often the longer that
 /// is. It answers once as many clients as the settings say were accepted and all of them are gone; without
@@ -33,6 +36,7 @@ pub fn serve<S, R>(
     system: &S,
     rt: &R,
     alloc: Global,
+    listen: &str,
     listener: TcpListener,
     settings: &ProxySettings,
     operators: Operators,
@@ -41,22 +45,25 @@ pub fn serve<S, R>(
 where
     S: Net<Listener = net::TcpListener, Stream = net::TcpStream>,
     S: Threads + Wait + Copy + Send + 'static,
-    R: Net + Clock + Files + RandomSource + Wait + EprintSeldom,
+    R: Net + Clock + Files + RandomSource + Wait + Print + EprintSeldom,
 {
     if !settings.may_look_up() {
-        return serve_with(rt, alloc, listener, settings, operators, ring, None);
+        return serve_with(rt, alloc, listen, listener, settings, operators, ring, None);
     }
     let (lookups, resolver) = begin_lookups(system, alloc)?;
     let lookups = Some(lookups);
-    let served = serve_with(rt, alloc, listener, settings, operators, ring, lookups);
+    let served = serve_with(
+        rt, alloc, listen, listener, settings, operators, ring, lookups,
+    );
     resolver.end(system);
     served
 }
 
 /// The same, with what looks hosts up.
-fn serve_with<R: Net + Clock + Files + RandomSource + Wait + EprintSeldom>(
+fn serve_with<R: Net + Clock + Files + RandomSource + Wait + Print + EprintSeldom>(
     rt: &R,
     alloc: Global,
+    listen: &str,
     listener: TcpListener,
     settings: &ProxySettings,
     operators: Operators,
@@ -64,7 +71,7 @@ fn serve_with<R: Net + Clock + Files + RandomSource + Wait + EprintSeldom>(
     lookups: Option<Lookups>,
 ) -> Result<(), ServeError> {
     let random = random_number(rt);
-    let mut host = Host::new(alloc, ring, settings, operators, lookups, random)?;
+    let mut host = Host::new(alloc, listen, ring, settings, operators, lookups, random)?;
     let accept = settings.terms.accept;
     let mut clock = Stopwatch::new(rt);
     serve_rounds(rt, alloc, listener, accept, &mut clock, &mut host)

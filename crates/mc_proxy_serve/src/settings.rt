@@ -1,10 +1,12 @@
 //! What a proxy is started with.
+ghost use Rattle.std.specs.Prelude.{IfSome, IsSomeAnd, MatchBool};
+ghost use Rattle.mc_proxy_serve.specs.Names.{AreSpelled, HasName, HaveName, IsSpelled, MayLookUp, NeedsNoLookUp};
 
 use crate::servers::Server;
 use mc_program::Terms;
 use mc_proxy::Losses;
 use mc_ring::Address;
-use mc_socket::spelled_address;
+use std::net::SocketAddrV4;
 
 /// What a proxy is started with, beside its ring.
 #[derive(Drop)]
@@ -27,19 +29,49 @@ pub struct ProxySettings {
 
 impl ProxySettings {
     /// Whether a host's name may have to be looked up: one of its words has it, or a file, which may have another one later.
-    pub fn may_look_up(&self) -> bool {
-        let joins = match &self.join {
-            Some((server, _)) => has_name(&server.address),
-            None => false,
-        };
-        joins || self.list.is_some() || self.addresses.iter().any(has_name)
+    pub fn may_look_up(&self) -> bool
+        ensures { MatchBool result (MayLookUp self.now.list self.now.join self.now.addresses.items)
+            (NeedsNoLookUp self.now.list self.now.join self.now.addresses.items) }
+    {
+        if self.list.is_some() {
+            return true;
+        }
+        if joins_by_name(&self.join) {
+            return true;
+        }
+        have_name(self.addresses.as_slice())
     }
 }
 
+/// Whether the server that joins, if one does, has a host's name.
+fn joins_by_name(join: &Option<(Server, u64)>) -> bool
+    ensures { MatchBool result (IsSomeAnd join.now (λ joins. HasName joins.0.address)) (IfSome join.now (λ joins. IsSpelled joins.0.address)) }
+{
+    match join {
+        Some((server, _)) => has_name(&server.address),
+        None => false,
+    }
+}
+
+/// Whether one of these addresses has a host's name.
+fn have_name(addresses: &[Address]) -> bool
+    ensures { MatchBool result (HaveName addresses.now) (AreSpelled addresses.now) }
+{
+    let [address, addresses @ ..] = addresses else {
+        return false;
+    };
+    if has_name(address) {
+        return true;
+    }
+    have_name(addresses)
+}
+
 /// Whether an address has a host's name, and no IPv4 address.
-fn has_name(address: &Address) -> bool {
-    match str::from_utf8(address.as_bytes()) {
-        Ok(text) => spelled_address(text).is_none(),
+fn has_name(address: &Address) -> bool
+    ensures { MatchBool result (HasName address.now) (IsSpelled address.now) }
+{
+    match SocketAddrV4::parse_ascii(address.as_bytes()) {
+        Ok(_) => false,
         Err(_) => true,
     }
 }

@@ -12,7 +12,7 @@ pub enum Stage {
     Down,
     /// A try waits for the look-up of its host.
     Asking,
-    /// It was begun, and no event has told how it went.
+    /// It was begun, and no event has said whether it is established.
     Connecting,
     /// It is there.
     Up,

@@ -26,7 +26,7 @@ enum State {
     Down,
     /// There is none, and a try waits for the look-up of the server's host.
     Asking,
-    /// It was begun, and no event has told how it went.
+    /// It was begun, and no event has said whether it is established.
     Connecting(TcpStream),
     /// It is there, and the proxy's link is up.
     Up(TcpStream),
@@ -138,6 +138,9 @@ impl Upstream {
             }
             Turn::GoOn => self.go_on(rt, registry, lookups, token),
             Turn::GiveUp(cause) => {
+                if let Some(lookup) = &mut self.lookup {
+                    lookup.outlast();
+                }
                 self.delay(now, random);
                 self.refuse(cause);
             }
@@ -189,9 +192,9 @@ impl Upstream {
         Ok(())
     }
 
-    /// Has a host that is not known wait a second more, so that those who know it are asked less.
+    /// Has a host whose look-up has found no address wait a second more, so that name servers are asked less.
     fn rest_after(&mut self, cause: Cause) {
-        if matches!(cause, Cause::UnknownHost) {
+        if matches!(cause, Cause::UnknownHost | Cause::LookUp) {
             self.next = self.next.saturating_add(NEXT_DELAY);
         }
     }

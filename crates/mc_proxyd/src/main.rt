@@ -72,7 +72,7 @@ where
     served.map_err(|error| Failure::at(rt, error, listen, is_read))
 }
 
-/// Listens, says so by `rt`, and serves. Names are looked up in threads of `system`.
+/// Listens, and serves by `rt`. Names are looked up in threads of `system`.
 fn listen_and_serve<S, R>(
     system: &S,
     rt: &R,
@@ -96,9 +96,9 @@ where
     );
     let others = others.saturating_add(operators.files());
     tell_open_files(rt, PROGRAM, others, MAX_SESSIONS);
-    // Whom the line does not reach is served all the same.
-    let _ = println!(rt; "listening {listen}");
-    serve(system, rt, alloc, listener, settings, operators, ring)
+    serve(
+        system, rt, alloc, listen, listener, settings, operators, ring,
+    )
 }
 
 /// Why a word of `--held` is refused.
