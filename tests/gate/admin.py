@@ -200,7 +200,7 @@ def a_proxy_shows_its_servers(program, proxy_program):
 
 
 def a_proxy_shows_its_choice(proxy_program):
-    """With `--lost missed` it shows the requests for a server that was down, and else none."""
+    """With `--lost missed` it shows the requests whose answers hide a loss, and else none."""
     for words, choice, missed in (([], b"told", None), (["--lost", "missed"], b"missed", b"1")):
         port = free_port()
         with Proxy(proxy_program, [f"{HOST}:{free_port()}"], ["--admin", f"{HOST}:{port}", *words]) as proxy, proxy.connected() as client:

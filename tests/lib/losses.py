@@ -80,7 +80,7 @@ def each_loss_is_told_otherwise():
 
 
 def missed(pool):
-    """Of the next report, how many requests were for a server that was down."""
+    """Of the next report, how many requests had an answer that hides a loss."""
     while True:
         [line] = lines_said(pool)
         if " uptime=" in line:
@@ -88,7 +88,8 @@ def missed(pool):
 
 
 def what_was_missed_is_counted():
-    """By requests: a get of two keys of a server that is down is one, and so is a store; a get of a living server's key is none."""
+    """By requests: a get of two keys of a server that is down is one, and so is a store with `noreply`; a store that is told its loss is none, nor
+    is a get of a living server's key."""
     with Pool(("--report", "1", *MISSED)) as pool, pool.connected() as client:
         living, lost = pool.ring.key(0), pool.ring.keys(1, 2)
         want(missed(pool), 0)
@@ -97,10 +98,25 @@ def what_was_missed_is_counted():
             asked(client, b"get %s\r\n" % lost[0], b"END\r\n")
         before = missed(pool)
         gets = b"get %s %s\r\nget %s\r\n" % (*lost, living)
-        asked(client, gets + b"set %s 0 0 1\r\nx\r\n" % lost[0], b"END\r\nEND\r\n" + LOST)
+        puts = b"set %s 0 0 1 noreply\r\nx\r\nset %s 0 0 1\r\nx\r\n" % (lost[0], lost[1])
+        asked(client, gets + puts, b"END\r\nEND\r\n" + LOST)
         while (now := missed(pool)) == before:
             pass
         want(now, before + 2)
+
+
+def what_is_lost_on_its_way_is_counted():
+    """A get that was sent is one, once its link is lost; nothing is counted before."""
+    with Played(1, ("--timeout", "0", "--report", "1", *MISSED)) as pool, pool.connected() as client:
+        ask = b"get a\r\n"
+        client.sendall(ask)
+        want(received(pool.links[0], len(ask)), ask)
+        want(missed(pool), 0)
+        pool.links[0].close()
+        want(received(client, len(b"END\r\n")), b"END\r\n")
+        while not (now := missed(pool)):
+            pass
+        want(now, 1)
 
 
 def checks_of_losses():
@@ -113,5 +129,6 @@ def checks_of_losses():
         a_fault_is_told_where_losses_are_missed,
         each_loss_is_told_otherwise,
         what_was_missed_is_counted,
+        what_is_lost_on_its_way_is_counted,
     ):
         yield check.__name__, check, ()

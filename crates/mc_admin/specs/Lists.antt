@@ -37,7 +37,7 @@ traffic_figures c =
 abbrev pub client_figures : ClientFigures → List Figure
 client_figures c = process_figures c ++ traffic_figures c ++ resident_figures c.resident
 
--- the requests of a proxy's clients for a server that was down, if they are counted
+-- the requests of a proxy's clients whose answers hide a loss, if they are counted
 abbrev pub missed_figures : Option ℕ → List Figure
 missed_figures None = []
 missed_figures (Some count) = own Missed count ∷ []

@@ -134,7 +134,7 @@ fn push_resident(resident: Option<u64>, figures: &mut Vec<Figure<'_>>) -> Result
     Ok(())
 }
 
-/// Puts the requests of a proxy's clients for a server that was down at the end of a list, if they are counted.
+/// Puts the requests of a proxy's clients whose answers hide a loss at the end of a list, if they are counted.
 pub fn push_missed(missed: Option<u64>, figures: &mut Vec<Figure<'_>>) -> Result<(), AllocError>
     ensures { OnOk result (figures.new.items ≡ figures.old.items ++ missed_figures missed) }
 {

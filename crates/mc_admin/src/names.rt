@@ -57,7 +57,7 @@ pub enum Name {
     Expired,
     /// How often the system gave no memory for a request.
     NoMemory,
-    /// Requests of a proxy's clients for a server that was down.
+    /// Requests of a proxy's clients that lost a command, and whose answers do not say so: they are misses, or silent.
     Missed,
     /// Whether a proxy's connection to a server is up: 1 or 0.
     ServerUp,
@@ -225,7 +225,7 @@ impl Name {
             Name::Evictions => b"Items that went to make room.",
             Name::Expired => b"Expired items that were taken out or replaced.",
             Name::NoMemory => b"Times that the system gave no memory for a request.",
-            Name::Missed => b"Requests for a server that was down.",
+            Name::Missed => b"Requests that lost a command, and whose answers do not say so.",
             Name::ServerUp => b"Whether the connection to the server is up.",
             Name::ServerLosses => b"How often the connection to the server was lost.",
             Name::ServerSent => b"Commands that were put on the connection to the server.",

@@ -1,9 +1,9 @@
 -- What a call of a session does to the proxy.
-use Rattle.std.specs.Prelude.{ℕ, ◌≡◌, ◌≢◌, List, [], Option, Some, None}
+use Rattle.std.specs.Prelude.{ℕ, ◌≡◌, ◌≢◌, Bool, false, List, [], Option, Some, None}
 use Rattle.mc_request.specs.declared.parts.Taken.{Taken}
 use Rattle.mc_request_reader.specs.Reader.{rest_of}
 use Rattle.mc_link.specs.LinkState.{LinkState}
-use Rattle.mc_session.specs.Emits.{emitted}
+use Rattle.mc_session.specs.Emits.{emitted, hides_loss_first}
 use Rattle.mc_session.specs.Looks.{IsReady}
 use Rattle.mc_session.specs.SessionState.{SessionState}
 use Rattle.mc_proxy.specs.ProxyState.{ProxyState, session_at, updated}
@@ -20,6 +20,11 @@ CanTurn number p = (session : SessionState) × (session_at p number ≡ Some ses
 -- an answer can be put out: of each command of the session's oldest unanswered request it is known what became of it
 abbrev pub HasAnswer : ℕ → ProxyState → Type 0
 HasAnswer number p = (session : SessionState) × (session_at p number ≡ Some session) × (emitted session ≢ None)
+
+-- a command of a session's oldest unanswered request was lost, and its answer does not say so
+abbrev pub hides_loss_at : Option SessionState → Bool
+hides_loss_at None = false
+hides_loss_at (Some session) = hides_loss_first session.unanswered
 
 -- the session of a number takes a step, with the links; all else of the proxy is as it was
 pub record Steps (number : ℕ) (old new : ProxyState) (Step : List LinkState → List LinkState → SessionState → SessionState → Type 0) : Type 0 where

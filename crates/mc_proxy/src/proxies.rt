@@ -47,7 +47,7 @@ impl Proxy {
     ghost use Rattle.mc_session.specs.Turns.{IsFed, IsTurn};
     ghost use Rattle.mc_route.specs.declared.losses.Losses.TheVariants.{Told};
     ghost use Rattle.mc_proxy.specs.ProxyState.{is_finished, opened, output_of, sent_by, session_at, unanswered_of, with_fresh, without};
-    ghost use Rattle.mc_proxy.specs.Turns.{Alone, CanTurn, HasAnswer, Steps, waiting_of};
+    ghost use Rattle.mc_proxy.specs.Turns.{Alone, CanTurn, HasAnswer, Steps, hides_loss_at, waiting_of};
 
     /// A proxy with no session, whose links are down and have never been up. Its choice for lost commands is [`Losses::Told`].
     pub fn new(alloc: Global, ring: Ring) -> Result<Proxy, ProxyError>
@@ -188,6 +188,14 @@ impl Proxy {
         ensures { IsTrue result ↔ HasAnswer number self.now }
     {
         self.sessions.get(number).is_some_and(Session::has_answer)
+    }
+
+    /// Whether a command of the oldest unanswered request of a session was lost, and its answer does not say so: with [`Losses::Missed`] it is
+    /// a miss, or silent. It is false if all requests are answered, or the session is not open. It takes no memory.
+    pub fn hides_loss(&self, number: u64) -> bool
+        ensures { result ≡ hides_loss_at (session_at self.now number) }
+    {
+        self.sessions.get(number).is_some_and(Session::hides_loss)
     }
 
     /// Puts the answer to the oldest unanswered request of a session out, where it is known of each of its commands what

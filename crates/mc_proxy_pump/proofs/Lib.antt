@@ -1,4 +1,3 @@
-pub mod LackLemmas
 pub mod StretchLemmas
 pub mod RoundLemmas
 pub mod PumpLemmas

@@ -2,7 +2,6 @@ pub mod Tallies
 pub mod Calls
 pub mod Clients
 pub mod Rounds
-pub mod Lacks
 pub mod LinkCalls
 pub mod Links
 pub mod LinkRounds

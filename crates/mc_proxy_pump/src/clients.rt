@@ -1,10 +1,9 @@
 //! The body of a session: bytes in, requests taken, answers out.
-ghost use Rattle.std.specs.Prelude.{◌≡◌, ◌<◌, ◌==◌, ◌&&◌, ℕ, Bool, List, [], Option, None, Ok, false, length, IfOk, IsSome};
+ghost use Rattle.std.specs.Prelude.{◌≡◌, ◌<◌, ◌==◌, ◌&&◌, ◌×◌, ◌↔◌, ℕ, Bool, List, [], Option, None, Ok, false, true, length, IfOk, IsSome, IsTrue};
 ghost use Rattle.mc_proxy.specs.ProxyState.{output_of, session_at, unanswered_of};
-ghost use Rattle.mc_proxy.specs.Turns.{waiting_of};
+ghost use Rattle.mc_proxy.specs.Turns.{HasAnswer, hides_loss_at, waiting_of};
 ghost use Rattle.mc_stream.specs.Sides.{pump_of};
 ghost use Rattle.mc_proxy_pump.specs.Calls.{Stretch};
-ghost use Rattle.mc_proxy_pump.specs.Lacks.{lacks_server};
 ghost use Rattle.mc_proxy_pump.specs.Clients.{PumpsClient, emitted_at, is_closed_at, is_owed_at};
 ghost use Rattle.mc_proxy_pump.specs.Rounds.{HasAnswered, HowMany, Receives, Sends, StopsAt, TakesTurns, ends_by, reads_by};
 
@@ -20,7 +19,7 @@ use std::io::{Read, Write};
 /// in one call, and reads once into `piece`, whose bytes before and after mean nothing. While a request has to wait for a mark,
 /// or [`UNSENT_MARK`] bytes or more are unsent, nothing is read. `ended` says whether the input has ended: the pump sets it when
 /// a read gives no byte, and then reads no more; a caller hands in `false` at first. The tally counts the requests that are taken,
-/// those for a server that is down among them, and the bytes.
+/// those whose answer hides a loss, and the bytes.
 ///
 /// Where it says [`Pumped::Blocked`], the stream may move, a server may answer one of the session's commands, or a link whose
 /// mark a request waits for may be sent more of its bytes: then the pump is called again. Where the session is not open it says
@@ -39,12 +38,11 @@ pub fn pump_client<R: Read, W: Write>(
         (R.remaining reader.old) (R.remaining reader.new) (W.contents writer.old) (W.contents writer.new) ended.old ended.new }
     ensures not_open { session_at proxy.old session ≡ None → (result ≡ Pumped.Failed) × (proxy.new ≡ proxy.old) }
 {
-    let lacked = tally.counts() && lacks_server(proxy, session);
     // A session that is not open takes no turn.
     let Ok(turn) = proxy.turn(session) else {
         return Pumped::Failed;
     };
-    count_turn(turn, lacked, tally);
+    count_turn(turn, tally);
     for _ in 0..MAX_ROUNDS {
         if let Err(pump) = round(proxy, session, ended, reader, writer, piece, tally) {
             return pump;
@@ -71,7 +69,7 @@ pub fn pump_answers<W: Write>(
     if !is_owed(proxy, session) {
         return Ok(false);
     }
-    let Ok(_) = put_out(proxy, session) else {
+    let Ok(_) = put_out(proxy, session, tally) else {
         return Err(Pumped::Failed);
     };
     send(proxy, session, writer, tally)
@@ -84,23 +82,10 @@ pub fn is_owed(proxy: &Proxy, session: u64) -> bool
     proxy.unanswered(session) > 0 || !proxy.output(session).is_empty()
 }
 
-/// Whether the first request of a session that was not taken has a command for a server that is down.
-#[tactic(auto, using(crate::proofs::LackLemmas::lacks_next))]
-fn lacks_server(proxy: &Proxy, session: u64) -> bool
-    ensures { result ≡ lacks_server proxy.now session }
-{
-    for place in 0..proxy.ring().servers().len() {
-        if !proxy.is_up(place) && proxy.waits_for(session, place) {
-            return true;
-        }
-    }
-    false
-}
-
-/// Counts a request that a turn took, if it did, for a server that was down or not.
-fn count_turn(turn: Turn, lacked: bool, tally: &mut ClientTally) {
+/// Counts a request that a turn took, if it did.
+fn count_turn(turn: Turn, tally: &mut ClientTally) {
     if turn == Turn::Took {
-        tally.took(lacked);
+        tally.passed.took();
     }
 }
 
@@ -166,7 +151,7 @@ fn advance(proxy: &mut Proxy, session: u64, tally: &mut ClientTally) -> Result<T
 {
     loop {
         let stop = take_turns(proxy, session, tally)?;
-        if !put_out(proxy, session)? {
+        if !put_out(proxy, session, tally)? {
             return Ok(stop);
         }
     }
@@ -179,9 +164,8 @@ fn take_turns(proxy: &mut Proxy, session: u64, tally: &mut ClientTally) -> Resul
     ensures stop { IfOk result (λ turn. StopsAt turn proxy.new (session_at proxy.new session)) }
 {
     loop {
-        let lacked = tally.counts() && lacks_server(proxy, session);
         match proxy.turn(session)? {
-            Turn::Took => tally.took(lacked),
+            Turn::Took => tally.passed.took(),
             Turn::Idle => return Ok(Turn::Idle),
             Turn::Waiting => return Ok(Turn::Waiting),
             Turn::Closing => return Ok(Turn::Closing),
@@ -190,7 +174,7 @@ fn take_turns(proxy: &mut Proxy, session: u64, tally: &mut ClientTally) -> Resul
 }
 
 /// Puts the answers out that are known, until as much is unsent as the mark, and says whether there was one.
-fn put_out(proxy: &mut Proxy, session: u64) -> Result<bool, ProxyError>
+fn put_out(proxy: &mut Proxy, session: u64, tally: &mut ClientTally) -> Result<bool, ProxyError>
     requires is_open { IsSome (session_at proxy.old session) }
     ensures calls { Stretch session proxy.old proxy.new [] [] }
     ensures how { IfOk result (λ answered. HowMany answered session proxy.old proxy.new) }
@@ -198,12 +182,23 @@ fn put_out(proxy: &mut Proxy, session: u64) -> Result<bool, ProxyError>
 {
     let mut answered = false;
     while proxy.output(session).len() < UNSENT_MARK {
+        let hides = tally.counts() && hides_loss(proxy, session);
         match proxy.emit(session)? {
-            Emit::Done => answered = true,
+            Emit::Done => {
+                tally.answered(hides);
+                answered = true;
+            },
             Emit::Idle => return Ok(answered),
         }
     }
     Ok(answered)
+}
+
+/// Whether the next answer of a session is known, and hides a loss. As long as it is not known its replies are not looked at.
+fn hides_loss(proxy: &Proxy, session: u64) -> bool
+    ensures { IsTrue result ↔ (HasAnswer session proxy.now × (hides_loss_at (session_at proxy.now session) ≡ true)) }
+{
+    proxy.has_answer(session) && proxy.hides_loss(session)
 }
 
 /// Writes what is unsent, in one call, drops what the writer took, and says whether it took any.

@@ -4,7 +4,7 @@
 //! the stream or the proxy then moves. The streams are any reader and any writer: no socket is known here. [`MAX_ROUNDS`] and
 //! [`UNSENT_MARK`] are their limits. A pump of a link tells which sessions got replies, so that each of them is pumped once for
 //! all that came in a read: what came together goes out together. [`pump_answers`] sends a session its answers and takes nothing of
-//! it, and [`is_owed`] says whether there are any. A [`ClientTally`] counts what passed of clients, and their requests for a server that is down.
+//! it, and [`is_owed`] says whether there are any. A [`ClientTally`] counts what passed of clients, and their requests whose answers hide a loss.
 //!
 //! A pump does nothing to its proxy but calls for its own session, or for its own link, one after another:
 //! `specs/Calls.antt` and `specs/LinkCalls.antt` have them, with the bytes that came and went by each. `specs/Clients.antt` and

@@ -1,5 +1,5 @@
 //! What passed of a proxy's clients.
-ghost use Rattle.std.specs.Prelude.{◌≡◌, ◌+◌, ◌%◌, ◌^◌, is_some};
+ghost use Rattle.std.specs.Prelude.{◌≡◌, is_some};
 ghost use Rattle.mc_proxy_pump.specs.Tallies.{counted, fresh_tally};
 
 use mc_watch::Tally;
@@ -9,13 +9,13 @@ use mc_watch::Tally;
 pub struct ClientTally {
     /// Requests that were taken, and bytes.
     pub passed: Tally,
-    /// Requests that were taken with a command for a server that was down; none if they are not counted. It begins again at 0 after
-    /// 2^64 - 1.
+    /// Requests that were answered by a miss, or by nothing, because a command of theirs was lost; none if they are not counted. It begins
+    /// again at 0 after 2^64 - 1.
     pub missed: Option<u64>,
 }
 
 impl ClientTally {
-    /// Nothing has passed. Requests for a server that is down are counted, or not.
+    /// Nothing has passed. Requests whose answer hides a loss are counted, or not.
     pub fn new(counts: bool) -> ClientTally
         ensures { result ≡ fresh_tally counts }
     {
@@ -25,21 +25,19 @@ impl ClientTally {
         }
     }
 
-    /// Whether requests for a server that is down are counted.
+    /// Whether requests whose answer hides a loss are counted.
     pub fn counts(&self) -> bool
         ensures { result ≡ is_some self.now.missed }
     {
         self.missed.is_some()
     }
 
-    /// Counts a request that was taken, for a server that was down or not.
-    pub fn took(&mut self, lacked: bool)
-        ensures passed { self.new.passed ≡ record self.old.passed { requests = (self.old.passed.requests + 1) % 2 ^ 64 } }
-        ensures missed { self.new.missed ≡ counted lacked self.old.missed }
+    /// Counts an answer that hides a loss, or not.
+    pub fn answered(&mut self, hides_loss: bool)
+        ensures { self.new ≡ record self.old { missed = counted hides_loss self.old.missed } }
     {
-        self.passed.took();
         if let Some(missed) = self.missed
-            && lacked
+            && hides_loss
         {
             self.missed = Some(missed.wrapping_add(1));
         }

@@ -15,7 +15,7 @@ use std::alloc::{AllocError, Global};
 pub struct Done {
     /// Who they are, and what passed of them.
     pub clients: ClientFigures,
-    /// Their requests for a server that was down; none if these are not counted.
+    /// Their requests whose answers hide a loss; none if these are not counted.
     pub missed: Option<u64>,
 }
 

@@ -23,7 +23,7 @@ pub struct ProxyHandler {
     keys: HashMap<u64, usize>,
     /// What reads fill: made once.
     pub piece: Vec<u8>,
-    /// What passed of all clients. Requests for a server that is down are counted if their losses are missed.
+    /// What passed of all clients. Requests whose answers hide a loss are counted if their losses are missed.
     pub tally: ClientTally,
     /// As many bytes kept for one client stop its turns and reads.
     most: u64,

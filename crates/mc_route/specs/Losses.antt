@@ -1,5 +1,5 @@
 -- What a request is answered if a command of it was lost, by the site's choice.
-use Rattle.std.specs.Prelude.{ℕ, Bool, true, false, List, [], ◌∷◌, ◌++◌, map, if◌then◌else◌}
+use Rattle.std.specs.Prelude.{ℕ, ◌&&◌, ◌||◌, Bool, true, false, List, [], ◌∷◌, ◌++◌, map, if◌then◌else◌}
 use Rattle.mc_request.specs.Hides.{hides_of}
 use Rattle.mc_request.specs.declared.hides.Hides.{Hides}
 use Rattle.mc_request.specs.declared.hides.Hides.TheVariants.{Nothing}
@@ -37,6 +37,16 @@ is_missed Missed request = is_retrieval request
 abbrev pub is_silent : Losses → Request → Bool
 is_silent Told request = false
 is_silent Missed request = hides_any (hides_of request)
+
+-- whether the answer to a request says nothing of its lost commands
+-- source: this project's own
+abbrev pub is_unreported : Losses → Request → Bool
+is_unreported losses request = is_missed losses request || is_silent losses request
+
+-- whether a command of a request was lost, and its answer does not say so
+-- source: this project's own
+abbrev pub hides_loss : Losses → Request → List Outcome → Bool
+hides_loss losses request outcomes = is_unreported losses request && has_lost outcomes
 
 -- the reply to a command; a miss if it was lost, or if its reply is pending
 abbrev pub reply_or_miss : Outcome → Reply (List ℕ)

@@ -6,7 +6,7 @@ ghost use Rattle.mc_reply.specs.MetaRooms.{part_room};
 ghost use Rattle.mc_reply.specs.Seen.{bytes_seen, value_len};
 ghost use Rattle.mc_route.specs.declared.outcomes.Outcome.{Outcome};
 ghost use Rattle.mc_route.specs.Joins.{has_lost, outcome_part, joined_answer};
-ghost use Rattle.mc_route.specs.Losses.{hides_any, is_missed, is_retrieval, is_silent, joined_with, reply_or_miss};
+ghost use Rattle.mc_route.specs.Losses.{hides_any, hides_loss, is_missed, is_retrieval, is_silent, is_unreported, joined_with, reply_or_miss};
 ghost use Rattle.mc_route.specs.Rooms.{outcome_room, outcomes_room, join_room};
 
 use crate::errors::RouteError;
@@ -65,6 +65,21 @@ fn is_answered(losses: Losses, request: &Request, outcomes: &[Outcome]) -> bool
     ensures { result ≡ (not (has_lost outcomes.now) || is_missed losses request.now) }
 {
     !has_lost(outcomes) || is_missed(losses, request)
+}
+
+/// Whether a command of a request was lost, and its answer does not say so: a retrieval counts it as a miss, and another request hides its
+/// reply. With [`Losses::Told`] that is never so. It takes no memory.
+pub fn hides_loss(losses: Losses, request: &Request, outcomes: &[Outcome]) -> bool
+    ensures { result ≡ hides_loss losses request.now outcomes.now }
+{
+    is_unreported(losses, request) && has_lost(outcomes)
+}
+
+/// Whether the answer to a request says nothing of its lost commands.
+fn is_unreported(losses: Losses, request: &Request) -> bool
+    ensures { result ≡ is_unreported losses request.now }
+{
+    is_missed(losses, request) || is_silent(losses, request)
 }
 
 /// Whether a request counts its lost commands as misses.

@@ -35,7 +35,7 @@ mod routes;
 mod rows;
 
 pub use errors::RouteError;
-pub use joins::{join, join_room, join_with};
+pub use joins::{hides_loss, join, join_room, join_with};
 pub use kept::without_block;
 pub use laws::{
     answers_are_those_of_one_server, blocks_play_no_part, choices_differ_in_losses_alone,

@@ -4,7 +4,7 @@ use Rattle.std.specs.List.{list_all}
 use Rattle.mc_request.specs.Faults.{fault_line}
 use Rattle.mc_request.specs.declared.parts.Taken.{Taken}
 use Rattle.mc_request.specs.declared.parts.Taken.TheVariants.{Whole, Faulty}
-use Rattle.mc_route.specs.Losses.{joined_with}
+use Rattle.mc_route.specs.Losses.{hides_loss, joined_with}
 use Rattle.mc_route.specs.declared.losses.Losses.{Losses}
 use Rattle.mc_route.specs.declared.outcomes.Outcome.{Outcome}
 use Rattle.mc_route.specs.declared.outcomes.Outcome.TheVariants.{Awaited, Reply, Lost}
@@ -38,6 +38,19 @@ is_known open_one = list_all is_told open_one.outcomes
 -- the answer to a request that was taken
 abbrev pub answer_of_one : Unanswered → List ℕ
 answer_of_one open_one = answer_by open_one.losses open_one.what open_one.outcomes
+
+-- whether a command of what was taken was lost, and its answer does not say so
+abbrev pub hides_loss_by : Losses → Taken → List Outcome → Bool
+hides_loss_by losses (Whole request) outcomes = hides_loss losses request outcomes
+hides_loss_by losses (Faulty fault) outcomes = false
+
+abbrev pub hides_loss_of : Unanswered → Bool
+hides_loss_of open_one = hides_loss_by open_one.losses open_one.what open_one.outcomes
+
+-- likewise of the oldest request that is not answered
+abbrev pub hides_loss_first : List Unanswered → Bool
+hides_loss_first [] = false
+hides_loss_first (open_one ∷ others) = hides_loss_of open_one
 
 -- a session whose oldest request that is not answered has been, where it can be
 abbrev pub emitted_from : SessionState → List Unanswered → Option SessionState

@@ -49,7 +49,7 @@ impl Session {
     ghost use Rattle.mc_request_reader.specs.Reader.{KeepsRest, rest_of};
     ghost use Rattle.mc_route.specs.Routes.{route_of_taken};
     ghost use Rattle.mc_session.specs.SessionState.{fresh_session};
-    ghost use Rattle.mc_session.specs.Emits.{IsEmit, emitted};
+    ghost use Rattle.mc_session.specs.Emits.{IsEmit, emitted, hides_loss_first};
     ghost use Rattle.mc_session.specs.Noting.{noted_in};
     ghost use Rattle.mc_session.specs.Sending.{at_once, handed, is_marked, is_session_marked};
     ghost use Rattle.mc_session.specs.Looks.{IsReady, waits_for};
@@ -265,6 +265,13 @@ impl Session {
         ensures { IsTrue result ↔ (emitted self.now ≢ None) }
     {
         self.unanswered.front().is_some_and(Unanswered::is_known)
+    }
+
+    /// Whether a command of the oldest request that is not answered was lost, and its answer does not say so. It takes no memory.
+    pub fn hides_loss(&self) -> bool
+        ensures { result ≡ hides_loss_first self.now.unanswered }
+    {
+        self.unanswered.front().is_some_and(Unanswered::hides_loss)
     }
 
     /// Appends the answer to the oldest request that is not answered, where it is known of each of its commands what became

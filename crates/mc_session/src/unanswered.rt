@@ -5,7 +5,7 @@ ghost use Rattle.mc_session.specs.Emits.{awaited_in, count_awaited};
 use crate::errors::SessionError;
 use mc_reply::write_fault;
 use mc_request::Taken;
-use mc_route::{Losses, Outcome, join_with};
+use mc_route::{Losses, Outcome, hides_loss, join_with};
 use std::marker::Model;
 
 /// A request or fault that was taken, and what became of its commands so far.
@@ -32,7 +32,7 @@ impl Model for Unanswered {
 }
 
 impl Unanswered {
-    ghost use Rattle.mc_session.specs.Emits.{answer_of_one, is_known};
+    ghost use Rattle.mc_session.specs.Emits.{answer_of_one, hides_loss_of, is_known};
     ghost use Rattle.mc_session.specs.Noting.{with_outcome};
 
     /// A request or fault that was just taken, the choice for its lost commands, and what became of its commands at once.
@@ -54,6 +54,16 @@ impl Unanswered {
         ensures { result ≡ is_known self.now }
     {
         self.awaited == 0
+    }
+
+    /// Whether a command of it was lost, and its answer does not say so. It takes no memory.
+    pub fn hides_loss(&self) -> bool
+        ensures { result ≡ hides_loss_of self.now }
+    {
+        match &self.what {
+            Taken::Whole(request) => hides_loss(self.losses, request, self.outcomes.as_slice()),
+            Taken::Faulty(_) => false,
+        }
     }
 
     /// Notes what became of a command, by its number. Where there is none of that number it is dropped.

@@ -3,9 +3,9 @@ use Rattle.mc_proxy_pump.specs.Rounds.{TakesTurns, work_of}
 use Rattle.mc_proxy_pump.proofs.clients.take_turns.Given as goal
 
 -- the turns so far
-abbrev pub invariant-loop-proxy : goal.invariant-loop-proxy
-invariant-loop-proxy l = TakesTurns l.session l.fn.proxy l.proxy
+abbrev pub invariant-loop-tally : goal.invariant-loop-tally
+invariant-loop-tally l = TakesTurns l.session l.fn.proxy l.proxy
 
 -- each turn lessens the work
-abbrev pub decreases-loop-proxy : goal.decreases-loop-proxy
-decreases-loop-proxy l = work_of (session_at l.proxy l.session)
+abbrev pub decreases-loop-tally : goal.decreases-loop-tally
+decreases-loop-tally l = work_of (session_at l.proxy l.session)
