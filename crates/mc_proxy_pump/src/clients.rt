@@ -1,5 +1,5 @@
 //! The body of a session: bytes in, requests taken, answers out.
-ghost use Rattle.std.specs.Prelude.{◌≡◌, ◌<◌, ◌==◌, ◌&&◌, ◌×◌, ◌↔◌, ℕ, Bool, List, [], Option, None, Ok, false, true, length, IfOk, IsSome, IsTrue};
+ghost use Rattle.std.specs.Prelude.{◌≡◌, ◌<◌, ◌==◌, ◌&&◌, ◌↔◌, ℕ, Bool, List, [], Option, None, Ok, false, true, length, IfOk, IsSome, IsTrue};
 ghost use Rattle.mc_proxy.specs.ProxyState.{output_of, session_at, unanswered_of};
 ghost use Rattle.mc_proxy.specs.Turns.{HasAnswer, hides_loss_at, waiting_of};
 ghost use Rattle.mc_stream.specs.Sides.{pump_of};
