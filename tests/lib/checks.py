@@ -216,8 +216,8 @@ def why_it_cannot_listen_is_told(program):
     # With one file beside its streams it has a listener, and no poll of its sockets.
     listen = f"{HOST}:{free_port()}"
     told = f"{program.name}: cannot listen\n{program.name}: {listen}: too many open files\n"
-    status, _, said = program.run(f"--listen={listen}", "--log", limits=[(resource.RLIMIT_NOFILE, 4)])
-    want((status, plain_lines(said, "--log")[-len(told) :]), (3, told))
+    status, output, said = program.run(f"--listen={listen}", "--log", limits=[(resource.RLIMIT_NOFILE, 4)])
+    want((status, output, plain_lines(said, "--log")[-len(told) :]), (3, "", told))
 
 
 def said_at_a_terminal(program, *words):

@@ -307,7 +307,7 @@ def what_cannot_be_read_changes_nothing():
         keys_are_at_owners(listed, client, listed.servers, listed.names)
 
 
-def carriage_returns_and_order_of_writes_count_for_nothing():
+def carriage_returns_and_order_of_writes_are_ignored():
     """The file of an editor of another system, and one that comes in pieces."""
     with Listed() as listed, listed.proxy.connected() as client:
         third = listed.new_server()
@@ -322,7 +322,7 @@ def carriage_returns_and_order_of_writes_count_for_nothing():
         nothing_is_said(listed.proxy)
 
 
-def a_file_that_is_being_written_is_let_be():
+def nothing_is_taken_of_a_file_that_is_being_written():
     """It is emptied, and written again at once: nothing is said."""
     with Listed() as listed:
         for _ in range(20):
@@ -347,7 +347,7 @@ def two_proxies_follow_one_file():
 
 def descriptors_of_servers_that_join_are_reserved():
     """For 64 servers, however many there are."""
-    most, own = 3, 7 + 64  # its own files and the one of look-ups, the list, and a socket for each server
+    most, own = 3, 7 + 4 * 64  # its own files and the one of look-ups, the list, and a link and a look-up for each server
     with Listed(limits=[(resource.RLIMIT_NOFILE, own + most)]) as listed, contextlib.ExitStack() as stack:
         listed.is_said(f"{own + most} open files: {most} connections can be served at a time")
         clients = [stack.enter_context(listed.proxy.connected()) for _ in range(most + 1)]
@@ -358,6 +358,20 @@ def descriptors_of_servers_that_join_are_reserved():
         listed.append(f"{third.address}\n")
         listed.is_said(f"{third.address} joined")
         keys_are_at_owners(listed, clients[0], [*listed.servers, third], [*listed.names, third.address])
+
+
+def a_look_without_a_descriptor_is_said():
+    """What is new is taken once there is one again."""
+    with Listed() as listed, listed.proxy.connected() as client:
+        is_served(client)
+        third, pid = listed.new_server(), listed.proxy.process.pid
+        soft, hard = resource.prlimit(pid, resource.RLIMIT_NOFILE)
+        resource.prlimit(pid, resource.RLIMIT_NOFILE, (3, hard))
+        listed.is_not_taken("too many open files")
+        listed.append(f"{third.address}\n")
+        resource.prlimit(pid, resource.RLIMIT_NOFILE, (soft, hard))
+        listed.is_said(f"{third.address} joined")
+        keys_are_at_owners(listed, client, [*listed.servers, third], [*listed.names, third.address])
 
 
 def a_file_that_stays_costs_little():
@@ -385,10 +399,11 @@ def checks_of_lists():
         half_a_line_is_not_taken,
         a_file_that_is_away_changes_nothing,
         what_cannot_be_read_changes_nothing,
-        carriage_returns_and_order_of_writes_count_for_nothing,
-        a_file_that_is_being_written_is_let_be,
+        carriage_returns_and_order_of_writes_are_ignored,
+        nothing_is_taken_of_a_file_that_is_being_written,
         two_proxies_follow_one_file,
         descriptors_of_servers_that_join_are_reserved,
+        a_look_without_a_descriptor_is_said,
         a_file_that_stays_costs_little,
     ):
         yield check.__name__, check, ()

@@ -10,6 +10,7 @@ It prints a line for each check that fails; the last line is 'N passed, M failed
 import contextlib
 import os
 import pathlib
+import resource
 import socket
 import struct
 import subprocess
@@ -20,8 +21,8 @@ import time
 
 sys.path.insert(0, str(pathlib.Path(__file__).resolve().parent))
 
-from checks import PATIENCE, Wrong, asked, is_served, tally, want, want_at_most
-from live_pool import LOST, answered_in_time, is_said, nothing_is_said, stored
+from checks import PATIENCE, Wrong, asked, is_served, settles, tally, want, want_at_most
+from live_pool import LOST, answered_in_time, is_lost_and_refused, is_said, nothing_is_said, stored
 from rings import Ring
 from servers import HOST, Proxy, Server
 
@@ -84,8 +85,19 @@ def threads_of(proxy):
     return len(os.listdir(f"/proc/{proxy.process.pid}/task"))
 
 
-def in_front(words, places):
-    return Proxy(PROXY, places, words, stderr=subprocess.PIPE)
+def in_front(words, places, limits=()):
+    return Proxy(PROXY, places, words, limits, stderr=subprocess.PIPE)
+
+
+@contextlib.contextmanager
+def resolved_by(text):
+    """The programs that are started meanwhile look names up so."""
+    file = pathlib.Path("/etc/resolv.conf")
+    file.write_text(text)
+    try:
+        yield
+    finally:
+        file.write_text(FILES["resolv.conf"])
 
 
 def asked_promptly(client, key, seconds, answer=b"END\r\n"):
@@ -117,6 +129,62 @@ def a_silent_name_holds_up_nobody():
             is_said(proxy, f"{place} back")
             asked(client, *stored(there)[:2])
             want(threads_of(proxy), OWN)
+
+
+def a_look_up_that_fails_late_is_nothing_new():
+    """It fails after ten seconds, and another one begins: a silent name server is said once."""
+    place = "quiet.example:1"
+    with in_front([], [place]) as proxy, proxy.connected() as client:
+        asked(client, b"get a\r\n", LOST)
+        is_said(proxy, f"{place} refused: look-up timed out")
+        time.sleep(11)
+        nothing_is_said(proxy)
+
+
+def descriptors_of_look_ups_are_reserved():
+    """Three for each server if one has a name: three name servers are silent, clients have all other descriptors, and a lost server is
+    connected again."""
+    most, own = 2, 6 + 2 * 3
+    silent = "".join(f"nameserver 127.0.0.{number}\n" for number in (1, 2, 3)) + "search .\noptions timeout:1 attempts:5\n"
+    with resolved_by(silent), contextlib.ExitStack() as stack:
+        living = stack.enter_context(Server(SERVER))
+        others = [stack.enter_context(socket.socket(socket.AF_INET, socket.SOCK_DGRAM)) for _ in range(2)]
+        for number, other in enumerate(others):
+            other.bind((f"127.0.0.{number + 2}", 53))
+        place = "mute.example:1"
+        files = f"{own + most} open files"
+        proxy = stack.enter_context(in_front([], [living.address, place], [(resource.RLIMIT_NOFILE, own + most)]))
+        is_said(proxy, f"{files}: {most} connections can be served at a time", f"{place} refused: look-up timed out")
+        clients = [stack.enter_context(proxy.connected()) for _ in range(most + 1)]
+        for client in clients[:most]:
+            is_served(client)
+        is_said(proxy, f"no more clients: {files} allow {most}")
+        want(settles(lambda: sockets_of(proxy)), 2 + most + 3)  # two listen or are a link
+        living.stop()
+        is_lost_and_refused(proxy, living.address)
+        with Server(SERVER, port=living.port):
+            is_said(proxy, f"{living.address} back")
+
+
+def sockets_of(proxy):
+    folder = f"/proc/{proxy.process.pid}/fd"
+    return sum(os.readlink(f"{folder}/{name}").startswith("socket:") for name in os.listdir(folder))
+
+
+def a_look_up_without_a_thread_is_said():
+    """It is begun again once there is one."""
+    with Server(SERVER) as living, tempfile.NamedTemporaryFile("w") as file:
+        file.write(f"{living.address}\n")
+        file.flush()
+        with in_front(["--servers", file.name], []) as proxy, proxy.connected() as client:
+            is_served(client)
+            soft, hard = resource.prlimit(proxy.process.pid, resource.RLIMIT_AS)
+            resource.prlimit(proxy.process.pid, resource.RLIMIT_AS, (proxy.memory("VmSize") + 500_000, hard))
+            file.write("joins:1=stuck.example:1\n")
+            file.flush()
+            is_said(proxy, "joins:1 joined", "joins:1 refused: no thread for a look-up")
+            resource.prlimit(proxy.process.pid, resource.RLIMIT_AS, (soft, hard))
+            is_said(proxy, "joins:1 refused: look-up timed out")
 
 
 def a_name_is_not_held_up_by_another():
@@ -257,6 +325,9 @@ def an_address_needs_no_thread():
 def checks():
     for check in (
         a_silent_name_holds_up_nobody,
+        a_look_up_that_fails_late_is_nothing_new,
+        descriptors_of_look_ups_are_reserved,
+        a_look_up_without_a_thread_is_said,
         a_name_is_not_held_up_by_another,
         a_name_that_is_answered_holds_up_nobody_at_first,
         a_slow_answer_is_in_time,
