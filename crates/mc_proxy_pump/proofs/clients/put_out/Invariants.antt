@@ -5,9 +5,9 @@ use Rattle.mc_proxy_pump.specs.Rounds.{HowMany}
 use Rattle.mc_proxy_pump.proofs.clients.put_out.Given as goal
 
 -- what was put out so far
-abbrev pub invariant-loop-proxy : goal.invariant-loop-proxy
-invariant-loop-proxy l = Stretch l.session l.fn.proxy l.proxy [] [] × HowMany l.answered l.session l.fn.proxy l.proxy
+abbrev pub invariant-loop-tally : goal.invariant-loop-tally
+invariant-loop-tally l = Stretch l.session l.fn.proxy l.proxy [] [] × HowMany l.answered l.session l.fn.proxy l.proxy
 
 -- each answer is one less to put out
-abbrev pub decreases-loop-proxy : goal.decreases-loop-proxy
-decreases-loop-proxy l = unanswered_of (session_at l.proxy l.session)
+abbrev pub decreases-loop-tally : goal.decreases-loop-tally
+decreases-loop-tally l = unanswered_of (session_at l.proxy l.session)
