@@ -163,7 +163,11 @@ class Started(Listener):
     def __init__(self, process, program, port):
         self.process, self.program, self.port, self.on = process, program, port, None
         self.address = f"{HOST}:{port}"
-        self.await_start()
+        try:
+            self.await_start()
+        except BaseException:
+            self.stop()
+            raise
 
     def said(self):
         """What it has said until it ended."""
