@@ -27,7 +27,7 @@ from checks import (
     UNKNOWN_HOSTS, Program, asked, checks_of_words, is_served, received, received_to_the_end, settles, tally, want, want_at_most,
     words_are_refused, wrong_sizes_are_refused,
 )  # fmt: skip
-from connections import checks_of_connections, fields_of, lines_said
+from connections import checks_of_connections, fields_of, lines_said, no_client_gets_a_standard_stream
 from links import checks_of_links
 from lists import checks_of_lists
 from live_pool import (
@@ -745,6 +745,7 @@ def checks():
     for name, words in BAD_LISTS.items():
         yield f"bad server list, {name}", bad_lists_are_told, (words,)
     yield from checks_of_connections(start, "mc_proxyd", 7, DIALOGUES, "16 open files allow 9")
+    yield no_client_gets_a_standard_stream.__name__, no_client_gets_a_standard_stream, (PROXY,)
     for check in (
         no_server_is_refused,
         sizes_are_within_their_limits,

@@ -23,7 +23,7 @@ from checks import (
     FORMS, KILOBYTE, MARK, PATIENCE, Program, Wrong, asked, checks_of_words, is_served, plain_lines, received, received_to_the_end,
     settles, tally, want, want_at_most, wrong_sizes_are_refused,
 )  # fmt: skip
-from connections import checks_of_connections, fields_of, lines_said, suppressed_of
+from connections import checks_of_connections, fields_of, lines_said, no_client_gets_a_standard_stream, suppressed_of
 from servers import HOST, Listener, connected, free_port
 from suite import are_built
 
@@ -601,6 +601,7 @@ def checks():
     """Each check by its name."""
     yield from checks_of_words(PROGRAM, SETTINGS, REFUSED, HELP)
     yield from checks_of_connections(start, "mc_serverd", 5)
+    yield no_client_gets_a_standard_stream.__name__, no_client_gets_a_standard_stream, (PROGRAM,)
     for check in (
         no_memory_to_start_is_told,
         items_are_within_their_limits,

@@ -11,11 +11,12 @@ import resource
 import select
 import socket
 import struct
+import subprocess
 import threading
 import time
 
 from checks import FORMS, KILOBYTE, PATIENCE, Wrong, asked, is_served, plain, received, received_to_the_end, want, want_at_most
-from servers import HOST
+from servers import HOST, Listener, free_port
 
 LARGE = 1_000_000  # bytes of a large value
 
@@ -94,6 +95,39 @@ def whom_no_line_reaches_is_served(start):
         with program.connected_in_time() as client:
             is_served(client)
         want(program.ended(), (0, b""))
+
+
+# How a shell closes standard streams, and their numbers.
+CLOSED = {"<&-": (0,), ">&-": (1,), "2>&-": (2,), "<&- >&- 2>&-": (0, 1, 2)}
+
+
+def no_client_gets_a_standard_stream(program):
+    """For each of descriptors 0, 1 and 2 that is closed at the start it opens /dev/null, so that no line goes to a client. It still tells
+    that the output of --check is lost."""
+    for closed, numbers in CLOSED.items():
+        port = free_port()
+        words = closing(program, closed, "--listen", f"{HOST}:{port}", "--report", "1")
+        with open("/dev/full", "wb") as full, Listener(words[0], words[1:], port, stdout=full, stderr=full) as server:
+            clients = [server.connected_in_time(), *(server.connected() for _ in range(3))]
+            try:
+                want(answered_to(clients.pop(), [b"\x80"]), b"")
+                for client in clients:
+                    is_served(client)
+                want({os.readlink(f"/proc/{server.process.pid}/fd/{number}") for number in numbers}, {"/dev/null"})
+                want(select.select(clients, [], [], 2.5)[0], [])
+                for client in clients:
+                    is_served(client)
+            finally:
+                for client in clients:
+                    client.close()
+    for closed, status, said in (("<&-", 0, b""), (">&-", 1, f"{program.name}: output failed\n".encode()), (">&- 2>&-", 1, b"")):
+        ended = subprocess.run(closing(program, closed, "--check"), stdin=subprocess.DEVNULL, capture_output=True, timeout=PATIENCE)
+        want((ended.returncode, ended.stderr), (status, said))
+
+
+def closing(program, closed, *words):
+    """The words that start a program with some of its streams closed, as a shell writes that."""
+    return ["/bin/sh", "-c", f'exec "$@" {closed}', "sh", program.path, *program.words, *words]
 
 
 def half_a_request_and_the_end_are_no_answer(start):

@@ -5,6 +5,7 @@
 //! operators ([`admin`], [`admin_name`]), and [`VERSION`] is what `--version` prints. [`ServeError`] is why a program cannot serve, and
 //! [`ListenError`] why it cannot listen. [`is_read`] says whether its operator reads standard error. [`Logged`] is a runtime whose lines on
 //! standard error have the [`Form`] that the words ask for ([`log`], [`LogOption`]), and by [`EprintSeldom`] say how many like them were suppressed.
+//! [`open_streams`] opens `/dev/null` for standard input, output and error, if they are closed at the start.
 //!
 //! The exit status is 0 where the program came to its end, or the words ask for the version. Else it is 1 where standard output cannot
 //! be written, 2 where the words are refused (those that ask for help among them), 3 where it cannot listen, and 4 where there was no
@@ -20,6 +21,7 @@ mod operators;
 mod options;
 mod sizes;
 mod sockets;
+mod streams;
 mod terms;
 mod version;
 mod words;
@@ -32,6 +34,7 @@ pub use operators::is_read;
 pub use options::{accept, flag, idle, listen, log, number, report, size};
 pub use sizes::size_within;
 pub use sockets::SocketError;
+pub use streams::open_streams;
 pub use terms::Terms;
 pub use version::VERSION;
 pub use words::read_words;

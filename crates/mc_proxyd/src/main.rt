@@ -9,7 +9,8 @@ ghost use Rattle.std.specs.Prelude.{◌≡◌};
 ghost use Rattle.mc_program.specs.Statuses.{status_of};
 
 use mc_program::{
-    EprintSeldom, Failure, LogOption, Logged, ServeError, exit_status, is_read, read_words,
+    EprintSeldom, Failure, LogOption, Logged, ServeError, exit_status, is_read, open_streams,
+    read_words,
 };
 use mc_proxy::{Losses, MAX_SESSIONS};
 use mc_proxy_serve::{
@@ -28,6 +29,7 @@ use std::sync::Wait;
 use std::thread::Threads;
 
 fn main(rt: HostRuntime) -> ExitCode {
+    open_streams(&rt);
     let mut option = LogOption::Nothing;
     let served = run(&rt, &mut option);
     if let Err(failure) = &served {

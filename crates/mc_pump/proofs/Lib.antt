@@ -2,3 +2,4 @@ pub mod StretchLemmas
 pub mod PumpLemmas
 pub mod RoundLemmas
 pub mod LawLemmas
+pub mod CountLemmas

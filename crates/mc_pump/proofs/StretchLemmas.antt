@@ -55,6 +55,14 @@ stretch_none number moment s c was = record {
   marked = λ _ _. (refl, refl);
 }
 
+pub none_takes_none : (number moment : ℕ) (s : ServerState) (c : ConnectionState) (was : connection_at s number ≡ Some c) → (stretch_none number moment s c was).history ≡ []
+unfolding stretch_none
+none_takes_none number moment s c was = refl
+
+-- the entry of a turn that took something
+abbrev pub taken_entry : (number moment : ℕ) (old new : ServerState) → Steps number old new (IsTurn number moment Took) → Entry
+taken_entry number moment old new steps = record { connection = number; what = steps.step.0; moment = moment; refused = steps.step.1.served.0 }
+
 -- a turn took something
 pub stretch_took : (number moment : ℕ) (old new : ServerState) → Steps number old new (IsTurn number moment Took) → length (output_of (connection_at old number)) < UNSENT_MARK → Stretch number moment old new [] []
 stretch_took number moment old new steps below =
@@ -76,6 +84,11 @@ stretch_took number moment old new steps below =
       marked = λ above _. absurd (omega (arith, few, above));
     }
 
+pub took_takes_one : (number moment : ℕ) (old new : ServerState) (steps : Steps number old new (IsTurn number moment Took)) (below : length (output_of (connection_at old number)) < UNSENT_MARK)
+    → (stretch_took number moment old new steps below).history ≡ taken_entry number moment old new steps ∷ []
+unfolding stretch_took
+took_takes_one number moment old new steps below = refl
+
 -- a turn found nothing
 pub stretch_idle : (number moment : ℕ) (old new : ServerState) → Steps number old new (IsTurn number moment Idle) → Stretch number moment old new [] []
 stretch_idle number moment old new steps = record {
@@ -92,6 +105,10 @@ stretch_idle number moment old new steps = record {
   marked = λ _ _. (refl, refl);
 }
 
+pub idle_takes_none : (number moment : ℕ) (old new : ServerState) (steps : Steps number old new (IsTurn number moment Idle)) → (stretch_idle number moment old new steps).history ≡ []
+unfolding stretch_idle
+idle_takes_none number moment old new steps = refl
+
 -- a turn found that nothing is read any more
 pub stretch_closing : (number moment : ℕ) (old new : ServerState) → Steps number old new (IsTurn number moment Closing) → Stretch number moment old new [] []
 stretch_closing number moment old new steps = record {
@@ -107,6 +124,10 @@ stretch_closing number moment old new steps = record {
   answered = ap (λ (c : ConnectionState). c.output) steps.step.2 ∙ sym (append-nil steps.before.output);
   marked = λ _ _. (refl, refl);
 }
+
+pub closing_takes_none : (number moment : ℕ) (old new : ServerState) (steps : Steps number old new (IsTurn number moment Closing)) → (stretch_closing number moment old new steps).history ≡ []
+unfolding stretch_closing
+closing_takes_none number moment old new steps = refl
 
 -- a piece came
 pub stretch_fed : (number moment : ℕ) (piece : List ℕ) (old new : ServerState) → Steps number old new (Feeds piece) → length (output_of (connection_at old number)) < UNSENT_MARK → Stretch number moment old new piece []
@@ -125,6 +146,11 @@ stretch_fed number moment piece old new steps below =
       answered = steps.step.1.output ∙ sym (append-nil steps.before.output);
       marked = λ above _. absurd (omega (arith, few, above));
     }
+
+pub fed_takes_none : (number moment : ℕ) (piece : List ℕ) (old new : ServerState) (steps : Steps number old new (Feeds piece)) (below : length (output_of (connection_at old number)) < UNSENT_MARK)
+    → (stretch_fed number moment piece old new steps below).history ≡ []
+unfolding stretch_fed
+fed_takes_none number moment piece old new steps below = refl
 
 -- the first bytes of the output went
 pub stretch_sent : (number moment count : ℕ) (c : ConnectionState) (old new : ServerState) → connection_at old number ≡ Some c → new ≡ sent_by number count (connection_at old number) old
@@ -145,6 +171,11 @@ stretch_sent number moment count c old new was is =
       answered = rw take-append-drop (sym (append-nil c.output));
       marked = λ _ _. (refl, refl);
     }
+
+pub sent_takes_none : (number moment count : ℕ) (c : ConnectionState) (old new : ServerState) (was : connection_at old number ≡ Some c) (is : new ≡ sent_by number count (connection_at old number) old)
+    → (stretch_sent number moment count c old new was is).history ≡ []
+unfolding stretch_sent
+sent_takes_none number moment count c old new was is = refl
 
 -- what is after nothing
 nothing_after : (xs ys : List ℕ) → xs ++ ys ≡ [] → (xs ≡ []) × (ys ≡ [])
@@ -204,6 +235,11 @@ stretch_then number moment a b c came more went yet h k =
     let both : Some h.after ≡ Some k.before = sym there ∙ k.was in
     let same : h.after ≡ k.before = cc in
     past number moment a b c came more went yet h k same
+
+pub then_takes_both : (number moment : ℕ) (a b c : ServerState) (came more went yet : List ℕ) (h : Stretch number moment a b came went) (k : Stretch number moment b c more yet)
+    → (stretch_then number moment a b c came more went yet h k).history ≡ h.history ++ k.history
+unfolding stretch_then past
+then_takes_both number moment a b c came more went yet h k = refl
 
 -- where a stretch leaves its connection
 pub stretch_open : (number moment : ℕ) (a b : ServerState) (came went : List ℕ) (h : Stretch number moment a b came went) → connection_at b number ≡ Some h.after

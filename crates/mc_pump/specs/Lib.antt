@@ -1,3 +1,4 @@
 pub mod Stretches
 pub mod Pumps
 pub mod Rounds
+pub mod Counts

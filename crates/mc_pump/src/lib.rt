@@ -4,10 +4,10 @@
 //! Its contract is the law of one connection, from the bytes that a reader gave to the bytes that a writer took.
 //! [`MAX_ROUNDS`] and [`UNSENT_MARK`] are its limits. The stream is any reader and any writer: no socket is known here.
 //! One call of a side of a stream is [`mc_stream::write_once`] or [`mc_stream::read_once`]. A [`Watch`] says how large an answer may
-//! be, and what passed.
+//! be, what passed, and how many stores were answered that there is no memory for them.
 //!
 //! `specs/Stretches.antt` has what a stretch of a connection does to a server, `mc_stream`'s `specs/Sides.antt` what the two
-//! sides of a stream carry, `specs/Pumps.antt` what a pump does between the two. [`servers_hold_after_a_stretch`] is a law,
+//! sides of a stream carry, `specs/Pumps.antt` what a pump does between the two, `specs/Counts.antt` what it counts. [`servers_hold_after_a_stretch`] is a law,
 //! and does nothing: a server that is where a history leaves it is after a stretch where the longer history leaves it.
 #![tactic(auto)]
 

@@ -1,6 +1,7 @@
 //! The body of a connection: bytes in, turns, bytes out.
 ghost use Rattle.std.specs.Prelude.{◌≡◌, ◌<◌, ◌^◌, None, length, IsSome};
 ghost use Rattle.mc_server.specs.ServerState.{connection_at};
+ghost use Rattle.mc_pump.specs.Counts.{Counts};
 ghost use Rattle.mc_pump.specs.Pumps.{Pumps};
 
 use crate::rounds::round;
@@ -19,7 +20,8 @@ use std::io::{Read, Write};
 /// sets it when a read gives no byte, and then reads no more; a caller hands in `false` at first.
 ///
 /// A request whose answer may have more bytes than the watch allows is not taken: the pump says [`Pumped::Failed`], and has done
-/// nothing for it. The watch notes that, and counts the requests that are taken, and the bytes.
+/// nothing for it. The watch notes that, and counts the requests that are taken, those of them that are answered that there is no memory to
+/// store something, and the bytes.
 pub fn pump<S: Store + Drop, R: Read, W: Write>(
     server: &mut Server<S>,
     number: u64,
@@ -34,7 +36,10 @@ pub fn pump<S: Store + Drop, R: Read, W: Write>(
     requires moment { moment < 2 ^ 63 }
     ensures pumps { IsSome (connection_at server.old number) → Pumps number moment result server.old server.new
         (R.remaining reader.old) (R.remaining reader.new) (W.contents writer.old) (W.contents writer.new) ended.old ended.new }
+    ensures counts { IsSome (connection_at server.old number)
+        → Counts number moment server.old server.new watch.old.no_memory watch.new.no_memory }
     ensures not_open { connection_at server.old number ≡ None → (result ≡ Pumped.Failed) × (server.new ≡ server.old) }
+    ensures not_counted { connection_at server.old number ≡ None → watch.new ≡ watch.old }
 {
     let Ok(_) = server.is_closed(number) else {
         return Pumped::Failed;

@@ -1,6 +1,8 @@
 //! What is watched of connections while they are pumped.
-ghost use Rattle.std.specs.Prelude.{◌≡◌};
+ghost use Rattle.std.specs.Prelude.{◌≡◌, ◌+◌, ◌%◌, ◌^◌};
+ghost use Rattle.mc_pump.specs.Counts.{refusal_in};
 
+use mc_request::Fault;
 use mc_server::AnswerLimit;
 use mc_watch::Tally;
 
@@ -13,17 +15,40 @@ pub struct Watch {
     pub tally: Tally,
     /// Whether a request was refused, since its answer might have more: no pump sets it back.
     pub refused: bool,
+    /// How many requests were answered that there is no memory to store something. It begins again at 0 after 2^64 - 1.
+    pub no_memory: u64,
 }
 
 impl Watch {
     /// A watch by which nothing has passed.
     pub fn new(limit: AnswerLimit) -> Watch
-        ensures { result.limit ≡ limit }
+        ensures limit { result.limit ≡ limit }
+        ensures no_memory { result.no_memory ≡ 0 }
     {
         Watch {
             limit,
             tally: Tally::new(),
             refused: false,
+            no_memory: 0,
         }
+    }
+
+    /// Counts a request that was taken, by its whole answer.
+    pub(crate) fn took(&mut self, answer: &[u8])
+        ensures { self.new.no_memory ≡ (self.old.no_memory + refusal_in answer.now) % 2 ^ 64 }
+    {
+        self.tally.took();
+        self.no_memory = self.no_memory.wrapping_add(refusal_in(answer));
+    }
+}
+
+/// How many stores are told by an answer that there is no memory for them: one, or none.
+fn refusal_in(answer: &[u8]) -> u64
+    ensures { result ≡ refusal_in answer.now }
+{
+    if answer == Fault::OutOfMemory.line() {
+        1
+    } else {
+        0
     }
 }

@@ -5,7 +5,8 @@
 #![tactic(auto)]
 
 use mc_program::{
-    EprintSeldom, Failure, LogOption, Logged, ServeError, exit_status, is_read, read_words,
+    EprintSeldom, Failure, LogOption, Logged, ServeError, exit_status, is_read, open_streams,
+    read_words,
 };
 use mc_serve::{
     Operators, Options, PROGRAM, SystemSeconds, bind, command, other_files, serve, tell_memory,
@@ -21,6 +22,7 @@ use std::rt::{Clock, Env};
 use std::sync::Wait;
 
 fn main(rt: HostRuntime) -> ExitCode {
+    open_streams(&rt);
     let mut option = LogOption::Nothing;
     let served = run(&rt, &mut option);
     if let Err(failure) = &served {
