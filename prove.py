@@ -70,6 +70,7 @@ SECONDS = {
     "mc_proxyd": 95,
     "mc_pump": 45,
     "mc_read_back": 100,
+    "mc_registers": 12,
     "mc_reply": 150,
     "mc_reply_reader": 85,
     "mc_request": 220,

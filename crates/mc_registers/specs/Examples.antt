@@ -1,0 +1,52 @@
+-- Small histories of one key, in short: this project's own.
+use Rattle.std.specs.Prelude.{ℕ, pos, List, Some, None, codes}
+use Rattle.mc_request.specs.declared.parts.Atom.{Atom}
+use Rattle.mc_request.specs.declared.parts.StoreMode.{StoreMode}
+use Rattle.mc_reply.specs.declared.replies.Reply.{Reply}
+use Rattle.mc_reply.specs.declared.replies.Reply.TheVariants.{Hit}
+use Rattle.mc_cache_laws.specs.Examples.{get_of, get_with_number, store_of, cas_of, delete_of, incr_of}
+use Rattle.mc_registers.specs.Registers.{Done, IsRun}
+
+-- the key of the examples
+abbrev pub the_key : List ℕ
+the_key = codes "k"
+
+-- a command that was answered so, at moment 0 and at another
+abbrev pub answered : Atom (List ℕ) → Reply (List ℕ) → Done
+answered atom reply = record { atom = atom; moment = 0; reply = reply }
+
+abbrev pub answered_at : ℕ → Atom (List ℕ) → Reply (List ℕ) → Done
+answered_at moment atom reply = record { atom = atom; moment = moment; reply = reply }
+
+-- commands on the key: a storage command of an item that never dies, and the others
+abbrev pub storing : StoreMode → List ℕ → Reply (List ℕ) → Done
+storing mode value reply = answered (store_of mode (pos 0) the_key value) reply
+
+abbrev pub comparing : ℕ → List ℕ → Reply (List ℕ) → Done
+comparing number value reply = answered (cas_of number the_key value) reply
+
+abbrev pub getting : Reply (List ℕ) → Done
+getting reply = answered (get_of the_key) reply
+
+abbrev pub getting_number : Reply (List ℕ) → Done
+getting_number reply = answered (get_with_number the_key) reply
+
+abbrev pub deleting : Reply (List ℕ) → Done
+deleting reply = answered (delete_of the_key) reply
+
+abbrev pub counting_up : ℕ → Reply (List ℕ) → Done
+counting_up delta reply = answered (incr_of the_key delta) reply
+
+-- a hit that shows a value, and one that shows a number too
+abbrev pub a_hit : List ℕ → Reply (List ℕ)
+a_hit value = Hit 0 None value
+
+abbrev pub a_numbered_hit : ℕ → List ℕ → Reply (List ℕ)
+a_numbered_hit number value = Hit 0 (Some number) value
+
+-- a register that holds nothing yet, and has given no number, may have these commands and replies; and none may, whatever it forgets and gives
+abbrev pub IsLife : List Done → Type 0
+IsLife history = IsRun 0 None history
+
+abbrev pub IsNoLife : List Done → Type 0
+IsNoLife history = IsLife history → ⊥

@@ -1,0 +1,19 @@
+//! One key of a cache as a register that may forget: what an application may rely on.
+//!
+//! No program uses this crate. Its functions do nothing: their contracts are the laws, and the examples that are computed when the crate is
+//! proved. `specs/Registers.antt` has the register whole, `specs/Examples.antt` the short forms of the commands in the examples.
+#![tactic(auto)]
+
+mod laws;
+mod rows;
+mod wrong_rows;
+
+pub use laws::keys_are_registers;
+pub use rows::{
+    counters_are_counted, items_are_forgotten, numbers_are_compared, refused_stores_change_nothing,
+    stored_values_are_shown,
+};
+pub use wrong_rows::{
+    dead_items_are_not_shown, deleted_items_are_not_shown, numbers_are_not_given_twice,
+    old_values_are_not_shown,
+};
