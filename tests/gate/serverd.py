@@ -501,23 +501,36 @@ class Filler:
 
     def __init__(self, server):
         self.server, self.client, self.number = server, None, 0
+        self.refused = 0  # how often memory was refused: stores, and closed connections
 
-    def is_refused(self, size):
-        """Whether a value of so many bytes is refused, or its connection is closed."""
+    def store(self, size, last=b""):
+        """A line and a value of so many bytes under a new key."""
+        self.number += 1
+        return b"set f%d 0 0 %d%s\r\n%s\r\n" % (self.number, size, last, b"v" * size)
+
+    def answered(self, text, end):
+        """What a text is answered, to this end; what came by then, if its connection is closed."""
+        answer = b""
         try:
             if self.client is None:
                 self.client = self.server.connected()
-            self.number += 1
-            self.client.sendall(b"set f%d 0 0 %d\r\n%s\r\n" % (self.number, size, b"v" * size))
-            answer = self.client.recv(100)
+            self.client.sendall(text)
+            while not answer.endswith(end):
+                piece = self.client.recv(KILOBYTE)
+                if not piece:
+                    raise ConnectionError
+                answer += piece
         except OSError:
-            answer = b""
-        if answer == b"STORED\r\n":
-            return False
-        want(answer in (b"", NO_MEMORY), True)
-        if not answer:
+            self.refused += 1
             self.close()
-        return True
+        self.refused += answer.count(NO_MEMORY)
+        return answer
+
+    def is_refused(self, size):
+        """Whether a value of so many bytes is refused, or its connection is closed."""
+        answer = self.answered(self.store(size), b"\r\n")
+        want(answer in (b"", NO_MEMORY, b"STORED\r\n"), True)
+        return answer != b"STORED\r\n"
 
     def fill(self, size):
         """Stores until a hundred in a row are refused."""
@@ -563,6 +576,30 @@ def no_memory_ends_who_is_asked_to(sizes):
     want((status, lines[-1]), (4, "mc_serverd: out of memory for 3 seconds"))
     want([line for line in lines[:-1] if not REFUSED_LINE.fullmatch(line)], [])
     want(len(lines) > 2, True)
+
+
+def refused_stores_count_and_end_nobody(size):
+    """Each store that is answered that there is no memory is said and counted, with noreply and in a pipeline too; the line as a value is
+    not. However long that lasts, the server stays."""
+    with start_with_little("--memory-exit 2 --report 1") as server, Filler(server) as filler:
+        shown = b"set k 0 0 43\r\n%s\r\nget k\r\n" % NO_MEMORY
+        with server.connected() as reader:
+            asked(reader, shown * 3, (b"STORED\r\nVALUE k 0 43\r\n%s\r\nEND\r\n" % NO_MEMORY) * 3)
+        filler.fill(size)
+        filled, begun = filler.refused, time.monotonic()
+        while time.monotonic() < begun + 5:
+            many = b"".join(filler.store(size, last) for last in (b"", b" noreply") * 10)
+            filler.answered(many + b"version\r\n", b"VERSION 1.6.0\r\n")
+            time.sleep(0.1)
+        want(filler.refused > filled + 20, True)
+        time.sleep(2.2)
+        want(server.process.poll(), None)
+        server.process.terminate()
+        lines = server.process.stderr.read().decode().splitlines()
+    refused = [int(found[1]) for found in map(REFUSED_LINE.fullmatch, lines) if found]
+    want((len(refused) >= 4, sum(refused)), (True, filler.refused))
+    reported = [line for line in lines if "uptime=" in line]
+    want(fields_of(reported[-1], "mc_serverd")["no_memory"], str(filler.refused))
 
 
 def no_memory_ends_nobody_else():
@@ -624,6 +661,8 @@ def checks():
     for sizes in ((100,), (5_000,), (10_000,), (100, 5_000), (100, 10_000)):
         name = ", then ".join(map(str, sizes))
         yield f"no memory ends who is asked to, {name} bytes", no_memory_ends_who_is_asked_to, (sizes,)
+    for size in (100, 5_000):
+        yield f"refused stores count and end nobody, {size} bytes", refused_stores_count_and_end_nobody, (size,)
     for at, (name, before) in enumerate(BEFORE.items()):
         yield f"each command is counted, {name}", each_command_is_counted, (at, before)
         yield f"commands are counted among many items, {name}", commands_are_counted_among_many_items, (at, before)

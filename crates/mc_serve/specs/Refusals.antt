@@ -17,10 +17,14 @@ since_of (Some row) second stores = if goes_on row second stores then row.since 
 abbrev pub row_with : Option Row → ℕ → ℕ → Row
 row_with row second stores = record { since = since_of row second stores; last = second; stores = stores }
 
+-- a count of 64 bits that goes on
+abbrev pub added : (count more : ℕ) → ℕ
+added count more = (count + more) % 2 ^ 64
+
 -- so many refusals more, all in a second, once so many items were stored
 abbrev pub noted : Refusals → (count second stores : ℕ) → Refusals
 noted refusals count second stores =
-    record { count = (refusals.count + count) % 2 ^ 64; row = Some (row_with refusals.row second stores) }
+    record { count = added refusals.count count; row = Some (row_with refusals.row second stores) }
 
 -- whether a row has lasted so many seconds, once so many items were stored: none was stored since; with 0 none has
 abbrev pub has_lasted : Row → (seconds stores : ℕ) → Bool

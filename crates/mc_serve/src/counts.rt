@@ -76,10 +76,17 @@ impl Counts {
         add_one(&self.expired);
     }
 
-    /// So many calls were refused memory.
+    /// So many calls were refused memory, and their clients closed.
     pub fn refuse(&self, count: u64) {
         let mut refusals = self.refusals.get();
         refusals.note(count, self.moment.get(), self.stores.get());
+        self.refusals.set(refusals);
+    }
+
+    /// So many stores were refused memory, and their clients told so.
+    pub fn tell_no_memory(&self, count: u64) {
+        let mut refusals = self.refusals.get();
+        refusals.note_told(count);
         self.refusals.set(refusals);
     }
 
@@ -88,7 +95,7 @@ impl Counts {
         self.refusals.get().count
     }
 
-    /// Whether memory was refused for so many seconds while no item was stored; with 0 it never was.
+    /// Whether clients were closed for want of memory for so many seconds while no item was stored; with 0 none were.
     pub fn is_over(&self, seconds: u64) -> bool {
         self.refusals.get().is_over(seconds, self.stores.get())
     }

@@ -1,6 +1,7 @@
 //! What serves the clients of a server.
 ghost use Rattle.std.specs.Prelude.{◌≡◌, ◌<◌, ◌^◌, None, IsSome, length, vec_len};
 ghost use Rattle.mc_server.specs.ServerState.{connection_at};
+ghost use Rattle.mc_pump.specs.Counts.{Counts as CountsRefusals};
 ghost use Rattle.mc_pump.specs.Pumps.{Pumps};
 
 use crate::counts::Counts;
@@ -25,7 +26,7 @@ pub struct ServerHandler<S: Store + Drop> {
     counts: Rc<Counts>,
     /// What reads fill: made once.
     piece: Vec<u8>,
-    /// How large an answer may be, and what passed of all clients.
+    /// How large an answer may be, what passed of all clients, and what is to be noted of the last one.
     watch: Watch,
     /// What is to be said of a request whose answer may be too large: how many bytes it might have.
     too_large: Seldom<u64>,
@@ -55,6 +56,14 @@ impl<S: Store + Drop> ServerHandler<S> {
             self.too_large.note(self.watch.limit.bytes as u64);
         } else if !socket {
             self.counts.refuse(1);
+        }
+    }
+
+    /// Notes the stores that were answered that there is no memory for them.
+    fn note_told(&mut self) {
+        let count = mem::replace(&mut self.watch.no_memory, 0);
+        if count > 0 {
+            self.counts.tell_no_memory(count);
         }
     }
 
@@ -103,6 +112,7 @@ impl<S: Store + Drop> Handler<()> for ServerHandler<S> {
         if pumped == Pumped::Failed {
             self.note_failed(failed);
         }
+        self.note_told();
         step_after(pumped)
     }
 
@@ -132,6 +142,8 @@ fn pump_client<S: Store + Drop>(
     requires moment { moment < 2 ^ 63 }
     ensures pumps { IsSome (connection_at server.old client.old.number) → Pumps client.old.number moment result.0 server.old server.new
         None None None None client.old.ended client.new.ended }
+    ensures counts { IsSome (connection_at server.old client.old.number)
+        → CountsRefusals client.old.number moment server.old server.new watch.old.no_memory watch.new.no_memory }
     ensures number { client.new.number ≡ client.old.number }
 {
     let mut input = Input {

@@ -208,7 +208,7 @@ fn memory_exit<'a>(alloc: Global) -> Arg<'a> {
         alloc,
         "memory-exit",
         "seconds",
-        "End with status 4 if for so long memory was refused, without a pause of more than 2 seconds, and no item was stored; 0 for never",
+        "End with status 4 if for so long clients were closed for want of memory, without a pause of more than 2 seconds, and no item was stored; 0 for never",
     )
 }
 

@@ -1,6 +1,6 @@
 //! Calls that are refused memory.
 ghost use Rattle.std.specs.Prelude.{◌≡◌, None};
-ghost use Rattle.mc_serve.specs.Refusals.{goes_on, has_lasted, is_over, noted, since_of};
+ghost use Rattle.mc_serve.specs.Refusals.{added, goes_on, has_lasted, is_over, noted, since_of};
 
 /// A row of refusals ends if for more than so many seconds there is none.
 pub const PAUSE: u64 = 2;
@@ -42,7 +42,7 @@ fn since_of(row: Option<Row>, second: u64, stores: u64) -> u64
     }
 }
 
-/// How often calls of a server were refused memory, and for how long none of its items was stored.
+/// How often a server was refused memory, and for how long it closed clients for that, while none of its items was stored.
 #[derive(Clone, Copy, Debug, PartialEq, Eq)]
 pub struct Refusals {
     /// How often: it begins again at 0 after 2^64 - 1.
@@ -62,17 +62,25 @@ impl Refusals {
         }
     }
 
-    /// Notes so many refusals in a second, once so many items were stored. It goes on a row if no item was stored since its last refusal,
+    /// Notes so many refusals in a second whose clients were closed, once so many items were stored. It goes on a row if no item was stored since its last refusal,
     /// and that was at most [`PAUSE`] seconds before.
     pub fn note(&mut self, count: u64, second: u64, stores: u64)
         ensures { self.new ≡ noted self.old count second stores }
     {
-        self.count = self.count.wrapping_add(count);
+        self.note_told(count);
         self.row = Some(Row {
             since: since_of(self.row, second, stores),
             last: second,
             stores,
         });
+    }
+
+    /// Notes so many refusals whose clients were told so, and keep their connections. They are counted, and of no row: a server that refuses
+    /// new items alone is of use.
+    pub fn note_told(&mut self, count: u64)
+        ensures { self.new ≡ record self.old { count = added self.old.count count } }
+    {
+        self.count = self.count.wrapping_add(count);
     }
 
     /// Whether calls were refused memory for so many seconds while no item was stored, of which there are so many. With 0 they never were.
