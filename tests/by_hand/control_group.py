@@ -76,7 +76,7 @@ class Group:
         self.write("cgroup.procs", os.getpid())
 
     def number(self, what):
-        """A number of bytes that it tells, or 0."""
+        """A number of bytes that it gives, or 0."""
         try:
             return int((self.folder / self.files[what]).read_text())
         except (OSError, ValueError):
@@ -88,7 +88,7 @@ class Group:
         return int(found[1]) if found else 0
 
     def remove(self):
-        """Takes it away, once the system has let go of what was in it."""
+        """Takes it away, once the system has freed what was in it."""
         for _ in range(100):
             with contextlib.suppress(OSError):
                 self.folder.rmdir()
@@ -130,9 +130,9 @@ def tree():
         if place is None:
             own = tempfile.mkdtemp()
             kind = ["-t", "cgroup", "-o", "memory"] if one else ["-t", "cgroup2"]
-            told = subprocess.run(["mount", *kind, "none", own], capture_output=True, text=True)
-            if told.returncode:
-                raise NoGroup(told.stderr.strip())
+            ended = subprocess.run(["mount", *kind, "none", own], capture_output=True, text=True)
+            if ended.returncode:
+                raise NoGroup(ended.stderr.strip())
             place = pathlib.Path(own)
         parent = place / own_group(one).lstrip("/")
         if not one and "memory" not in (parent / "cgroup.subtree_control").read_text().split():
@@ -217,9 +217,9 @@ class Client:
         stored = refused = closed = 0
         sent, progress = 0, time.monotonic()
         while sent < budget * 3 // 2 and self.server.process.poll() is None and time.monotonic() < progress + PATIENCE:
-            more, told, is_closed = self.batch(size)
-            stored, refused, closed = stored + more, refused + told, closed + is_closed
-            sent += (more + told) * (size + 74)
+            more, fewer, is_closed = self.batch(size)
+            stored, refused, closed = stored + more, refused + fewer, closed + is_closed
+            sent += (more + fewer) * (size + 74)
             if more:
                 progress = time.monotonic()
             elif is_closed:

@@ -102,8 +102,8 @@ CLOSED = {"<&-": (0,), ">&-": (1,), "2>&-": (2,), "<&- >&- 2>&-": (0, 1, 2)}
 
 
 def no_client_gets_a_standard_stream(program):
-    """For each of descriptors 0, 1 and 2 that is closed at the start it opens /dev/null, so that no line goes to a client. It still tells
-    that the output of --check is lost."""
+    """For each of descriptors 0, 1 and 2 that is closed at the start it opens /dev/null, so that no line goes to a client. It still
+    reports that the output of --check is lost."""
     for closed, numbers in CLOSED.items():
         port = free_port()
         words = closing(program, closed, "--listen", f"{HOST}:{port}", "--report", "1")

@@ -3,8 +3,9 @@ name; links.py hands them on. `Pool.programs` are the programs that are tried.
 """
 
 import contextlib
+import time
 
-from checks import asked, is_served, received, want
+from checks import PATIENCE, Wrong, asked, is_served, received, want
 from connections import fields_of, lines_said
 from live_pool import LOST, Played, Pool, all_that_comes, stored
 
@@ -87,22 +88,29 @@ def missed(pool):
             return int(fields_of(line, "mc_proxyd")["missed"])
 
 
+def missed_after(pool, before, ask=lambda: None):
+    """The first report's number that is another than before, while something is asked before each look."""
+    deadline = time.monotonic() + PATIENCE
+    while time.monotonic() < deadline:
+        ask()
+        if (now := missed(pool)) != before:
+            return now
+    raise Wrong(f"still {before} missed")
+
+
 def what_was_missed_is_counted():
-    """By requests: a get of two keys of a server that is down is one, and so is a store with `noreply`; a store that is told its loss is none, nor
+    """By requests: a get of two keys of a server that is down is one, and so is a store with `noreply`; a store whose loss is reported is none, nor
     is a get of a living server's key."""
     with Pool(("--report", "1", *MISSED)) as pool, pool.connected() as client:
         living, lost = pool.ring.key(0), pool.ring.keys(1, 2)
         want(missed(pool), 0)
         pool.servers[1].stop()
-        while not missed(pool):
-            asked(client, b"get %s\r\n" % lost[0], b"END\r\n")
+        missed_after(pool, 0, lambda: asked(client, b"get %s\r\n" % lost[0], b"END\r\n"))
         before = missed(pool)
         gets = b"get %s %s\r\nget %s\r\n" % (*lost, living)
         puts = b"set %s 0 0 1 noreply\r\nx\r\nset %s 0 0 1\r\nx\r\n" % (lost[0], lost[1])
         asked(client, gets + puts, b"END\r\nEND\r\n" + LOST)
-        while (now := missed(pool)) == before:
-            pass
-        want(now, before + 2)
+        want(missed_after(pool, before), before + 2)
 
 
 def what_is_lost_on_its_way_is_counted():
@@ -114,9 +122,7 @@ def what_is_lost_on_its_way_is_counted():
         want(missed(pool), 0)
         pool.links[0].close()
         want(received(client, len(b"END\r\n")), b"END\r\n")
-        while not (now := missed(pool)):
-            pass
-        want(now, 1)
+        want(missed_after(pool, 0), 1)
 
 
 def checks_of_losses():
