@@ -1,2 +1,4 @@
 pub mod TurnLemmas
 pub mod RunLemmas
+pub mod LeftLemmas
+pub mod GuaranteeLemmas

@@ -1,3 +1,4 @@
 pub mod Registers
 pub mod Examples
 pub mod Laws
+pub mod Guarantees
