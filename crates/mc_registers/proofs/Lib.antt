@@ -2,3 +2,4 @@ pub mod TurnLemmas
 pub mod RunLemmas
 pub mod LeftLemmas
 pub mod GuaranteeLemmas
+pub mod ToldLemmas

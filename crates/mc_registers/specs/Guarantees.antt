@@ -94,7 +94,7 @@ CountersCount last held =
     (front es back : List Done) (first : Done) (key : List ℕ) (counting : Counting) (number : ℕ) → IsRun last held (front ++ first ∷ (es ++ back))
     → first.atom ≡ atoms.Update (Count key counting) → first.reply ≡ Number number → number < 2 ^ 64 → AreCountsOrQuiet es → AreCounted number es
 
--- Adds exclude. Something is held, and is neither forgotten, nor dead, nor deleted: then no `add` stores.
+-- Adds exclude. Something is held, and is neither forgotten nor dead, and no other command writes: then no `add` stores.
 abbrev pub IsSteadyRun : ℕ → Option Body → List Done → Type 0
 IsSteadyRun last held [] = Unit {0}
 IsSteadyRun last held (e ∷ es) =

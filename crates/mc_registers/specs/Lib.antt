@@ -2,3 +2,4 @@ pub mod Registers
 pub mod Examples
 pub mod Laws
 pub mod Guarantees
+pub mod Told

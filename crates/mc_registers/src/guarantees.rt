@@ -15,8 +15,8 @@ pub fn counters_count()
     ensures { (last : ℕ) → (held : Option Body) → CountersCount last held }
 {}
 
-/// Where an item is held, no `add` stores until the item is forgotten, dead or deleted: it is a lock with an expiry. In the run
-/// `forgotten_locks_are_taken` it is forgotten.
+/// Where an item is held and no other command writes, no `add` stores until the item is forgotten or dead: it is a lock with an expiry.
+/// In the runs `forgotten_locks_are_taken` it is forgotten, or deleted.
 pub fn adds_exclude()
     ensures { (last : ℕ) → (body : Body) → AddsExclude last body }
 {}

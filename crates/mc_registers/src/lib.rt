@@ -11,7 +11,7 @@ mod rows;
 mod wrong_rows;
 
 pub use guarantees::{adds_exclude, cas_loses_nothing, counters_count, reads_see_own_writes};
-pub use laws::keys_are_registers;
+pub use laws::{histories_are_registers, keys_are_registers};
 pub use needs::{
     another_value_is_read, forgotten_counters_begin_anew, forgotten_locks_are_taken,
     numbers_fit_another_life,
