@@ -1,2 +1,5 @@
 pub mod TurnLemmas
 pub mod RunLemmas
+pub mod LeftLemmas
+pub mod GuaranteeLemmas
+pub mod ToldLemmas

@@ -1,10 +1,13 @@
 -- Small histories of one key, in short: this project's own.
 use Rattle.std.specs.Prelude.{ℕ, pos, List, Some, None, codes}
+use Rattle.mc_request.specs.Meanings.{plain_counting}
 use Rattle.mc_request.specs.declared.parts.Atom.{Atom}
+use Rattle.mc_request.specs.declared.parts.Direction.TheVariants.{Up}
 use Rattle.mc_request.specs.declared.parts.StoreMode.{StoreMode}
 use Rattle.mc_reply.specs.declared.replies.Reply.{Reply}
-use Rattle.mc_reply.specs.declared.replies.Reply.TheVariants.{Hit}
-use Rattle.mc_cache_laws.specs.Examples.{get_of, get_with_number, store_of, cas_of, delete_of, incr_of}
+use Rattle.mc_reply.specs.declared.replies.Reply.TheVariants.{Hit, Meta}
+use Rattle.mc_reply.specs.Replies.{nothing_shown}
+use Rattle.mc_cache_laws.specs.Examples.{get_of, get_with_number, store_of, cas_of, delete_of, incr_of, ma_of}
 use Rattle.mc_registers.specs.Registers.{Done, IsRun}
 
 -- the key of the examples
@@ -36,6 +39,11 @@ deleting reply = answered (delete_of the_key) reply
 
 abbrev pub counting_up : ℕ → Reply (List ℕ) → Done
 counting_up delta reply = answered (incr_of the_key delta) reply
+
+-- `ma` that makes a counter of this number where there is none, and else counts up by 1
+abbrev pub making_counter : ℕ → Done
+making_counter initial =
+    answered (ma_of (record (plain_counting Up 1) { create = Some (record { exptime = pos 0; initial = initial }) }) the_key (codes "")) (Meta nothing_shown None)
 
 -- a hit that shows a value, and one that shows a number too
 abbrev pub a_hit : List ℕ → Reply (List ℕ)

@@ -1,3 +1,5 @@
 pub mod Registers
 pub mod Examples
 pub mod Laws
+pub mod Guarantees
+pub mod Told

@@ -4,11 +4,18 @@
 //! proved. `specs/Registers.antt` has the register whole, `specs/Examples.antt` the short forms of the commands in the examples.
 #![tactic(auto)]
 
+mod guarantees;
 mod laws;
+mod needs;
 mod rows;
 mod wrong_rows;
 
-pub use laws::keys_are_registers;
+pub use guarantees::{adds_exclude, cas_loses_nothing, counters_count, reads_see_own_writes};
+pub use laws::{histories_are_registers, keys_are_registers};
+pub use needs::{
+    another_value_is_read, forgotten_counters_begin_anew, forgotten_locks_are_taken,
+    numbers_fit_another_life,
+};
 pub use rows::{
     counters_are_counted, items_are_forgotten, numbers_are_compared, refused_stores_change_nothing,
     stored_values_are_shown,

@@ -1,0 +1,117 @@
+-- What an application may rely on: runs of one key's register, in a client's words. This project's own.
+use Rattle.std.specs.Prelude.{◌≡◌, ℕ, ◌<◌, ◌^◌, ◌&&◌, ◌⊎◌, ℤ, Bool, true, false, List, [], ◌∷◌, ◌++◌, Option, Some, None, is_some}
+use Rattle.mc_item.specs.declared.bodies.Body.{Body}
+use Rattle.mc_request.specs.declared.meta.Counting.{Counting}
+use Rattle.mc_request.specs.declared.meta.MetaCommand.TheVariants as metas
+use Rattle.mc_request.specs.declared.parts.Atom.{Atom}
+use Rattle.mc_request.specs.declared.parts.Atom.TheVariants as atoms
+use Rattle.mc_request.specs.declared.parts.StoreMode.{StoreMode}
+use Rattle.mc_request.specs.declared.parts.StoreMode.TheVariants.{Add, Append, Prepend}
+use Rattle.mc_request.specs.declared.parts.Update.{Update}
+use Rattle.mc_request.specs.declared.parts.Update.TheVariants.{Store, Count}
+use Rattle.mc_reply.specs.declared.replies.Reply.{Reply}
+use Rattle.mc_reply.specs.declared.replies.Reply.TheVariants.{Stored, Deleted, Number, Hit, Meta}
+use Rattle.mc_cache.specs.Settling.{is_dead_at}
+use Rattle.mc_cache.specs.Step.{counted}
+use Rattle.mc_registers.specs.Registers.{Given, Done, turn, last_by, IsRun}
+
+-- a reply to an update that stored, counted or deleted
+abbrev pub is_done : Reply (List ℕ) → Bool
+is_done Stored = true
+is_done Deleted = true
+is_done (Number number) = true
+is_done (Meta shown value) = true
+is_done reply = false
+
+-- a command that changed what is stored, as its client knows; and one that may have: an `mg` that makes an item where there is none
+abbrev pub has_written : Atom (List ℕ) → Reply (List ℕ) → Bool
+has_written (atoms.Get key exptime with_cas) reply = false
+has_written (atoms.Update update) reply = is_done reply
+has_written (atoms.Meta (metas.Get key get)) reply = false
+has_written (atoms.Meta (metas.Update update show)) reply = is_done reply
+
+abbrev pub may_have_written : Atom (List ℕ) → Reply (List ℕ) → Bool
+may_have_written (atoms.Get key exptime with_cas) reply = false
+may_have_written (atoms.Update update) reply = is_done reply
+may_have_written (atoms.Meta (metas.Get key get)) reply = is_some get.create && is_done reply
+may_have_written (atoms.Meta (metas.Update update show)) reply = is_done reply
+
+-- none of these wrote, as their clients know; and none may have written
+abbrev pub HaveNotWritten : List Done → Type 0
+HaveNotWritten [] = Unit {0}
+HaveNotWritten (e ∷ es) = (has_written e.atom e.reply ≡ false) × HaveNotWritten es
+
+abbrev pub AreQuiet : List Done → Type 0
+AreQuiet [] = Unit {0}
+AreQuiet (e ∷ es) = (may_have_written e.atom e.reply ≡ false) × AreQuiet es
+
+-- the update of a command, if it is one
+abbrev pub update_in : Atom (List ℕ) → Option (Update (List ℕ) (List ℕ))
+update_in (atoms.Get key exptime with_cas) = None
+update_in (atoms.Update update) = Some update
+update_in (atoms.Meta (metas.Get key get)) = None
+update_in (atoms.Meta (metas.Update update show)) = Some update
+
+-- a whole value is stored by `set`, `cas`, `add`, `replace`, and by `ms` likewise
+abbrev pub is_whole : StoreMode → Bool
+is_whole Append = false
+is_whole Prepend = false
+is_whole mode = true
+
+-- Reads see own writes. A client's value was stored, and then no other: a hit shows it, with its flags.
+abbrev pub ReadsSeeOwnWrites : ℕ → Option Body → Type 0
+ReadsSeeOwnWrites last held =
+    (front between back : List Done) (write read : Done) (mode : StoreMode) (compare : Option ℕ) (key : List ℕ) (flags : ℕ) (exptime : ℤ) (value : List ℕ)
+    → IsRun last held (front ++ write ∷ (between ++ read ∷ back))
+    → update_in write.atom ≡ Some (Store mode compare key flags exptime value) → is_whole mode ≡ true → is_done write.reply ≡ true → AreQuiet between
+    → (at : List ℕ) (touch : Option ℤ) (with_cas : Bool) → read.atom ≡ atoms.Get at touch with_cas
+    → (shown_flags : ℕ) (cas : Option ℕ) (shown : List ℕ) → read.reply ≡ Hit shown_flags cas shown → (shown_flags ≡ flags) × (shown ≡ value)
+
+-- Counters count. A client was told a number, and since then are only counts that make no item, and what writes nothing: each goes on from
+-- the number before.
+abbrev pub IsCountOrQuiet : Done → Type 0
+IsCountOrQuiet e =
+    (may_have_written e.atom e.reply ≡ false) ⊎ ((key : List ℕ) × (counting : Counting) × (e.atom ≡ atoms.Update (Count key counting)) × (counting.create ≡ None))
+
+abbrev pub AreCountsOrQuiet : List Done → Type 0
+AreCountsOrQuiet [] = Unit {0}
+AreCountsOrQuiet (e ∷ es) = IsCountOrQuiet e × AreCountsOrQuiet es
+
+abbrev pub IsCounted : ℕ → Atom (List ℕ) → Reply (List ℕ) → Type 0
+IsCounted before (atoms.Update (Count key counting)) (Number number) = number ≡ counted counting.direction counting.delta before
+IsCounted before atom reply = Unit {0}
+
+abbrev pub number_by : ℕ → Atom (List ℕ) → Reply (List ℕ) → ℕ
+number_by before (atoms.Update (Count key counting)) (Number number) = number
+number_by before atom reply = before
+
+abbrev pub AreCounted : ℕ → List Done → Type 0
+AreCounted before [] = Unit {0}
+AreCounted before (e ∷ es) = IsCounted before e.atom e.reply × AreCounted (number_by before e.atom e.reply) es
+
+abbrev pub CountersCount : ℕ → Option Body → Type 0
+CountersCount last held =
+    (front es back : List Done) (first : Done) (key : List ℕ) (counting : Counting) (number : ℕ) → IsRun last held (front ++ first ∷ (es ++ back))
+    → first.atom ≡ atoms.Update (Count key counting) → first.reply ≡ Number number → number < 2 ^ 64 → AreCountsOrQuiet es → AreCounted number es
+
+-- Adds exclude. Something is held, and is neither forgotten nor dead, and no other command writes: then no `add` stores.
+abbrev pub IsSteadyRun : ℕ → Option Body → List Done → Type 0
+IsSteadyRun last held [] = Unit {0}
+IsSteadyRun last held (e ∷ es) =
+    (given : Given) × (is_dead_at held e.moment ≡ false) × (e.reply ≡ (turn false given held e).1)
+    × IsSteadyRun (last_by last (turn false given held e).0) (turn false given held e).0 es
+
+abbrev pub AddsExclude : ℕ → Body → Type 0
+AddsExclude last body =
+    (between : List Done) (add : Done) (compare : Option ℕ) (key : List ℕ) (flags : ℕ) (exptime : ℤ) (value : List ℕ)
+    → IsSteadyRun last (Some body) (between ++ add ∷ []) → AreQuiet between
+    → update_in add.atom ≡ Some (Store Add compare key flags exptime value) → is_done add.reply ≡ false
+
+-- A `cas` loses nothing. It compares a number that a hit showed, and stores: then nothing was stored, counted or deleted in between.
+abbrev pub CasLosesNothing : ℕ → Option Body → Type 0
+CasLosesNothing last held =
+    (front between back : List Done) (read cas : Done) (mode : StoreMode) (number : ℕ) (key : List ℕ) (flags : ℕ) (exptime : ℤ) (value : List ℕ)
+    → IsRun last held (front ++ read ∷ (between ++ cas ∷ back))
+    → (at : List ℕ) (touch : Option ℤ) (with_cas : Bool) → read.atom ≡ atoms.Get at touch with_cas
+    → (shown_flags : ℕ) (shown : List ℕ) → read.reply ≡ Hit shown_flags (Some number) shown
+    → update_in cas.atom ≡ Some (Store mode (Some number) key flags exptime value) → is_done cas.reply ≡ true → HaveNotWritten between
