@@ -6,7 +6,7 @@ use std::os::fd::{AsRawFd, IntoRawFd};
 /// A program is started with the descriptors 0, 1 and 2: standard input, standard output and standard error.
 const STREAMS: i32 = 3;
 
-/// What has nothing to give.
+/// It reads as empty.
 const NOTHING: &str = "/dev/null";
 
 /// Opens `/dev/null` in the place of each of standard input, standard output and standard error that is closed, until the program ends.

@@ -42,7 +42,7 @@ impl Watch {
     }
 }
 
-/// How many stores are told by an answer that there is no memory for them: one, or none.
+/// How many stores an answer refuses for want of memory: one, or none.
 fn refusal_in(answer: &[u8]) -> u64
     ensures { result ≡ refusal_in answer.now }
 {

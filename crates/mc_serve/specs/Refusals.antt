@@ -21,7 +21,7 @@ row_with row second stores = record { since = since_of row second stores; last =
 abbrev pub added : (count more : ℕ) → ℕ
 added count more = (count + more) % 2 ^ 64
 
--- so many refusals more, all in a second, once so many items were stored
+-- that many refusals more, all in a second, once that many items were stored
 abbrev pub noted : Refusals → (count second stores : ℕ) → Refusals
 noted refusals count second stores =
     record { count = added refusals.count count; row = Some (row_with refusals.row second stores) }

@@ -76,14 +76,14 @@ impl Counts {
         add_one(&self.expired);
     }
 
-    /// So many calls were refused memory, and their clients closed.
+    /// That many calls were refused memory, and their clients closed.
     pub fn refuse(&self, count: u64) {
         let mut refusals = self.refusals.get();
         refusals.note(count, self.moment.get(), self.stores.get());
         self.refusals.set(refusals);
     }
 
-    /// So many stores were refused memory, and their clients told so.
+    /// That many stores were refused memory, and answered so.
     pub fn tell_no_memory(&self, count: u64) {
         let mut refusals = self.refusals.get();
         refusals.note_told(count);

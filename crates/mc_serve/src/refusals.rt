@@ -62,8 +62,8 @@ impl Refusals {
         }
     }
 
-    /// Notes so many refusals in a second whose clients were closed, once so many items were stored. It goes on a row if no item was stored since its last refusal,
-    /// and that was at most [`PAUSE`] seconds before.
+    /// Notes `count` refusals in a second whose clients were closed, once `stores` items were stored. It goes on a row if no item was stored
+    /// since its last refusal, and that was at most [`PAUSE`] seconds before.
     pub fn note(&mut self, count: u64, second: u64, stores: u64)
         ensures { self.new ≡ noted self.old count second stores }
     {
@@ -75,7 +75,7 @@ impl Refusals {
         });
     }
 
-    /// Notes so many refusals whose clients were told so, and keep their connections. They are counted, and of no row: a server that refuses
+    /// Notes `count` refusals that were answered, whose clients keep their connections. They are counted, and of no row: a server that refuses
     /// new items alone is of use.
     pub fn note_told(&mut self, count: u64)
         ensures { self.new ≡ record self.old { count = added self.old.count count } }

@@ -17,7 +17,7 @@ pub struct Service {
     pub terms: Terms,
     /// The most bytes that an answer may have: a request whose answer may have more closes its connection.
     pub answer: usize,
-    /// A server that for so many seconds closes clients for want of memory, and stores nothing, ends; 0 for never.
+    /// A server that for that many seconds closes clients for want of memory, and stores nothing, ends; 0 for never.
     pub memory_exit: u64,
 }
 
