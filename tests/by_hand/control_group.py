@@ -180,7 +180,9 @@ def memory_said(program, budget):
     """How much a server with this budget says that it may take, in bytes."""
     with start(program, budget) as server:
         server.process.terminate()
-        found = next(filter(None, map(SAID.fullmatch, server.said())))
+        found = next(filter(None, map(SAID.fullmatch, server.said())), None)
+    if found is None:
+        raise NoGroup("the server does not say what it may take")
     return int(float(found[1]) * UNITS[found[2]])
 
 
