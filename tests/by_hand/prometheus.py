@@ -53,7 +53,8 @@ class Watched:
         self.servers = [stack.enter_context(Server(server, items=100, words=["--admin", each])) for each in self.admins[:2]]
         addresses = [each.address for each in self.servers]
         self.ring = Ring(addresses)
-        self.proxy = stack.enter_context(Proxy(proxy, addresses, ["--admin", self.admins[2]], stderr=subprocess.DEVNULL))
+        words = ["--admin", self.admins[2], "--lost", "missed"]
+        self.proxy = stack.enter_context(Proxy(proxy, addresses, words, stderr=subprocess.DEVNULL))
         self.ended = threading.Event()
         stack.callback(self.ended.set)
         threading.Thread(target=self.load, daemon=True).start()

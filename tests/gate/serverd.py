@@ -526,6 +526,11 @@ class Filler:
         self.refused += answer.count(NO_MEMORY)
         return answer
 
+    def store_many(self, size):
+        """Stores in a pipeline, every second time with noreply."""
+        many = b"".join(self.store(size, last) for last in (b"", b" noreply") * 10)
+        self.answered(many + b"version\r\n", b"VERSION 1.6.0\r\n")
+
     def is_refused(self, size):
         """Whether a value of so many bytes is refused, or its connection is closed."""
         answer = self.answered(self.store(size), b"\r\n")
@@ -585,13 +590,16 @@ def refused_stores_count_and_end_nobody(size):
         shown = b"set k 0 0 43\r\n%s\r\nget k\r\n" % NO_MEMORY
         with server.connected() as reader:
             asked(reader, shown * 3, (b"STORED\r\nVALUE k 0 43\r\n%s\r\nEND\r\n" % NO_MEMORY) * 3)
+        # The buffers of its one connection get their memory before there is none.
+        filler.store_many(size)
+        filler.answered(b"version\r\n" * 100 + b"mn\r\n", b"MN\r\n")
+        used = filler.client
         filler.fill(size)
         filled, begun = filler.refused, time.monotonic()
         while time.monotonic() < begun + 5:
-            many = b"".join(filler.store(size, last) for last in (b"", b" noreply") * 10)
-            filler.answered(many + b"version\r\n", b"VERSION 1.6.0\r\n")
+            filler.store_many(size)
             time.sleep(0.1)
-        want(filler.refused > filled + 20, True)
+        want((filler.client is used, filler.refused > filled + 20), (True, True))
         time.sleep(2.2)
         want(server.process.poll(), None)
         server.process.terminate()
