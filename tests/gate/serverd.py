@@ -590,9 +590,8 @@ def refused_stores_count_and_end_nobody(size):
         shown = b"set k 0 0 43\r\n%s\r\nget k\r\n" % NO_MEMORY
         with server.connected() as reader:
             asked(reader, shown * 3, (b"STORED\r\nVALUE k 0 43\r\n%s\r\nEND\r\n" % NO_MEMORY) * 3)
-        # The buffers of its one connection get their memory before there is none.
+        # The buffers of its one connection get their memory before there is none. (With values of 100 bytes nothing would be left for it.)
         filler.store_many(size)
-        filler.answered(b"version\r\n" * 100 + b"mn\r\n", b"MN\r\n")
         used = filler.client
         filler.fill(size)
         filled, begun = filler.refused, time.monotonic()
@@ -669,7 +668,7 @@ def checks():
     for sizes in ((100,), (5_000,), (10_000,), (100, 5_000), (100, 10_000)):
         name = ", then ".join(map(str, sizes))
         yield f"no memory ends who is asked to, {name} bytes", no_memory_ends_who_is_asked_to, (sizes,)
-    for size in (100, 5_000):
+    for size in (5_000, 10_000):
         yield f"refused stores count and end nobody, {size} bytes", refused_stores_count_and_end_nobody, (size,)
     for at, (name, before) in enumerate(BEFORE.items()):
         yield f"each command is counted, {name}", each_command_is_counted, (at, before)
