@@ -583,30 +583,31 @@ def no_memory_ends_who_is_asked_to(sizes):
     want(len(lines) > 2, True)
 
 
-def refused_stores_count_and_end_nobody(size):
-    """Each store that is answered that there is no memory is said and counted, with noreply and in a pipeline too; the line as a value is
-    not. However long that lasts, the server stays."""
-    with start_with_little("--memory-exit 2 --report 1") as server, Filler(server) as filler:
+def refused_stores_are_counted(size):
+    """Each store that is answered that there is no memory is counted, with noreply and in a pipeline too; the line as a value is not. Each
+    second it says how many calls were refused, such stores among them."""
+    with start_with_little("--report 1") as server, Filler(server) as filler:
         shown = b"set k 0 0 43\r\n%s\r\nget k\r\n" % NO_MEMORY
         with server.connected() as reader:
             asked(reader, shown * 3, (b"STORED\r\nVALUE k 0 43\r\n%s\r\nEND\r\n" % NO_MEMORY) * 3)
-        # The buffers of its one connection get their memory before there is none. (With values of 100 bytes nothing would be left for it.)
-        filler.store_many(size)
-        used = filler.client
+        while "uptime=" not in (line := server.process.stderr.readline().decode().rstrip()):
+            want(line != "", True)
+        want(fields_of(line, "mc_serverd")["no_memory"], "0")
         filler.fill(size)
         filled, begun = filler.refused, time.monotonic()
         while time.monotonic() < begun + 5:
             filler.store_many(size)
             time.sleep(0.1)
-        want((filler.client is used, filler.refused > filled + 20), (True, True))
+        want(filler.refused > filled + 20, True)
         time.sleep(2.2)
         want(server.process.poll(), None)
         server.process.terminate()
         lines = server.process.stderr.read().decode().splitlines()
     refused = [int(found[1]) for found in map(REFUSED_LINE.fullmatch, lines) if found]
-    want((len(refused) >= 4, sum(refused)), (True, filler.refused))
+    # A client that is closed in a pipeline, for which there is no memory, has not seen all of its refusals.
+    want((len(refused) >= 4, sum(refused) >= filler.refused), (True, True))
     reported = [line for line in lines if "uptime=" in line]
-    want(fields_of(reported[-1], "mc_serverd")["no_memory"], str(filler.refused))
+    want(fields_of(reported[-1], "mc_serverd")["no_memory"], str(sum(refused)))
 
 
 def no_memory_ends_nobody_else():
@@ -669,7 +670,7 @@ def checks():
         name = ", then ".join(map(str, sizes))
         yield f"no memory ends who is asked to, {name} bytes", no_memory_ends_who_is_asked_to, (sizes,)
     for size in (5_000, 10_000):
-        yield f"refused stores count and end nobody, {size} bytes", refused_stores_count_and_end_nobody, (size,)
+        yield f"refused stores are counted, {size} bytes", refused_stores_are_counted, (size,)
     for at, (name, before) in enumerate(BEFORE.items()):
         yield f"each command is counted, {name}", each_command_is_counted, (at, before)
         yield f"commands are counted among many items, {name}", commands_are_counted_among_many_items, (at, before)
