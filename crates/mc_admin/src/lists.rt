@@ -63,7 +63,7 @@ pub struct StoreFigures {
 pub struct LinkFigures<'a> {
     /// Its name, or its address without one.
     pub server: &'a [u8],
-    /// 1 if its connection is up, else 0.
+    /// 1 if it is connected, and is not silent after commands to it were lost; else 0.
     pub up: u64,
     /// How often its connection was lost.
     pub losses: u64,

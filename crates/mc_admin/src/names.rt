@@ -226,7 +226,7 @@ impl Name {
             Name::Expired => b"Expired items that were taken out or replaced.",
             Name::NoMemory => b"Times that the system gave no memory for a request.",
             Name::Missed => b"Requests that lost a command, and whose answers do not say so.",
-            Name::ServerUp => b"Whether the connection to the server is up.",
+            Name::ServerUp => b"Whether the server is connected, and is not silent after a loss.",
             Name::ServerLosses => b"How often the connection to the server was lost.",
             Name::ServerSent => b"Commands that were put on the connection to the server.",
             Name::ServerLost => b"Commands that had no reply when the connection was lost.",

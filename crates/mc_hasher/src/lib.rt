@@ -10,7 +10,8 @@
 //! words makes their hashes equal much more often than any other (`tests/gate/hashes.py`).
 //!
 //! It is no cipher, and weaker than SipHash: from hashes its secret numbers could be computed, so no hash is to be shown. No proof
-//! speaks of chosen keys: proved is that a hash is what `specs/Hashes.antt` defines, and that each secret number has random bytes of its own.
+//! speaks of chosen keys: proved is that a hash is what `specs/Hashes.antt` defines, and, of a private function, that each secret number is
+//! made of bytes of its own. That these are random is trusted.
 #![tactic(auto)]
 
 mod key_hashers;

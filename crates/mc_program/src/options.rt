@@ -19,7 +19,7 @@ pub fn idle<'a>(alloc: Global) -> Arg<'a> {
         alloc,
         "idle",
         "seconds",
-        "Close a client that for so long sent nothing and was owed nothing; 0 for never",
+        "Close a client that has sent nothing for that long, and has no pending answer; 0 for never",
     )
 }
 
@@ -29,7 +29,7 @@ pub fn report<'a>(alloc: Global) -> Arg<'a> {
         alloc,
         "report",
         "seconds",
-        "Say on standard error, once in so many seconds, what was done; 0 for never",
+        "Report on standard error what was done, each time that many seconds have passed; 0 for never",
     )
 }
 

@@ -7,7 +7,7 @@ use clap::ArgMatches;
 pub struct Terms {
     /// After how many clients the program ends, once all of them are gone; 0 for never.
     pub accept: u64,
-    /// After how many seconds a client is closed that sent nothing and is owed nothing; 0 for never.
+    /// After how many seconds a client is closed that has sent nothing and has no pending answer; 0 for never.
     pub idle: u64,
     /// In how many seconds the program says once what it has done; 0 for never.
     pub report: u64,

@@ -42,33 +42,39 @@ pub no_word : (number : ℕ) (names : List (List ℕ)) (word : List ℕ) → is_
 unfolding line_mistake
 no_word number names word none = ap (λ (some : Bool). if some then word_mistake number names word else None) none
 
--- a word that is a server's has the mistake of its name
-pub of_name : (number : ℕ) (names : List (List ℕ)) (word : List ℕ) → is_some_word word ≡ true → is_server word ≡ true
-    → line_mistake number names word ≡ name_mistake number names (name_of word)
+-- one with a word has that of the word
+pub of_word : (number : ℕ) (names : List (List ℕ)) (word : List ℕ) → is_some_word word ≡ true
+    → line_mistake number names word ≡ word_mistake number names word
 unfolding line_mistake
-of_name number names word some server =
-    ap (λ (is : Bool). if is then word_mistake number names word else None) some
-    ∙ ap (λ (is : Bool). if is then name_mistake number names (name_of word) else Some (NoServer number)) server
+of_word number names word some = ap (λ (is : Bool). if is then word_mistake number names word else None) some
+
+pub wrong_line : (number : ℕ) (names : List (List ℕ)) (word : List ℕ) (mistake : Mistake) → is_some_word word ≡ true
+    → (mistake ≡ Memory) ⊎ (word_mistake number names word ≡ Some mistake) → (mistake ≡ Memory) ⊎ (line_mistake number names word ≡ Some mistake)
+wrong_line number names word mistake some (inl memory) = inl memory
+wrong_line number names word mistake some (inr wrong) = inr (of_word number names word some ∙ wrong)
+
+-- a word that is a server's has the mistake of its name
+pub of_name : (number : ℕ) (names : List (List ℕ)) (word : List ℕ) → is_server word ≡ true
+    → word_mistake number names word ≡ name_mistake number names (name_of word)
+of_name number names word server = ap (λ (is : Bool). if is then name_mistake number names (name_of word) else Some (NoServer number)) server
 
 -- what is not false is true
 pub is_true : (b : Bool) → (b ≡ false → ⊥) → b ≡ true
 is_true true never = refl
 is_true false never = absurd (never refl)
 
--- if a word gives no server, it is no server's, and that is the mistake of its line, or there was no memory
+-- if a word gives no server, it is no server's, and that is its mistake, or there was no memory
 wrong_word : (number : ℕ) (names : List (List ℕ)) (word : List ℕ) (server : Bool) (mistake : Mistake) → is_server word ≡ server
-    → line_mistake number names word ≡ (if server then name_mistake number names (name_of word) else Some (NoServer number))
     → (server ≡ false → mistake ≡ NoServer number) → (server ≡ true → mistake ≡ Memory)
-    → (mistake ≡ Memory) ⊎ (line_mistake number names word ≡ Some mistake)
-wrong_word number names word true mistake is line wrong memory = inl (memory refl)
-wrong_word number names word false mistake is line wrong memory = inr (line ∙ ap Some (sym (wrong refl)))
+    → (mistake ≡ Memory) ⊎ (word_mistake number names word ≡ Some mistake)
+wrong_word number names word true mistake is wrong memory = inl (memory refl)
+wrong_word number names word false mistake is wrong memory =
+    inr (ap (λ (is : Bool). if is then name_mistake number names (name_of word) else Some (NoServer number)) is ∙ ap Some (sym (wrong refl)))
 
-pub no_server : (number : ℕ) (names : List (List ℕ)) (word : List ℕ) (mistake : Mistake) → is_some_word word ≡ true
+pub no_server : (number : ℕ) (names : List (List ℕ)) (word : List ℕ) (mistake : Mistake)
     → (is_server word ≡ false → mistake ≡ NoServer number) → (is_server word ≡ true → mistake ≡ Memory)
-    → (mistake ≡ Memory) ⊎ (line_mistake number names word ≡ Some mistake)
-unfolding line_mistake
-no_server number names word mistake some wrong memory =
-    wrong_word number names word (is_server word) mistake refl (ap (λ (is : Bool). if is then word_mistake number names word else None) some) wrong memory
+    → (mistake ≡ Memory) ⊎ (word_mistake number names word ≡ Some mistake)
+no_server number names word mistake wrong memory = wrong_word number names word (is_server word) mistake refl wrong memory
 
 -- past a line without a mistake the first one is that of the lines after it
 pub mistake_goes_on : (number : ℕ) (names later : List (List ℕ)) (word text : List ℕ) (whole : Option Mistake)

@@ -1,5 +1,5 @@
 -- What a try does that needs the address of a host: this project's own.
-use Rattle.std.specs.Prelude.{◌≡◌, Option, Some, None, Result, Ok, Err}
+use Rattle.std.specs.Prelude.{Option, Some, None, Result, Ok, Err}
 use Rattle.std.specs.declared.net.socket_addr.SocketAddr.{SocketAddr}
 use Rattle.mc_proxy_serve.specs.declared.lookups.Known.{Known}
 use Rattle.mc_proxy_serve.specs.declared.lookups.Known.TheVariants.{Nothing, Answer, Other}
@@ -36,7 +36,3 @@ known_by (Some found) Unwanted = Other
 abbrev pub after_a_try : Standing → Standing
 after_a_try Unwanted = Unwanted
 after_a_try standing = Late
-
--- what is known of a look-up that stands so, by some answer, or by none yet
-abbrev pub IsKnown : Standing → Known → Type 0
-IsKnown standing known = (found : Option (Result SocketAddr Cause)) × (known ≡ known_by found standing)

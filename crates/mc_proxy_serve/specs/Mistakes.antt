@@ -1,4 +1,5 @@
 -- The first mistake in a list of servers: this project's own.
+use Rattle.std.specs.Borrow.{Bor}
 use Rattle.std.specs.Prelude.{ℕ, ◌+◌, ◌++◌, List, [], ◌∷◌, map, filter, length, nat_lt, nat_le, Option, Some, None, if◌then◌else◌}
 use Rattle.std.specs.List.{list_any, slice_split}
 use Rattle.std.specs.Option.{option_or}
@@ -18,6 +19,21 @@ name_mistake number names name =
 -- a word is no server's, or its server has such a mistake
 abbrev pub word_mistake : (number : ℕ) → (names : List (List ℕ)) → List ℕ → Option Mistake
 word_mistake number names word = if is_server word then name_mistake number names (name_of word) else Some (NoServer number)
+
+-- The first mistake of words from that of a number on, after servers of these names.
+abbrev pub mistake_among : (number : ℕ) → (names words : List (List ℕ)) → Option Mistake
+mistake_among number names [] = None
+mistake_among number names (word ∷ words) =
+    option_or (word_mistake number names word) (mistake_among (number + 1) (names ++ name_of word ∷ []) words)
+
+-- the first mistake of all words; or there is none
+abbrev pub mistake_of_words : List (List ℕ) → Option Mistake
+mistake_of_words words = if nat_lt 0 (length words) then mistake_among 1 [] words else Some NoneAtAll
+
+-- the mistake of the word of a server that joins those of these names, if there is a word
+abbrev pub join_mistake : (names : List (List ℕ)) → Option (Bor (List ℕ)) → Option Mistake
+join_mistake names None = Some NoneAtAll
+join_mistake names (Some word) = word_mistake (length names + 1) names word.now
 
 -- a line without a word has no mistake
 unfoldable pub line_mistake : (number : ℕ) → (names : List (List ℕ)) → List ℕ → Option Mistake

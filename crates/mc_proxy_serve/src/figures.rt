@@ -10,9 +10,11 @@ use mc_operators::Operators;
 use mc_proxy::{Losses, MAX_SESSIONS, Proxy};
 use std::alloc::{AllocError, Global};
 
-/// What a proxy has done for its clients.
+/// What a proxy has done for its clients by a moment.
 #[derive(Clone, Copy, Debug)]
 pub struct Done {
+    /// The moment, in milliseconds.
+    pub now: u64,
     /// Who they are, and what passed of them.
     pub clients: ClientFigures,
     /// Their requests whose answers hide a loss; none if these are not counted.
@@ -46,7 +48,7 @@ fn try_show(
     proxy: &Proxy,
     settings: &ProxySettings,
 ) -> Result<(), AllocError> {
-    let links = pool.figures(proxy)?;
+    let links = pool.figures(proxy, done.now)?;
     let mut figures = Vec::new(alloc);
     push_client_figures(&done.clients, &mut figures)?;
     push_missed(done.missed, &mut figures)?;

@@ -25,7 +25,7 @@ pub struct ProxyHandler {
     pub piece: Vec<u8>,
     /// What passed of all clients. Requests whose answers hide a loss are counted if their losses are missed.
     pub tally: ClientTally,
-    /// As many bytes kept for one client stop its turns and reads.
+    /// If more bytes are kept for one client, its turns and reads stop.
     most: u64,
     ghost reads: { 0 < vec_len piece },
 }
@@ -119,7 +119,7 @@ impl Handler<Held> for ProxyHandler {
         let _ = self.proxy.gone(number);
     }
 
-    /// Where more bytes are kept for the client than may be, it is sent its answers alone.
+    /// If more bytes are kept for the client than its turns and reads go on with, it is sent its answers alone.
     fn serve(&mut self, client: &mut Client<Held>, _moment: u64) -> Step {
         if client.kept > self.most {
             return self.drain(client);

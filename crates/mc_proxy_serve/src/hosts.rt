@@ -290,6 +290,7 @@ impl<'a> Host<'a> {
         let clients = report.figures(pid, time, resident, MAX_SESSIONS);
         let handler = &self.handler;
         let done = Done {
+            now: self.now,
             clients,
             missed: handler.tally.missed,
         };
@@ -313,7 +314,7 @@ impl<'a> Host<'a> {
             None => eprintln!(rt; "{PROGRAM}: {report}"),
             Some(missed) => eprintln!(rt; "{PROGRAM}: {report} missed={missed}"),
         };
-        self.pool.report(rt, &self.handler.proxy);
+        self.pool.report(rt, &self.handler.proxy, self.now);
     }
 }
 
@@ -323,8 +324,7 @@ impl<'a, R: Net + Clock + Files + Print + EprintSeldom> Rounds<R, Stopwatch> for
         let _ = println!(rt; "listening {}", self.listen);
     }
 
-    /// Follows the list of servers, tries the upstreams that are down where it is time for them, and says what is new of the servers, of
-    /// each at most once in a second.
+    /// Follows the list of servers, tries the upstreams that are down where it is time for them, and says what is new of the servers.
     fn before(&mut self, rt: &R, registry: &Registry, backlog: Backlog) -> Option<Duration> {
         self.operators.before(registry, self.second);
         self.look(rt);

@@ -47,6 +47,10 @@ pub const LONGEST_DELAY: u64 = 4000;
 /// server is tried.
 pub const NEXT_DELAY: u64 = 1000;
 
+/// A silent server counts as up once its connection was begun that many milliseconds ago, if no command has been put on it: then nobody asks for
+/// its keys. It is longer than clients pause that do ask, so that a server that hangs stays down between two commands.
+pub const QUIET_MILLIS: u64 = 10_000;
+
 /// What is to be said of a server is said within that many milliseconds: at most one line in a second.
 pub const NOTICE_DELAY: u64 = 1000;
 

@@ -4,13 +4,14 @@ use crate::changes::{Change, change_by};
 use crate::limits::MAX_CHANGES;
 use crate::lists::{Mistake, servers_in, text_of};
 use crate::looks::Looks;
-use crate::notices::{Notice, tell};
+use crate::notices::{Notice, tell, tell_address, tell_other};
 use crate::pools::Pool;
 use crate::servers::Server;
 use mc_proxy::Proxy;
 use mc_ring::{Address, Ring};
 use std::alloc::{AllocError, Global};
 use std::fs::Files;
+use std::mem;
 
 /// The file that lists the servers of a proxy, and the servers that there are.
 #[derive(Drop)]
@@ -23,6 +24,8 @@ pub struct Listing<'a> {
     /// What the last look has found, if there was one.
     found: Option<Result<String, Mistake>>,
     looks: Looks,
+    /// Whether it was said last that the list is not taken.
+    refused: bool,
 }
 
 impl<'a> Listing<'a> {
@@ -47,6 +50,7 @@ impl<'a> Listing<'a> {
             servers,
             found: None,
             looks: Looks::new(),
+            refused: false,
         })
     }
 
@@ -56,8 +60,8 @@ impl<'a> Listing<'a> {
     }
 
     /// Looks at the file where it is time for that, and has the pool follow what is new in it: addresses are taken over, and servers join. A
-    /// list that would take a server out, or give one another name, changes nothing, as does one with a mistake: that is said once. The
-    /// result says whether a link was lost.
+    /// list that would take a server out, or give one another name, changes nothing, as does one with a mistake: that is said once, and once
+    /// that the list is taken again. The result says whether a link was lost.
     pub fn look<R: Files + Eprint>(
         &mut self,
         rt: &R,
@@ -105,7 +109,15 @@ impl<'a> Listing<'a> {
         if mistake == Mistake::Memory {
             self.looks.again();
         }
+        self.refused = true;
         tell(rt, self.path, Notice::NotTaken(mistake));
+    }
+
+    /// Says that the list is taken, if it was not before.
+    fn accept<R: Eprint>(&mut self, rt: &R) {
+        if mem::replace(&mut self.refused, false) {
+            tell(rt, self.path, Notice::TakenAgain);
+        }
     }
 
     /// Does what a list changes, one thing after the other. The result says whether a link was lost.
@@ -120,12 +132,15 @@ impl<'a> Listing<'a> {
         let mut lost = false;
         for _ in 0..MAX_CHANGES {
             let done = match change_by(self.servers.as_slice(), list) {
-                Change::Nothing => break,
-                Change::Missing(place) => {
-                    self.keep(rt, place);
+                Change::Nothing => {
+                    self.accept(rt);
                     break;
                 }
-                Change::Moved(place) => self.relocate(pool, proxy, list, place, now),
+                Change::Missing(place) => {
+                    self.keep(rt, list, place);
+                    break;
+                }
+                Change::Moved(place) => self.relocate(rt, pool, proxy, list, place, now),
                 Change::Joined(place) => self.join(rt, pool, proxy, list, place),
             };
             match done {
@@ -139,18 +154,19 @@ impl<'a> Listing<'a> {
         lost
     }
 
-    /// Says that the server of a place stays, though the list has it not there.
-    fn keep<R: Eprint>(&self, rt: &R, place: usize) {
-        if let Some(server) = self.servers.get(place)
-            && let Ok(name) = str::from_utf8(server.name.as_bytes())
-        {
-            tell(rt, name, Notice::Stays(place as u64));
+    /// Says that the list is not taken, since it has not the server of a place there.
+    fn keep<R: Eprint>(&mut self, rt: &R, list: &[Server], place: usize) {
+        self.refused = true;
+        if let Some(name) = name_at(self.servers.as_slice(), place) {
+            let number = place.saturating_add(1);
+            tell_other(rt, self.path, number, name, name_at(list, place));
         }
     }
 
-    /// Takes the address of the server of a place over from a list. The result says whether its link was lost by that.
-    fn relocate(
+    /// Takes the address of the server of a place over from a list, and says it. The result says whether its link was lost by that.
+    fn relocate<R: Eprint>(
         &mut self,
+        rt: &R,
         pool: &mut Pool,
         proxy: &mut Proxy,
         list: &[Server],
@@ -163,6 +179,12 @@ impl<'a> Listing<'a> {
         let address = line.address.clone()?;
         let was_up = pool.relocate(proxy, place, &line.address, now)?;
         server.address = address;
+        if let (Ok(name), Ok(address)) = (
+            str::from_utf8(server.name.as_bytes()),
+            str::from_utf8(server.address.as_bytes()),
+        ) {
+            tell_address(rt, name, address);
+        }
         Ok(was_up)
     }
 
@@ -188,4 +210,10 @@ impl<'a> Listing<'a> {
         self.servers.push(server)?;
         Ok(false)
     }
+}
+
+/// The name of the server of a place, if there is one.
+fn name_at(servers: &[Server], place: usize) -> Option<&str> {
+    let server = servers.get(place)?;
+    str::from_utf8(server.name.as_bytes()).ok()
 }

@@ -5,7 +5,7 @@ ghost use Rattle.std.specs.Str.{bytes_eq};
 ghost use Rattle.std.specs.IoError.{error_kind, raw_os_error};
 ghost use Rattle.mc_program.specs.Sockets.{socket_error_of};
 ghost use Rattle.mc_proxy_serve.specs.Files.{is_hash, is_line_feed, is_some_word, word_of, words_of};
-ghost use Rattle.mc_proxy_serve.specs.Mistakes.{line_mistake, mistake_in, name_mistake, names_after};
+ghost use Rattle.mc_proxy_serve.specs.Mistakes.{line_mistake, mistake_in, name_mistake, names_after, word_mistake};
 ghost use Rattle.mc_proxy_serve.specs.Servers.{address_of, is_server, name_of};
 ghost use Rattle.mc_proxy_serve.specs.declared.lists.Mistake.TheVariants.{Unread, Memory};
 
@@ -20,7 +20,16 @@ use std::io::Read;
 use std::{fs, io};
 use thiserror::Error;
 
-/// Why a file gives no list of servers.
+/// What is wrong with a line or a word that is no server's.
+const NO_SERVER: &str = "is no [<name>:<port>=]<host>:<port>";
+
+/// What is wrong with one whose server has the name of an earlier one.
+const DOUBLED: &str = "has the name of an earlier one";
+
+/// What is wrong with one whose server is one more than a ring may have.
+const ONE_TOO_MANY: &str = "is one too many: at most 64 servers";
+
+/// Why a file, or words, give no list of servers.
 #[derive(Clone, Copy, Debug, PartialEq, Eq, Error)]
 pub enum Mistake {
     /// The system does not give the file, and calls the reason so.
@@ -32,24 +41,36 @@ pub enum Mistake {
     /// It has more bytes than [`LIST_LIMIT`].
     #[error("longer than {LIST_LIMIT} bytes")]
     TooLong,
-    /// The line of this number is no server's.
-    #[error("line {0} is no [<name>:<port>=]<host>:<port>")]
+    /// The line of this number, or the word, is no server's.
+    #[error("line {0} {NO_SERVER}")]
     NoServer(u64),
-    /// The line of this number has the name of an earlier one.
-    #[error("line {0} has the name of an earlier one")]
+    /// The line of this number, or the word, has the name of an earlier one.
+    #[error("line {0} {DOUBLED}")]
     Doubled(u64),
-    /// With the line of this number there are more servers than a ring may have.
-    #[error("line {0} is one too many: at most 64 servers")]
+    /// With the line of this number, or the word, there are more servers than a ring may have.
+    #[error("line {0} {ONE_TOO_MANY}")]
     TooMany(u64),
     /// The last line, of this number, has no line end.
     #[error("line {0} has no line end")]
     Unended(u64),
-    /// No line names a server.
+    /// No line, or no word, names a server.
     #[error("no server")]
     NoneAtAll,
     /// There is no memory for it.
     #[error("out of memory")]
     Memory,
+}
+
+impl Mistake {
+    /// The number of the word that has it, and what is wrong with that word; none if it is of no word.
+    pub fn in_word(&self) -> Option<(u64, &'static str)> {
+        match self {
+            Mistake::NoServer(number) => Some((*number, NO_SERVER)),
+            Mistake::Doubled(number) => Some((*number, DOUBLED)),
+            Mistake::TooMany(number) => Some((*number, ONE_TOO_MANY)),
+            _ => None,
+        }
+    }
 }
 
 impl From<AllocError> for Mistake {
@@ -132,12 +153,31 @@ fn add(alloc: Global, servers: &mut Vec<Server>, word: &str, number: u64) -> Res
     if word.is_empty() {
         return Ok(());
     }
-    let server = server_at(alloc, word, number)?;
-    if let Some(mistake) = name_mistake(servers.as_slice(), &server.name, number) {
-        return Err(mistake);
-    }
+    let server = next_server(alloc, servers.as_slice(), word, number)?;
     servers.push(server)?;
     Ok(())
+}
+
+/// The server of a word of this number, which is that of a line or of a word, after those of earlier ones. The error is its mistake, or
+/// `Memory`.
+pub fn next_server(
+    alloc: Global,
+    servers: &[Server],
+    word: &str,
+    number: u64,
+) -> Result<Server, Mistake>
+    ensures name { IfOk result (λ server. server.name ≡ name_of word.now) }
+    ensures address { IfOk result (λ server. server.address ≡ address_of word.now) }
+    ensures few { OnOk result (length servers.now < SERVER_LIMIT) }
+    ensures right { OnOk result (word_mistake number (map (λ server. server.name) servers.now) word.now ≡ None) }
+    ensures mistake { IfErr result (λ mistake. (mistake ≡ Mistake.Memory)
+        ⊎ (word_mistake number (map (λ server. server.name) servers.now) word.now ≡ Some mistake)) }
+{
+    let server = server_at(alloc, word, number)?;
+    match name_mistake(servers, &server.name, number) {
+        Some(mistake) => Err(mistake),
+        None => Ok(server),
+    }
 }
 
 /// What is wrong with a server of this name in the line of this number, after those of earlier lines.

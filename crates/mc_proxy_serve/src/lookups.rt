@@ -1,6 +1,6 @@
 //! Looking up where servers are, beside the loop that serves clients.
 ghost use Rattle.std.specs.Prelude.{◌≡◌};
-ghost use Rattle.mc_proxy_serve.specs.Lookups.{IsKnown, after_a_try, known_by, late_answer, next_by};
+ghost use Rattle.mc_proxy_serve.specs.Lookups.{after_a_try, known_by, late_answer, next_by};
 ghost use Rattle.mc_proxy_serve.specs.declared.lookups.Standing.TheVariants.{Unwanted};
 
 use crate::limits::LOOKED_UP;
@@ -105,11 +105,16 @@ pub struct Lookup {
 }
 
 impl Lookup {
-    /// What is known of it.
-    pub fn known(&self) -> Known
-        ensures { IsKnown self.now.standing result }
+    /// What it has found, once it has ended. The thread that looks the host up writes it once; no clause sees what that wrote.
+    pub fn found(&self) -> Option<Found> {
+        self.question.found()
+    }
+
+    /// What is known of it, where this is what it has found.
+    pub fn known(&self, found: Option<Found>) -> Known
+        ensures { result ≡ known_by found self.now.standing }
     {
-        known_by(self.question.found(), self.standing)
+        known_by(found, self.standing)
     }
 
     /// Notes that the try that waits for it is given up.

@@ -44,7 +44,7 @@ pub enum Cause {
     /// No memory for what came, or for one more server.
     #[error("out of memory")]
     Memory,
-    /// A list has the server at another address.
+    /// A list has the server at another address. [`tell_address`] says so in place of this.
     #[error("address changed")]
     Moved,
     /// The ring has the server already, or as many as it may have.
@@ -87,11 +87,11 @@ impl From<io::Error> for Cause {
     }
 }
 
-/// What became of a server, as it is said: `back`, `refused: <cause>`, `lost: <cause>`, `joined`, `not joined: <cause>`,
-/// `stays: <why>`, `not taken: <mistake>`.
+/// What became of a server, as it is said: `back`, `refused: <cause>`, `lost: <cause>`, `joined`, `not joined: <cause>`; or of a list of
+/// servers, `not taken: <mistake>`, `taken again`.
 #[derive(Clone, Copy, Debug, PartialEq, Eq)]
 pub enum Notice {
-    /// It is connected.
+    /// It has replied.
     Back,
     /// It cannot be connected to.
     Refused(Cause),
@@ -101,10 +101,10 @@ pub enum Notice {
     Joined,
     /// It could not join the ring.
     NotJoined(Cause),
-    /// It stays, though a list does not have it at this place, counted from 0.
-    Stays(u64),
     /// What is said is of a list of servers: it changes nothing.
     NotTaken(Mistake),
+    /// What is said is of a list of servers: it is followed again.
+    TakenAgain,
 }
 
 impl Display for Notice {
@@ -115,14 +115,8 @@ impl Display for Notice {
             Notice::Lost(cause) => write!(f, "lost: {cause}"),
             Notice::Joined => f.write_str("joined"),
             Notice::NotJoined(cause) => write!(f, "not joined: {cause}"),
-            Notice::Stays(place) => {
-                let number = place.saturating_add(1);
-                write!(
-                    f,
-                    "stays: a list is not taken whose server {number} is another"
-                )
-            }
             Notice::NotTaken(mistake) => write!(f, "not taken: {mistake}"),
+            Notice::TakenAgain => f.write_str("taken again"),
         }
     }
 }
@@ -131,6 +125,25 @@ impl Display for Notice {
 pub fn tell<R: Eprint>(rt: &R, server: &str, notice: Notice) {
     // Where it cannot be said, all are served all the same.
     let _ = eprintln!(rt; "{PROGRAM}: {server} {notice}");
+}
+
+/// Says on standard error where a server is now, whose address a list has changed: at once, also if something else was said of it in this second.
+pub fn tell_address<R: Eprint>(rt: &R, server: &str, address: &str) {
+    // Where it cannot be said, all are served all the same.
+    let _ = eprintln!(rt; "{PROGRAM}: {server} now at {address}");
+}
+
+/// Says on standard error that a list is not taken, since the server of this number is another there, or is not there.
+pub fn tell_other<R: Eprint>(rt: &R, list: &str, number: usize, server: &str, other: Option<&str>) {
+    // Where it cannot be said, all are served all the same.
+    let _ = match other {
+        Some(other) => eprintln!(rt;
+            "{PROGRAM}: {list} not taken: server {number} is {server}, the list has {other}"
+        ),
+        None => eprintln!(rt;
+            "{PROGRAM}: {list} not taken: server {number} is {server}, the list has no server {number}"
+        ),
+    };
 }
 
 /// What was said of a server, and what is to be said: only what is new, and in a second no more than one notice.
@@ -163,6 +176,17 @@ impl Notices {
         ensures second { self.new.second ≡ self.old.second }
     {
         self.due = (notice != self.said).then_some(notice);
+    }
+
+    /// Takes a notice as said, and drops what is due. What becomes of the server from now on is said if it is something else.
+    pub fn take_as_said(&mut self, notice: Notice)
+        ensures { self.new ≡ record self.old { said = notice; due = None } }
+    {
+        *self = Notices {
+            said: notice,
+            due: None,
+            second: self.second,
+        };
     }
 
     /// Whether something is to be said.

@@ -1,12 +1,16 @@
 //! The command line of a proxy, and the pool that its words name.
-ghost use Rattle.std.specs.Prelude.{◌≡◌};
-ghost use Rattle.mc_proxy_serve.specs.Lists.{list_error_by};
+ghost use Rattle.std.specs.Prelude.{◌≡◌, ◌⊎◌, ◌==◌, if◌then◌else◌, None, Some, Ok, OnOk, IfOk, IfErr, map};
+ghost use Rattle.std.specs.Option.{option_map};
+ghost use Rattle.mc_proxy_serve.specs.Lists.{list_error_at, list_error_by};
+ghost use Rattle.mc_proxy_serve.specs.Mistakes.{join_mistake};
+ghost use Rattle.mc_proxy_serve.specs.Servers.{address_of, name_of};
 ghost use Rattle.mc_proxy_serve.specs.declared.options.ListError.TheVariants.{Memory};
 
-use crate::lists::{Mistake, servers_in, text_of};
+use crate::lists::{Mistake, next_server, servers_in, text_of};
 use crate::losses::{losses_named, lost};
 use crate::servers::Server;
 use crate::settings::ProxySettings;
+use crate::words::servers_of;
 use clap::builder::ValueParser;
 use clap::{Arg, ArgMatches, Command};
 use mc_program::{
@@ -18,7 +22,7 @@ use std::alloc::{AllocError, Global};
 use std::fs::Files;
 use thiserror::Error;
 
-/// The most bytes that may be kept for one client: 1 TiB.
+/// The most that `--held` may be: 1 TiB.
 const MOST_HELD: u64 = 1_099_511_627_776;
 
 /// The program's name.
@@ -41,11 +45,21 @@ pub struct Options<'a> {
     pub check: bool,
 }
 
+/// Where a list of servers has a mistake.
+#[derive(Clone, Copy, Debug, PartialEq, Eq)]
+pub enum Place {
+    /// In the file of `--servers`.
+    File,
+    /// In the words of the servers.
+    Words,
+    /// In the word of `--join`, which `--join-after` wants.
+    Join,
+}
+
 /// Why the words name no pool.
 #[derive(Clone, Copy, Debug, PartialEq, Eq, Error)]
 pub enum ListError {
-    /// 1: the servers are none, more than 64, two of one name, or a word that names none; or the server that is to join is
-    /// missing, has the name of another, is one too many, or its word names none.
+    /// 1: a word names no server, or servers make no ring. Of a list of servers [`At`](ListError::At) says which, and where.
     #[error("bad server list")]
     Bad,
     /// 2: no memory.
@@ -54,9 +68,9 @@ pub enum ListError {
     /// 3: the word of `--held` is no number of bytes, or is outside its limits.
     #[error("bad number of bytes")]
     Held,
-    /// 4: the file of `--servers` has a mistake.
-    #[error("{0}")]
-    File(Mistake),
+    /// 4: the list of servers has this mistake, or the server that is to join.
+    #[error("{1}")]
+    At(Place, Mistake),
 }
 
 impl From<AllocError> for ListError {
@@ -90,8 +104,10 @@ impl<'a> Options<'a> {
         let list = matches.get_str("servers");
         let servers = match list {
             Some(path) => listed(rt, alloc, path)?,
-            None => named(alloc, matches.get_strs("server").ok_or(ListError::Bad)?)?,
+            None => named(alloc, matches.get_strs("server").unwrap_or(&[]))?,
         };
+        let after = matches.get_one::<u64>("join-after").unwrap_or(0);
+        let join = joining(alloc, servers.as_slice(), matches.get_str("join"), after)?;
         let mut names = Vec::with_capacity(alloc, servers.len())?;
         let mut addresses = Vec::with_capacity(alloc, servers.len())?;
         for Server { name, address } in servers {
@@ -99,8 +115,6 @@ impl<'a> Options<'a> {
             addresses.push(address).map_err(|_| ListError::Memory)?;
         }
         let ring = Ring::new(alloc, names.as_slice())?;
-        let after = matches.get_one::<u64>("join-after").unwrap_or(0);
-        let join = joining(alloc, &ring, matches.get_str("join"), after)?;
         Ok(Options {
             listen: matches.get_str("listen").ok_or(ListError::Bad)?,
             ring,
@@ -123,21 +137,22 @@ impl<'a> Options<'a> {
 /// The servers that a file lists. The error is its mistake.
 fn listed<R: Files>(rt: &R, alloc: Global, path: &str) -> Result<Vec<Server>, ListError> {
     let servers = text_of(rt, alloc, path).and_then(|text| servers_in(alloc, text.as_str()));
-    servers.map_err(|mistake| match mistake {
-        Mistake::Memory => ListError::Memory,
-        _ => ListError::File(mistake),
-    })
+    servers.map_err(|mistake| list_error_at(Place::File, mistake))
 }
 
-/// The servers of words.
+/// The servers of words. The error is their mistake.
 fn named(alloc: Global, words: &[&str]) -> Result<Vec<Server>, ListError> {
-    let mut servers = Vec::with_capacity(alloc, words.len())?;
-    for word in words {
-        servers
-            .push(Server::new(alloc, word)?)
-            .map_err(|_| ListError::Memory)?;
+    servers_of(alloc, words).map_err(|mistake| list_error_at(Place::Words, mistake))
+}
+
+/// What a mistake at a place is to who asks for a pool.
+fn list_error_at(place: Place, mistake: Mistake) -> ListError
+    ensures { result ≡ list_error_at place mistake }
+{
+    match mistake {
+        Mistake::Memory => ListError::Memory,
+        _ => ListError::At(place, mistake),
     }
-    Ok(servers)
 }
 
 /// A text of one's own, where there is one.
@@ -148,20 +163,43 @@ fn owned(alloc: Global, text: Option<&str>) -> Result<Option<String>, AllocError
     }
 }
 
-/// Which server joins a ring, and with which client: none where the client's number is 0.
+/// Which server joins the servers that there are, and with which client: none if the client's number is 0, and else that of the word. The error is
+/// the mistake of the word, or that there is no word.
 fn joining(
     alloc: Global,
-    ring: &Ring,
+    servers: &[Server],
     join: Option<&str>,
     after: u64,
-) -> Result<Option<(Server, u64)>, ListError> {
+) -> Result<Option<(Server, u64)>, ListError>
+    ensures nobody { after ≡ 0 → result ≡ Ok None }
+    ensures after { IfOk result (λ joins. option_map (λ joins. joins.1) joins ≡ (if after == 0 then None else Some after)) }
+    ensures name { IfOk result (λ joins. option_map (λ joins. joins.0.name) joins
+        ≡ (if after == 0 then None else option_map (λ word. name_of word.now) join.entry)) }
+    ensures address { IfOk result (λ joins. option_map (λ joins. joins.0.address) joins
+        ≡ (if after == 0 then None else option_map (λ word. address_of word.now) join.entry)) }
+    ensures right { OnOk result ((after ≡ 0) ⊎ (join_mistake (map (λ server. server.name) servers.now) join.entry ≡ None)) }
+    ensures mistake { IfErr result (λ error. (error ≡ ListError.Memory)
+        ⊎ (option_map (λ mistake. list_error_at Place.Join mistake) (join_mistake (map (λ server. server.name) servers.now) join.entry) ≡ Some error)) }
+{
     if after == 0 {
         return Ok(None);
     }
-    let word = join.ok_or(ListError::Bad)?;
-    let server = Server::new(alloc, word)?;
-    ring.with_server(alloc, server.name.clone()?)?;
-    Ok(Some((server, after)))
+    match joiner(alloc, servers, join) {
+        Ok(server) => Ok(Some((server, after))),
+        Err(mistake) => Err(list_error_at(Place::Join, mistake)),
+    }
+}
+
+/// The server of the word of `--join`, if there is one, which joins the servers that there are.
+fn joiner(alloc: Global, servers: &[Server], join: Option<&str>) -> Result<Server, Mistake>
+    ensures name { IfOk result (λ server. option_map (λ word. name_of word.now) join.entry ≡ Some server.name) }
+    ensures address { IfOk result (λ server. option_map (λ word. address_of word.now) join.entry ≡ Some server.address) }
+    ensures right { OnOk result (join_mistake (map (λ server. server.name) servers.now) join.entry ≡ None) }
+    ensures mistake { IfErr result (λ mistake. (mistake ≡ Mistake.Memory)
+        ⊎ (join_mistake (map (λ server. server.name) servers.now) join.entry ≡ Some mistake)) }
+{
+    let word = join.ok_or(Mistake::NoneAtAll)?;
+    next_server(alloc, servers, word, servers.len() as u64 + 1)
 }
 
 /// The command of a proxy program, with the meaning, the default and the limits of each option.
@@ -179,7 +217,7 @@ pub fn command<'a>(alloc: Global) -> Result<Command<'a>, AllocError> {
         .arg(admin_name(alloc))?
         .arg(accept(
             alloc,
-            "End once so many clients were accepted and all are gone; 0 for never",
+            "End once that many clients were accepted and all are gone; 0 for never",
         ))?
         .arg(servers(alloc)?)?
         .arg(join(alloc))?
@@ -206,7 +244,7 @@ fn held<'a>(alloc: Global) -> Arg<'a> {
         alloc,
         "held",
         "268435456",
-        "As many bytes of requests and replies kept for a client stop it until it is owed nothing: 1 to 1099511627776, or with K, M or G",
+        "Stop reading a client for which more bytes of requests and replies are kept, until all its answers are sent; 1 to 1099511627776, or with K, M or G",
     )
 }
 
@@ -217,7 +255,7 @@ fn timeout<'a>(alloc: Global) -> Arg<'a> {
         .value_parser(ValueParser::unsigned(0, u64::MAX))
         .default_value("1000")
         .help(
-            "Lose the connection to a server that owes a reply and sends nothing for so long; 0 for never",
+            "Give up the connection to a server that has pending commands and has sent nothing for that long; 0 for never",
         )
 }
 

@@ -98,18 +98,18 @@ impl Pool {
         any
     }
 
-    /// Says on standard error what became of each upstream.
-    pub fn report<R: Eprint>(&self, rt: &R, proxy: &Proxy) {
+    /// Says on standard error what became of each upstream by a moment.
+    pub fn report<R: Eprint>(&self, rt: &R, proxy: &Proxy, now: u64) {
         for (place, upstream) in self.upstreams.iter().enumerate() {
-            upstream.report(rt, proxy.waiting(place));
+            upstream.report(rt, proxy.waiting(place), now);
         }
     }
 
-    /// What became of each upstream, as figures.
-    pub fn figures(&self, proxy: &Proxy) -> Result<Vec<LinkFigures<'_>>, AllocError> {
+    /// What became of each upstream by a moment, as figures.
+    pub fn figures(&self, proxy: &Proxy, now: u64) -> Result<Vec<LinkFigures<'_>>, AllocError> {
         let mut links = Vec::with_capacity(self.alloc, self.upstreams.len())?;
         for (place, upstream) in self.upstreams.iter().enumerate() {
-            links.push(upstream.figures(proxy.waiting(place)))?;
+            links.push(upstream.figures(proxy.waiting(place), now))?;
         }
         Ok(links)
     }

@@ -1,17 +1,17 @@
 //! How many files a proxy has open beside its clients.
-ghost use Rattle.std.specs.Prelude.{◌≡◌, ◌<◌, ◌^◌};
+ghost use Rattle.std.specs.Prelude.{◌≡◌, ◌-◌, ◌^◌, min};
 ghost use Rattle.mc_proxy_serve.specs.Rooms.{files_beside, files_of_each};
 
 use crate::limits::{LISTING_FILES, LOOKUP_FILES, WAKING_FILES};
 use mc_ring::SERVER_LIMIT;
 use mc_watch::OWN_FILES;
 
-/// How many files a proxy over that many servers has open at most beside its clients: its own, and the one by which look-ups wake it, if a
-/// server may have a host's name (`named`). Then a socket for each server, also for the one that joins, if one does (`joins`), or those of its
-/// look-up in place of it. If a file lists the servers (`listed`), that file, and for each of the most servers of a ring a socket and those of
-/// a look-up beside it.
+/// How many files a proxy over that many servers has open at most beside its clients, up to 2^64 - 1: its own, and the one by which
+/// look-ups wake it, if a server may have a host's name (`named`). Then a socket for each server, also for the one that joins, if one does
+/// (`joins`), or those of its look-up in place of it. If a file lists the servers (`listed`), that file, and for each of the most servers of a
+/// ring a socket and those of a look-up beside it.
 pub fn other_files(servers: usize, joins: bool, listed: bool, named: bool) -> u64
-    ensures { servers < 2 ^ 61 → result ≡ files_beside servers joins listed named }
+    ensures { result ≡ min (files_beside servers joins listed named) (2 ^ 64 - 1) }
 {
     let waking = if named { WAKING_FILES } else { 0 };
     let each = files_of_each(listed, named);

@@ -15,9 +15,9 @@ pub struct ProxySettings {
     pub terms: Terms,
     /// What a request is answered if a command of it is lost.
     pub losses: Losses,
-    /// As many bytes kept for one client stop its turns and reads, until it is owed nothing.
+    /// If more bytes are kept for one client, its turns and reads stop until it has no pending answer.
     pub held: u64,
-    /// After how many milliseconds a server that owes a reply and sends nothing loses its link; 0 for never.
+    /// After how many milliseconds a server that has pending commands and sends nothing loses its link; 0 for never.
     pub timeout: u64,
     /// Where the servers of the ring are: an address for each, in its order.
     pub addresses: Vec<Address>,

@@ -96,6 +96,13 @@ impl Upstream {
         matches!(self.state, State::Up(_))
     }
 
+    /// Whether its server is up at a moment, as that is reported, where so many commands wait: the connection is there, and a reply has come since
+    /// commands were last lost, or nobody has asked since the connection was begun, some time ago. The system accepts connections for a process
+    /// that is stopped, too.
+    fn serves(&self, waiting: usize, now: u64) -> bool {
+        self.is_up() && self.waits.is_up(waiting, self.begun, now)
+    }
+
     /// Whether something is to be said of it.
     pub fn is_due(&self) -> bool {
         self.notices.is_due()
@@ -172,7 +179,8 @@ impl Upstream {
         if let Some(address) = spelled_address(self.address.as_str()) {
             return self.connect(rt, registry, token, address);
         }
-        let known = self.lookup.as_ref().map(|lookup| lookup.known());
+        let lookup = self.lookup.as_ref();
+        let known = lookup.map(|lookup| lookup.known(lookup.found()));
         match next_by(known) {
             Next::Ask => {
                 let lookups = lookups.as_mut().ok_or(Cause::UnknownHost)?;
@@ -271,7 +279,6 @@ impl Upstream {
                 self.failures = 0;
                 self.next = self.begun.saturating_add(NEXT_DELAY);
                 self.state = State::Up(stream);
-                self.notices.note(Notice::Back);
             }
             _ => self.refuse(Cause::Ended),
         }
@@ -286,7 +293,7 @@ impl Upstream {
     }
 
     /// Carries its bytes, and gives commands their replies. The sessions that were answered are put after `woken`. What a strange
-    /// reply leaves without an answer is lost.
+    /// reply leaves without an answer is lost. With a reply the server is back, if it was lost.
     pub fn pump(
         &mut self,
         proxy: &mut Proxy,
@@ -319,13 +326,21 @@ impl Upstream {
         self.stirred = pumped == Pumped::Again;
         let fewer = before.saturating_sub(proxy.waiting(server));
         if proxy.is_up(server) {
-            self.waits.answer(fewer);
+            self.note_replies(fewer);
         } else {
             self.waits.lose(fewer);
         }
         self.came = tally.read > 0;
         self.note_brought(tally.read, fewer > 0);
         pumped
+    }
+
+    /// Notes that `count` commands got their replies. If any did, the server is back, if it was lost.
+    fn note_replies(&mut self, count: usize) {
+        self.waits.answer(count);
+        if count > 0 {
+            self.notices.note(Notice::Back);
+        }
     }
 
     /// Notes that so many bytes came, and whether a reply was taken. What came after that is part of the next one.
@@ -363,7 +378,9 @@ impl Upstream {
     }
 
     /// Has its server be at another address from a moment on, at which it is tried. The connection to the old one is lost; the result says
-    /// whether there was one. The look-up of the old one is given up, and no client waits for the first connection to the new one.
+    /// whether there was one. The look-up of the old one is given up, and no client waits for the first connection to the new one. What becomes
+    /// of the server there is said, also if the same was said of the old one. That the old one is lost is not said: the line of the new address
+    /// says it.
     pub fn relocate(
         &mut self,
         proxy: &mut Proxy,
@@ -375,6 +392,8 @@ impl Upstream {
         if was_up {
             self.lose_by(proxy, server, Cause::Moved);
         }
+        self.notices.take_as_said(Notice::Lost(Cause::Moved));
+        self.waits.begin_anew();
         if let Some(lookup) = &mut self.lookup {
             lookup.give_up();
         }
@@ -386,10 +405,14 @@ impl Upstream {
         was_up
     }
 
-    /// Says on standard error what became of it, and of the commands that were put on it, of which so many wait.
-    pub fn report<R: Eprint>(&self, rt: &R, waiting: usize) {
+    /// Says on standard error what became of it by a moment, and of the commands that were put on it, of which so many wait.
+    pub fn report<R: Eprint>(&self, rt: &R, waiting: usize, now: u64) {
         let server = self.name.as_str();
-        let state = if self.is_up() { "up" } else { "down" };
+        let state = if self.serves(waiting, now) {
+            "up"
+        } else {
+            "down"
+        };
         let (losses, sent, lost) = (self.losses, self.waits.sent(waiting), self.waits.lost());
         // Where it cannot be said, all are served all the same.
         let _ = eprintln!(rt;
@@ -397,11 +420,11 @@ impl Upstream {
         );
     }
 
-    /// What became of it, and of the commands that were put on it, of which so many wait, as figures.
-    pub fn figures(&self, waiting: usize) -> LinkFigures<'_> {
+    /// What became of it by a moment, and of the commands that were put on it, of which so many wait, as figures.
+    pub fn figures(&self, waiting: usize, now: u64) -> LinkFigures<'_> {
         LinkFigures {
             server: self.name.as_bytes(),
-            up: u64::from(self.is_up()),
+            up: u64::from(self.serves(waiting, now)),
             losses: self.losses,
             sent: self.waits.sent(waiting),
             lost: self.waits.lost(),

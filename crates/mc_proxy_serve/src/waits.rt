@@ -1,7 +1,9 @@
 //! How long a link has waited for its server, and what became of its commands.
-ghost use Rattle.std.specs.Prelude.{◌≡◌, ◌+◌, ◌-◌, ◌^◌, None, min};
+ghost use Rattle.std.specs.Prelude.{◌≡◌, ◌+◌, ◌-◌, ◌^◌, false, None, min};
 ghost use Rattle.std.specs.Option.{option_map};
-ghost use Rattle.mc_proxy_serve.specs.Waits.{since_after};
+ghost use Rattle.mc_proxy_serve.specs.Waits.{is_unasked, is_up_by, silent_after_losses, silent_after_replies, since_after};
+
+use crate::limits::QUIET_MILLIS;
 
 /// How long a link has waited for its server, and what became of its commands.
 #[derive(Clone, Copy, Debug)]
@@ -12,17 +14,20 @@ pub struct Waits {
     lost: u64,
     /// Since when the server owes a reply and has sent nothing, in milliseconds; none where it owes none.
     since: Option<u64>,
+    /// Whether commands were lost while they waited, and none got its reply since.
+    silent: bool,
 }
 
 impl Waits {
     /// A link that no command was put on.
     pub fn new() -> Waits
-        ensures { result ≡ record { answered = 0; lost = 0; since = None } }
+        ensures { result ≡ record { answered = 0; lost = 0; since = None; silent = false } }
     {
         Waits {
             answered: 0,
             lost: 0,
             since: None,
+            silent: false,
         }
     }
 
@@ -39,17 +44,43 @@ impl Waits {
         done.saturating_add(waiting as u64)
     }
 
-    /// Notes that so many commands got their replies.
-    pub fn answer(&mut self, count: usize) {
-        self.answered = self.answered.saturating_add(count as u64);
+    /// Whether the server is up at a moment, where its connection is there and was begun at another, and so many commands wait: it is not silent, or
+    /// nobody has asked it for [`QUIET_MILLIS`].
+    pub fn is_up(&self, waiting: usize, begun: u64, now: u64) -> bool
+        ensures { result ≡ is_up_by self.now.silent waiting begun now }
+    {
+        !self.silent || is_unasked(waiting, begun, now)
     }
 
-    /// Notes that so many commands were lost, and that none waits any more.
+    /// Notes that `count` commands got their replies.
+    pub fn answer(&mut self, count: usize)
+        ensures { self.new ≡ record self.old {
+          answered = min (self.old.answered + count) (2 ^ 64 - 1);
+          silent = silent_after_replies count self.old.silent;
+        } }
+    {
+        self.answered = self.answered.saturating_add(count as u64);
+        self.silent = self.silent && count == 0;
+    }
+
+    /// Notes that `count` commands were lost, and that none waits any more.
     pub fn lose(&mut self, count: usize)
-        ensures { self.new.since ≡ None }
+        ensures { self.new ≡ record self.old {
+          lost = min (self.old.lost + count) (2 ^ 64 - 1);
+          since = None;
+          silent = silent_after_losses count self.old.silent;
+        } }
     {
         self.lost = self.lost.saturating_add(count as u64);
         self.since = None;
+        self.silent = self.silent || count > 0;
+    }
+
+    /// Notes that another server is behind the link, of which nothing is known.
+    pub fn begin_anew(&mut self)
+        ensures { self.new ≡ record self.old { silent = false } }
+    {
+        self.silent = false;
     }
 
     /// Notes how many commands wait at a moment, and whether bytes have come from the server since it was noted last. The server answers in
@@ -70,4 +101,11 @@ impl Waits {
     {
         self.since.map(|since| since.saturating_add(timeout))
     }
+}
+
+/// Whether nobody has asked a server for [`QUIET_MILLIS`] at a moment, where its connection was begun at another, and so many commands wait.
+fn is_unasked(waiting: usize, begun: u64, now: u64) -> bool
+    ensures { result ≡ is_unasked waiting begun now }
+{
+    waiting == 0 && now >= begun.saturating_add(QUIET_MILLIS)
 }

@@ -8,13 +8,15 @@
 ghost use Rattle.std.specs.Prelude.{◌≡◌};
 ghost use Rattle.mc_program.specs.Statuses.{status_of};
 
+use clap::ArgMatches;
 use mc_program::{
     EprintSeldom, Failure, LogOption, Logged, ServeError, exit_status, is_read, open_streams,
     read_words,
 };
 use mc_proxy::{Losses, MAX_SESSIONS};
 use mc_proxy_serve::{
-    ListError, Mistake, Operators, Options, PROGRAM, ProxySettings, command, other_files, serve,
+    ListError, Mistake, Operators, Options, PROGRAM, Place, ProxySettings, command, other_files,
+    serve, tell_mistake,
 };
 use mc_ring::Ring;
 use mc_socket::bind;
@@ -50,7 +52,6 @@ where
     let matches = command(alloc)?.try_get_matches_from(words.as_slice())?;
     *option = LogOption::of(&matches);
     let logged = Logged::new(rt, PROGRAM, *option);
-    let list = matches.get_str("servers");
     let Options {
         listen,
         ring,
@@ -58,7 +59,7 @@ where
         log,
         admin,
         check,
-    } = Options::of(rt, alloc, &matches).map_err(|error| refusal_of(&logged, list, error))?;
+    } = Options::of(rt, alloc, &matches).map_err(|error| refusal_of(&logged, &matches, error))?;
     admin.check().map_err(Failure::Refused)?;
     if check {
         return print_size(rt, &ring, settings.losses);
@@ -107,11 +108,10 @@ where
 const BAD_HELD: &str =
     "invalid value for '--held <bytes>': neither in 1..=1099511627776 nor a number of K, M or G up to 1024G";
 
-/// How the program ends where the words, or a file of this path, name no pool. The mistake of a file is said beside it.
-fn refusal_of<R: Eprint>(rt: &R, list: Option<&str>, error: ListError) -> Failure {
-    if let (ListError::File(mistake), Some(path)) = (error, list) {
-        // Where it cannot be said, the status says that the list is bad.
-        let _ = eprintln!(rt; "{PROGRAM}: {path}: {mistake}");
+/// How the program ends if the words, or the file that they name, name no pool. The mistake of a list is said beside it.
+fn refusal_of<R: Eprint>(rt: &R, matches: &ArgMatches<'_>, error: ListError) -> Failure {
+    if let ListError::At(place, mistake) = error {
+        tell_mistake(rt, matches, place, mistake);
     }
     failure_of(error)
 }
@@ -119,12 +119,12 @@ fn refusal_of<R: Eprint>(rt: &R, list: Option<&str>, error: ListError) -> Failur
 /// How the program ends where the words name no pool.
 fn failure_of(error: ListError) -> Failure
     ensures bad { error ≡ ListError.Bad → status_of result ≡ 2 }
-    ensures file { (mistake : Mistake) → error ≡ ListError.File mistake → status_of result ≡ 2 }
+    ensures mistake { (place : Place) → (mistake : Mistake) → error ≡ ListError.At place mistake → status_of result ≡ 2 }
     ensures held { error ≡ ListError.Held → status_of result ≡ 2 }
     ensures memory { error ≡ ListError.Memory → result ≡ Failure.Serve ServeError.Memory }
 {
     match error {
-        ListError::Bad | ListError::File(_) => Failure::Refused("bad server list"),
+        ListError::Bad | ListError::At(_, _) => Failure::Refused("bad server list"),
         ListError::Held => Failure::Refused(BAD_HELD),
         ListError::Memory => Failure::Serve(ServeError::Memory),
     }

@@ -5,4 +5,5 @@ pub mod Clocks
 pub mod Kinds
 pub mod Memory
 pub mod Refusals
+pub mod Settings
 pub mod Sides

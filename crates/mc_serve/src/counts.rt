@@ -83,10 +83,10 @@ impl Counts {
         self.refusals.set(refusals);
     }
 
-    /// That many stores were refused memory, and answered so.
-    pub fn tell_no_memory(&self, count: u64) {
+    /// That many stores were refused memory: each got an error line, and its client stays connected.
+    pub fn refuse_stores(&self, count: u64) {
         let mut refusals = self.refusals.get();
-        refusals.note_told(count);
+        refusals.note_answered(count);
         self.refusals.set(refusals);
     }
 

@@ -1,8 +1,11 @@
 //! What a server says of itself to operators.
+ghost use Rattle.std.specs.Prelude.{◌≡◌, codes, decimal, map};
+ghost use Rattle.mc_serve.specs.Settings.{cas_from_word, settings_shown, shown, store_word};
 
+use crate::cas_from::CasFrom;
 use crate::counts::Counts;
 use crate::kinds::StoreKind;
-use crate::settings::Settings;
+use crate::settings::{Service, Settings};
 use mc_admin::{Setting, Sheet, Value, push_client_figures, push_store_figures};
 use mc_clients::{Listed, Report};
 use mc_operators::{Operators, process_number, resident_memory};
@@ -56,28 +59,68 @@ fn try_show<R: Files>(
 }
 
 /// The settings, by memcached's names where it has them.
-fn settings_of(settings: &Settings) -> [Setting<'static>; 11] {
-    let service = settings.service;
-    let store = match settings.kind {
-        StoreKind::Table => Value::Word(b"table"),
-        StoreKind::Lru => Value::Word(b"lru"),
-    };
+#[tactic(auto, unfolding(crate::specs::Settings::settings_shown))]
+fn settings_of(settings: &Settings) -> [Setting<'static>; 13]
+    ensures { map shown result ≡ settings_shown settings.now }
+{
+    let Service {
+        terms,
+        answer,
+        memory_exit,
+    } = settings.service;
     [
-        setting(b"maxbytes", Value::Number(settings.budget)),
-        setting(b"maxconns", Value::Number(MAX_CONNECTIONS as u64)),
-        setting(b"num_threads", Value::Number(1)),
-        setting(b"item_size_max", Value::Number(VALUE_LIMIT as u64)),
-        setting(b"evictions", Value::Word(b"on")),
-        setting(b"cas_enabled", Value::Word(b"yes")),
-        setting(b"idle_timeout", Value::Number(service.terms.idle)),
-        setting(b"items", Value::Number(settings.items as u64)),
-        setting(b"store", store),
-        setting(b"answer", Value::Number(service.answer as u64)),
-        setting(b"report", Value::Number(service.terms.report)),
+        number(b"maxbytes", settings.budget),
+        number(b"maxconns", MAX_CONNECTIONS as u64),
+        number(b"num_threads", 1),
+        number(b"item_size_max", VALUE_LIMIT as u64),
+        word(b"evictions", b"on"),
+        word(b"cas_enabled", b"yes"),
+        number(b"idle_timeout", terms.idle),
+        number(b"items", settings.items as u64),
+        word(b"store", store_word(settings.kind)),
+        cas_from_setting(settings.cas_from),
+        number(b"answer", answer as u64),
+        number(b"report", terms.report),
+        number(b"memory_exit", memory_exit),
     ]
 }
 
-/// A setting under its name.
-fn setting(name: &'static [u8], value: Value<'static>) -> Setting<'static> {
-    Setting { name, value }
+/// The name of a kind of stores.
+fn store_word(kind: StoreKind) -> &'static [u8]
+    ensures { result.now ≡ store_word kind }
+{
+    match kind {
+        StoreKind::Table => b"table",
+        StoreKind::Lru => b"lru",
+    }
+}
+
+/// The setting of `--cas-from`, as its operator said it.
+fn cas_from_setting(cas_from: CasFrom) -> Setting<'static>
+    ensures { shown result ≡ (codes "cas_from", cas_from_word cas_from) }
+{
+    match cas_from {
+        CasFrom::Last(last) => number(b"cas_from", last),
+        CasFrom::Now => word(b"cas_from", b"now"),
+    }
+}
+
+/// A number under its name.
+fn number(name: &'static [u8], number: u64) -> Setting<'static>
+    ensures { shown result ≡ (name.entry.now, decimal number) }
+{
+    Setting {
+        name,
+        value: Value::Number(number),
+    }
+}
+
+/// A word under its name.
+fn word(name: &'static [u8], word: &'static [u8]) -> Setting<'static>
+    ensures { shown result ≡ (name.entry.now, word.entry.now) }
+{
+    Setting {
+        name,
+        value: Value::Word(word),
+    }
 }

@@ -1,7 +1,6 @@
 //! What serves the clients of a server.
 ghost use Rattle.std.specs.Prelude.{◌≡◌, ◌<◌, ◌^◌, None, IsSome, length, vec_len};
 ghost use Rattle.mc_server.specs.ServerState.{connection_at};
-ghost use Rattle.mc_pump.specs.Counts.{Counts as CountsRefusals};
 ghost use Rattle.mc_pump.specs.Pumps.{Pumps};
 
 use crate::counts::Counts;
@@ -59,11 +58,11 @@ impl<S: Store + Drop> ServerHandler<S> {
         }
     }
 
-    /// Notes the stores that were answered that there is no memory for them.
-    fn note_told(&mut self) {
+    /// Notes the stores of the last turns that were refused memory, and got an error line.
+    fn note_refused_stores(&mut self) {
         let count = mem::replace(&mut self.watch.no_memory, 0);
         if count > 0 {
-            self.counts.tell_no_memory(count);
+            self.counts.refuse_stores(count);
         }
     }
 
@@ -112,7 +111,7 @@ impl<S: Store + Drop> Handler<()> for ServerHandler<S> {
         if pumped == Pumped::Failed {
             self.note_failed(failed);
         }
-        self.note_told();
+        self.note_refused_stores();
         step_after(pumped)
     }
 
@@ -141,9 +140,7 @@ fn pump_client<S: Store + Drop>(
     requires piece { 0 < length piece.old }
     requires moment { moment < 2 ^ 63 }
     ensures pumps { IsSome (connection_at server.old client.old.number) → Pumps client.old.number moment result.0 server.old server.new
-        None None None None client.old.ended client.new.ended }
-    ensures counts { IsSome (connection_at server.old client.old.number)
-        → CountsRefusals client.old.number moment server.old server.new watch.old.no_memory watch.new.no_memory }
+        None None None None client.old.ended client.new.ended watch.old.no_memory watch.new.no_memory }
     ensures number { client.new.number ≡ client.old.number }
 {
     let mut input = Input {

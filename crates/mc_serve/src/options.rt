@@ -150,7 +150,7 @@ pub fn command<'a>(alloc: Global) -> Result<Command<'a>, AllocError> {
         .arg(admin_name(alloc))?
         .arg(accept(
             alloc,
-            "End once so many connections were accepted and all are closed; 0 for never",
+            "End once that many connections were accepted and all are closed; 0 for never",
         ))?
         .arg(log(
             alloc,
@@ -208,7 +208,7 @@ fn memory_exit<'a>(alloc: Global) -> Arg<'a> {
         alloc,
         "memory-exit",
         "seconds",
-        "End with status 4 if for so long clients were closed for want of memory, without a pause of more than 2 seconds, and no item was stored; 0 for never",
+        "End with status 4 once clients were closed for want of memory for that long, with no pause of more than 2 seconds and no item stored; 0 for never",
     )
 }
 

@@ -67,7 +67,7 @@ impl Refusals {
     pub fn note(&mut self, count: u64, second: u64, stores: u64)
         ensures { self.new ≡ noted self.old count second stores }
     {
-        self.note_told(count);
+        self.note_answered(count);
         self.row = Some(Row {
             since: since_of(self.row, second, stores),
             last: second,
@@ -77,7 +77,7 @@ impl Refusals {
 
     /// Notes `count` refusals that were answered, whose clients keep their connections. They are counted, and of no row: a server that refuses
     /// new items alone is of use.
-    pub fn note_told(&mut self, count: u64)
+    pub fn note_answered(&mut self, count: u64)
         ensures { self.new ≡ record self.old { count = added self.old.count count } }
     {
         self.count = self.count.wrapping_add(count);

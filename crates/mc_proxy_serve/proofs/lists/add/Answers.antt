@@ -1,11 +1,11 @@
-use Rattle.std.proofs.Common.{rules, ◌≡◌, ◌∙◌, ℕ, List, true, false, nat_lt, length, map, ap, sym, Err, Some, None, inr, arith}
+use Rattle.std.proofs.Common.{rules, ◌≡◌, ◌∙◌, ℕ, List, true, false, nat_lt, length, map, ap, sym, Err, Some, None, arith}
 use Rattle.std.proofs.lemmas.Bool.Decides.{nat_tests}
-use Rattle.mc_proxy_serve.specs.Servers.{address_of, is_server, name_of}
+use Rattle.mc_proxy_serve.specs.Servers.{address_of, name_of}
 use Rattle.mc_proxy_serve.specs.declared.servers.Server.{Server}
 use Rattle.mc_proxy_serve.specs.Files.{is_some_word}
-use Rattle.mc_proxy_serve.specs.Mistakes.{name_mistake}
+use Rattle.mc_proxy_serve.specs.Mistakes.{word_mistake}
 use Rattle.mc_proxy_serve.proofs.ListLemmas.{adds}
-use Rattle.mc_proxy_serve.proofs.MistakeLemmas.{is_true, no_server, no_word, of_name}
+use Rattle.mc_proxy_serve.proofs.MistakeLemmas.{no_word, of_word, wrong_line}
 use Rattle.mc_proxy_serve.proofs.lists.add.Goals as goal
 
 pub returns-clause-names : goal.returns-clause-names
@@ -29,25 +29,12 @@ pub returns-in_err-server-clause-mistake : goal.returns-in_err-server-clause-mis
 returns-in_err-server-clause-mistake c =
     let some : is_some_word c.args.word.now ≡ true = grind (arith, nat_tests, c.if-is_empty.false, c.is_empty.ensures) in
     let same : c.from_residual.result ≡ Err c.in_err-server.field-0.0 = search rules in
-    rw same (no_server c.args.number (map (λ (server : Server). server.name) c.args.servers.now.items) c.args.word.now c.in_err-server.field-0.0 some
-    c.in_err-server.ensures.no_server c.in_err-server.ensures.memory)
-
-pub returns-in-Some-clause-mistake : goal.returns-in-Some-clause-mistake
-returns-in-Some-clause-mistake c =
-    let some : is_some_word c.args.word.now ≡ true = grind (arith, nat_tests, c.if-is_empty.false, c.is_empty.ensures) in
-    let names = map (λ (server : Server). server.name) c.args.servers.now.items in
-    let server = is_true (is_server c.args.word.now) c.in_ok-server.ensures.no_server in
-    let found : name_mistake c.args.number names c.in_ok-server.server.name ≡ Some c.in-Some.mistake = ap (λ (servers : List Server). name_mistake c.args.number (map (λ (server : Server). server.name) servers) c.in_ok-server.server.name)
-    (sym c.as_slice.ensures.value) ∙ sym c.in-Some.ensures.mistake in
-    inr (of_name c.args.number names c.args.word.now some server
-    ∙ ap (λ (name : List ℕ). name_mistake c.args.number names name) (sym c.in_ok-server.ensures.name) ∙ found)
+    rw (same, ← c.as_slice.ensures.value) (wrong_line c.args.number (map (λ (server : Server). server.name) c.as_slice.result.now) c.args.word.now
+    c.in_err-server.field-0.0 some c.in_err-server.ensures.mistake)
 
 pub returns-clause-right : goal.returns-clause-right
 returns-clause-right c =
     let some : is_some_word c.args.word.now ≡ true = grind (arith, nat_tests, c.if-is_empty.false, c.is_empty.ensures) in
-    let names = map (λ (server : Server). server.name) c.args.servers.now.items in
-    let server = is_true (is_server c.args.word.now) c.in_ok-server.ensures.no_server in
-    let found : name_mistake c.args.number names c.in_ok-server.server.name ≡ None = ap (λ (servers : List Server). name_mistake c.args.number (map (λ (server : Server). server.name) servers) c.in_ok-server.server.name)
-    (sym c.as_slice.ensures.value) ∙ sym c.in_default.ensures.mistake in
-    of_name c.args.number names c.args.word.now some server
-    ∙ ap (λ (name : List ℕ). name_mistake c.args.number names name) (sym c.in_ok-server.ensures.name) ∙ found
+    of_word c.args.number (map (λ (server : Server). server.name) c.args.servers.now.items) c.args.word.now some
+    ∙ ap (λ (servers : List Server). word_mistake c.args.number (map (λ (server : Server). server.name) servers) c.args.word.now) (sym c.as_slice.ensures.value)
+    ∙ c.in_ok-server.ensures.right

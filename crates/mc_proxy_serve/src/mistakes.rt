@@ -1,0 +1,36 @@
+//! How the mistake of a list of servers is said that ends the program.
+
+use crate::lists::Mistake;
+use crate::options::{PROGRAM, Place};
+use clap::ArgMatches;
+
+/// Says on standard error which mistake a list of servers has, by the matches of the command that names the list: with the path of the file, or
+/// with the number and the text of the word.
+pub fn tell_mistake<R: Eprint>(rt: &R, matches: &ArgMatches<'_>, place: Place, mistake: Mistake) {
+    // Where it cannot be said, the status says that the list is bad.
+    let _ = match (place, mistake.in_word()) {
+        (Place::File, _) => {
+            let path = matches.get_str("servers").unwrap_or("");
+            eprintln!(rt; "{PROGRAM}: {path}: {mistake}")
+        }
+        (Place::Words, Some((number, what))) => {
+            let word = word_at(matches, number);
+            eprintln!(rt; "{PROGRAM}: server {number} '{word}' {what}")
+        }
+        (Place::Words, None) => eprintln!(rt; "{PROGRAM}: {mistake}"),
+        (Place::Join, Some((_, what))) => {
+            let word = matches.get_str("join").unwrap_or("");
+            eprintln!(rt; "{PROGRAM}: --join '{word}' {what}")
+        }
+        (Place::Join, None) => eprintln!(rt; "{PROGRAM}: --join-after without --join"),
+    };
+}
+
+/// The word of a server, by its number among them.
+fn word_at<'a>(matches: &ArgMatches<'a>, number: u64) -> &'a str {
+    let Some(words) = matches.get_strs("server") else {
+        return "";
+    };
+    let place = (number as usize).saturating_sub(1);
+    words.get(place).copied().unwrap_or("")
+}
