@@ -7,7 +7,6 @@ use Rattle.mc_route.specs.declared.outcomes.Outcome.TheVariants.{Lost, Reply}
 use Rattle.mc_link.specs.LinkState.{Waiting}
 use Rattle.mc_link.specs.declared.turns.Tag.{Tag}
 use Rattle.mc_session.specs.SessionState.{link_at, with_link}
-use Rattle.mc_session.specs.declared.turns.Emit.TheVariants as emits
 use Rattle.mc_session.specs.declared.turns.Turn.TheVariants as turns
 use Rattle.mc_proxy.specs.ProxyState.{ProxyState, output_of, session_at}
 use Rattle.mc_account.specs.Lanes.{Lane}
@@ -102,10 +101,10 @@ after_call number (sessions.Turned turns.Waiting) texts sent order lanes old new
 after_call number (sessions.Turned turns.Closing) texts sent order lanes old new h step =
     after_none number [] [] texts texts sent sent order lanes new (λ n. grown_none number n texts) (λ n. grown_none number n sent)
     (holds-idle_turn texts sent order lanes number turns.Closing old new h (λ e. absurd cc) step)
-after_call number (sessions.Emitted emits.Done) texts sent order lanes old new h step =
+after_call number (sessions.Emitted hides) texts sent order lanes old new h step =
     after_none number [] [] texts texts sent sent order lanes new (λ n. grown_none number n texts) (λ n. grown_none number n sent)
     (holds-emitted texts sent order lanes number old new h step.0)
-after_call number (sessions.Emitted emits.Idle) texts sent order lanes old new h step =
+after_call number sessions.Rested texts sent order lanes old new h step =
     after_none number [] [] texts texts sent sent order lanes new (λ n. grown_none number n texts) (λ n. grown_none number n sent)
     (holds-idle_emit texts sent order lanes number old new h step.0)
 after_call number (sessions.Sent count went) texts sent order lanes old new h step =

@@ -16,9 +16,10 @@ owed_is_open None owed = let clash : false ≡ true = owed in absurd cc
 owed_is_open (Some session) owed = refl
 
 -- answers, and then a write
-pub answered : (number : ℕ) (side : Result Bool Pumped) (a b c : ProxyState) (unread written written' : Option (List ℕ)) (ended : Bool)
-    → Stretch number a b [] [] → Sends number side b c written written' → PumpsClient number (pump_of side) a c unread unread written written' ended ended
-answered number (Ok moved) a b c unread written written' ended put sent = stopped number moved Again a b c unread written written' ended put sent tt
-answered number (Err pump) a b c unread written written' ended put sent =
-    pumps_then number pump a b c unread unread unread written written written' ended ended ended
-    (pumps_turns number Again a b unread written ended put tt) (pumps_unsent number pump b c unread written written' ended sent)
+pub answered : (number : ℕ) (side : Result Bool Pumped) (a b c : ProxyState) (unread written written' : Option (List ℕ)) (ended : Bool) (first second third : Option ℕ)
+    → Stretch number a b [] [] first second → Sends number side b c written written' second third
+    → PumpsClient number (pump_of side) a c unread unread written written' ended ended first third
+answered number (Ok moved) a b c unread written written' ended first second third put sent = stopped number moved Again a b c unread written written' ended first second third put sent tt
+answered number (Err pump) a b c unread written written' ended first second third put sent =
+    pumps_then number pump a b c unread unread unread written written written' ended ended ended first second third
+    (pumps_turns number Again a b unread written ended first second put tt) (pumps_unsent number pump b c unread written written' ended second third sent)

@@ -12,24 +12,24 @@ use Rattle.mc_proxy_pump.specs.Rounds.{Receives, Sends}
 use Rattle.mc_proxy_pump.proofs.StretchLemmas.{stretch_none, stretch_then}
 
 -- nothing was done yet
-pub pumps_none : (number : ℕ) (s : ProxyState) (unread written : Option (List ℕ)) (ended : Bool) → IsSome (session_at s number)
-    → PumpsClient number Again s s unread unread written written ended ended
-pumps_none number s unread written ended there = record {
+pub pumps_none : (number : ℕ) (s : ProxyState) (unread written : Option (List ℕ)) (ended : Bool) (missed : Option ℕ) → IsSome (session_at s number)
+    → PumpsClient number Again s s unread unread written written ended ended missed missed
+pumps_none number s unread written ended missed there = record {
   came = [];
   went = [];
-  stretch = stretch_none number s there;
+  stretch = stretch_none number s missed there;
   carried = carries_none unread written ended;
   left = tt;
 }
 
 -- a pump that goes on
-pub pumps_then : (number : ℕ) (pump : Pumped) (a b c : ProxyState) (unread middle unread' written between written' : Option (List ℕ)) (ended later ended' : Bool)
-    → PumpsClient number Again a b unread middle written between ended later → PumpsClient number pump b c middle unread' between written' later ended'
-    → PumpsClient number pump a c unread unread' written written' ended ended'
-pumps_then number pump a b c unread middle unread' written between written' ended later ended' h k = record {
+pub pumps_then : (number : ℕ) (pump : Pumped) (a b c : ProxyState) (unread middle unread' written between written' : Option (List ℕ)) (ended later ended' : Bool) (first second third : Option ℕ)
+    → PumpsClient number Again a b unread middle written between ended later first second → PumpsClient number pump b c middle unread' between written' later ended' second third
+    → PumpsClient number pump a c unread unread' written written' ended ended' first third
+pumps_then number pump a b c unread middle unread' written between written' ended later ended' first second third h k = record {
   came = h.came ++ k.came;
   went = h.went ++ k.went;
-  stretch = stretch_then number a b c h.came k.came h.went k.went h.stretch k.stretch;
+  stretch = stretch_then number a b c h.came k.came h.went k.went first second third h.stretch k.stretch;
   carried = carried_then pump unread middle unread' written between written' ended later ended' h.came k.came h.went k.went h.carried k.carried;
   left = k.left;
 }
@@ -42,9 +42,9 @@ left_by_side Done ended proxy session h = absurd h
 left_by_side Failed ended proxy session h = tt
 
 -- turns alone
-pub pumps_turns : (number : ℕ) (pump : Pumped) (a b : ProxyState) (unread written : Option (List ℕ)) (ended : Bool)
-    → Stretch number a b [] [] → Leaves pump ended b (session_at b number) → PumpsClient number pump a b unread unread written written ended ended
-pumps_turns number pump a b unread written ended h left = record {
+pub pumps_turns : (number : ℕ) (pump : Pumped) (a b : ProxyState) (unread written : Option (List ℕ)) (ended : Bool) (missed missed' : Option ℕ)
+    → Stretch number a b [] [] missed missed' → Leaves pump ended b (session_at b number) → PumpsClient number pump a b unread unread written written ended ended missed missed'
+pumps_turns number pump a b unread written ended missed missed' h left = record {
   came = [];
   went = [];
   stretch = h;
@@ -53,9 +53,9 @@ pumps_turns number pump a b unread written ended h left = record {
 }
 
 -- a write that took bytes
-pub pumps_sent : (number : ℕ) (moved : Bool) (a b : ProxyState) (unread written written' : Option (List ℕ)) (ended : Bool)
-    → Sends number (Ok moved) a b written written' → PumpsClient number Again a b unread unread written written' ended ended
-pumps_sent number moved a b unread written written' ended h = record {
+pub pumps_sent : (number : ℕ) (moved : Bool) (a b : ProxyState) (unread written written' : Option (List ℕ)) (ended : Bool) (missed missed' : Option ℕ)
+    → Sends number (Ok moved) a b written written' missed missed' → PumpsClient number Again a b unread unread written written' ended ended missed missed'
+pumps_sent number moved a b unread written written' ended missed missed' h = record {
   came = [];
   went = h.went;
   stretch = h.stretch;
@@ -64,9 +64,9 @@ pumps_sent number moved a b unread written written' ended h = record {
 }
 
 -- a write that stopped the pump
-pub pumps_unsent : (number : ℕ) (pump : Pumped) (a b : ProxyState) (unread written written' : Option (List ℕ)) (ended : Bool)
-    → Sends number (Err pump) a b written written' → PumpsClient number pump a b unread unread written written' ended ended
-pumps_unsent number pump a b unread written written' ended h = record {
+pub pumps_unsent : (number : ℕ) (pump : Pumped) (a b : ProxyState) (unread written written' : Option (List ℕ)) (ended : Bool) (missed missed' : Option ℕ)
+    → Sends number (Err pump) a b written written' missed missed' → PumpsClient number pump a b unread unread written written' ended ended missed missed'
+pumps_unsent number pump a b unread written written' ended missed missed' h = record {
   came = [];
   went = h.went;
   stretch = h.stretch;
@@ -75,9 +75,10 @@ pumps_unsent number pump a b unread written written' ended h = record {
 }
 
 -- a read after which the pump goes on
-pub pumps_heard : (number : ℕ) (moved : Bool) (pump : Pumped) (a b : ProxyState) (unread unread' written : Option (List ℕ)) (ended ended' : Bool) → ended ≡ false
-    → Receives number (Ok moved) a b unread unread' ended' → Leaves pump ended' b (session_at b number) → PumpsClient number pump a b unread unread' written written ended ended'
-pumps_heard number moved pump a b unread unread' written ended ended' open_yet h left = record {
+pub pumps_heard : (number : ℕ) (moved : Bool) (pump : Pumped) (a b : ProxyState) (unread unread' written : Option (List ℕ)) (ended ended' : Bool) (missed missed' : Option ℕ) → ended ≡ false
+    → Receives number (Ok moved) a b unread unread' ended' missed missed' → Leaves pump ended' b (session_at b number)
+    → PumpsClient number pump a b unread unread' written written ended ended' missed missed'
+pumps_heard number moved pump a b unread unread' written ended ended' missed missed' open_yet h left = record {
   came = h.came;
   went = [];
   stretch = h.stretch;
@@ -87,9 +88,9 @@ pumps_heard number moved pump a b unread unread' written ended ended' open_yet h
 }
 
 -- a read that stopped the pump
-pub pumps_unheard : (number : ℕ) (pump : Pumped) (a b : ProxyState) (unread unread' written : Option (List ℕ)) (ended ended' : Bool) → ended ≡ false
-    → Receives number (Err pump) a b unread unread' ended' → PumpsClient number pump a b unread unread' written written ended ended'
-pumps_unheard number pump a b unread unread' written ended ended' open_yet h = record {
+pub pumps_unheard : (number : ℕ) (pump : Pumped) (a b : ProxyState) (unread unread' written : Option (List ℕ)) (ended ended' : Bool) (missed missed' : Option ℕ) → ended ≡ false
+    → Receives number (Err pump) a b unread unread' ended' missed missed' → PumpsClient number pump a b unread unread' written written ended ended' missed missed'
+pumps_unheard number pump a b unread unread' written ended ended' missed missed' open_yet h = record {
   came = h.came;
   went = [];
   stretch = h.stretch;
@@ -98,13 +99,13 @@ pumps_unheard number pump a b unread unread' written ended ended' open_yet h = r
 }
 
 -- turns, a write, and then a stop
-pub stopped : (number : ℕ) (moved : Bool) (pump : Pumped) (a b c : ProxyState) (unread written written' : Option (List ℕ)) (ended : Bool)
-    → Stretch number a b [] [] → Sends number (Ok moved) b c written written' → Leaves pump ended c (session_at c number)
-    → PumpsClient number pump a c unread unread written written' ended ended
-stopped number moved pump a b c unread written written' ended turns sent left =
-    let before = pumps_turns number Again a b unread written ended turns tt in
-    let then_sent = pumps_sent number moved b c unread written written' ended sent in
-    let both = pumps_then number Again a b c unread unread unread written written written' ended ended ended before then_sent in
+pub stopped : (number : ℕ) (moved : Bool) (pump : Pumped) (a b c : ProxyState) (unread written written' : Option (List ℕ)) (ended : Bool) (first second third : Option ℕ)
+    → Stretch number a b [] [] first second → Sends number (Ok moved) b c written written' second third → Leaves pump ended c (session_at c number)
+    → PumpsClient number pump a c unread unread written written' ended ended first third
+stopped number moved pump a b c unread written written' ended first second third turns sent left =
+    let before = pumps_turns number Again a b unread written ended first second turns tt in
+    let then_sent = pumps_sent number moved b c unread written written' ended second third sent in
+    let both = pumps_then number Again a b c unread unread unread written written written' ended ended ended first second third before then_sent in
     record {
       came = both.came;
       went = both.went;

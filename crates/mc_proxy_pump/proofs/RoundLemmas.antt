@@ -1,5 +1,6 @@
 -- The parts of a round of a session's pump.
-use Rattle.std.proofs.Common.{◌≡◌, ◌∙◌, ◌⊎◌, ◌+◌, ◌≤◌, ◌<◌, inl, inr, ℕ, suc, ◌==◌, ◌&&◌, Bool, true, false, nat_le, if◌then◌else◌, Result, Ok, List, [], ◌∷◌, ◌++◌, length, take, drop, Option, Some, None, IsSome, refl, sym, ap, subst, arith, length-drop}
+use Rattle.std.proofs.Common.{◌≡◌, ◌∙◌, ◌⊎◌, ◌↔◌, ◌+◌, ◌≤◌, ◌<◌, inl, inr, ℕ, suc, ◌==◌, ◌&&◌, Bool, true, false, nat_le, if◌then◌else◌, Result, Ok, List, [], ◌∷◌, ◌++◌, length, take, drop, Option, Some, None, IsSome, refl, sym, ap, subst, arith, length-drop}
+use Rattle.std.specs.Prelude.{IsTrue}
 use Rattle.std.proofs.lemmas.Bool.Decides.{nat_tests}
 use Rattle.std.proofs.lemmas.List.{length_push}
 use Rattle.std.specs.Io.KnownBytes.{Appends}
@@ -16,19 +17,21 @@ use Rattle.mc_session.specs.declared.turns.Emit.TheVariants as emits
 use Rattle.mc_session.specs.declared.turns.Turn.{Turn}
 use Rattle.mc_session.specs.declared.turns.Turn.TheVariants as turns
 use Rattle.mc_proxy.specs.ProxyState.{ProxyState, output_of, sent_by, session_at, unanswered_of}
-use Rattle.mc_proxy.specs.Turns.{Alone, Steps, waiting_of}
+use Rattle.mc_proxy.specs.Turns.{Alone, HasAnswer, Steps, hides_loss_at, waiting_of}
 use Rattle.mc_stream.specs.Sides.{HowItCame, HowItWent}
 use Rattle.mc_stream.specs.declared.outcomes.Pumped.{Pumped}
-use Rattle.mc_proxy_pump.specs.Calls.{Fed, Turned, Emitted, Sent, Stretch}
+use Rattle.mc_proxy_pump.specs.Calls.{Fed, Turned, Emitted, Rested, Sent, Stretch}
 use Rattle.mc_proxy_pump.specs.Clients.{IsHeldUpAt, IsOver, IsStuck, emitted_at, is_closed_at}
+use Rattle.mc_proxy_pump.specs.Tallies.{counted}
 use Rattle.mc_proxy_pump.specs.Rounds.{HasAnswered, HowMany, IsSentOf, Receives, Sends, StopsAt, ends_by, reads_by, work_of}
 use Rattle.mc_proxy.proofs.StepLemmas.{sent_at, steps_at, steps_still}
 use Rattle.mc_proxy_pump.proofs.StretchLemmas.{is_open, stretch_none, stretch_one, the_open}
 
 -- a turn is a call
-pub stretch_turned : (number : ℕ) (turn : Turn) (old new : ProxyState) → Steps number old new (IsTurn number turn old.ring old.losses) → Stretch number old new [] []
-stretch_turned number turn old new steps =
-    stretch_one number (Turned turn) old new steps (is_open (session_at new number) steps.after (steps_at number old new (IsTurn number turn old.ring old.losses) steps))
+pub stretch_turned : (number : ℕ) (turn : Turn) (old new : ProxyState) (missed : Option ℕ) → Steps number old new (IsTurn number turn old.ring old.losses)
+    → Stretch number old new [] [] missed missed
+stretch_turned number turn old new missed steps =
+    stretch_one number (Turned turn) old new missed steps (is_open (session_at new number) steps.after (steps_at number old new (IsTurn number turn old.ring old.losses) steps))
 
 -- a request that is taken is one less to take, and one more to answer
 took_less : (number : ℕ) (ring : RingState) (losses : Losses) (links now : List LinkState) (before after : SessionState) (what : Taken)
@@ -86,16 +89,36 @@ closing_stops number old new steps =
     (steps_still number old new (IsTurn number turns.Closing old.ring old.losses) steps steps.step.1.1 steps.step.1.0)
     (is_open (session_at old number) steps.before steps.was)
 
--- putting an answer out is a call
-pub stretch_emitted : (number : ℕ) (old new : ProxyState) → Steps number old new (Alone (IsEmit emits.Done)) → length (output_of (session_at old number)) < UNSENT_MARK
-    → Stretch number old new [] []
-stretch_emitted number old new steps below =
-    stretch_one number (Emitted emits.Done) old new (steps, below) (is_open (session_at new number) steps.after (steps_at number old new (Alone (IsEmit emits.Done)) steps))
+-- what was looked for in an answer that is known counts as what it is
+counted_alike : (Known : Type 0) (looked hides : Bool) (missed : Option ℕ) → Known → (IsTrue looked ↔ (IsSome missed × Known × (hides ≡ true)))
+    → counted looked missed ≡ counted hides missed
+counted_alike Known true true missed known looks = refl
+counted_alike Known true false missed known looks = let clash : false ≡ true = (looks.0 refl).2 in absurd cc
+counted_alike Known false true None known looks = refl
+counted_alike Known false true (Some n) known looks = let clash : false ≡ true = looks.1 (refl, known, refl) in absurd cc
+counted_alike Known false false missed known looks = refl
 
-pub stretch_unemitted : (number : ℕ) (old new : ProxyState) → Steps number old new (Alone (IsEmit emits.Idle)) → length (output_of (session_at old number)) < UNSENT_MARK
-    → Stretch number old new [] []
-stretch_unemitted number old new steps below =
-    stretch_one number (Emitted emits.Idle) old new (steps, below) (is_open (session_at new number) steps.after (steps_at number old new (Alone (IsEmit emits.Idle)) steps))
+-- an answer that is put out was known
+had_answer : (number : ℕ) (old new : ProxyState) → Steps number old new (Alone (IsEmit emits.Done)) → HasAnswer number old
+had_answer number old new steps = (steps.before, steps.was, λ none. let clash : Some steps.after ≡ None = sym steps.step.1 ∙ none in absurd cc)
+
+-- putting an answer out is a call, and the answer is counted if it hides a loss
+pub stretch_emitted : (number : ℕ) (old new : ProxyState) (looked : Bool) (missed missed' : Option ℕ) → Steps number old new (Alone (IsEmit emits.Done))
+    → length (output_of (session_at old number)) < UNSENT_MARK
+    → (IsTrue looked ↔ (IsSome missed × HasAnswer number old × (hides_loss_at (session_at old number) ≡ true)))
+    → missed' ≡ counted looked missed → Stretch number old new [] [] missed missed'
+stretch_emitted number old new looked missed missed' steps below looks is =
+    let same : counted (hides_loss_at (session_at old number)) missed ≡ missed' =
+    sym (is ∙ counted_alike (HasAnswer number old) looked (hides_loss_at (session_at old number)) missed (had_answer number old new steps) looks) in
+    subst (λ (m : Option ℕ). Stretch number old new [] [] missed m) same
+    (stretch_one number (Emitted (hides_loss_at (session_at old number))) old new missed (steps, below, refl)
+    (is_open (session_at new number) steps.after (steps_at number old new (Alone (IsEmit emits.Done)) steps)))
+
+-- none is known, which is a call too
+pub stretch_rested : (number : ℕ) (old new : ProxyState) (missed : Option ℕ) → Steps number old new (Alone (IsEmit emits.Idle)) → length (output_of (session_at old number)) < UNSENT_MARK
+    → Stretch number old new [] [] missed missed
+stretch_rested number old new missed steps below =
+    stretch_one number Rested old new missed (steps, below) (is_open (session_at new number) steps.after (steps_at number old new (Alone (IsEmit emits.Idle)) steps))
 
 -- an answer that is put out is one less to answer
 emit_parts : (session : SessionState) (us : List Unanswered) (after : SessionState) → emitted_from session us ≡ Some after
@@ -134,11 +157,12 @@ put_none number old new steps =
     )
 
 -- nothing was sent
-pub sends_still : (number : ℕ) (side : Result Bool Pumped) (s : ProxyState) (written written' : Option (List ℕ)) → IsSome (session_at s number)
-    → HowItWent side written written' [] (s ≡ s) → Sends number side s s written written'
-sends_still number side s written written' there how = record {
+pub sends_still : (number : ℕ) (side : Result Bool Pumped) (s : ProxyState) (written written' : Option (List ℕ)) (missed : Option ℕ) → IsSome (session_at s number)
+    → HowItWent side written written' [] (s ≡ s) → Sends number side s s written written' missed missed
+sends_still number side s written written' missed there how = record {
   went = [];
-  stretch = stretch_none number s there;
+  stretch = stretch_none number s missed there;
+  uncounted = refl;
   how = how;
   same = record { waits = refl; closed = refl; known = λ none. none; fewer = omega arith };
 }
@@ -153,9 +177,10 @@ emitted_sent s output (u ∷ us) e =
     ]) e
 
 -- the first bytes were sent
-pub sends_some : (number count : ℕ) (output : List ℕ) (old new : ProxyState) (written written' : Option (List ℕ)) → IsSome (session_at old number) → output ≡ output_of (session_at old number)
-    → count ≤ length output → new ≡ sent_by number count (session_at old number) old → Appends written written' (take count output) → Sends number (Ok true) old new written written'
-sends_some number count output old new written written' there unsent few is appended =
+pub sends_some : (number count : ℕ) (output : List ℕ) (old new : ProxyState) (written written' : Option (List ℕ)) (missed : Option ℕ) → IsSome (session_at old number)
+    → output ≡ output_of (session_at old number) → count ≤ length output → new ≡ sent_by number count (session_at old number) old → Appends written written' (take count output)
+    → Sends number (Ok true) old new written written' missed missed
+sends_some number count output old new written written' missed there unsent few is appended =
     let s = the_open (session_at old number) there in
     let after : SessionState = record s.0 { output = drop count s.0.output } in
     let now : session_at new number ≡ Some after = sent_at number count s.0 old new s.1 is in
@@ -165,7 +190,8 @@ sends_some number count output old new written written' there unsent few is appe
     let Q : Option SessionState → Type 0 = λ o. IsSentOf o (session_at new number) in
     record {
       went = take count (output_of (session_at old number));
-      stretch = stretch_one number (Sent count (take count (output_of (session_at old number)))) old new (bound, refl, is) (is_open (session_at new number) after now);
+      stretch = stretch_one number (Sent count (take count (output_of (session_at old number)))) old new missed (bound, refl, is) (is_open (session_at new number) after now);
+      uncounted = refl;
       how = subst (λ (bytes : List ℕ). Appends written written' (take count bytes)) unsent appended;
       same = subst Q (sym s.1) (subst P (sym now) (record {
         waits = refl;
@@ -176,15 +202,15 @@ sends_some number count output old new written written' there unsent few is appe
     }
 
 -- nothing came
-pub receives_still : (number : ℕ) (side : Result Bool Pumped) (s : ProxyState) (unread unread' : Option (List ℕ)) (ended' : Bool) → IsSome (session_at s number)
-    → HowItCame side unread unread' ended' [] (s ≡ s) → Receives number side s s unread unread' ended'
-receives_still number side s unread unread' ended' there how = record { came = []; stretch = stretch_none number s there; how = how }
+pub receives_still : (number : ℕ) (side : Result Bool Pumped) (s : ProxyState) (unread unread' : Option (List ℕ)) (ended' : Bool) (missed : Option ℕ) → IsSome (session_at s number)
+    → HowItCame side unread unread' ended' [] (s ≡ s) → Receives number side s s unread unread' ended' missed missed
+receives_still number side s unread unread' ended' missed there how = record { came = []; stretch = stretch_none number s missed there; uncounted = refl; how = how }
 
 -- a piece came
-pub stretch_fed : (number : ℕ) (piece : List ℕ) (old new : ProxyState) → Steps number old new (Alone (IsFed piece)) → waiting_of (session_at old number) ≡ []
-    → length (output_of (session_at old number)) < UNSENT_MARK → Stretch number old new piece []
-stretch_fed number piece old new steps none below =
-    stretch_one number (Fed piece) old new (steps, none, below) (is_open (session_at new number) steps.after (steps_at number old new (Alone (IsFed piece)) steps))
+pub stretch_fed : (number : ℕ) (piece : List ℕ) (old new : ProxyState) (missed : Option ℕ) → Steps number old new (Alone (IsFed piece)) → waiting_of (session_at old number) ≡ []
+    → length (output_of (session_at old number)) < UNSENT_MARK → Stretch number old new piece [] missed missed
+stretch_fed number piece old new missed steps none below =
+    stretch_one number (Fed piece) old new missed (steps, none, below) (is_open (session_at new number) steps.after (steps_at number old new (Alone (IsFed piece)) steps))
 
 -- both of two tests hold
 both : (a b answer : Bool) → answer ≡ (a && b) → answer ≡ true → (a ≡ true) × (b ≡ true)

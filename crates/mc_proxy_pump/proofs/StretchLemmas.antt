@@ -3,7 +3,8 @@ use Rattle.std.proofs.Common.{◌≡◌, ◌∙◌, ℕ, true, false, List, [], 
 use Rattle.std.proofs.lemmas.List.{append-nil}
 use Rattle.mc_session.specs.SessionState.{SessionState}
 use Rattle.mc_proxy.specs.ProxyState.{ProxyState, session_at}
-use Rattle.mc_proxy_pump.specs.Calls.{Call, Calls, IsCall, Stretch, came_by, came_of, went_by, went_of}
+use Rattle.mc_proxy_pump.specs.Calls.{Call, Calls, Fed, Turned, Emitted, Rested, Sent, IsCall, Stretch, came_by, came_of, missed_by, went_by, went_of}
+use Rattle.mc_proxy_pump.specs.Tallies.{counted}
 
 -- an open session
 pub the_open : (o : Option SessionState) → IsSome o → (s : SessionState) × (o ≡ Some s)
@@ -14,7 +15,7 @@ pub is_open : (o : Option SessionState) (s : SessionState) → o ≡ Some s → 
 is_open None s e = absurd cc
 is_open (Some t) s e = refl
 
--- the bytes of calls after calls
+-- the bytes of calls after calls, and the answers that they count
 came-append : (xs ys : List Call) → came_of (xs ++ ys) ≡ came_of xs ++ came_of ys
 came-append [] ys = refl
 came-append (x ∷ xs) ys = ap (λ (bytes : List ℕ). came_by x ++ bytes) (came-append xs ys) ∙ sym (append_assoc (came_by x) (came_of xs) (came_of ys))
@@ -23,32 +24,43 @@ went-append : (xs ys : List Call) → went_of (xs ++ ys) ≡ went_of xs ++ went_
 went-append [] ys = refl
 went-append (x ∷ xs) ys = ap (λ (bytes : List ℕ). went_by x ++ bytes) (went-append xs ys) ∙ sym (append_assoc (went_by x) (went_of xs) (went_of ys))
 
+missed-append : (xs ys : List Call) (missed : Option ℕ) → missed_by (xs ++ ys) missed ≡ missed_by ys (missed_by xs missed)
+missed-append [] ys missed = refl
+missed-append (Fed came ∷ xs) ys missed = missed-append xs ys missed
+missed-append (Turned turn ∷ xs) ys missed = missed-append xs ys missed
+missed-append (Emitted hides ∷ xs) ys missed = missed-append xs ys (counted hides missed)
+missed-append (Rested ∷ xs) ys missed = missed-append xs ys missed
+missed-append (Sent count went ∷ xs) ys missed = missed-append xs ys missed
+
 -- calls after calls
 calls-append : (number : ℕ) (xs ys : List Call) (a b c : ProxyState) → Calls number xs a b → Calls number ys b c → Calls number (xs ++ ys) a c
 calls-append number [] ys a b c h k = subst (λ (p : ProxyState). Calls number ys p c) h k
 calls-append number (x ∷ xs) ys a b c h k = (h.0, (h.1.0, calls-append number xs ys h.0 b c h.1.1 k))
 
 -- no call
-pub stretch_none : (number : ℕ) (s : ProxyState) → IsSome (session_at s number) → Stretch number s s [] []
-stretch_none number s there = record { calls = []; chain = refl; came_is = refl; went_is = refl; still_open = there }
+pub stretch_none : (number : ℕ) (s : ProxyState) (missed : Option ℕ) → IsSome (session_at s number) → Stretch number s s [] [] missed missed
+stretch_none number s missed there = record { calls = []; chain = refl; came_is = refl; went_is = refl; missed_is = refl; still_open = there }
 
 -- one call
-pub stretch_one : (number : ℕ) (call : Call) (a b : ProxyState) → IsCall number call a b → IsSome (session_at b number) → Stretch number a b (came_by call) (went_by call)
-stretch_one number call a b h there = record {
+pub stretch_one : (number : ℕ) (call : Call) (a b : ProxyState) (missed : Option ℕ) → IsCall number call a b → IsSome (session_at b number)
+    → Stretch number a b (came_by call) (went_by call) missed (missed_by (call ∷ []) missed)
+stretch_one number call a b missed h there = record {
   calls = call ∷ [];
   chain = (b, (h, refl));
   came_is = append-nil (came_by call);
   went_is = append-nil (went_by call);
+  missed_is = refl;
   still_open = there;
 }
 
 -- one stretch after another
-pub stretch_then : (number : ℕ) (a b c : ProxyState) (came more went yet : List ℕ) → Stretch number a b came went → Stretch number b c more yet
-    → Stretch number a c (came ++ more) (went ++ yet)
-stretch_then number a b c came more went yet h k = record {
+pub stretch_then : (number : ℕ) (a b c : ProxyState) (came more went yet : List ℕ) (first second third : Option ℕ) → Stretch number a b came went first second → Stretch number b c more yet second third
+    → Stretch number a c (came ++ more) (went ++ yet) first third
+stretch_then number a b c came more went yet first second third h k = record {
   calls = h.calls ++ k.calls;
   chain = calls-append number h.calls k.calls a b c h.chain k.chain;
   came_is = came-append h.calls k.calls ∙ ap (λ (bytes : List ℕ). bytes ++ came_of k.calls) h.came_is ∙ ap (λ (bytes : List ℕ). came ++ bytes) k.came_is;
   went_is = went-append h.calls k.calls ∙ ap (λ (bytes : List ℕ). bytes ++ went_of k.calls) h.went_is ∙ ap (λ (bytes : List ℕ). went ++ bytes) k.went_is;
+  missed_is = missed-append h.calls k.calls first ∙ ap (λ (missed : Option ℕ). missed_by k.calls missed) h.missed_is ∙ k.missed_is;
   still_open = k.still_open;
 }

@@ -1,12 +1,13 @@
 -- Calls for one session of a proxy, one after another: this project's own.
-use Rattle.std.specs.Prelude.{◌≡◌, ℕ, ◌<◌, ◌≤◌, List, [], ◌∷◌, ◌++◌, length, take, IsSome}
+use Rattle.std.specs.Prelude.{◌≡◌, ℕ, ◌<◌, ◌≤◌, Bool, List, [], ◌∷◌, ◌++◌, length, take, Option, IsSome}
 use Rattle.mc_session.specs.Emits.{IsEmit}
 use Rattle.mc_session.specs.Turns.{IsFed, IsTurn}
 use Rattle.mc_session.specs.declared.limits.TheConstants.{UNSENT_MARK}
-use Rattle.mc_session.specs.declared.turns.Emit.{Emit}
+use Rattle.mc_session.specs.declared.turns.Emit.TheVariants.{Done, Idle}
 use Rattle.mc_session.specs.declared.turns.Turn.{Turn}
 use Rattle.mc_proxy.specs.ProxyState.{ProxyState, output_of, sent_by, session_at}
-use Rattle.mc_proxy.specs.Turns.{Alone, Steps, waiting_of}
+use Rattle.mc_proxy.specs.Turns.{Alone, Steps, hides_loss_at, waiting_of}
+use Rattle.mc_proxy_pump.specs.Tallies.{counted}
 
 -- a call for a session
 pub data Call : Type 0 where
@@ -14,18 +15,22 @@ pub data Call : Type 0 where
   Fed : List ℕ → Call
   -- it takes a turn
   Turned : Turn → Call
-  -- an answer is put out, where one is known
-  Emitted : Emit → Call
+  -- an answer is put out, which hides a loss or not
+  Emitted : Bool → Call
+  -- no answer is known, and none is put out
+  Rested : Call
   -- so many bytes of its output are taken out, which are these: its client was sent them
   Sent : ℕ → List ℕ → Call
 
 -- What a call for the session of a number does to the proxy. It is fed only where no whole request waits, and only while less
--- is unsent than the mark; and only while less is unsent than the mark an answer is put out.
+-- is unsent than the mark; and only while less is unsent than the mark an answer is put out, or found not to be known.
 abbrev pub IsCall : ℕ → Call → ProxyState → ProxyState → Type 0
 IsCall number (Fed came) old new =
     Steps number old new (Alone (IsFed came)) × (waiting_of (session_at old number) ≡ []) × (length (output_of (session_at old number)) < UNSENT_MARK)
 IsCall number (Turned turn) old new = Steps number old new (IsTurn number turn old.ring old.losses)
-IsCall number (Emitted emit) old new = Steps number old new (Alone (IsEmit emit)) × (length (output_of (session_at old number)) < UNSENT_MARK)
+IsCall number (Emitted hides) old new =
+    Steps number old new (Alone (IsEmit Done)) × (length (output_of (session_at old number)) < UNSENT_MARK) × (hides ≡ hides_loss_at (session_at old number))
+IsCall number Rested old new = Steps number old new (Alone (IsEmit Idle)) × (length (output_of (session_at old number)) < UNSENT_MARK)
 IsCall number (Sent count went) old new =
     (count ≤ length (output_of (session_at old number))) × (went ≡ take count (output_of (session_at old number))) × (new ≡ sent_by number count (session_at old number) old)
 
@@ -52,10 +57,18 @@ abbrev pub went_of : List Call → List ℕ
 went_of [] = []
 went_of (call ∷ calls) = went_by call ++ went_of calls
 
--- Calls for an open session by which these bytes came and these went. The session is open after them.
-pub record Stretch (number : ℕ) (old new : ProxyState) (came went : List ℕ) : Type 0 where
+-- a count of the requests whose answers hide a loss, after calls: each such answer that they put out is counted, and nothing else
+abbrev pub missed_by : List Call → Option ℕ → Option ℕ
+missed_by [] missed = missed
+missed_by (Emitted hides ∷ calls) missed = missed_by calls (counted hides missed)
+missed_by (other ∷ calls) missed = missed_by calls missed
+
+-- Calls for an open session by which these bytes came and these went. They take the one count of answers that hide a loss to the other.
+-- The session is open after them.
+pub record Stretch (number : ℕ) (old new : ProxyState) (came went : List ℕ) (missed missed' : Option ℕ) : Type 0 where
   pub calls : List Call
   pub chain : Calls number calls old new
   pub came_is : came_of calls ≡ came
   pub went_is : went_of calls ≡ went
+  pub missed_is : missed_by calls missed ≡ missed'
   pub still_open : IsSome (session_at new number)

@@ -53,10 +53,11 @@ Leaves Done ended proxy session = IsOver ended session
 Leaves other ended proxy session = Unit {0}
 
 -- What a pump of the session of a number does: calls for it, and nothing else. The bytes that came by them are those that the
--- reader gave, or the first of them where the pump failed, and the bytes that went are those that the writer took.
-pub record PumpsClient (number : ℕ) (pump : Pumped) (old new : ProxyState) (unread unread' written written' : Option (List ℕ)) (ended ended' : Bool) : Type 0 where
+-- reader gave, or the first of them where the pump failed, and the bytes that went are those that the writer took. Of the answers that
+-- they put out just those that hide a loss are counted.
+pub record PumpsClient (number : ℕ) (pump : Pumped) (old new : ProxyState) (unread unread' written written' : Option (List ℕ)) (ended ended' : Bool) (missed missed' : Option ℕ) : Type 0 where
   pub came : List ℕ
   pub went : List ℕ
-  pub stretch : Stretch number old new came went
+  pub stretch : Stretch number old new came went missed missed'
   pub carried : CarriesBy pump unread unread' written written' ended ended' came went
   pub left : Leaves pump ended' new (session_at new number)

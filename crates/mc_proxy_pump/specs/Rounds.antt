@@ -33,9 +33,10 @@ abbrev pub reads_by : Turn → (ended marked : Bool) → Bool
 reads_by turns.Idle ended marked = not ended && not marked
 reads_by other ended marked = false
 
--- requests are taken until none can be
-pub record TakesTurns (number : ℕ) (old new : ProxyState) : Type 0 where
-  pub stretch : Stretch number old new [] []
+-- requests are taken until none can be, and no answer is counted
+pub record TakesTurns (number : ℕ) (old new : ProxyState) (missed missed' : Option ℕ) : Type 0 where
+  pub stretch : Stretch number old new [] [] missed missed'
+  pub uncounted : missed' ≡ missed
   pub fewer : work_of (session_at new number) ≤ work_of (session_at old number)
 
 -- no answer is known, or as much is unsent as the mark
@@ -54,15 +55,17 @@ pub record IsSentOf (old new : Option SessionState) : Type 0 where
   pub known : emitted_at old ≡ None → emitted_at new ≡ None
   pub fewer : length (output_of new) ≤ length (output_of old)
 
--- a write of what is unsent
-pub record Sends (number : ℕ) (side : Result Bool Pumped) (old new : ProxyState) (written written' : Option (List ℕ)) : Type 0 where
+-- a write of what is unsent: no answer is counted
+pub record Sends (number : ℕ) (side : Result Bool Pumped) (old new : ProxyState) (written written' : Option (List ℕ)) (missed missed' : Option ℕ) : Type 0 where
   pub went : List ℕ
-  pub stretch : Stretch number old new [] went
+  pub stretch : Stretch number old new [] went missed missed'
+  pub uncounted : missed' ≡ missed
   pub how : HowItWent side written written' went (new ≡ old)
   pub same : IsSentOf (session_at old number) (session_at new number)
 
--- a read, of which the session is fed
-pub record Receives (number : ℕ) (side : Result Bool Pumped) (old new : ProxyState) (unread unread' : Option (List ℕ)) (ended' : Bool) : Type 0 where
+-- a read, of which the session is fed: no answer is counted
+pub record Receives (number : ℕ) (side : Result Bool Pumped) (old new : ProxyState) (unread unread' : Option (List ℕ)) (ended' : Bool) (missed missed' : Option ℕ) : Type 0 where
   pub came : List ℕ
-  pub stretch : Stretch number old new came []
+  pub stretch : Stretch number old new came [] missed missed'
+  pub uncounted : missed' ≡ missed
   pub how : HowItCame side unread unread' ended' came (new ≡ old)

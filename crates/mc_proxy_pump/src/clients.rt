@@ -35,8 +35,10 @@ pub fn pump_client<R: Read, W: Write>(
 ) -> Pumped
     requires piece { 0 < length piece.old }
     ensures pumps { IsSome (session_at proxy.old session) → PumpsClient session result proxy.old proxy.new
-        (R.remaining reader.old) (R.remaining reader.new) (W.contents writer.old) (W.contents writer.new) ended.old ended.new }
+        (R.remaining reader.old) (R.remaining reader.new) (W.contents writer.old) (W.contents writer.new) ended.old ended.new
+        tally.old.missed tally.new.missed }
     ensures not_open { session_at proxy.old session ≡ None → (result ≡ Pumped.Failed) × (proxy.new ≡ proxy.old) }
+    ensures not_counted { session_at proxy.old session ≡ None → tally.new ≡ tally.old }
 {
     // A session that is not open takes no turn.
     let Ok(turn) = proxy.turn(session) else {
@@ -63,8 +65,10 @@ pub fn pump_answers<W: Write>(
     tally: &mut ClientTally,
 ) -> Result<bool, Pumped>
     ensures pumps { (unread : Option (List ℕ)) (ended : Bool) → IsSome (session_at proxy.old session)
-        → PumpsClient session (pump_of result) proxy.old proxy.new unread unread (W.contents writer.old) (W.contents writer.new) ended ended }
+        → PumpsClient session (pump_of result) proxy.old proxy.new unread unread (W.contents writer.old) (W.contents writer.new) ended ended
+        tally.old.missed tally.new.missed }
     ensures not_open { session_at proxy.old session ≡ None → (result ≡ Ok false) × (proxy.new ≡ proxy.old) }
+    ensures not_counted { session_at proxy.old session ≡ None → tally.new ≡ tally.old }
 {
     if !is_owed(proxy, session) {
         return Ok(false);
@@ -83,7 +87,9 @@ pub fn is_owed(proxy: &Proxy, session: u64) -> bool
 }
 
 /// Counts a request that a turn took, if it did.
-fn count_turn(turn: Turn, tally: &mut ClientTally) {
+fn count_turn(turn: Turn, tally: &mut ClientTally)
+    ensures { tally.new.missed ≡ tally.old.missed }
+{
     if turn == Turn::Took {
         tally.passed.took();
     }
@@ -102,7 +108,8 @@ fn round<R: Read, W: Write>(
     requires is_open { IsSome (session_at proxy.old session) }
     requires piece { 0 < length piece.old }
     ensures { PumpsClient session (pump_of result) proxy.old proxy.new (R.remaining reader.old)
-        (R.remaining reader.new) (W.contents writer.old) (W.contents writer.new) ended.old ended.new }
+        (R.remaining reader.new) (W.contents writer.old) (W.contents writer.new) ended.old ended.new
+        tally.old.missed tally.new.missed }
 {
     let Ok(turn) = advance(proxy, session, tally) else {
         return Err(Pumped::Failed);
@@ -145,7 +152,7 @@ fn is_read(turn: Turn, ended: bool, is_marked: bool) -> bool
 /// Takes requests and puts answers out, as far as it goes, and says why no more is taken.
 fn advance(proxy: &mut Proxy, session: u64, tally: &mut ClientTally) -> Result<Turn, ProxyError>
     requires is_open { IsSome (session_at proxy.old session) }
-    ensures calls { Stretch session proxy.old proxy.new [] [] }
+    ensures calls { Stretch session proxy.old proxy.new [] [] tally.old.missed tally.new.missed }
     ensures stop { IfOk result (λ turn. StopsAt turn proxy.new (session_at proxy.new session)) }
     ensures answered { IfOk result (λ turn. HasAnswered (session_at proxy.new session)) }
 {
@@ -160,7 +167,7 @@ fn advance(proxy: &mut Proxy, session: u64, tally: &mut ClientTally) -> Result<T
 /// Takes requests until none waits, or none can be taken, and says why.
 fn take_turns(proxy: &mut Proxy, session: u64, tally: &mut ClientTally) -> Result<Turn, ProxyError>
     requires is_open { IsSome (session_at proxy.old session) }
-    ensures turns { TakesTurns session proxy.old proxy.new }
+    ensures turns { TakesTurns session proxy.old proxy.new tally.old.missed tally.new.missed }
     ensures stop { IfOk result (λ turn. StopsAt turn proxy.new (session_at proxy.new session)) }
 {
     loop {
@@ -176,13 +183,13 @@ fn take_turns(proxy: &mut Proxy, session: u64, tally: &mut ClientTally) -> Resul
 /// Puts the answers out that are known, until as much is unsent as the mark, and says whether there was one.
 fn put_out(proxy: &mut Proxy, session: u64, tally: &mut ClientTally) -> Result<bool, ProxyError>
     requires is_open { IsSome (session_at proxy.old session) }
-    ensures calls { Stretch session proxy.old proxy.new [] [] }
+    ensures calls { Stretch session proxy.old proxy.new [] [] tally.old.missed tally.new.missed }
     ensures how { IfOk result (λ answered. HowMany answered session proxy.old proxy.new) }
     ensures answered { IfOk result (λ answered. HasAnswered (session_at proxy.new session)) }
 {
     let mut answered = false;
     while proxy.output(session).len() < UNSENT_MARK {
-        let hides = tally.counts() && hides_loss(proxy, session);
+        let hides = is_counted(proxy, session, tally);
         match proxy.emit(session)? {
             Emit::Done => {
                 tally.answered(hides);
@@ -192,6 +199,13 @@ fn put_out(proxy: &mut Proxy, session: u64, tally: &mut ClientTally) -> Result<b
         }
     }
     Ok(answered)
+}
+
+/// Whether the next answer of a session is counted if it is put out: it is known, and hides a loss, and such answers are counted.
+fn is_counted(proxy: &Proxy, session: u64, tally: &ClientTally) -> bool
+    ensures { IsTrue result ↔ (IsSome tally.now.missed × HasAnswer session proxy.now × (hides_loss_at (session_at proxy.now session) ≡ true)) }
+{
+    tally.counts() && hides_loss(proxy, session)
 }
 
 /// Whether the next answer of a session is known, and hides a loss. As long as it is not known its replies are not looked at.
@@ -209,7 +223,7 @@ fn send<W: Write>(
     tally: &mut ClientTally,
 ) -> Result<bool, Pumped>
     requires { IsSome (session_at proxy.old session) }
-    ensures { Sends session result proxy.old proxy.new (W.contents writer.old) (W.contents writer.new) }
+    ensures { Sends session result proxy.old proxy.new (W.contents writer.old) (W.contents writer.new) tally.old.missed tally.new.missed }
 {
     let count = write_once(writer, proxy.output(session))?;
     if count == 0 {
@@ -238,7 +252,8 @@ fn read_or_block<R: Read>(
     requires goes_on { ended.old ≡ false }
     requires piece { 0 < length piece.old }
     ensures { (written : Option (List ℕ)) → PumpsClient session (pump_of result) proxy.old proxy.new
-        (R.remaining reader.old) (R.remaining reader.new) written written ended.old ended.new }
+        (R.remaining reader.old) (R.remaining reader.new) written written ended.old ended.new
+        tally.old.missed tally.new.missed }
 {
     let moved = receive(proxy, session, ended, reader, piece, tally)?;
     if moved || can_send {
@@ -261,7 +276,8 @@ fn receive<R: Read>(
     requires below { length (output_of (session_at proxy.old session)) < UNSENT_MARK }
     requires goes_on { ended.old ≡ false }
     requires piece { 0 < length piece.old }
-    ensures { Receives session result proxy.old proxy.new (R.remaining reader.old) (R.remaining reader.new) ended.new }
+    ensures { Receives session result proxy.old proxy.new (R.remaining reader.old) (R.remaining reader.new) ended.new
+        tally.old.missed tally.new.missed }
 {
     let count = read_once(reader, piece, ended)?;
     if count == 0 {

@@ -1,19 +1,20 @@
 -- Counts of the answers for want of memory, along stretches.
-use Rattle.std.proofs.Common.{◌≡◌, ◌∙◌, ℕ, ◌+◌, ◌%◌, ◌^◌, ◌<◌, ◌≤◌, List, [], ◌∷◌, ◌++◌, length, drop, Option, Some, None, IsSome, refl, sym, ap, subst, arith}
+use Rattle.std.proofs.Common.{◌≡◌, ◌∙◌, ℕ, ◌+◌, ◌%◌, ◌^◌, ◌<◌, ◌≤◌, List, [], ◌∷◌, ◌++◌, length, drop, Some, IsSome, refl, sym, ap, subst, arith}
 use Rattle.std.proofs.lemmas.List.{length-append}
 use Rattle.std.proofs.Math.Nat.{mod-add-mod, mod-mod}
 use Rattle.std.proofs.Math.Seq.{drop-append_seam}
 use Rattle.mc_cache.specs.CacheState.{CacheState}
 use Rattle.mc_server.specs.Served.{Entry, answer_after, cache_after}
 use Rattle.mc_server.specs.Histories.{replayed}
-use Rattle.mc_server.specs.ServerState.{ConnectionState, Connections, ServerState, connection_at, connection_in, output_of, sent_by}
-use Rattle.mc_server.specs.Turns.{Feeds, IsTurn, Steps}
+use Rattle.mc_server.specs.ServerState.{Connections, ServerState, connection_at, connection_in, output_of}
+use Rattle.mc_server.specs.Turns.{IsTurn, Steps}
 use Rattle.mc_server.specs.declared.turns.Turn.TheVariants.{Took, Idle, Closing}
 use Rattle.mc_server.proofs.ConnectionLemmas.{updated_own}
-use Rattle.mc_pump.specs.Stretches.{Stretch}
 use Rattle.mc_pump.specs.Counts.{Counts, refusal_in, refusals_in}
+use Rattle.mc_pump.specs.Rounds.{TakesTurns}
+use Rattle.mc_pump.specs.Stretches.{Stretch}
 use Rattle.mc_pump.specs.declared.limits.TheConstants.{UNSENT_MARK}
-use Rattle.mc_pump.proofs.StretchLemmas.{closing_takes_none, fed_takes_none, idle_takes_none, none_takes_none, sent_takes_none, stretch_closing, stretch_fed, stretch_idle, stretch_none, stretch_sent, stretch_then, stretch_took, taken_entry, then_takes_both, took_takes_one}
+use Rattle.mc_pump.proofs.StretchLemmas.{closing_takes_none, idle_takes_none, none_takes_none, stretch_closing, stretch_idle, stretch_none, stretch_then, stretch_took, taken_entry, then_takes_both, took_takes_one}
 use Rattle.mc_pump.proofs.RoundLemmas.{the_open}
 
 -- sums of 64 bits, or of any other number
@@ -33,35 +34,60 @@ refusals-append : (s : CacheState) (es fs : List Entry) → refusals_in s (es ++
 refusals-append s [] fs = omega arith
 refusals-append s (e ∷ es) fs = let again = refusals-append (cache_after s e) es fs in omega (arith, again)
 
--- a stretch that took nothing
-counts_untaken : (number moment count : ℕ) (a b : ServerState) (came went : List ℕ) (stretch : Stretch number moment a b came went) → stretch.history ≡ [] → Counts number moment a b count count
-counts_untaken number moment count a b came went stretch none =
-    let P : List Entry → Type 0 = λ es. count % 2 ^ 64 ≡ (count + refusals_in a.cache es) % 2 ^ 64 in
-    record { came = came; went = went; stretch = stretch; counted = subst P (sym none) (sum_stays (2 ^ 64) count) }
+-- nothing was taken, and the count is as it was
+pub counts_still : (s : CacheState) (history : List Entry) (count count' : ℕ) → history ≡ [] → count' ≡ count → Counts s history count count'
+counts_still s history count count' none same =
+    let P : List Entry → Type 0 = λ es. Counts s es count count in
+    let Q : ℕ → Type 0 = λ n. Counts s history count n in
+    subst Q (sym same) (subst P (sym none) (sum_stays (2 ^ 64) count))
 
--- nothing has happened
-pub counts_none : (number moment count : ℕ) (s : ServerState) → IsSome (connection_at s number) → Counts number moment s s count count
-counts_none number moment count s there =
+-- one stretch after another
+pub counts_then : (number moment count between count' : ℕ) (a b c : ServerState) (came more went yet : List ℕ) (h : Stretch number moment a b came went) (k : Stretch number moment b c more yet)
+    → Counts a.cache h.history count between → Counts b.cache k.history between count'
+    → Counts a.cache (stretch_then number moment a b c came more went yet h k).history count count'
+counts_then number moment count between count' a b c came more went yet h k first second =
+    let joined : (stretch_then number moment a b c came more went yet h k).history ≡ h.history ++ k.history = then_takes_both number moment a b c came more went yet h k in
+    let later : refusals_in b.cache k.history ≡ refusals_in (replayed a.cache h.history) k.history =
+    ap (λ (s : CacheState). refusals_in s k.history) h.cache.cache in
+    let all : refusals_in a.cache (h.history ++ k.history) ≡ refusals_in a.cache h.history + refusals_in b.cache k.history =
+    refusals-append a.cache h.history k.history ∙ ap (λ (n : ℕ). refusals_in a.cache h.history + n) (sym later) in
+    let P : ℕ → Type 0 = λ n. count' % 2 ^ 64 ≡ (count + n) % 2 ^ 64 in
+    let Q : List Entry → Type 0 = λ es. Counts a.cache es count count' in
+    subst Q (sym joined) (subst P (sym all) (sum_goes_on (2 ^ 64) count between count' (refusals_in a.cache h.history) (refusals_in b.cache k.history) first second))
+
+-- no turn was taken yet
+pub turns_none : (number moment count : ℕ) (s : ServerState) → IsSome (connection_at s number) → TakesTurns number moment s s count count
+turns_none number moment count s there =
     let c = the_open (connection_at s number) there in
-    counts_untaken number moment count s s [] [] (stretch_none number moment s c.0 c.1) (none_takes_none number moment s c.0 c.1)
+    record {
+      stretch = stretch_none number moment s c.0 c.1;
+      counted = counts_still s.cache _ count count (none_takes_none number moment s c.0 c.1) refl;
+    }
+
+-- turns after turns
+turns_then : (number moment count between count' : ℕ) (a b c : ServerState) → TakesTurns number moment a b count between → TakesTurns number moment b c between count'
+    → TakesTurns number moment a c count count'
+turns_then number moment count between count' a b c h k = record {
+  stretch = stretch_then number moment a b c [] [] [] [] h.stretch k.stretch;
+  counted = counts_then number moment count between count' a b c [] [] [] [] h.stretch k.stretch h.counted k.counted;
+}
 
 -- a turn found nothing, or that nothing is read any more
-pub counts_idle : (number moment count : ℕ) (old new : ServerState) → Steps number old new (IsTurn number moment Idle) → Counts number moment old new count count
-counts_idle number moment count old new steps = counts_untaken number moment count old new [] [] (stretch_idle number moment old new steps) (idle_takes_none number moment old new steps)
+pub turns_idle : (number moment count between : ℕ) (a b c : ServerState) → TakesTurns number moment a b count between → Steps number b c (IsTurn number moment Idle)
+    → TakesTurns number moment a c count between
+turns_idle number moment count between a b c h steps =
+    turns_then number moment count between between a b c h (record {
+      stretch = stretch_idle number moment b c steps;
+      counted = counts_still b.cache _ between between (idle_takes_none number moment b c steps) refl;
+    })
 
-pub counts_closing : (number moment count : ℕ) (old new : ServerState) → Steps number old new (IsTurn number moment Closing) → Counts number moment old new count count
-counts_closing number moment count old new steps = counts_untaken number moment count old new [] [] (stretch_closing number moment old new steps) (closing_takes_none number moment old new steps)
-
--- a piece came
-pub counts_fed : (number moment count : ℕ) (piece : List ℕ) (old new : ServerState) → Steps number old new (Feeds piece) → length (output_of (connection_at old number)) < UNSENT_MARK
-    → Counts number moment old new count count
-counts_fed number moment count piece old new steps below = counts_untaken number moment count old new piece [] (stretch_fed number moment piece old new steps below) (fed_takes_none number moment piece old new steps below)
-
--- the first bytes of the output went
-pub counts_sent : (number moment count sent : ℕ) (old new : ServerState) → IsSome (connection_at old number) → new ≡ sent_by number sent (connection_at old number) old → Counts number moment old new count count
-counts_sent number moment count sent old new there is =
-    let c = the_open (connection_at old number) there in
-    counts_untaken number moment count old new [] _ (stretch_sent number moment sent c.0 old new c.1 is) (sent_takes_none number moment sent c.0 old new c.1 is)
+pub turns_closing : (number moment count between : ℕ) (a b c : ServerState) → TakesTurns number moment a b count between → Steps number b c (IsTurn number moment Closing)
+    → TakesTurns number moment a c count between
+turns_closing number moment count between a b c h steps =
+    turns_then number moment count between between a b c h (record {
+      stretch = stretch_closing number moment b c steps;
+      counted = counts_still b.cache _ between between (closing_takes_none number moment b c steps) refl;
+    })
 
 -- a turn that took something appended its answer
 turn_output : (number moment : ℕ) (old new : ServerState) (steps : Steps number old new (IsTurn number moment Took))
@@ -74,42 +100,27 @@ turn_output number moment old new steps =
 pub output_grows : (number moment : ℕ) (old new : ServerState) → Steps number old new (IsTurn number moment Took)
     → length (output_of (connection_at old number)) ≤ length (output_of (connection_at new number))
 output_grows number moment old new steps =
-    let answer : List ℕ = answer_after old.cache (taken_entry number moment old new steps) in
     let after : length (output_of (connection_at new number)) ≡ length (output_of (connection_at old number) ++ answer_after old.cache (taken_entry number moment old new steps)) =
     ap (λ (bytes : List ℕ). length bytes) (turn_output number moment old new steps) in
     omega (arith, after, length-append (output_of (connection_at old number)) (answer_after old.cache (taken_entry number moment old new steps)))
 
-pub counts_took : (number moment count count' : ℕ) (answer : List ℕ) (old new : ServerState) → Steps number old new (IsTurn number moment Took) → length (output_of (connection_at old number)) < UNSENT_MARK
+-- a turn took something, and its whole answer was looked at
+turn_took : (number moment count count' : ℕ) (answer : List ℕ) (old new : ServerState) → Steps number old new (IsTurn number moment Took) → length (output_of (connection_at old number)) < UNSENT_MARK
     → answer ≡ drop (length (output_of (connection_at old number))) (output_of (connection_at new number)) → count' ≡ (count + refusal_in answer) % 2 ^ 64
-    → Counts number moment old new count count'
-counts_took number moment count count' answer old new steps below is counted =
-    let before : List ℕ = output_of (connection_at old number) in
+    → TakesTurns number moment old new count count'
+turn_took number moment count count' answer old new steps below is counted =
     let own : answer ≡ answer_after old.cache (taken_entry number moment old new steps) =
     is ∙ ap (λ (bytes : List ℕ). drop (length (output_of (connection_at old number))) bytes) (turn_output number moment old new steps)
     ∙ drop-append_seam (output_of (connection_at old number)) (answer_after old.cache (taken_entry number moment old new steps)) in
-    let P : List Entry → Type 0 = λ es. count' % 2 ^ 64 ≡ (count + refusals_in old.cache es) % 2 ^ 64 in
+    let P : List Entry → Type 0 = λ es. Counts old.cache es count count' in
     let Q : List ℕ → Type 0 = λ bytes. count' % 2 ^ 64 ≡ (count + (refusal_in bytes + 0)) % 2 ^ 64 in
     record {
-      came = [];
-      went = [];
       stretch = stretch_took number moment old new steps below;
       counted = subst P (sym (took_takes_one number moment old new steps below)) (subst Q own (sum_of_one (2 ^ 64) count count' (refusal_in answer) counted));
     }
 
--- one stretch after another
-pub counts_then : (number moment count between count' : ℕ) (a b c : ServerState) → Counts number moment a b count between → Counts number moment b c between count' → Counts number moment a c count count'
-counts_then number moment count between count' a b c h k =
-    let both = stretch_then number moment a b c h.came k.came h.went k.went h.stretch k.stretch in
-    let joined : both.history ≡ h.stretch.history ++ k.stretch.history = then_takes_both number moment a b c h.came k.came h.went k.went h.stretch k.stretch in
-    let later : refusals_in b.cache k.stretch.history ≡ refusals_in (replayed a.cache h.stretch.history) k.stretch.history =
-    ap (λ (s : CacheState). refusals_in s k.stretch.history) h.stretch.cache.cache in
-    let all : refusals_in a.cache both.history ≡ refusals_in a.cache h.stretch.history + refusals_in b.cache k.stretch.history =
-    ap (λ (es : List Entry). refusals_in a.cache es) joined ∙ refusals-append a.cache h.stretch.history k.stretch.history
-    ∙ ap (λ (n : ℕ). refusals_in a.cache h.stretch.history + n) (sym later) in
-    let P : ℕ → Type 0 = λ n. count' % 2 ^ 64 ≡ (count + n) % 2 ^ 64 in
-    record {
-      came = h.came ++ k.came;
-      went = h.went ++ k.went;
-      stretch = both;
-      counted = subst P (sym all) (sum_goes_on (2 ^ 64) count between count' _ _ h.counted k.counted);
-    }
+pub turns_took : (number moment count between count' : ℕ) (answer : List ℕ) (a b c : ServerState) → TakesTurns number moment a b count between → Steps number b c (IsTurn number moment Took)
+    → length (output_of (connection_at b number)) < UNSENT_MARK → answer ≡ drop (length (output_of (connection_at b number))) (output_of (connection_at c number))
+    → count' ≡ (between + refusal_in answer) % 2 ^ 64 → TakesTurns number moment a c count count'
+turns_took number moment count between count' answer a b c h steps below is counted =
+    turns_then number moment count between count' a b c h (turn_took number moment between count' answer b c steps below is counted)

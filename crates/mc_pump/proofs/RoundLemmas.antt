@@ -15,7 +15,7 @@ use Rattle.mc_pump.specs.declared.limits.TheConstants.{UNSENT_MARK}
 use Rattle.mc_pump.specs.declared.rounds.Stop.{Stop}
 use Rattle.mc_pump.specs.declared.rounds.Stop.TheVariants as stops
 use Rattle.mc_stream.specs.declared.outcomes.Pumped.{Pumped}
-use Rattle.mc_pump.proofs.StretchLemmas.{stretch_none, stretch_sent, stretch_open}
+use Rattle.mc_pump.proofs.StretchLemmas.{none_takes_none, sent_takes_none, stretch_none, stretch_sent, stretch_open}
 
 -- an open connection
 pub the_open : (o : Option ConnectionState) → IsSome o → (c : ConnectionState) × (o ≡ Some c)
@@ -64,43 +64,53 @@ closed_has_none number moment old new steps =
     subst P (sym now) (none, closed)
 
 -- nothing was sent
-pub sends_still : (number moment : ℕ) (side : Result Bool Pumped) (s : ServerState) (written written' : Option (List ℕ)) → IsSome (connection_at s number)
-    → HowItWent side written written' [] (s ≡ s) → Sends number moment side s s written written'
-sends_still number moment side s written written' there how =
+pub sends_still : (number moment count : ℕ) (side : Result Bool Pumped) (s : ServerState) (written written' : Option (List ℕ)) → IsSome (connection_at s number)
+    → HowItWent side written written' [] (s ≡ s) → Sends number moment side s s written written' count count
+sends_still number moment count side s written written' there how =
     let c = the_open (connection_at s number) there in
     record {
       went = [];
       stretch = stretch_none number moment s c.0 c.1;
+      untaken = none_takes_none number moment s c.0 c.1;
+      uncounted = refl;
       how = how;
       same = record { waits = refl; closed = refl; fewer = omega arith };
     }
 
 -- the first bytes were sent
-pub sends_some : (number moment count : ℕ) (output : List ℕ) (old new : ServerState) (written written' : Option (List ℕ)) → IsSome (connection_at old number) → output ≡ output_of (connection_at old number)
-    → new ≡ sent_by number count (connection_at old number) old → Appends written written' (take count output) → Sends number moment (Ok true) old new written written'
-sends_some number moment count output old new written written' there unsent is appended =
+pub sends_some : (number moment count sent : ℕ) (output : List ℕ) (old new : ServerState) (written written' : Option (List ℕ)) → IsSome (connection_at old number)
+    → output ≡ output_of (connection_at old number) → new ≡ sent_by number sent (connection_at old number) old → Appends written written' (take sent output)
+    → Sends number moment (Ok true) old new written written' count count
+sends_some number moment count sent output old new written written' there unsent is appended =
     let c = the_open (connection_at old number) there in
     let own : output ≡ c.0.output = unsent ∙ ap output_of c.1 in
-    let stretch : Stretch number moment old new [] (take count c.0.output) = stretch_sent number moment count c.0 old new c.1 is in
-    let after : ConnectionState = record c.0 { output = drop count c.0.output } in
-    let there : new ≡ record old { connections = updated number after old.connections } = is ∙ ap (λ (o : Option ConnectionState). sent_by number count o old) c.1 in
+    let after : ConnectionState = record c.0 { output = drop sent c.0.output } in
+    let there : new ≡ record old { connections = updated number after old.connections } = is ∙ ap (λ (o : Option ConnectionState). sent_by number sent o old) c.1 in
     let now : connection_at new number ≡ Some after = ap (λ (s : ServerState). connection_at s number) there ∙ updated_own number c.0 after old.connections c.1 in
-    let fewer : length (drop count c.0.output) ≤ length c.0.output = omega (arith, length-drop count c.0.output) in
+    let fewer : length (drop sent c.0.output) ≤ length c.0.output = omega (arith, length-drop sent c.0.output) in
     let P : Option ConnectionState → Type 0 = λ o. IsSentOf (Some c.0) o in
     let Q : Option ConnectionState → Type 0 = λ o. IsSentOf o (connection_at new number) in
     record {
-      went = take count c.0.output;
-      stretch = stretch;
-      how = subst (λ (bytes : List ℕ). Appends written written' (take count bytes)) own appended;
+      went = take sent c.0.output;
+      stretch = stretch_sent number moment sent c.0 old new c.1 is;
+      untaken = sent_takes_none number moment sent c.0 old new c.1 is;
+      uncounted = refl;
+      how = subst (λ (bytes : List ℕ). Appends written written' (take sent bytes)) own appended;
       same = subst Q (sym c.1) (subst P (sym now) (record { waits = refl; closed = refl; fewer = fewer }));
     }
 
 -- nothing came
-pub receives_still : (number moment : ℕ) (side : Result Bool Pumped) (s : ServerState) (unread unread' : Option (List ℕ)) (ended' : Bool) → IsSome (connection_at s number)
-    → HowItCame side unread unread' ended' [] (s ≡ s) → Receives number moment side s s unread unread' ended'
-receives_still number moment side s unread unread' ended' there how =
+pub receives_still : (number moment count : ℕ) (side : Result Bool Pumped) (s : ServerState) (unread unread' : Option (List ℕ)) (ended' : Bool) → IsSome (connection_at s number)
+    → HowItCame side unread unread' ended' [] (s ≡ s) → Receives number moment side s s unread unread' ended' count count
+receives_still number moment count side s unread unread' ended' there how =
     let c = the_open (connection_at s number) there in
-    record { came = []; stretch = stretch_none number moment s c.0 c.1; how = how }
+    record {
+      came = [];
+      stretch = stretch_none number moment s c.0 c.1;
+      untaken = none_takes_none number moment s c.0 c.1;
+      uncounted = refl;
+      how = how;
+    }
 
 no_bytes : (bytes : List ℕ) → length bytes ≡ 0 → bytes ≡ []
 no_bytes [] e = refl

@@ -5,8 +5,6 @@ use Rattle.mc_request.specs.Faults.{fault_line}
 use Rattle.mc_request.specs.declared.faults.Fault.TheVariants.{OutOfMemory}
 use Rattle.mc_cache.specs.CacheState.{CacheState}
 use Rattle.mc_server.specs.Served.{Entry, answer_after, cache_after}
-use Rattle.mc_server.specs.ServerState.{ServerState}
-use Rattle.mc_pump.specs.Stretches.{Stretch}
 
 -- one for an answer that is the line for want of memory, and nothing else
 abbrev pub refusal_in : List ℕ → ℕ
@@ -17,10 +15,6 @@ abbrev pub refusals_in : CacheState → List Entry → ℕ
 refusals_in s [] = 0
 refusals_in s (e ∷ es) = refusal_in (answer_after s e) + refusals_in (cache_after s e) es
 
--- A stretch of the connection of a number at a moment, and a count of 64 bits: it goes on by one for each entry that is answered so, and by
--- nothing else.
-pub record Counts (number moment : ℕ) (old new : ServerState) (count count' : ℕ) : Type 0 where
-  pub came : List ℕ
-  pub went : List ℕ
-  pub stretch : Stretch number moment old new came went
-  pub counted : count' % 2 ^ 64 ≡ (count + refusals_in old.cache stretch.history) % 2 ^ 64
+-- a count of 64 bits goes on by one for each entry of a history that is answered so, and by nothing else
+abbrev pub Counts : CacheState → List Entry → ℕ → ℕ → Type 0
+Counts s history count count' = count' % 2 ^ 64 ≡ (count + refusals_in s history) % 2 ^ 64

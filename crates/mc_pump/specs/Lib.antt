@@ -1,4 +1,4 @@
 pub mod Stretches
+pub mod Counts
 pub mod Pumps
 pub mod Rounds
-pub mod Counts

@@ -3,6 +3,7 @@ use Rattle.std.specs.Prelude.{◌≡◌, ℕ, ◌≤◌, ◌⊎◌, Bool, true, 
 use Rattle.mc_server.specs.ServerState.{ConnectionState, ServerState, connection_at, output_of}
 use Rattle.mc_server.specs.Turns.{waiting_of, is_closed_at}
 use Rattle.mc_stream.specs.Sides.{CarriesBy}
+use Rattle.mc_pump.specs.Counts.{Counts}
 use Rattle.mc_pump.specs.Stretches.{Stretch}
 use Rattle.mc_pump.specs.declared.limits.TheConstants.{UNSENT_MARK}
 use Rattle.mc_stream.specs.declared.outcomes.Pumped.{Pumped}
@@ -25,10 +26,12 @@ Leaves Blocked ended connection = IsStuck ended connection
 Leaves Done ended connection = IsOver ended connection
 Leaves other ended connection = Unit {0}
 
--- what a pump of the connection of a number at a moment does
-pub record Pumps (number moment : ℕ) (pump : Pumped) (old new : ServerState) (unread unread' written written' : Option (List ℕ)) (ended ended' : Bool) : Type 0 where
+-- What a pump of the connection of a number at a moment does, and how its watch counts the stores of just this stretch that are answered that
+-- there is no memory for them.
+pub record Pumps (number moment : ℕ) (pump : Pumped) (old new : ServerState) (unread unread' written written' : Option (List ℕ)) (ended ended' : Bool) (count count' : ℕ) : Type 0 where
   pub came : List ℕ
   pub went : List ℕ
   pub stretch : Stretch number moment old new came went
   pub carried : CarriesBy pump unread unread' written written' ended ended' came went
   pub left : Leaves pump ended' (connection_at new number)
+  pub counted : Counts old.cache stretch.history count count'

@@ -7,8 +7,9 @@
 //! be, what passed, and how many stores were answered that there is no memory for them.
 //!
 //! `specs/Stretches.antt` has what a stretch of a connection does to a server, `mc_stream`'s `specs/Sides.antt` what the two
-//! sides of a stream carry, `specs/Pumps.antt` what a pump does between the two, `specs/Counts.antt` what it counts. [`servers_hold_after_a_stretch`] is a law,
-//! and does nothing: a server that is where a history leaves it is after a stretch where the longer history leaves it.
+//! sides of a stream carry, `specs/Pumps.antt` what a pump does between the two, `specs/Counts.antt` how its watch counts what it served.
+//! [`servers_hold_after_a_stretch`] is a law, and does nothing: a server that is where a history leaves it is after a stretch where the
+//! longer history leaves it.
 #![tactic(auto)]
 
 mod laws;

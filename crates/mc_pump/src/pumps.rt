@@ -1,7 +1,6 @@
 //! The body of a connection: bytes in, turns, bytes out.
 ghost use Rattle.std.specs.Prelude.{◌≡◌, ◌<◌, ◌^◌, None, length, IsSome};
 ghost use Rattle.mc_server.specs.ServerState.{connection_at};
-ghost use Rattle.mc_pump.specs.Counts.{Counts};
 ghost use Rattle.mc_pump.specs.Pumps.{Pumps};
 
 use crate::rounds::round;
@@ -35,9 +34,8 @@ pub fn pump<S: Store + Drop, R: Read, W: Write>(
     requires piece { 0 < length piece.old }
     requires moment { moment < 2 ^ 63 }
     ensures pumps { IsSome (connection_at server.old number) → Pumps number moment result server.old server.new
-        (R.remaining reader.old) (R.remaining reader.new) (W.contents writer.old) (W.contents writer.new) ended.old ended.new }
-    ensures counts { IsSome (connection_at server.old number)
-        → Counts number moment server.old server.new watch.old.no_memory watch.new.no_memory }
+        (R.remaining reader.old) (R.remaining reader.new) (W.contents writer.old) (W.contents writer.new) ended.old ended.new
+        watch.old.no_memory watch.new.no_memory }
     ensures not_open { connection_at server.old number ≡ None → (result ≡ Pumped.Failed) × (server.new ≡ server.old) }
     ensures not_counted { connection_at server.old number ≡ None → watch.new ≡ watch.old }
 {

@@ -3,10 +3,8 @@ ghost use Rattle.std.specs.Prelude.{◌≡◌, ◌<◌, ◌^◌, ◌==◌, ◌&&
 ghost use Rattle.mc_server.specs.ServerState.{connection_at, output_of};
 ghost use Rattle.mc_server.specs.Turns.{is_closed_at, waiting_of};
 ghost use Rattle.mc_stream.specs.Sides.{pump_of};
-ghost use Rattle.mc_pump.specs.Counts.{Counts};
-ghost use Rattle.mc_pump.specs.Stretches.{Stretch};
 ghost use Rattle.mc_pump.specs.Pumps.{Pumps};
-ghost use Rattle.mc_pump.specs.Rounds.{Receives, Sends, StopsAt, ends_by, reads_by};
+ghost use Rattle.mc_pump.specs.Rounds.{Receives, Sends, StopsAt, TakesTurns, ends_by, reads_by};
 
 use crate::limits::UNSENT_MARK;
 use crate::watches::Watch;
@@ -40,9 +38,9 @@ pub fn round<S: Store + Drop, R: Read, W: Write>(
     requires is_open { IsSome (connection_at server.old number) }
     requires piece { 0 < length piece.old }
     requires moment { moment < 2 ^ 63 }
-    ensures pumps { Pumps number moment (pump_of result) server.old server.new (R.remaining reader.old)
-        (R.remaining reader.new) (W.contents writer.old) (W.contents writer.new) ended.old ended.new }
-    ensures counts { Counts number moment server.old server.new watch.old.no_memory watch.new.no_memory }
+    ensures { Pumps number moment (pump_of result) server.old server.new (R.remaining reader.old)
+        (R.remaining reader.new) (W.contents writer.old) (W.contents writer.new) ended.old ended.new
+        watch.old.no_memory watch.new.no_memory }
 {
     let Ok(stop) = take_turns(server, number, moment, watch) else {
         return Err(Pumped::Failed);
@@ -96,8 +94,7 @@ fn take_turns<S: Store + Drop>(
 ) -> Result<Stop, Pumped>
     requires is_open { IsSome (connection_at server.old number) }
     requires moment { moment < 2 ^ 63 }
-    ensures turns { Stretch number moment server.old server.new [] [] }
-    ensures counts { Counts number moment server.old server.new watch.old.no_memory watch.new.no_memory }
+    ensures turns { TakesTurns number moment server.old server.new watch.old.no_memory watch.new.no_memory }
     ensures stop { IfOk result (λ stop. StopsAt stop (connection_at server.new number)) }
 {
     while server.output(number).len() < UNSENT_MARK {
@@ -127,8 +124,8 @@ fn send<S: Store + Drop, W: Write>(
     watch: &mut Watch,
 ) -> Result<bool, Pumped>
     requires { IsSome (connection_at server.old number) }
-    ensures sends { (moment : ℕ) → Sends number moment result server.old server.new (W.contents writer.old) (W.contents writer.new) }
-    ensures counts { (moment : ℕ) → Counts number moment server.old server.new watch.old.no_memory watch.new.no_memory }
+    ensures { (moment : ℕ) → Sends number moment result server.old server.new (W.contents writer.old) (W.contents writer.new)
+        watch.old.no_memory watch.new.no_memory }
 {
     let count = write_once(writer, server.output(number))?;
     if count == 0 {
@@ -155,9 +152,9 @@ fn read_or_block<S: Store + Drop, R: Read>(
     requires is_read { is_closed_at (connection_at server.old number) ≡ false }
     requires goes_on { ended.old ≡ false }
     requires piece { 0 < length piece.old }
-    ensures pumps { (moment : ℕ) (written : Option (List ℕ)) → Pumps number moment (pump_of result) server.old server.new
-        (R.remaining reader.old) (R.remaining reader.new) written written ended.old ended.new }
-    ensures counts { (moment : ℕ) → Counts number moment server.old server.new watch.old.no_memory watch.new.no_memory }
+    ensures { (moment : ℕ) (written : Option (List ℕ)) → Pumps number moment (pump_of result) server.old server.new
+        (R.remaining reader.old) (R.remaining reader.new) written written ended.old ended.new
+        watch.old.no_memory watch.new.no_memory }
 {
     let moved = receive(server, number, ended, reader, piece, watch)?;
     if moved || can_send {
@@ -179,8 +176,8 @@ fn receive<S: Store + Drop, R: Read>(
     requires below { length (output_of (connection_at server.old number)) < UNSENT_MARK }
     requires goes_on { ended.old ≡ false }
     requires piece { 0 < length piece.old }
-    ensures receives { (moment : ℕ) → Receives number moment result server.old server.new (R.remaining reader.old) (R.remaining reader.new) ended.new }
-    ensures counts { (moment : ℕ) → Counts number moment server.old server.new watch.old.no_memory watch.new.no_memory }
+    ensures { (moment : ℕ) → Receives number moment result server.old server.new (R.remaining reader.old) (R.remaining reader.new) ended.new
+        watch.old.no_memory watch.new.no_memory }
 {
     let count = read_once(reader, piece, ended)?;
     if count == 0 {

@@ -4,19 +4,23 @@ use Rattle.mc_proxy_pump.proofs.clients.advance.Goals as goal
 
 pub returns-in_err-stop-clause-calls : goal.returns-in_err-stop-clause-calls
 returns-in_err-stop-clause-calls c =
-    stretch_then c.args.session c.args.proxy.now c.loop-stop.proxy c.take_turns.new.proxy [] [] [] [] c.loop-stop.invariant c.in_err-stop.ensures.turns.stretch
+    stretch_then c.args.session c.args.proxy.now c.loop-stop.proxy c.take_turns.new.proxy [] [] [] [] c.args.tally.now.missed c.loop-stop.tally.missed c.take_turns.new.tally.missed
+    c.loop-stop.invariant c.in_err-stop.ensures.turns.stretch
 
 pub returns-in_err-put_out-clause-calls : goal.returns-in_err-put_out-clause-calls
 returns-in_err-put_out-clause-calls c =
-    stretch_then c.args.session c.args.proxy.now c.loop-stop.proxy c.put_out.new.proxy [] [] [] [] c.loop-stop.invariant
-    (stretch_then c.args.session c.loop-stop.proxy c.take_turns.new.proxy c.put_out.new.proxy [] [] [] [] c.in_ok-stop.ensures.turns.stretch c.in_err-put_out.ensures.calls)
+    stretch_then c.args.session c.args.proxy.now c.loop-stop.proxy c.put_out.new.proxy [] [] [] [] c.args.tally.now.missed c.loop-stop.tally.missed c.put_out.new.tally.missed c.loop-stop.invariant
+    (stretch_then c.args.session c.loop-stop.proxy c.take_turns.new.proxy c.put_out.new.proxy [] [] [] [] c.loop-stop.tally.missed c.take_turns.new.tally.missed c.put_out.new.tally.missed
+    c.in_ok-stop.ensures.turns.stretch c.in_err-put_out.ensures.calls)
 
 pub returns-then-not-branch-clause-calls : goal.returns-then-not-branch-clause-calls
 returns-then-not-branch-clause-calls c =
-    stretch_then c.args.session c.args.proxy.now c.loop-stop.proxy c.put_out.new.proxy [] [] [] [] c.loop-stop.invariant
-    (stretch_then c.args.session c.loop-stop.proxy c.take_turns.new.proxy c.put_out.new.proxy [] [] [] [] c.in_ok-stop.ensures.turns.stretch c.in_ok-put_out.ensures.calls)
+    stretch_then c.args.session c.args.proxy.now c.loop-stop.proxy c.put_out.new.proxy [] [] [] [] c.args.tally.now.missed c.loop-stop.tally.missed c.put_out.new.tally.missed c.loop-stop.invariant
+    (stretch_then c.args.session c.loop-stop.proxy c.take_turns.new.proxy c.put_out.new.proxy [] [] [] [] c.loop-stop.tally.missed c.take_turns.new.tally.missed c.put_out.new.tally.missed
+    c.in_ok-stop.ensures.turns.stretch c.in_ok-put_out.ensures.calls)
 
 pub loop-stop-preserved : goal.loop-stop-preserved
 loop-stop-preserved c =
-    stretch_then c.args.session c.args.proxy.now c.loop-stop.proxy c.put_out.new.proxy [] [] [] [] c.loop-stop.invariant
-    (stretch_then c.args.session c.loop-stop.proxy c.take_turns.new.proxy c.put_out.new.proxy [] [] [] [] c.in_ok-stop.ensures.turns.stretch c.in_ok-put_out.ensures.calls)
+    stretch_then c.args.session c.args.proxy.now c.loop-stop.proxy c.put_out.new.proxy [] [] [] [] c.args.tally.now.missed c.loop-stop.tally.missed c.put_out.new.tally.missed c.loop-stop.invariant
+    (stretch_then c.args.session c.loop-stop.proxy c.take_turns.new.proxy c.put_out.new.proxy [] [] [] [] c.loop-stop.tally.missed c.take_turns.new.tally.missed c.put_out.new.tally.missed
+    c.in_ok-stop.ensures.turns.stretch c.in_ok-put_out.ensures.calls)

@@ -4,10 +4,10 @@ use Rattle.mc_proxy_pump.specs.Calls.{Stretch}
 use Rattle.mc_proxy_pump.specs.Rounds.{HowMany}
 use Rattle.mc_proxy_pump.proofs.clients.put_out.Given as goal
 
--- what was put out so far
-abbrev pub invariant-loop-tally : goal.invariant-loop-tally
-invariant-loop-tally l = Stretch l.session l.fn.proxy l.proxy [] [] × HowMany l.answered l.session l.fn.proxy l.proxy
+-- what was put out and counted so far
+abbrev pub invariant-loop-proxy : goal.invariant-loop-proxy
+invariant-loop-proxy l = Stretch l.session l.fn.proxy l.proxy [] [] l.fn.tally.missed l.tally.missed × HowMany l.answered l.session l.fn.proxy l.proxy
 
 -- each answer is one less to put out
-abbrev pub decreases-loop-tally : goal.decreases-loop-tally
-decreases-loop-tally l = unanswered_of (session_at l.proxy l.session)
+abbrev pub decreases-loop-proxy : goal.decreases-loop-proxy
+decreases-loop-proxy l = unanswered_of (session_at l.proxy l.session)

@@ -15,7 +15,8 @@ pub loop-tally-preserved : goal.loop-tally-preserved
 loop-tally-preserved c =
     let steps : Steps c.args.session c.loop-tally.proxy c.turn.new.self (IsTurn c.args.session Took c.loop-tally.proxy.ring c.loop-tally.proxy.losses) = rw c.in-Took.is at c.in_ok-turn.ensures.turn in
     record {
-      stretch = stretch_then c.args.session c.args.proxy.now c.loop-tally.proxy c.turn.new.self [] [] [] [] c.loop-tally.invariant.stretch (stretch_turned c.args.session Took c.loop-tally.proxy c.turn.new.self steps);
+      stretch = stretch_then c.args.session c.args.proxy.now c.loop-tally.proxy c.turn.new.self [] [] [] [] c.args.tally.now.missed c.loop-tally.tally.missed c.loop-tally.tally.missed c.loop-tally.invariant.stretch (stretch_turned c.args.session Took c.loop-tally.proxy c.turn.new.self c.loop-tally.tally.missed steps);
+      uncounted = c.loop-tally.invariant.uncounted;
       fewer = omega (arith, c.loop-tally.invariant.fewer, took_one c.args.session c.loop-tally.proxy c.turn.new.self steps);
     }
 
@@ -23,7 +24,8 @@ pub returns-in-Idle-clause-turns : goal.returns-in-Idle-clause-turns
 returns-in-Idle-clause-turns c =
     let steps : Steps c.args.session c.loop-tally.proxy c.turn.new.self (IsTurn c.args.session Idle c.loop-tally.proxy.ring c.loop-tally.proxy.losses) = rw c.in-Idle.is at c.in_ok-turn.ensures.turn in
     record {
-      stretch = stretch_then c.args.session c.args.proxy.now c.loop-tally.proxy c.turn.new.self [] [] [] [] c.loop-tally.invariant.stretch (stretch_turned c.args.session Idle c.loop-tally.proxy c.turn.new.self steps);
+      stretch = stretch_then c.args.session c.args.proxy.now c.loop-tally.proxy c.turn.new.self [] [] [] [] c.args.tally.now.missed c.loop-tally.tally.missed c.loop-tally.tally.missed c.loop-tally.invariant.stretch (stretch_turned c.args.session Idle c.loop-tally.proxy c.turn.new.self c.loop-tally.tally.missed steps);
+      uncounted = c.loop-tally.invariant.uncounted;
       fewer = omega (arith, c.loop-tally.invariant.fewer, (idle_stops c.args.session c.loop-tally.proxy c.turn.new.self steps).1);
     }
 
@@ -36,7 +38,8 @@ pub returns-in-Waiting-clause-turns : goal.returns-in-Waiting-clause-turns
 returns-in-Waiting-clause-turns c =
     let steps : Steps c.args.session c.loop-tally.proxy c.turn.new.self (IsTurn c.args.session Waiting c.loop-tally.proxy.ring c.loop-tally.proxy.losses) = rw c.in-Waiting.is at c.in_ok-turn.ensures.turn in
     record {
-      stretch = stretch_then c.args.session c.args.proxy.now c.loop-tally.proxy c.turn.new.self [] [] [] [] c.loop-tally.invariant.stretch (stretch_turned c.args.session Waiting c.loop-tally.proxy c.turn.new.self steps);
+      stretch = stretch_then c.args.session c.args.proxy.now c.loop-tally.proxy c.turn.new.self [] [] [] [] c.args.tally.now.missed c.loop-tally.tally.missed c.loop-tally.tally.missed c.loop-tally.invariant.stretch (stretch_turned c.args.session Waiting c.loop-tally.proxy c.turn.new.self c.loop-tally.tally.missed steps);
+      uncounted = c.loop-tally.invariant.uncounted;
       fewer = omega (arith, c.loop-tally.invariant.fewer, (waiting_stops c.args.session c.loop-tally.proxy c.turn.new.self steps).1);
     }
 
@@ -49,7 +52,8 @@ pub returns-in-Closing-clause-turns : goal.returns-in-Closing-clause-turns
 returns-in-Closing-clause-turns c =
     let steps : Steps c.args.session c.loop-tally.proxy c.turn.new.self (IsTurn c.args.session Closing c.loop-tally.proxy.ring c.loop-tally.proxy.losses) = rw c.in-Closing.is at c.in_ok-turn.ensures.turn in
     record {
-      stretch = stretch_then c.args.session c.args.proxy.now c.loop-tally.proxy c.turn.new.self [] [] [] [] c.loop-tally.invariant.stretch (stretch_turned c.args.session Closing c.loop-tally.proxy c.turn.new.self steps);
+      stretch = stretch_then c.args.session c.args.proxy.now c.loop-tally.proxy c.turn.new.self [] [] [] [] c.args.tally.now.missed c.loop-tally.tally.missed c.loop-tally.tally.missed c.loop-tally.invariant.stretch (stretch_turned c.args.session Closing c.loop-tally.proxy c.turn.new.self c.loop-tally.tally.missed steps);
+      uncounted = c.loop-tally.invariant.uncounted;
       fewer = omega (arith, c.loop-tally.invariant.fewer, (closing_stops c.args.session c.loop-tally.proxy c.turn.new.self steps).1);
     }
 

@@ -4,7 +4,7 @@ use Rattle.mc_proxy_pump.proofs.clients.take_turns.Given as goal
 
 -- the turns so far
 abbrev pub invariant-loop-tally : goal.invariant-loop-tally
-invariant-loop-tally l = TakesTurns l.session l.fn.proxy l.proxy
+invariant-loop-tally l = TakesTurns l.session l.fn.proxy l.proxy l.fn.tally.missed l.tally.missed
 
 -- each turn lessens the work
 abbrev pub decreases-loop-tally : goal.decreases-loop-tally

@@ -1,10 +1,8 @@
-use Rattle.mc_pump.specs.Counts.{Counts}
 use Rattle.mc_pump.specs.Pumps.{Pumps}
 use Rattle.mc_stream.specs.declared.outcomes.Pumped.TheVariants.{Again}
 use Rattle.mc_pump.proofs.pumps.pump.Given as goal
 
--- the rounds so far are one pump, by whose answers the count has gone on
+-- the rounds so far are one pump
 abbrev pub invariant-loop : goal.invariant-loop
-invariant-loop g l =
-    (Pumps l.number l.moment Again l.fn.server l.server (g.R.Read.remaining l.fn.reader) (g.R.Read.remaining l.reader)
-    (g.W.Write.contents l.fn.writer) (g.W.Write.contents l.writer) l.fn.ended l.ended) × (Counts l.number l.moment l.fn.server l.server l.fn.watch.no_memory l.watch.no_memory)
+invariant-loop g l = Pumps l.number l.moment Again l.fn.server l.server (g.R.Read.remaining l.fn.reader) (g.R.Read.remaining l.reader)
+    (g.W.Write.contents l.fn.writer) (g.W.Write.contents l.writer) l.fn.ended l.ended l.fn.watch.no_memory l.watch.no_memory

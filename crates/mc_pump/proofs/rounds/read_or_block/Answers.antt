@@ -9,20 +9,20 @@ use Rattle.mc_stream.proofs.SideLemmas.{came_false}
 use Rattle.mc_pump.proofs.RoundLemmas.{unheard}
 use Rattle.mc_pump.proofs.rounds.read_or_block.Goals as goal
 
-pub returns-in_err-moved-clause-pumps : goal.returns-in_err-moved-clause-pumps
-returns-in_err-moved-clause-pumps g c = λ moment written.
+pub returns-in_err-moved : goal.returns-in_err-moved
+returns-in_err-moved g c = λ moment written.
     let same : c.from_residual.result ≡ Err c.in_err-moved.field-0.0 = search rules in
-    let P : Result (Unit {0}) Pumped → Type 0 = λ r. Pumps c.args.number moment (pump_of r) c.args.server.now c.receive.new.server (g.R.Read.remaining c.args.reader.now) (g.R.Read.remaining c.receive.new.reader) written written c.args.ended.now c.receive.new.ended in
-    subst P (sym same) (pumps_unheard c.args.number moment c.in_err-moved.field-0.0 c.args.server.now c.receive.new.server _ _ written c.args.ended.now c.receive.new.ended c.requires.goes_on (c.in_err-moved.ensures.receives moment))
+    let P : Result (Unit {0}) Pumped → Type 0 = λ r. Pumps c.args.number moment (pump_of r) c.args.server.now c.receive.new.server (g.R.Read.remaining c.args.reader.now) (g.R.Read.remaining c.receive.new.reader) written written c.args.ended.now c.receive.new.ended c.args.watch.now.no_memory c.receive.new.watch.no_memory in
+    subst P (sym same) (pumps_unheard c.args.number moment c.args.watch.now.no_memory c.receive.new.watch.no_memory c.in_err-moved.field-0.0 c.args.server.now c.receive.new.server _ _ written c.args.ended.now c.receive.new.ended c.requires.goes_on (c.in_err-moved.ensures moment))
 
-pub returns-then-moved-clause-pumps : goal.returns-then-moved-clause-pumps
-returns-then-moved-clause-pumps g c = λ moment written.
-    pumps_heard c.args.number moment c.in_ok-moved.moved Again c.args.server.now c.receive.new.server _ _ written c.args.ended.now c.receive.new.ended c.requires.goes_on (c.in_ok-moved.ensures.receives moment) tt
+pub returns-then-moved : goal.returns-then-moved
+returns-then-moved g c = λ moment written.
+    pumps_heard c.args.number moment c.args.watch.now.no_memory c.receive.new.watch.no_memory c.in_ok-moved.moved Again c.args.server.now c.receive.new.server _ _ written c.args.ended.now c.receive.new.ended c.requires.goes_on (c.in_ok-moved.ensures moment) tt
 
-pub returns-clause-pumps : goal.returns-clause-pumps
-returns-clause-pumps g c = λ moment written.
-    let received = c.in_ok-moved.ensures.receives moment in
+pub returns : goal.returns
+returns g c = λ moment written.
+    let received = c.in_ok-moved.ensures moment in
     let still = came_false c.in_ok-moved.moved (g.R.Read.remaining c.args.reader.now) (g.R.Read.remaining c.receive.new.reader) c.receive.new.ended received.came (c.receive.new.server ≡ c.args.server.now) c.if-moved.false received.how in
     let P : ServerState → Type 0 = λ s. IsStuck c.receive.new.ended (connection_at s c.args.number) in
-    pumps_heard c.args.number moment c.in_ok-moved.moved Blocked c.args.server.now c.receive.new.server _ _ written c.args.ended.now c.receive.new.ended c.requires.goes_on received
+    pumps_heard c.args.number moment c.args.watch.now.no_memory c.receive.new.watch.no_memory c.in_ok-moved.moved Blocked c.args.server.now c.receive.new.server _ _ written c.args.ended.now c.receive.new.ended c.requires.goes_on received
     (subst P (sym still.1) (unheard c.receive.new.ended (connection_at c.args.server.now c.args.number) c.requires.none_waits c.requires.is_read still.0))

@@ -1,14 +1,12 @@
-use Rattle.std.proofs.Common.{length, []}
+use Rattle.std.proofs.Common.{length}
 use Rattle.mc_server.specs.ServerState.{connection_at}
 use Rattle.mc_server.specs.Turns.{waiting_of}
-use Rattle.mc_pump.specs.Counts.{Counts}
-use Rattle.mc_pump.specs.Stretches.{Stretch}
+use Rattle.mc_pump.specs.Rounds.{TakesTurns}
 use Rattle.mc_pump.proofs.rounds.take_turns.Given as goal
 
--- the turns so far are one stretch, by whose answers the count has gone on
+-- the turns so far
 abbrev pub invariant-loop-server : goal.invariant-loop-server
-invariant-loop-server g l =
-    (Stretch l.number l.moment l.fn.server l.server [] []) × (Counts l.number l.moment l.fn.server l.server l.fn.watch.no_memory l.watch.no_memory)
+invariant-loop-server g l = TakesTurns l.number l.moment l.fn.server l.server l.fn.watch.no_memory l.watch.no_memory
 
 -- each turn takes one of those that wait
 abbrev pub decreases-loop-server : goal.decreases-loop-server
