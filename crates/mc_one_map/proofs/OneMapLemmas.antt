@@ -18,9 +18,10 @@ use Rattle.mc_account.specs.Orders.{Order}
 use Rattle.mc_history.specs.declared.entries.Entry.{Entry}
 use Rattle.mc_history.specs.Histories.{IsLegal, tag_in}
 use Rattle.mc_world.specs.Accounts.{Accounts}
-use Rattle.mc_world.specs.Logs.{Log}
+use Rattle.mc_world.specs.Logs.{Log, number_of, restarts, serves}
 use Rattle.mc_world.specs.Steps.{GivesAccount}
 use Rattle.mc_world.specs.Worlds.{WorldState, history_of, put_out_of, text_of}
+use Rattle.mc_world.proofs.LifeLemmas.{whole_life}
 use Rattle.mc_world.proofs.LogLemmas.{moments-count}
 use Rattle.mc_one_map.specs.Executions.{LookUp, commands_of, executed, sent_at, told_by, told_in, turns_of, with_command}
 use Rattle.mc_one_map.specs.OneMaps.{ActsAsOneMap, ArePlainlyOfOneMap}
@@ -65,10 +66,20 @@ history-owned owner look order finds own place s (e ∷ es) legal =
       history-owned owner look order finds own place (step_of s legal.0 e.moment e.refused).0 es legal.3,
     )
 
+-- the history of a server that never restarted is legal
+legal_whole : (losses : Losses) (ring : RingState) (opening : CacheState) (order : Order) (texts outs : ℕ → List ℕ) (histories : ℕ → List Entry) (log : Log)
+    → Accounts losses ring opening order texts outs histories log → (place : ℕ) → number_of (restarts place) log ≡ 0 → IsLegal order place opening (histories place)
+legal_whole losses ring opening order texts outs histories log h place alive =
+    let size : length (histories place) ≡ number_of (serves place) log =
+    sym (length-map (histories place) (λ (e : Entry). e.moment)) ∙ ap (λ (ms : List ℕ). length ms) (h.moments place) ∙ moments-count place log in
+    subst (λ (es : List Entry). IsLegal order place opening es) (whole_life place log (histories place) alive size) (h.legal place 0)
+
 -- a history has a command for each turn of its server
 history-turns : (losses : Losses) (ring : RingState) (opening : CacheState) (look : LookUp) (order : Order) (texts outs : ℕ → List ℕ) (histories : ℕ → List Entry) (log : Log) → Finds look order
-    → Accounts losses ring opening order texts outs histories log → HaveTurns (λ place. commands_of look (histories place)) (turns_of log)
-history-turns losses ring opening look order texts outs histories log finds h place =
+    → Accounts losses ring opening order texts outs histories log → ((place : ℕ) → number_of (restarts place) log ≡ 0)
+    → HaveTurns (λ place. commands_of look (histories place)) (turns_of log)
+history-turns losses ring opening look order texts outs histories log finds h alive place =
+    let legal = legal_whole losses ring opening order texts outs histories log h place (alive place) in
     grind (arith, length-map, moments-count, turns-count, commands-many)
 
 -- the histories are those of one map, wherever all that the order has is found
@@ -78,11 +89,13 @@ one-map losses ring budget items look order texts outs histories log bounds h fi
     let opening : CacheState = opening_cache budget items 0 in
     let caches : Caches = opening_caches budget items 0 in
     let es : List Executed = executed look histories log in
+    let legal : (place : ℕ) → IsLegal order place opening (histories place) =
+    λ place. legal_whole losses ring opening order texts outs histories log h place (run.alive place) in
     let all : (place : ℕ) → commands_at place es ≡ commands_of look (histories place) =
-    merged-own (turns_of log) (λ place. commands_of look (histories place)) (history-turns losses ring opening look order texts outs histories log finds h) in
+    merged-own (turns_of log) (λ place. commands_of look (histories place)) (history-turns losses ring opening look order texts outs histories log finds h run.alive) in
     let steps : StepPlainly (owner_in ring) caches es = record {
       at_owners = merged-owned (owner_in ring) (turns_of log) (λ place. commands_of look (histories place))
-          (λ place. history-owned (owner_in ring) look order finds (command_own losses ring opening order texts outs histories log h run.unjoined) place opening (histories place) (h.legal place));
+          (λ place. history-owned (owner_in ring) look order finds (command_own losses ring opening order texts outs histories log h run.unjoined) place opening (histories place) (legal place));
       plain = λ place. subst (λ (cs : List Command). ArePlainSteps opening cs) (sym (all place)) (run.plain place);
     } in
     let act : ActAsMap (owner_in ring) empty_map caches es =

@@ -19,7 +19,7 @@ use Rattle.mc_account.specs.Lookups.{asked_at, command_at, command_in}
 use Rattle.mc_account.specs.Orders.{Entry as Asked, Order, entries_of, taken_of}
 use Rattle.mc_history.specs.declared.entries.Entry.{Entry}
 use Rattle.mc_world.specs.Accounts.{Accounts}
-use Rattle.mc_world.specs.declared.logs.Logged.TheVariants.{Happened, Joined}
+use Rattle.mc_world.specs.declared.logs.Logged.TheVariants.{Happened, Joined, Restarted}
 use Rattle.mc_world.specs.Logs.{IsRingAfter, Log, number_of}
 use Rattle.mc_world.proofs.LogEntryLemmas.{got_map, got_there}
 use Rattle.mc_world.proofs.LogLemmas.{number-before}
@@ -75,6 +75,7 @@ ring-stays : (ring now : RingState) (log : Log) → number_of joins log ≡ 0 �
 ring-stays ring now [] none h = h
 ring-stays ring now (Happened event ∷ es) none h = ring-stays ring now es none h
 ring-stays ring now (Joined server address ∷ es) none h = absurd (omega (arith, none))
+ring-stays ring now (Restarted server ∷ es) none h = ring-stays ring now es none h
 
 -- a command that a look-up finds is one of a request that it finds
 in-request : (o : Option Asked) (atom : ℕ) (command : Routed) → command_in o atom ≡ Some command

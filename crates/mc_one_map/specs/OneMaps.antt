@@ -8,9 +8,9 @@ use Rattle.mc_account.specs.Lookups.{command_at}
 use Rattle.mc_account.specs.Orders.{Order}
 use Rattle.mc_history.specs.declared.entries.Entry.{Entry}
 use Rattle.mc_world.specs.declared.logs.Logged.{Logged}
-use Rattle.mc_world.specs.declared.logs.Logged.TheVariants.{Happened, Joined}
+use Rattle.mc_world.specs.declared.logs.Logged.TheVariants.{Happened, Joined, Restarted}
 use Rattle.mc_world.specs.Accounts.{Accounts}
-use Rattle.mc_world.specs.Logs.{Log, number_of}
+use Rattle.mc_world.specs.Logs.{Log, number_of, restarts}
 use Rattle.mc_world.specs.Steps.{GivesAccount}
 use Rattle.mc_world.specs.Worlds.{WorldState, cache_of, history_of, put_out_of, text_of}
 use Rattle.mc_one_map.specs.Executions.{LookUp, commands_of, executed, sent_at, told_by}
@@ -19,11 +19,13 @@ use Rattle.mc_one_map.specs.Executions.{LookUp, commands_of, executed, sent_at, 
 abbrev pub joins : Logged → Bool
 joins (Happened event) = false
 joins (Joined server address) = true
+joins (Restarted server) = false
 
--- A run is plain: no server joined, and each command of each history is a plain step of its server's cache. So no store was refused,
+-- A run is plain: no server joined, none restarted, and each command of each history is a plain step of its server's cache. So no store was refused,
 -- nothing was evicted, and no command was a flush, compared an item's number, or showed it.
 pub record IsPlainRun (opening : CacheState) (look : LookUp) (histories : ℕ → List Entry) (log : Log) : Type 0 where
   pub unjoined : number_of joins log ≡ 0
+  pub alive : (place : ℕ) → number_of (restarts place) log ≡ 0
   pub plain : (place : ℕ) → ArePlainSteps opening (commands_of look (histories place))
 
 -- All histories together are those of one map. What all servers executed has each server's commands, in the order of its history. Each

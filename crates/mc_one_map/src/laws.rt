@@ -11,7 +11,7 @@ ghost use Rattle.mc_world.specs.Logs.{Log};
 ghost use Rattle.mc_one_map.specs.Executions.{sent_at};
 ghost use Rattle.mc_one_map.specs.OneMaps.{ArePlainlyOfOneMap};
 
-/// No server joined, no store was refused, nothing was evicted, and no command was a flush, compared an item's number, or showed it. Then
+/// No server joined or restarted, no store was refused, nothing was evicted, and no command was a flush, compared an item's number, or showed it. Then
 /// all histories of an account are those of one map, which takes the commands of all servers in the order of their turns. The commands of
 /// the entries may be looked up in what the clients sent, or in any order of the account.
 pub fn accounts_are_of_one_map()

@@ -5,11 +5,13 @@
 #![tactic(auto)]
 
 mod laws;
+mod needs;
 mod rows;
 mod text_rows;
 mod world_laws;
 
 pub use laws::accounts_are_of_one_map;
+pub use needs::restarted_servers_are_not_one_map;
 pub use rows::{a_set_and_a_get_are_plain, commands_are_merged_by_turns};
 pub use text_rows::commands_are_looked_up_in_texts;
 pub use world_laws::worlds_act_as_one_map;

@@ -17,11 +17,11 @@ use Rattle.mc_history.specs.declared.entries.Entry.{Entry}
 use Rattle.mc_history.specs.Histories.{HasReply, IsLegal, tag_in}
 use Rattle.mc_history.specs.Named.{tags_of}
 use Rattle.mc_world.specs.Accounts.{NotAnswered}
-use Rattle.mc_world.specs.Logs.{Log, before, loses, number_of, puts, serves, takes}
+use Rattle.mc_world.specs.Logs.{Log, before, in_life, loses, number_of, puts, serves, takes}
 use Rattle.mc_pool_laws.specs.Told.{LinkHeld}
 use Rattle.mc_pool_laws.specs.Without.{AccountsBut, Allows, Unanswered}
 use Rattle.mc_pool_laws.proofs.SentLemmas.{in_request}
-use Rattle.mc_pool_laws.proofs.NeedLemmas.{Follows, a_cache, after_one, asked_by, asked_only, asked_text, complete_of, first_only, first_there, flush, flush_asked, flush_text, flushed, follows_one, moments_one, no_loss, numbered_one, once_in_one, one_here, one_outcome, one_server, outs_of, own_by, puts_one, serves_one, takes_one}
+use Rattle.mc_pool_laws.proofs.NeedLemmas.{Follows, a_cache, after_one, asked_by, asked_only, asked_text, complete_of, first_only, first_there, flush, flush_asked, flush_text, flushed, follows_one, lives_of_first, moments_one, no_loss, numbered_one, once_in_one, one_here, one_outcome, one_server, outs_of, own_by, puts_one, serves_one, takes_one}
 use Rattle.mc_pool_laws.proofs.OrderExample.{reply_in, tag_is}
 
 abbrev replied : AskedFor
@@ -55,9 +55,12 @@ late_reply tag place atom reply at became =
       ap₂ (λ (a : Atom (List ℕ)) (r : AReply (List ℕ)). spelling_of a r) (sym asked) (sym told),
     )
 
+late_lives : (place life : ℕ) → IsLegal (replied ∷ []) place a_cache (in_life place life late_log (first_only (flushed ∷ []) place))
+late_lives = lives_of_first (replied ∷ []) a_cache (flushed ∷ []) late_log (λ place. refl) late_legal
+
 late_but : (losses : Losses) → AccountsBut Unanswered losses one_server a_cache (replied ∷ []) flush_text (outs_of losses (replied ∷ []) late_log) (first_only (flushed ∷ [])) late_log
 late_but losses =
-    grind (arith, a_cache, asked_only, asked_text, complete_of, first_there, flush_asked, flushed, moments_one, no_loss, numbered_one, once_in_one, one_here, one_server, own_by, late_legal, late_reply, late_after, late_follows)
+    grind (arith, a_cache, asked_only, asked_text, complete_of, first_there, flush_asked, flushed, moments_one, no_loss, numbered_one, once_in_one, one_here, one_server, own_by, late_lives, late_reply, late_after, late_follows)
 
 pub without_unanswered : Allows Unanswered (λ ring opening texts outs histories log. (e : Entry) × (slice_get (histories 0) 0 ≡ Some e)
     × LinkHeld 0 (tag_in e) log × (NotAnswered (tag_in e) (before (serves 0) 0 log) → ⊥))

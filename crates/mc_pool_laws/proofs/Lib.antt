@@ -14,3 +14,4 @@ pub mod ProxyLemmas
 pub mod LateExample
 pub mod ChoiceLemmas
 pub mod MissExample
+pub mod RestartExample

@@ -21,7 +21,7 @@ use Rattle.mc_world.proofs.LogLemmas.{number-before, stays_up}
 use Rattle.mc_pool_laws.specs.Sent.{IsSent}
 use Rattle.mc_pool_laws.specs.Told.{HasEntry, HasOneEntry, IsToldBy, LinkHeld, WasAnswered}
 use Rattle.mc_pool_laws.proofs.PlaceLemmas.{before-front, earlier, puts_apart}
-use Rattle.mc_pool_laws.proofs.SentLemmas.{legal_at, sent_command}
+use Rattle.mc_pool_laws.proofs.SentLemmas.{entry_named, sent_command}
 use Rattle.mc_pool_laws.proofs.ToldLemmas.{known_at, told_by}
 
 -- what the histories and the log tell of a command is an entry, or a loss
@@ -97,7 +97,7 @@ replied_at : (losses : Losses) (ring : RingState) (opening : CacheState) (order 
     → Accounts losses ring opening order texts outs histories log → (place k : ℕ) (e : Entry) → slice_get (histories place) k ≡ Some e → WasAnswered (tag_in e) log
     → LinkHeld place (tag_in e) log → (reply : AReply (List ℕ)) × (outcome_at order (tag_in e) ≡ Some (Reply reply))
 replied_at losses ring opening order texts outs histories log h place k e at answered held =
-    let atom = legal_at order place opening (histories place) k e (h.legal place) at in
+    let atom = entry_named losses ring opening order texts outs histories log h place k e at in
     let known = known_at losses ring opening order texts outs histories log h (tag_in e) (to_place place atom.0) atom.1 answered in
     replied_by histories log order place k e (to_place place atom.0) known.0 refl at held
     (told_by losses ring opening order texts outs histories log h (tag_in e) (to_place place atom.0) known.0 atom.1 known.1 known.2) known.1

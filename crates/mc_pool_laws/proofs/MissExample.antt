@@ -41,23 +41,23 @@ use Rattle.mc_history.specs.Histories.{HasNone, HasReply, IsLegal, tag_in}
 use Rattle.mc_world.specs.Accounts.{Account, Accounts, IsToldLost, NotAnswered, WasTaken}
 use Rattle.mc_world.specs.Logs.{IsRingAfter, Log, before, number_of, puts, serves, takes}
 use Rattle.mc_world.specs.declared.logs.Logged.TheVariants.{Happened}
-use Rattle.mc_pool_laws.proofs.NeedLemmas.{first_only, first_there, follows_lost, loses_one, none_there, one_here, one_server, outcome_in_request, outs_of, own_by, puts_one, returns_one, serves_one, takes_one}
+use Rattle.mc_pool_laws.proofs.NeedLemmas.{first_only, first_there, follows_lost, lives_of_first, loses_one, none_there, one_here, one_server, outcome_in_request, outs_of, own_by, puts_one, returns_one, serves_one, takes_one}
 use Rattle.mc_pool_laws.proofs.SentLemmas.{in_request}
 
 -- its key, and the commands on it
-abbrev key : List ℕ
+abbrev pub key : List ℕ
 key = codes "k"
 
-abbrev set_key : Atom (List ℕ)
+abbrev pub set_key : Atom (List ℕ)
 set_key = atoms.Update (Store Set None (codes "k") 0 (pos 0) (codes "v"))
 
-abbrev get_key : Atom (List ℕ)
+abbrev pub get_key : Atom (List ℕ)
 get_key = atoms.Get (codes "k") None false
 
-abbrev set_asked : Taken
+abbrev pub set_asked : Taken
 set_asked = Whole (requests.Update (Store Set None (codes "k") 0 (pos 0) (codes "v")) false)
 
-abbrev get_asked : Taken
+abbrev pub get_asked : Taken
 get_asked = Whole (requests.Get (codes "k" ∷ []) None false)
 
 abbrev a_hit : AReply (List ℕ)
@@ -76,7 +76,7 @@ one_owner hash =
       | false ↦ refl
     ]
 
-owned : owner_in one_server key ≡ 0
+pub owned : owner_in one_server key ≡ 0
 owned = one_owner (hash_of key)
 
 -- the text is read
@@ -84,7 +84,7 @@ text_read : requests_of (codes "set k 0 0 1\r\nv\r\nget k\r\nget k\r\n") ≡ set
 unfolding words line_end first_line name_of next_request requests_within requests_of
 text_read = refl
 
-nothing_read : requests_of [] ≡ []
+pub nothing_read : requests_of [] ≡ []
 unfolding requests_of requests_within
 nothing_read = refl
 
@@ -108,7 +108,7 @@ abbrev three : Order
 three = first ∷ second ∷ third ∷ []
 
 -- what the server took
-abbrev stored : Entry
+abbrev pub stored : Entry
 stored = record { client = 0; request = 0; atom = 0; moment = 5; refused = false; reply = spelling_of set_key Stored }
 
 abbrev found : Entry
@@ -122,7 +122,7 @@ three_log =
     takes_one ∷ serves_one ∷ puts_one ∷ loses_one ∷ takes_one ∷ puts_one ∷ returns_one ∷ takes_one ∷ Happened (ServerTurn 0 2 5) ∷ puts_one ∷ []
 
 -- in a list of two, and of three
-in_two : {X : Type 0} (a b : X) (k : ℕ) (y : X) → slice_get (a ∷ b ∷ []) k ≡ Some y → ((k ≡ 0) × (y ≡ a)) ⊎ ((k ≡ 1) × (y ≡ b))
+pub in_two : {X : Type 0} (a b : X) (k : ℕ) (y : X) → slice_get (a ∷ b ∷ []) k ≡ Some y → ((k ≡ 0) × (y ≡ a)) ⊎ ((k ≡ 1) × (y ≡ b))
 in_two a b zero y at = inl (refl, sym (same_Some a y at))
 in_two a b (suc k) y at = let h = one_here b k y at in inr (ap suc h.0, h.1)
 
@@ -207,7 +207,7 @@ rings_by client request x at =
     ])
 
 -- the one command of each, and what became of it
-commands_of : (x : AskedFor) (atom : Atom (List ℕ)) (k : ℕ) (command : Routed) → route_of_taken x.ring x.what ≡ to_owner one_server key atom ∷ []
+pub commands_of : (x : AskedFor) (atom : Atom (List ℕ)) (k : ℕ) (command : Routed) → route_of_taken x.ring x.what ≡ to_owner one_server key atom ∷ []
     → slice_get (route_of_taken x.ring x.what) k ≡ Some command → (k ≡ 0) × (command ≡ to_place 0 atom)
 commands_of x atom k command is at =
     let here = one_here (to_owner one_server key atom) k command (ap (λ (cs : List Routed). slice_get cs k) (sym is) ∙ at) in
@@ -221,7 +221,7 @@ abbrev reply_in : Outcome → AReply (List ℕ)
 reply_in (outcomes.Reply reply) = reply
 reply_in other = Miss
 
-outcome_of : (x y : AskedFor) (outcome q : Outcome) (k : ℕ) → x ≡ y → y.outcomes ≡ outcome ∷ [] → slice_get x.outcomes k ≡ Some q → q ≡ outcome
+pub outcome_of : (x y : AskedFor) (outcome q : Outcome) (k : ℕ) → x ≡ y → y.outcomes ≡ outcome ∷ [] → slice_get x.outcomes k ≡ Some q → q ≡ outcome
 outcome_of x y outcome q k same is at =
     (one_here outcome k q (ap (λ (os : List Outcome). slice_get os k) (sym (ap (λ (z : AskedFor). z.outcomes) same ∙ is)) ∙ at)).1
 
@@ -252,17 +252,17 @@ tag_is : (tag : Tag) (request : ℕ) → 0 ≡ tag.session → tag.request ≡ r
 tag_is tag request s r a = ap (λ (session : ℕ). tag_of session request 0) s ∙ ap₂ (λ (n m : ℕ). tag_of tag.session n m) (sym r) (sym a)
 
 -- a reply is in the history
-entry_as : (tag : Tag) (place request k : ℕ) (x : Entry) (own : Atom (List ℕ)) (said : AReply (List ℕ)) (atom : Atom (List ℕ)) (reply : AReply (List ℕ))
-    → slice_get taken_two k ≡ Some x → 0 ≡ tag.session → tag.request ≡ request → tag_in x ≡ tag_of 0 request 0 → x.reply ≡ spelling_of own said
-    → (tag.atom ≡ 0) × (to_place place atom ≡ to_place 0 own) → outcomes.Reply reply ≡ outcomes.Reply said
-    → HasReply (first_only taken_two place) tag (spelling_of atom reply)
-entry_as tag place request k x own said atom reply at session number whose spelled command became =
+pub entry_as : (es : List Entry) (tag : Tag) (place request k : ℕ) (x : Entry) (own : Atom (List ℕ)) (said : AReply (List ℕ)) (atom : Atom (List ℕ))
+    → (reply : AReply (List ℕ)) → slice_get es k ≡ Some x → 0 ≡ tag.session → tag.request ≡ request → tag_in x ≡ tag_of 0 request 0
+    → x.reply ≡ spelling_of own said → (tag.atom ≡ 0) × (to_place place atom ≡ to_place 0 own) → outcomes.Reply reply ≡ outcomes.Reply said
+    → HasReply (first_only es place) tag (spelling_of atom reply)
+entry_as es tag place request k x own said atom reply at session number whose spelled command became =
     let there : place ≡ 0 = ap (λ (c : Routed). c.server) command.1 in
     let asked : atom ≡ own = ap (λ (c : Routed). c.atom) command.1 in
     let told : reply ≡ said = ap reply_in became in (
       k,
       x,
-      ap (λ (p : ℕ). slice_get (first_only taken_two p) k) there ∙ at,
+      ap (λ (p : ℕ). slice_get (first_only es p) k) there ∙ at,
       whose ∙ tag_is tag request session number command.0,
       spelled ∙ ap₂ (λ (a : Atom (List ℕ)) (r : AReply (List ℕ)). spelling_of a r) (sym asked) (sym told),
     )
@@ -272,12 +272,12 @@ replied_by : (tag : Tag) (place : ℕ) (atom : Atom (List ℕ)) (reply : AReply 
 replied_by tag place atom reply at became =
     let k = known tag place atom (outcomes.Reply reply) at became in
     elim k.which [
-      | inl h ↦ entry_as tag place 0 0 stored set_key Stored atom reply refl k.own h.0 refl refl
+      | inl h ↦ entry_as taken_two tag place 0 0 stored set_key Stored atom reply refl k.own h.0 refl refl
           (commands_of k.asked set_key tag.atom (to_place place atom) (ap (λ (x : AskedFor). route_of_taken x.ring x.what) h.1) k.command)
           (outcome_of k.asked first (outcomes.Reply Stored) (outcomes.Reply reply) tag.atom h.1 refl k.became)
       | inr later ↦ (elim later [
         | inl h ↦ absurd (false≢true (ap is_lost (outcome_of k.asked second outcomes.Lost (outcomes.Reply reply) tag.atom h.1 refl k.became)))
-        | inr h ↦ entry_as tag place 2 1 found get_key a_hit atom reply refl k.own h.0 refl refl
+        | inr h ↦ entry_as taken_two tag place 2 1 found get_key a_hit atom reply refl k.own h.0 refl refl
             (commands_of k.asked get_key tag.atom (to_place place atom) (ap (λ (x : AskedFor). route_of_taken x.ring x.what) h.1) k.command)
             (outcome_of k.asked third (outcomes.Reply a_hit) (outcomes.Reply reply) tag.atom h.1 refl k.became)
       ])
@@ -365,11 +365,7 @@ three_accounts = record {
   numbered = λ client. numbered_by (0 == client);
   rings = rings_by;
   sized = All-cons IsSized first (second ∷ third ∷ []) refl (All-cons IsSized second (third ∷ []) refl (All-cons IsSized third [] refl (All-nil IsSized)));
-  legal = λ place.
-      (elim (0 == place) as (λ v. (0 == place) ≡ v → IsLegal three place (opening_cache 1000 10 0) (if v then taken_two else [])) [
-        | true ↦ λ own. subst (λ (p : ℕ). IsLegal three p (opening_cache 1000 10 0) taken_two) (own_by place own) two_legal
-        | false ↦ λ other. tt
-      ]) refl;
+  legal = lives_of_first three (opening_cache 1000 10 0) taken_two three_log (λ place. refl) two_legal;
   once = λ r s j k d e at also same.
       let here = first_there taken_two r j d at in
       let there = first_there taken_two s k e also in

@@ -36,8 +36,9 @@ use Rattle.mc_account.specs.Orders.{AreInOrder, Entry as AskedFor, IsSized, Orde
 use Rattle.mc_history.specs.declared.entries.Entry.{Entry}
 use Rattle.mc_history.specs.Histories.{IsLegal, tag_in}
 use Rattle.mc_history.specs.Named.{tags_of}
+use Rattle.mc_world.proofs.LifeLemmas.{legal_unrestarted}
 use Rattle.mc_world.specs.Accounts.{WasTaken, answers_by}
-use Rattle.mc_world.specs.Logs.{IsRingAfter, Log, before, loses, moments_of, number_of, puts, serves, takes, turns_of}
+use Rattle.mc_world.specs.Logs.{IsRingAfter, Log, before, in_life, loses, moments_of, number_of, puts, restarts, serves, takes, turns_of}
 use Rattle.mc_event.specs.declared.events.Event.TheVariants.{Emit, LinkBack, LinkLost, ProxyTurn, ServerTurn}
 use Rattle.mc_world.specs.declared.logs.Logged.{Logged}
 use Rattle.mc_world.specs.declared.logs.Logged.TheVariants.{Happened}
@@ -133,6 +134,17 @@ asked_only e client request x own at = grind (arith, one_here, there_by, own_by)
 -- the history of the first server alone
 abbrev pub first_only : List Entry → ℕ → List Entry
 first_only es place = if 0 == place then es else []
+
+-- what the first server took in each of its lives is legal, where none restarted
+pub lives_of_first : (order : Order) (s : CacheState) (es : List Entry) (log : Log) → ((place : ℕ) → number_of (restarts place) log ≡ 0) → IsLegal order 0 s es
+    → (place life : ℕ) → IsLegal order place s (in_life place life log (first_only es place))
+lives_of_first order s es log never legal place =
+    let all : IsLegal order place s (first_only es place) =
+    (elim (0 == place) as (λ v. (0 == place) ≡ v → IsLegal order place s (if v then es else [])) [
+      | true ↦ λ own. subst (λ (p : ℕ). IsLegal order p s es) (own_by place own) legal
+      | false ↦ λ other. tt
+    ]) refl in
+    legal_unrestarted order place s log (first_only es place) (never place) all
 
 pub first_there : (es : List Entry) (place k : ℕ) (e : Entry) → slice_get (first_only es place) k ≡ Some e → (0 ≡ place) × (slice_get es k ≡ Some e)
 first_there es place k e at = grind (arith, there_by, own_by)
@@ -463,10 +475,11 @@ served_but : (one : Clause) (losses : Losses) (es : List Entry) (log : Log)
     → (one ≢ Once → (j k : ℕ) (d e : Entry) → slice_get es j ≡ Some d → slice_get es k ≡ Some e → j ≡ k)
     → ((place : ℕ) → number_of (loses place) log ≡ 0 → Follows (first_only es place) (tags_of (commands_to place awaited)))
     → ((client : ℕ) → number_of (puts client) log ≡ 0)
+    → ((place : ℕ) → number_of (restarts place) log ≡ 0)
     → ((place : ℕ) → map (λ (e : Entry). e.moment) (first_only es place) ≡ moments_of place log)
     → (one ≢ Placed → (k : ℕ) (e : Entry) → slice_get es k ≡ Some e → WasTaken (tag_in e) (before (serves 0) k log))
     → AccountsBut one losses one_server a_cache awaited flush_text no_text (first_only es) log
-served_but one losses es log turns ring legal once followed none moments placed =
+served_but one losses es log turns ring legal once followed none never moments placed =
     let e = asked_by one_server flush_asked (outcomes.Awaited ∷ []) in
     record {
       asked = λ keeps client. asked_text client (outcomes.Awaited ∷ []) one_server;
@@ -478,11 +491,7 @@ served_but one losses es log turns ring legal once followed none moments placed 
           (subst (λ (r : ℕ). IsRingAfter one_server (before (takes 0) r log) x.ring) (sym o.1)
           (subst (λ (y : AskedFor). IsRingAfter one_server (before (takes 0) 0 log) y.ring) (sym o.2) ring));
       sized = λ keeps. All-cons IsSized e [] refl (All-nil IsSized);
-      legal = λ keeps place.
-          (elim (0 == place) as (λ v. (0 == place) ≡ v → IsLegal awaited place a_cache (if v then es else [])) [
-            | true ↦ λ own. subst (λ (p : ℕ). IsLegal awaited p a_cache es) (own_by place own) (legal keeps)
-            | false ↦ λ other. tt
-          ]) refl;
+      legal = λ keeps. lives_of_first awaited a_cache es log never (legal keeps);
       once = λ keeps r s j k d x at also same.
           let here = first_there es r j d at in
           let there = first_there es s k x also in
@@ -525,7 +534,7 @@ moments_one false x is = refl
 not_replayed : IsReplayed one_server flush_text served_log 0 a_cache (misreplied ∷ []) → ⊥
 not_replayed replayed = grind (arith, slice_get, same_Some, text_read, some_not_none)
 
-pub without_legal : Allows Legal (λ ring opening texts outs histories log. IsReplayed ring texts log 0 opening (histories 0) → ⊥)
+pub without_legal : Allows Legal (λ ring opening texts outs histories log. IsReplayed ring texts log 0 opening (in_life 0 0 log (histories 0)) → ⊥)
 without_legal losses = (
   one_server,
   a_cache,
@@ -536,7 +545,7 @@ without_legal losses = (
   (
     awaited,
     served_but Legal losses (misreplied ∷ []) served_log refl refl (λ keeps. absurd (keeps refl))
-        (λ keeps. once_in_one misreplied) (λ place none. follows_one (0 == place) misreplied (flush, tag_of 0 0 0) refl) (λ client. refl) (λ place. moments_one (0 == place) misreplied refl)
+        (λ keeps. once_in_one misreplied) (λ place none. follows_one (0 == place) misreplied (flush, tag_of 0 0 0) refl) (λ client. refl) (λ place. refl) (λ place. moments_one (0 == place) misreplied refl)
         (λ keeps k e at.
         let here = one_here misreplied k e at in
         subst (λ (n : ℕ). WasTaken (tag_in e) (before (serves 0) n served_log)) (sym here.0)
@@ -561,7 +570,7 @@ without_placed losses = (
   (
     awaited,
     served_but Placed losses (flushed ∷ []) early_log refl refl
-        (λ keeps. legal_flush a_cache [] tt) (λ keeps. once_in_one flushed) (λ place none. follows_one (0 == place) flushed (flush, tag_of 0 0 0) refl) (λ client. refl) (λ place. moments_one (0 == place) flushed refl)
+        (λ keeps. legal_flush a_cache [] tt) (λ keeps. once_in_one flushed) (λ place none. follows_one (0 == place) flushed (flush, tag_of 0 0 0) refl) (λ client. refl) (λ place. refl) (λ place. moments_one (0 == place) flushed refl)
         (λ keeps. absurd (keeps refl)),
   ),
   (flushed, refl, λ taken. omega (arith, taken)),
@@ -592,7 +601,7 @@ without_once losses = (
     awaited,
     served_but Once losses (flushed ∷ flushed ∷ []) twice_log refl refl
         (λ keeps. legal_flush a_cache (flushed ∷ []) (legal_flush (step_of a_cache flush 5 false).0 [] tt)) (λ keeps. absurd (keeps refl))
-        (λ place none. follows_lost (0 == place) (flushed ∷ flushed ∷ []) (tags_of (commands_to place awaited)) none) (λ client. refl)
+        (λ place none. follows_lost (0 == place) (flushed ∷ flushed ∷ []) (tags_of (commands_to place awaited)) none) (λ client. refl) (λ place. refl)
         (λ place. moments_two (0 == place)) (λ keeps. taken_twice),
   ),
   (flushed, flushed, refl, refl, refl),

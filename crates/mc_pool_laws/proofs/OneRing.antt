@@ -5,7 +5,7 @@ use Rattle.mc_ring.specs.Rings.{RingState}
 use Rattle.mc_ring.specs.declared.points.Point.{Point}
 use Rattle.mc_ring.proofs.ShownLemmas.{shown_one}
 use Rattle.mc_world.specs.Logs.{HasJoined, IsRingAfter, Log}
-use Rattle.mc_world.specs.declared.logs.Logged.TheVariants.{Happened, Joined}
+use Rattle.mc_world.specs.declared.logs.Logged.TheVariants.{Happened, Joined, Restarted}
 
 abbrev ring_with : List (List ℕ) → List Point → RingState
 ring_with servers points = record { servers = servers; points = points }
@@ -20,3 +20,4 @@ ring_one ring a b [] f g = f ∙ sym g
 ring_one ring a b (Happened event ∷ es) f g = ring_one ring a b es f g
 ring_one ring a b (Joined server address ∷ es) f g =
     ring_one f.0 a b es f.2 (subst (λ (r : RingState). IsRingAfter r es b) (joined_one server address ring g.0 f.0 g.1 f.1) g.2)
+ring_one ring a b (Restarted server ∷ es) f g = ring_one ring a b es f g

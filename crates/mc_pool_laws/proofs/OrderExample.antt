@@ -26,11 +26,11 @@ use Rattle.mc_account.specs.Orders.{AreInOrder, Entry as AskedFor, Order, is_com
 use Rattle.mc_history.specs.declared.entries.Entry.{Entry}
 use Rattle.mc_history.specs.Histories.{HasReply, IsLegal, tag_in}
 use Rattle.mc_world.specs.Accounts.{NotAnswered, WasTaken}
-use Rattle.mc_world.specs.Logs.{IsRingAfter, Log, before, loses, number_of, puts, serves, takes}
+use Rattle.mc_world.specs.Logs.{IsRingAfter, Log, before, in_life, loses, number_of, puts, serves, takes}
 use Rattle.mc_pool_laws.specs.Told.{LinkHeld, WasAnswered}
 use Rattle.mc_pool_laws.specs.Without.{AccountsBut, Allows, Ordered}
 use Rattle.mc_pool_laws.proofs.SentLemmas.{in_request}
-use Rattle.mc_pool_laws.proofs.NeedLemmas.{a_cache, asked_by, first_only, first_there, flush, flush_asked, flushed, follows_lost, is_lost, loses_one, none_there, one_here, one_server, outcome_in_request, outs_of, own_by, puts_one, returns_one, serves_one, takes_one}
+use Rattle.mc_pool_laws.proofs.NeedLemmas.{a_cache, asked_by, first_only, first_there, flush, flush_asked, flushed, follows_lost, is_lost, lives_of_first, loses_one, none_there, one_here, one_server, outcome_in_request, outs_of, own_by, puts_one, returns_one, serves_one, takes_one}
 
 abbrev pub two_text : ℕ → List ℕ
 two_text client = codes "flush_all\r\nflush_all\r\n"
@@ -184,9 +184,12 @@ turned_legal = (
   (flush, refl, record { legal = λ h. absurd (false≢true h); refused = refl; reply = refl }, tt),
 )
 
+turned_lives : (place life : ℕ) → IsLegal two_asked place a_cache (in_life place life two_log (first_only turned place))
+turned_lives = lives_of_first two_asked a_cache turned two_log (λ place. refl) turned_legal
+
 two_but : (losses : Losses) → AccountsBut Ordered losses one_server a_cache two_asked two_text (outs_of losses two_asked two_log) (first_only turned) two_log
 two_but losses =
-    grind (arith, true≢false, a_cache, first_there, follows_lost, is_lost, own_by, text_by, complete_by, numbered_by, after_two, moments_by, rings_by, two_outcome, replied_by, once_by, placed_by, turned_legal)
+    grind (arith, true≢false, a_cache, first_there, follows_lost, is_lost, own_by, text_by, complete_by, numbered_by, after_two, moments_by, rings_by, two_outcome, replied_by, once_by, placed_by, turned_lives)
 
 pub without_ordered : Allows Ordered (λ ring opening texts outs histories log. (d : Entry) × (e : Entry) × (slice_get (histories 0) 0 ≡ Some d)
     × (slice_get (histories 0) 1 ≡ Some e) × (d.client ≡ e.client) × WasAnswered (tag_in d) log × WasAnswered (tag_in e) log

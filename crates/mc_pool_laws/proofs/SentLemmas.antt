@@ -1,5 +1,5 @@
 -- What the order of an account has is what clients sent, and the other way round.
-use Rattle.std.proofs.Common.{◌≡◌, ◌∙◌, ℕ, zero, suc, ◌<◌, ◌≤◌, List, [], ◌∷◌, length, Option, None, Some, slice_get, refl, sym, ap, ap₂, subst, arith}
+use Rattle.std.proofs.Common.{◌≡◌, ◌∙◌, ℕ, zero, suc, ◌-◌, ◌<◌, ◌≤◌, List, [], ◌∷◌, length, take, drop, Option, None, Some, slice_get, refl, sym, ap, ap₂, subst, arith}
 use Rattle.std.proofs.lemmas.List.{length-append, length-map}
 use Rattle.std.proofs.lemmas.Option.{none-some, same_Some}
 use Rattle.mc_request.specs.declared.parts.Atom.{Atom}
@@ -18,9 +18,10 @@ use Rattle.mc_account.specs.Orders.{Entry as Asked, Order, entries_of, taken_of}
 use Rattle.mc_history.specs.declared.entries.Entry.{Entry}
 use Rattle.mc_history.specs.Histories.{IsLegal, tag_in}
 use Rattle.mc_world.specs.Accounts.{Accounts}
-use Rattle.mc_world.specs.Logs.{Log, number_of, puts, takes}
+use Rattle.mc_world.specs.Logs.{Log, in_life, number_of, puts, serves, taken_before, takes}
 use Rattle.mc_world.proofs.LogEntryLemmas.{got_inside, got_map, got_some, got_there}
-use Rattle.mc_world.proofs.LogLemmas.{number-before}
+use Rattle.mc_world.proofs.LifeLemmas.{got_in_life, life_of}
+use Rattle.mc_world.proofs.LogLemmas.{moments-count, number-before}
 use Rattle.mc_world.proofs.LogOrderLemmas.{turns-taken}
 use Rattle.mc_pool_laws.specs.Sent.{IsReplayed, IsSent, IsTaken}
 use Rattle.mc_pool_laws.proofs.OneRing.{ring_one}
@@ -126,6 +127,12 @@ replayed losses ring opening order texts outs histories log h place s (e ∷ es)
   replayed losses ring opening order texts outs histories log h place (step_of s legal.0 e.moment e.refused).0 es legal.3,
 )
 
+-- a history has an entry for each turn of its server
+pub turns_many : (losses : Losses) (ring : RingState) (opening : CacheState) (order : Order) (texts outs : ℕ → List ℕ) (histories : ℕ → List Entry) (log : Log)
+    → Accounts losses ring opening order texts outs histories log → (place : ℕ) → length (histories place) ≡ number_of (serves place) log
+turns_many losses ring opening order texts outs histories log h place =
+    sym (length-map (histories place) (λ (e : Entry). e.moment)) ∙ ap (λ (ms : List ℕ). length ms) (h.moments place) ∙ moments-count place log
+
 -- each entry of a legal history is of a command of its server
 pub legal_at : (order : Order) (place : ℕ) (s : CacheState) (es : List Entry) (k : ℕ) (e : Entry) → IsLegal order place s es → slice_get es k ≡ Some e
     → (atom : Atom (List ℕ)) × (command_at order (tag_in e) ≡ Some (to_place place atom))
@@ -134,11 +141,38 @@ legal_at order place s [] (suc k) e legal at = absurd (none-some e at)
 legal_at order place s (x ∷ xs) zero e legal at = (legal.0, ap (λ (d : Entry). command_at order (tag_in d)) (sym (same_Some x e at)) ∙ legal.1)
 legal_at order place s (x ∷ xs) (suc k) e legal at = legal_at order place (step_of s legal.0 x.moment x.refused).0 xs k e legal.3 at
 
+-- and so is each entry of a history, in whichever life
+pub entry_named : (losses : Losses) (ring : RingState) (opening : CacheState) (order : Order) (texts outs : ℕ → List ℕ) (histories : ℕ → List Entry) (log : Log)
+    → Accounts losses ring opening order texts outs histories log → (place k : ℕ) (e : Entry) → slice_get (histories place) k ≡ Some e
+    → (atom : Atom (List ℕ)) × (command_at order (tag_in e) ≡ Some (to_place place atom))
+entry_named losses ring opening order texts outs histories log h place k e at =
+    let size = turns_many losses ring opening order texts outs histories log h place in
+    let of = life_of place k log (omega (arith, got_inside (histories place) k e at, size)) in
+    legal_at order place opening (in_life place of.life log (histories place)) (k - taken_before place of.life log) e (h.legal place of.life)
+    (got_in_life place k log (histories place) of ∙ at)
+
+-- what was taken in the life of the first entry
+legal_first : (order : Order) (place : ℕ) (opening : CacheState) (log : Log) (e : Entry) (es : List Entry) → 0 < number_of (serves place) log
+    → ((life : ℕ) → IsLegal order place opening (in_life place life log (e ∷ es))) → (n : ℕ) × IsLegal order place opening (e ∷ take n es)
+legal_first order place opening log e es some legal =
+    let of = life_of place 0 log some in
+    let from = of.from in
+    let to = of.to in
+    let begins : taken_before place of.life log ≡ 0 = omega (arith, from) in
+    let ends : taken_before place (suc of.life) log ≡ suc (taken_before place (suc of.life) log - 1) = omega (arith, to) in (
+      taken_before place (suc of.life) log - 1,
+      subst (λ (fs : List Entry). IsLegal order place opening fs) (ap₂ (λ (a b : ℕ). drop a (take b (e ∷ es))) begins ends) (legal of.life),
+    )
+
 -- the first entry of a history is answered what the opening cache replies to its command
 pub first_reply : (losses : Losses) (ring : RingState) (opening : CacheState) (order : Order) (texts outs : ℕ → List ℕ) (histories : ℕ → List Entry) (log : Log)
     → Accounts losses ring opening order texts outs histories log → (place : ℕ) (atom : Atom (List ℕ)) (e : Entry) (es : List Entry) → histories place ≡ e ∷ es
     → IsSent ring texts log (tag_in e) (to_place place atom) → e.reply ≡ spelling_of atom (step_of opening atom e.moment e.refused).1
 first_reply losses ring opening order texts outs histories log h place atom e es is sent =
-    let legal = subst (λ (history : List Entry). IsLegal order place opening history) is (h.legal place) in
+    let size = turns_many losses ring opening order texts outs histories log h place in
+    let one : length (histories place) ≡ suc (length es) = ap (λ (history : List Entry). length history) is in
+    let first = legal_first order place opening log e es (omega (arith, size, one))
+    (subst (λ (history : List Entry). (life : ℕ) → IsLegal order place opening (in_life place life log history)) is (h.legal place)) in
+    let legal = first.1 in
     let known = sent_command losses ring opening order texts outs histories log h (tag_in e) (to_place place atom) sent in
     grind (arith, same_Some)

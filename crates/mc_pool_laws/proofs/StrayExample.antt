@@ -30,7 +30,7 @@ use Rattle.mc_world.specs.declared.logs.Logged.TheVariants.{Happened}
 use Rattle.mc_world.proofs.LogLemmas.{IsEvent}
 use Rattle.mc_pool_laws.specs.Followed.{AreSentBy, FollowsProxy}
 use Rattle.mc_pool_laws.specs.Without.{AccountsBut, Allows, Clause, Followed, Numbered, Turns}
-use Rattle.mc_pool_laws.proofs.NeedLemmas.{Follows, a_cache, first_only, first_there, flush, flush_asked, is_lost, is_reply, none_complete, none_out, one_here, one_server, outcome_in_request, own_by, serves_one, takes_one}
+use Rattle.mc_pool_laws.proofs.NeedLemmas.{Follows, a_cache, first_only, first_there, flush, flush_asked, is_lost, is_reply, lives_of_first, none_complete, none_out, one_here, one_server, outcome_in_request, serves_one, takes_one}
 use Rattle.mc_pool_laws.proofs.OrderExample.{two_here, two_read, two_text}
 
 -- a flush of a client, that awaits its reply, and its entry
@@ -137,11 +137,7 @@ stray_but one losses a m b n p q r s second turns numbered followed legal apart 
           (sym (flush_each (flush_by a m) (flush_by b n) client request e (refl, refl, refl) (refl, refl, refl) at).1)
           (ring_there (takes client) request (two_turns second) one_server (tt, (tt, (tt, (tt, tt)))));
       sized = λ keeps. All-cons IsSized (flush_by a m) (flush_by b n ∷ []) refl (All-cons IsSized (flush_by b n) [] refl (All-nil IsSized));
-      legal = λ keeps place.
-          (elim (0 == place) as (λ v. (0 == place) ≡ v → IsLegal (flush_by a m ∷ flush_by b n ∷ []) place a_cache (if v then entry_by p q ∷ entry_by r s ∷ [] else [])) [
-            | true ↦ λ own. subst (λ (k : ℕ). IsLegal (flush_by a m ∷ flush_by b n ∷ []) k a_cache (entry_by p q ∷ entry_by r s ∷ [])) (own_by place own) legal
-            | false ↦ λ other. tt
-          ]) refl;
+      legal = λ keeps. lives_of_first (flush_by a m ∷ flush_by b n ∷ []) a_cache (entry_by p q ∷ entry_by r s ∷ []) (two_turns second) (λ place. refl) legal;
       once = λ keeps i k j l d e at also same.
           let here = first_there (entry_by p q ∷ entry_by r s ∷ []) i j d at in
           let there = first_there (entry_by p q ∷ entry_by r s ∷ []) k l e also in

@@ -18,7 +18,7 @@ use Rattle.mc_history.specs.declared.entries.Entry.{Entry}
 use Rattle.mc_history.specs.Histories.{HasReply, IsLegal, tag_in}
 use Rattle.mc_history.specs.Named.{tags_of}
 use Rattle.mc_world.specs.Accounts.{IsToldLost, NotAnswered, WasTaken, answers_by}
-use Rattle.mc_world.specs.Logs.{IsRingAfter, Log, before, loses, moments_of, number_of, puts, serves, takes, turns_of}
+use Rattle.mc_world.specs.Logs.{IsRingAfter, Log, before, in_life, loses, moments_of, number_of, puts, serves, takes, turns_of}
 
 -- the clauses of an account, by their names there; the second part of `placed` is by itself
 pub data Clause : Type 0 where
@@ -47,7 +47,7 @@ pub record AccountsBut (one : Clause) (losses : Losses) (ring : RingState) (open
   pub numbered : one ≢ Numbered → (client : ℕ) → AreInOrder (entries_of client order)
   pub rings : one ≢ Rings → (client request : ℕ) (e : AskedFor) → asked_at order client request ≡ Some e → IsRingAfter ring (before (takes client) request log) e.ring
   pub sized : one ≢ Sized → All IsSized order
-  pub legal : one ≢ Legal → (place : ℕ) → IsLegal order place opening (histories place)
+  pub legal : one ≢ Legal → (place life : ℕ) → IsLegal order place opening (in_life place life log (histories place))
   pub once : one ≢ Once → (r s j k : ℕ) (d e : Entry) → slice_get (histories r) j ≡ Some d → slice_get (histories s) k ≡ Some e → tag_in d ≡ tag_in e
       → (r ≡ s) × (j ≡ k)
   pub replied : one ≢ Replied → (tag : Tag) (place : ℕ) (atom : Atom (List ℕ)) (reply : AReply (List ℕ)) → command_at order tag ≡ Some (to_place place atom)

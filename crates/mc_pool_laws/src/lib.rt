@@ -23,7 +23,8 @@ pub use choices::{a_miss_says_nothing_of_its_server, done_is_executed, shown_val
 pub use drains::{drains_add_what_is_left, quiet_worlds_have_answered};
 pub use histories::{
     commands_are_executed_once, commands_are_executed_when_taken, histories_are_replayed,
-    histories_have_their_turns, only_stores_are_refused,
+    histories_have_their_turns, lives_are_registers, only_stores_are_refused,
+    restarted_servers_keep_nothing,
 };
 pub use losses::{
     answered_commands_are_executed_or_lost, answers_come_after_their_turns,

@@ -10,7 +10,7 @@ ghost use Rattle.mc_account.specs.Lookups.{IsBefore};
 ghost use Rattle.mc_history.specs.Histories.{tag_in};
 ghost use Rattle.mc_history.specs.declared.entries.Entry.{Entry};
 ghost use Rattle.mc_world.specs.Accounts.{Accounts, NotAnswered, WasTaken};
-ghost use Rattle.mc_world.specs.Logs.{Log, before, loses, number_of, puts, serves, takes};
+ghost use Rattle.mc_world.specs.Logs.{Log, before, in_life, loses, number_of, puts, serves, takes};
 ghost use Rattle.mc_pool_laws.specs.Followed.{FollowsProxy};
 ghost use Rattle.mc_pool_laws.specs.Sent.{IsReplayed};
 ghost use Rattle.mc_pool_laws.specs.Told.{IsUnaccounted, LinkHeld, WasAnswered};
@@ -47,7 +47,7 @@ pub fn answers_need_their_clauses()
 /// Without `legal` a server could answer what no cache does, without `once` it could execute a command twice, and without `moments` have a turn
 /// without an entry. Without `placed` it could execute a command before it was taken, or after it was answered by its reply.
 pub fn histories_need_their_clauses()
-    ensures legal { Allows Legal (λ ring opening texts outs histories log. IsReplayed ring texts log 0 opening (histories 0) → ⊥) }
+    ensures legal { Allows Legal (λ ring opening texts outs histories log. IsReplayed ring texts log 0 opening (in_life 0 0 log (histories 0)) → ⊥) }
     ensures once { Allows Once (λ ring opening texts outs histories log. (d : Entry) × (e : Entry) × (slice_get (histories 0) 0 ≡ Some d)
         × (slice_get (histories 0) 1 ≡ Some e) × (tag_in d ≡ tag_in e)) }
     ensures moments { Allows Moments (λ ring opening texts outs histories log. length (histories 0) ≢ number_of (serves 0) log) }

@@ -4,9 +4,10 @@ use Rattle.std.specs.List.{range_with_len}
 use Rattle.mc_cache.specs.CacheState.{CacheState, opening_cache}
 use Rattle.mc_pool_script.specs.PoolScripts.{IsOpeningRing, PoolSeen, losses_of}
 use Rattle.mc_pool_script.specs.declared.lines.PoolLine.{PoolLine}
-use Rattle.mc_pool_script.specs.declared.lines.PoolLine.TheVariants.{Drain, Event, Join}
+use Rattle.mc_pool_script.specs.declared.lines.PoolLine.TheVariants.{Drain, Event, Join, Restart}
 use Rattle.mc_world.specs.Drains.{Drains}
 use Rattle.mc_world.specs.Joins.{HasServerJoined}
+use Rattle.mc_world.specs.Restarts.{HasServerRestarted}
 use Rattle.mc_world.specs.Quiet.{IsQuiet}
 use Rattle.mc_world.specs.Rounds.{DrainsInRounds}
 use Rattle.mc_world.specs.Steps.{GivesAccount, StepsTo}
@@ -18,11 +19,12 @@ use Rattle.mc_world.specs.declared.errors.Step.TheVariants.{Done}
 abbrev pub cache_of : PoolSeen → CacheState
 cache_of script = opening_cache script.budget script.items 0
 
--- what a line does to the course of a world, and what the step of its event answers: a server joins in any case, and a drain is done
+-- what a line does to the course of a world, and what the step of its event answers: a server joins or restarts in any case, and a drain is done
 -- in rounds until nothing is left
 abbrev pub Plays : CacheState → PoolLine → Step → CourseState → CourseState → Type 0
 Plays opening (Event event) step old new = StepsTo event step old new
 Plays opening (Join address) step old new = (step ≡ Done) × HasServerJoined address opening old new
+Plays opening (Restart server) step old new = (step ≡ Done) × HasServerRestarted server opening old new
 Plays opening (Drain moment) step old new = (step ≡ Done) × Drains moment old new × DrainsInRounds moment old new × IsQuiet new
 
 -- what lines do, one after another

@@ -5,6 +5,7 @@ ghost use Rattle.mc_pool_script.specs.PoolLines.{HasMoment};
 ghost use Rattle.mc_pool_play.specs.Plays.{HasPlayed, KeepsOpening, Plays};
 ghost use Rattle.mc_world.specs.Drains.{Drains};
 ghost use Rattle.mc_world.specs.Joins.{HasServerJoined};
+ghost use Rattle.mc_world.specs.Restarts.{HasServerRestarted};
 ghost use Rattle.mc_world.specs.Quiet.{IsQuiet};
 ghost use Rattle.mc_world.specs.Rounds.{DrainsInRounds};
 ghost use Rattle.mc_world.specs.Steps.{GivesAccount};
@@ -21,7 +22,7 @@ use std::alloc::Global;
 pub struct Played<S: ScriptStore> {
     /// The world as it is then.
     pub world: World<S>,
-    /// What each line did, in order. A server that joins is `Done`, and so is a drain.
+    /// What each line did, in order. A server that joins or restarts is `Done`, and so is a drain.
     pub steps: Vec<Step>,
 }
 
@@ -65,6 +66,10 @@ fn play<S: ScriptStore>(
             join(alloc, world, items, address)?;
             Ok(Step::Done)
         }
+        PoolLine::Restart(server) => {
+            restart(alloc, world, items, *server)?;
+            Ok(Step::Done)
+        }
         PoolLine::Drain(moment) => {
             drain(world, *moment)?;
             Ok(Step::Done)
@@ -106,6 +111,27 @@ fn join<S: ScriptStore>(
     let address = copy_of(address)?;
     match world.join_server(address, store) {
         Ok(_) => Ok(()),
+        Err(_) => Err(SimError::Memory),
+    }
+}
+
+/// A server restarts.
+fn restart<S: ScriptStore>(
+    alloc: Global,
+    world: &mut World<S>,
+    items: usize,
+    server: usize,
+) -> Result<(), SimError>
+    requires items { items ≡ world.old.items }
+    requires few { items + 1 < 2 ^ 64 }
+    ensures restarts { OnOk result (HasServerRestarted server (opening_cache world.old.budget world.old.items 0) world.old.course world.new.course) }
+    ensures keeps { OnOk result (KeepsOpening world.old world.new) }
+    ensures account { OnOk result (GivesAccount world.new) }
+    ensures only_memory { IsOkUnless result SimError.Memory }
+{
+    let store = S::opened(alloc, items)?;
+    match world.restart_server(server, store) {
+        Ok(()) => Ok(()),
         Err(_) => Err(SimError::Memory),
     }
 }

@@ -226,6 +226,7 @@ fn play(world: &mut World<ListStore>, line: &PoolLine) -> Result<(), Fail>
         }
         PoolLine::Drain(moment) => drain(world, *moment)?,
         PoolLine::Join(_) => return Err(Fail::from("a server is to join")),
+        PoolLine::Restart(_) => return Err(Fail::from("a server is to restart")),
     }
     Ok(())
 }

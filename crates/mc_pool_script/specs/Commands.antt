@@ -2,7 +2,7 @@
 use Rattle.std.specs.Prelude.{ℕ, List, Option, Some, None, codes, if◌then◌else◌}
 use Rattle.std.specs.Str.{bytes_eq}
 use Rattle.mc_pool_script.specs.declared.commands.Command.{Command}
-use Rattle.mc_pool_script.specs.declared.commands.Command.TheVariants.{Bytes, Gone, Turn, Emit, Takes, ToServer, Serve, ToProxy, Reply, Lost, Back, End, Join, Drain}
+use Rattle.mc_pool_script.specs.declared.commands.Command.TheVariants.{Bytes, Gone, Turn, Emit, Takes, ToServer, Serve, ToProxy, Reply, Lost, Back, End, Join, Restart, Drain}
 
 -- what a name says of a client
 unfoldable pub client_command : List ℕ → Option Command
@@ -23,12 +23,13 @@ way_command name =
     else if bytes_eq name (codes "reply") then Some Reply
     else None
 
--- what a name says of a link, of a server that joins, or of all that is left to do
+-- what a name says of a link, of a server that joins or restarts, or of all that is left to do
 unfoldable pub link_command : List ℕ → Option Command
 link_command name =
     if bytes_eq name (codes "lost") then Some Lost
     else if bytes_eq name (codes "back") then Some Back
     else if bytes_eq name (codes "end") then Some End
     else if bytes_eq name (codes "join") then Some Join
+    else if bytes_eq name (codes "restart") then Some Restart
     else if bytes_eq name (codes "drain") then Some Drain
     else None

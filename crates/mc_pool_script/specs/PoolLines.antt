@@ -11,9 +11,9 @@ use Rattle.mc_script.specs.Numbers.{moment_read, place_of}
 use Rattle.mc_script.specs.Scripts.{◌>>=◌}
 use Rattle.mc_pool_script.specs.Commands.{client_command, way_command, link_command}
 use Rattle.mc_pool_script.specs.declared.commands.Command.{Command}
-use Rattle.mc_pool_script.specs.declared.commands.Command.TheVariants.{Bytes, Gone, Turn, Emit, Takes, ToServer, Serve, ToProxy, Reply, Lost, Back, End, Join, Drain}
+use Rattle.mc_pool_script.specs.declared.commands.Command.TheVariants.{Bytes, Gone, Turn, Emit, Takes, ToServer, Serve, ToProxy, Reply, Lost, Back, End, Join, Restart, Drain}
 use Rattle.mc_pool_script.specs.declared.lines.PoolLine.{PoolLine}
-use Rattle.mc_pool_script.specs.declared.lines.PoolLine.TheVariants.{Event, Join as Joins, Drain as Drains}
+use Rattle.mc_pool_script.specs.declared.lines.PoolLine.TheVariants.{Event, Join as Joins, Restart as Restarts, Drain as Drains}
 use Rattle.mc_event.specs.declared.events.Event.TheVariants.{ClientBytes, ClientGone, ProxyTurn, ToServer as ReachServer, ServerTurn, ToProxy as ReachProxy, ReplyTurn, Emit as PutOut, ClientTakes, LinkLost, LinkBack, ServerSeesEnd}
 
 -- how many bytes: a number, or `all`, which stands for the greatest
@@ -83,7 +83,7 @@ join_line servers text = do
   if is_some (refusal_of_more servers address) then None else Some (Joins address)
 
 -- the line of a command whose words are numbers alone, by what follows its name: `gone <client>`, `turn <client>`,
--- `emit <client>`, `reply <server>`, `lost <server>`, `back <server>`, `drain <moment>`, and those above
+-- `emit <client>`, `reply <server>`, `lost <server>`, `back <server>`, `restart <server>`, `drain <moment>`, and those above
 abbrev pub numbers_line : ℕ → ℕ → Command → List ℕ → Option PoolLine
 numbers_line clients servers Gone text = option_map (λ client. Event (ClientGone client)) (place_of clients text)
 numbers_line clients servers Turn text = option_map (λ client. Event (ProxyTurn client)) (place_of clients text)
@@ -96,6 +96,7 @@ numbers_line clients servers Reply text = option_map (λ server. Event (ReplyTur
 numbers_line clients servers Lost text = option_map (λ server. Event (LinkLost server)) (place_of servers text)
 numbers_line clients servers Back text = option_map (λ server. Event (LinkBack server)) (place_of servers text)
 numbers_line clients servers End text = end_line servers text
+numbers_line clients servers Restart text = option_map (λ server. Restarts server) (place_of servers text)
 numbers_line clients servers Drain text = option_map (λ moment. Drains moment) (moment_read text)
 numbers_line clients servers command text = None
 

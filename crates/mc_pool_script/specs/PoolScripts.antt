@@ -17,7 +17,7 @@ use Rattle.mc_script.specs.Scripts.{◌>>=◌}
 use Rattle.mc_cache.specs.CacheState.{IsWithinBounds}
 use Rattle.mc_pool_script.specs.PoolLines.{line_of, HasMoment}
 use Rattle.mc_pool_script.specs.declared.lines.PoolLine.{PoolLine}
-use Rattle.mc_pool_script.specs.declared.lines.PoolLine.TheVariants.{Event, Join, Drain}
+use Rattle.mc_pool_script.specs.declared.lines.PoolLine.TheVariants.{Event, Join, Restart, Drain}
 
 -- what a script says
 pub record PoolSeen : Type 0 where
@@ -46,6 +46,7 @@ first_servers count = map first_server (range_with_len 0 count)
 abbrev pub joined_by : PoolLine → List (List ℕ)
 joined_by (Event event) = []
 joined_by (Join address) = address ∷ []
+joined_by (Restart server) = []
 joined_by (Drain moment) = []
 
 -- all servers that are there once these lines were played

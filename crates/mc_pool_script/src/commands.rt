@@ -32,6 +32,8 @@ pub enum Command {
     End,
     /// `join`
     Join,
+    /// `restart`
+    Restart,
     /// `drain`
     Drain,
 }
@@ -78,12 +80,19 @@ fn way_command(name: &[u8]) -> Option<Command>
 fn link_command(name: &[u8]) -> Option<Command>
     ensures { result ≡ link_command name.now }
 {
-    match name {
-        b"lost" => Some(Command::Lost),
-        b"back" => Some(Command::Back),
-        b"end" => Some(Command::End),
-        b"join" => Some(Command::Join),
-        b"drain" => Some(Command::Drain),
-        _ => None,
+    if name == b"lost".as_slice() {
+        Some(Command::Lost)
+    } else if name == b"back".as_slice() {
+        Some(Command::Back)
+    } else if name == b"end".as_slice() {
+        Some(Command::End)
+    } else if name == b"join".as_slice() {
+        Some(Command::Join)
+    } else if name == b"restart".as_slice() {
+        Some(Command::Restart)
+    } else if name == b"drain".as_slice() {
+        Some(Command::Drain)
+    } else {
+        None
     }
 }

@@ -27,7 +27,7 @@ pub use commands::Command;
 pub use kinds::is_of_pool;
 pub use lines::PoolLine;
 pub use rows::{
-    lines_of_clients, lines_of_drains, lines_of_joins, lines_of_servers, losses_of_scripts,
-    points_of_servers,
+    lines_of_clients, lines_of_drains, lines_of_joins, lines_of_restarts, lines_of_servers,
+    losses_of_scripts, points_of_servers,
 };
 pub use scripts::{PoolScript, copy_of, read_pool_script};

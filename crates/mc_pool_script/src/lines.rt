@@ -10,6 +10,8 @@ pub enum PoolLine {
     Event(Event<Block>),
     /// A server of this address joins.
     Join(Address),
+    /// The server of this place restarts.
+    Restart(usize),
     /// All that is left to do is done, and servers take what comes at this moment: seconds since 1970, below 2^63.
     Drain(u64),
 }

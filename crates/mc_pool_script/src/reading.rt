@@ -66,6 +66,7 @@ fn read_numbers(clients: u64, servers: usize, command: Command, text: &[u8]) -> 
         Command::Serve => read_serve(servers, text),
         Command::ToProxy => read_to_proxy(servers, text),
         Command::End => read_end(servers, text),
+        Command::Restart => Some(PoolLine::Restart(read_server(servers, text)?)),
         Command::Drain => Some(PoolLine::Drain(read_moment(text)?)),
         Command::Bytes | Command::Join => None,
     }

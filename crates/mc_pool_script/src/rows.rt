@@ -5,7 +5,7 @@ ghost use Rattle.std.specs.Prelude.{◌≡◌, ◌^◌, ◌-◌, [], ◌∷◌, 
 ghost use Rattle.std.specs.Option.{option_map};
 ghost use Rattle.mc_pool_script.specs.PoolLines.{line_of};
 ghost use Rattle.mc_pool_script.specs.PoolScripts.{followed, losses_named, losses_of, opening_script, point_of, read_more};
-ghost use Rattle.mc_pool_script.specs.declared.lines.PoolLine.TheVariants.{Drain, Event, Join};
+ghost use Rattle.mc_pool_script.specs.declared.lines.PoolLine.TheVariants.{Drain, Event, Join, Restart};
 ghost use Rattle.mc_event.specs.declared.events.Event.TheVariants.{ClientBytes, ClientTakes, ServerSeesEnd, ServerTurn, ToServer};
 ghost use Rattle.mc_ring.specs.Points.{pair_at};
 ghost use Rattle.mc_route.specs.declared.losses.Losses.TheVariants.{Missed, Told};
@@ -33,6 +33,12 @@ pub fn lines_of_joins()
     ensures joins { line_of 1 (codes "a:1" ∷ []) (codes "join a:2") ≡ Some (Join (codes "a:2")) }
     ensures there { line_of 1 (codes "a:1" ∷ []) (codes "join a:1") ≡ None }
     ensures portless { line_of 1 (codes "a:1" ∷ []) (codes "join a") ≡ None }
+{}
+
+/// A server that is there restarts, also one that joined.
+pub fn lines_of_restarts()
+    ensures restarts { line_of 1 (codes "a:1" ∷ codes "a:2" ∷ []) (codes "restart 1") ≡ Some (Restart 1) }
+    ensures absent { line_of 1 (codes "a:1" ∷ []) (codes "restart 1") ≡ None }
 {}
 
 /// A drain has a moment below 2^63, in 20 digits at most, and no more words.

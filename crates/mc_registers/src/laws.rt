@@ -16,7 +16,8 @@ pub fn keys_are_registers()
         → IsRun counter None (done_on key (opening_cache budget limit counter) commands) }
 {}
 
-/// So it is of a server in a pool: its legal history tells commands and replies, and those on each key are a run of the register.
+/// So it is of what a server in a pool took in one life: its legal history tells commands and replies, and those on each key are a run of
+/// the register.
 pub fn histories_are_registers()
     ensures { (order : Order) → (place budget limit counter : ℕ) → IsWithinBounds budget limit → (history : List Entry)
         → IsLegal order place (opening_cache budget limit counter) history

@@ -1,7 +1,9 @@
 -- The account of a run.
-use Rattle.std.proofs.Common.{◌≡◌, ◌∙◌, ℕ, List, [], ◌∷◌, map, refl, sym, ap, subst, arith}
+use Rattle.std.proofs.Common.{◌≡◌, ◌∙◌, ℕ, zero, suc, List, [], ◌∷◌, ◌++◌, length, map, take, drop, refl, sym, ap, subst, arith}
 use Rattle.std.proofs.lemmas.Option.{none-some}
+use Rattle.std.proofs.lemmas.List.{drop-map}
 use Rattle.std.proofs.lemmas.List.Elements.{All-nil}
+use Rattle.std.proofs.Math.Seq.{drop-append_seam}
 use Rattle.mc_request.specs.Requests.{requests_of, requests_within}
 use Rattle.mc_ring.specs.Rings.{RingState}
 use Rattle.mc_reply.specs.Spelling.{spelling_of}
@@ -20,10 +22,23 @@ use Rattle.mc_history.specs.Made.{AreMade, Each, Made, entry_of}
 use Rattle.mc_world.specs.Sites.{SiteHolds}
 use Rattle.mc_world.specs.WorldState.{SiteState}
 use Rattle.mc_history.specs.Named.{IsNamed}
+use Rattle.mc_history.proofs.NamedLemmas.{each_back}
+use Rattle.mc_world.specs.Logs.{Log, in_life, taken_before}
 
 no_requests : requests_of [] ≡ []
 unfolding requests_of requests_within
 no_requests = refl
+
+-- of nothing each part is legal
+none_in : (n m : ℕ) → ◌≡◌ {A = List Entry} (drop n (take m [])) []
+none_in zero zero = refl
+none_in zero (suc m) = refl
+none_in (suc n) zero = refl
+none_in (suc n) (suc m) = refl
+
+legal_none : (place life : ℕ) (order : Order) (opening : CacheState) (log : Log) → IsLegal order place opening (in_life place life log [])
+legal_none place life order opening log =
+    subst (λ (es : List Entry). IsLegal order place opening es) (sym (none_in (taken_before place life log) (taken_before place (suc life) log))) tt
 
 -- what a server made of named commands is a legal history
 pub legal_history : (place : ℕ) (order : Order) (s : CacheState) (made : List Made) → AreMade s made → Each (λ (m : Made). IsNamed place order m.command) made
@@ -37,9 +52,13 @@ legal_history place order s (m ∷ ms) h named = (
 )
 
 pub legal_site : (place : ℕ) (order : Order) (lane : Lane) (link : LinkState) (opening : CacheState) (site : SiteState) → SiteHolds place order lane link opening site
-    → IsLegal order place opening site.history
+    → IsLegal order place opening (drop site.begun site.history)
 legal_site place order lane link opening site h =
-    subst (λ (es : List Entry). IsLegal order place opening es) (sym h.history) (legal_history place order opening h.made h.answers h.named)
+    let now : drop site.begun site.history ≡ map entry_of h.made =
+    ap (λ (n : ℕ). drop n site.history) (sym h.begun) ∙ ap (λ (es : List Entry). drop (length h.past) es) h.history
+    ∙ drop-map entry_of (length h.past) (h.past ++ h.made) ∙ ap (λ (ms : List Made). map entry_of ms) (drop-append_seam h.past h.made) in
+    subst (λ (es : List Entry). IsLegal order place opening es) (sym now)
+    (legal_history place order opening h.made h.answers (each_back (λ (m : Made). IsNamed place order m.command) h.past h.made h.named))
 
 pub nothing_accounts : (losses : Losses) (ring : RingState) (opening : CacheState) → Accounts losses ring opening [] (λ _. []) (λ _. []) (λ _. []) []
 nothing_accounts losses ring opening = record {
@@ -48,7 +67,7 @@ nothing_accounts losses ring opening = record {
   numbered = λ client. refl;
   rings = λ client request e at. absurd (none-some e at);
   sized = All-nil IsSized;
-  legal = λ place. tt;
+  legal = λ place life. legal_none place life [] opening [];
   once = λ r s j k d e at. absurd (none-some d at);
   replied = λ tag place atom reply at. absurd (none-some _ at);
   lost = λ tag place atom at. absurd (none-some _ at);

@@ -1,7 +1,8 @@
 -- Whether events apply to a pool, by what is asked of it.
-use Rattle.std.proofs.Common.{◌≡◌, ◌∙◌, ℕ, ◌<◌, ◌==◌, inl, inr, Bool, true, false, not, length, Option, Some, None, slice_get, refl, sym, ap, subst, arith}
+use Rattle.std.proofs.Common.{◌≡◌, ◌∙◌, ℕ, ◌<◌, ◌≤◌, ◌==◌, inl, inr, Bool, true, false, if◌then◌else◌, not, length, Option, Some, None, slice_get, refl, sym, ap, subst, arith}
 use Rattle.std.specs.Prelude.{◌↔◌, IsTrue}
 use Rattle.std.specs.Option.{is_some}
+use Rattle.std.proofs.lemmas.Bool.{le-ltb, lt-ltb}
 use Rattle.std.proofs.lemmas.Bool.Decides.{nat_tests}
 use Rattle.std.proofs.lemmas.Option.{none-some, same_Some}
 use Rattle.mc_link.specs.LinkState.{can_come_back}
@@ -10,7 +11,9 @@ use Rattle.mc_server.specs.Turns.{waiting_of}
 use Rattle.mc_session.specs.SessionState.{link_at}
 use Rattle.mc_world.specs.Applies.{CanAdmit, CanReachLate, CanReachProxy, CanReturn, CanServe, CanServeLate, HasLost, IsUp, Lives, way_of}
 use Rattle.mc_world.specs.Courses.{ByWay}
+use Rattle.mc_world.specs.Refusals.{restart_refusal_of}
 use Rattle.mc_world.specs.WorldState.{PoolState, SiteState, WayState}
+use Rattle.mc_world.specs.declared.errors.WorldError.TheVariants.{NoServer}
 use Rattle.mc_world.proofs.AppliesLemmas.{found_way, late_serves_if, serves_if}
 
 -- a place without a server has lost no generation
@@ -50,6 +53,14 @@ by_late place generation pool living late b never told = (
   λ is. inr (never, told.0 is),
   λ by. elim by [ inl one ↦ absurd (never one.0) | inr other ↦ told.1 other.1 ],
 )
+
+-- where there is no server none applies
+pub by_nowhere : (place generation : ℕ) (pool : PoolState) (living late : Type 0) → slice_get pool.sites place ≡ None → (late → HasLost place generation pool)
+    → ByWay place generation pool living late → ⊥
+by_nowhere place generation pool living late none there by = elim by [
+  | inl one ↦ none-some one.0.site (sym none ∙ one.0.at)
+  | inr other ↦ lost_nowhere place generation pool none (there other.1)
+]
 
 pub never : (P : Type 0) → (P → ⊥) → IsTrue false ↔ P
 never P not = (λ is. absurd cc, λ p. absurd (not p))
@@ -115,3 +126,10 @@ some_if b n is = (λ t. grind (arith, nat_tests, is, t), λ some. grind (arith, 
 -- what is told false is not so
 pub not_so : {P : Type 0} (b : Bool) → b ≡ false → (P → IsTrue b) → P → ⊥
 not_so b is told p = let clash : false ≡ true = sym is ∙ told p in absurd cc
+
+-- why a server cannot restart, by whether it is there
+pub refused_past : (servers place : ℕ) → servers ≤ place → Some NoServer ≡ restart_refusal_of servers place
+refused_past servers place past = ap (λ (v : Bool). if v then None else Some NoServer) (sym (le-ltb place servers past))
+
+pub refused_inside : (servers place : ℕ) → place < servers → None ≡ restart_refusal_of servers place
+refused_inside servers place inside = ap (λ (v : Bool). if v then None else Some NoServer) (sym (lt-ltb place servers inside))

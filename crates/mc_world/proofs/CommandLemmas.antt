@@ -1,5 +1,5 @@
 -- What a pool gives account of, as far as its commands go.
-use Rattle.std.proofs.Common.{◌≡◌, ◌≢◌, ◌∙◌, ⊎_elim, ℕ, zero, suc, ◌+◌, ◌≤◌, true, false, if◌then◌else◌, List, [], ◌∷◌, map, Some, slice_get, refl, sym, ap, subst, arith}
+use Rattle.std.proofs.Common.{◌≡◌, ◌≢◌, ◌∙◌, ⊎_elim, ℕ, zero, suc, ◌+◌, ◌≤◌, true, false, if◌then◌else◌, List, [], ◌∷◌, ◌++◌, map, drop, Some, slice_get, refl, sym, ap, subst, arith}
 use Rattle.std.proofs.lemmas.Bool.Decides.{eqb_tells}
 use Rattle.std.proofs.lemmas.Option.{none-some, same_Some}
 use Rattle.mc_route.specs.Routes.{to_place}
@@ -20,7 +20,7 @@ use Rattle.mc_history.specs.Histories.{IsLegal, tag_in}
 use Rattle.mc_history.specs.Made.{Each, Made, entry_of}
 use Rattle.mc_world.specs.Pools.{PoolHolds}
 use Rattle.mc_world.specs.Sites.{SiteHolds}
-use Rattle.mc_world.specs.WorldState.{PoolState, SiteState, histories_of}
+use Rattle.mc_world.specs.WorldState.{PoolState, SiteState, begun_of, histories_of}
 use Rattle.mc_world.proofs.AccountLemmas.{legal_site}
 use Rattle.mc_account.specs.Lookups.{command_at}
 use Rattle.mc_history.specs.Named.{IsNamed, is_tag, tags_made, tags_of, times}
@@ -85,15 +85,15 @@ named_at place order (m ∷ ms) (suc j) d h at = named_at place order ms j d h.1
 pub site_once : (place : ℕ) (order : Order) (lane : Lane) (link : LinkState) (opening : CacheState) (site : SiteState) (j k : ℕ) (d e : Entry) → ((number : ℕ) → AreInOrder (entries_of number order))
     → SiteHolds place order lane link opening site → slice_get site.history j ≡ Some d → slice_get site.history k ≡ Some e → tag_in d ≡ tag_in e → j ≡ k
 site_once place order lane link opening site j k d e numbered h at also same =
-    let first = stems h.made j d (ap (λ (es : List Entry). slice_get es j) (sym h.history) ∙ at) in
-    let second = stems h.made k e (ap (λ (es : List Entry). slice_get es k) (sym h.history) ∙ also) in
+    let first = stems (h.past ++ h.made) j d (ap (λ (es : List Entry). slice_get es j) (sym h.history) ∙ at) in
+    let second = stems (h.past ++ h.made) k e (ap (λ (es : List Entry). slice_get es k) (sym h.history) ∙ also) in
     let tag : Tag = tag_in d in
     let few = count_to (tag_in d) place order in
     let one = tag_once (tag_in d) order (numbered d.client) in
     let counted = times_is_count (tag_in d) (commands_to place order) in
     let once = h.once (tag_in d) in
     ⊎_elim (λ is. is.1)
-    (λ differ. let two = times-two (tag_in d) (tags_made h.made) j k first.tag_at (second.tag_at ∙ ap (λ (t : Tag). Some t) (sym same)) differ.1 in
+    (λ differ. let two = times-two (tag_in d) (tags_made (h.past ++ h.made)) j k first.tag_at (second.tag_at ∙ ap (λ (t : Tag). Some t) (sym same)) differ.1 in
     absurd (omega (arith, two, once, counted, few, one)))
     (eqb_tells j k)
 
@@ -110,26 +110,31 @@ site_after (s ∷ ss) zero j d at = record { site = s; at = refl; history = refl
 site_after (s ∷ ss) (suc place) j d at = let b = site_after ss place j d at in record { site = b.site; at = b.at; history = b.history }
 
 legal_at : (order : Order) (opening : CacheState) (sites : List SiteState) (front : ℕ) (P : ℕ → SiteState → Type 0)
-    → ((place : ℕ) (site : SiteState) → P place site → IsLegal order place opening site.history)
+    → ((place : ℕ) (site : SiteState) → P place site → IsLegal order place opening (drop site.begun site.history))
     → ((place : ℕ) (site : SiteState) → slice_get sites place ≡ Some site → P (place + front) site)
-    → (place : ℕ) → IsLegal order (place + front) opening (histories_of sites place)
+    → (place : ℕ) → IsLegal order (place + front) opening (drop (begun_of sites place) (histories_of sites place))
 legal_at order opening [] front P legal h place = tt
 legal_at order opening (s ∷ ss) front P legal h zero = legal (0 + front) s (h zero s refl)
 legal_at order opening (s ∷ ss) front P legal h (suc place) =
     let same : place + suc front ≡ suc place + front = omega arith in
-    subst (λ (p : ℕ). IsLegal order p opening (histories_of ss place)) same
+    subst (λ (p : ℕ). IsLegal order p opening (drop (begun_of ss place) (histories_of ss place))) same
     (legal_at order opening ss (suc front) P legal (λ q site at. let next : suc q + front ≡ q + suc front = omega arith in subst (λ (p : ℕ). P p site) next (h (suc q) site at)) place)
 
 pub commands_accounted : (opening : CacheState) (texts sent : ℕ → List ℕ) (order : Order) (lanes : ℕ → Lane) (pool : PoolState) → PoolHolds opening texts sent order lanes pool
-    → AccountsForCommands opening order texts (histories_of pool.sites)
+    → AccountsForCommands opening order texts (histories_of pool.sites) (begun_of pool.sites)
 commands_accounted opening texts sent order lanes pool h = record {
   asked = λ client. let left = session_left client order (texts client) (sent client) (session_at pool.proxy client) (h.proxy.sessions client) in (left.untaken, left.rest);
   sized = h.proxy.sized;
   legal = λ place. let same : place + 0 ≡ place = omega arith in
-      subst (λ (p : ℕ). IsLegal order p opening (histories_of pool.sites place)) same
+      subst (λ (p : ℕ). IsLegal order p opening (drop (begun_of pool.sites place) (histories_of pool.sites place))) same
       (legal_at order opening pool.sites 0 (λ q site. SiteHolds q order (lanes q) (link_at pool.proxy.links q) opening site)
       (λ q site s. legal_site q order (lanes q) (link_at pool.proxy.links q) opening site s)
       (λ q site at. let here : q ≡ q + 0 = omega arith in subst (λ (p : ℕ). SiteHolds p order (lanes p) (link_at pool.proxy.links p) opening site) here (h.sites q site at)) place);
+  named = λ place k e at.
+      let there = site_after pool.sites place k e at in
+      let holds = h.sites place there.site there.at in
+      let here : slice_get there.site.history k ≡ Some e = ap (λ (es : List Entry). slice_get es k) (sym there.history) ∙ at in
+      named_at place order (holds.past ++ holds.made) k e holds.named (ap (λ (es : List Entry). slice_get es k) (sym holds.history) ∙ here);
   once = λ r s j k d e at also same.
       let first = site_after pool.sites r j d at in
       let second = site_after pool.sites s k e also in
@@ -137,8 +142,8 @@ commands_accounted opening texts sent order lanes pool h = record {
       let second_holds = h.sites s second.site second.at in
       let at_first : slice_get first.site.history j ≡ Some d = ap (λ (es : List Entry). slice_get es j) (sym first.history) ∙ at in
       let at_second : slice_get second.site.history k ≡ Some e = ap (λ (es : List Entry). slice_get es k) (sym second.history) ∙ also in
-      let named = named_at r order first_holds.made j d first_holds.named (ap (λ (es : List Entry). slice_get es j) (sym first_holds.history) ∙ at_first) in
-      let also_named = named_at s order second_holds.made k e second_holds.named (ap (λ (es : List Entry). slice_get es k) (sym second_holds.history) ∙ at_second) in
+      let named = named_at r order (first_holds.past ++ first_holds.made) j d first_holds.named (ap (λ (es : List Entry). slice_get es j) (sym first_holds.history) ∙ at_first) in
+      let also_named = named_at s order (second_holds.past ++ second_holds.made) k e second_holds.named (ap (λ (es : List Entry). slice_get es k) (sym second_holds.history) ∙ at_second) in
       let both : Some (to_place r named.0) ≡ Some (to_place s also_named.0) = sym named.1 ∙ ap (λ (t : Tag). command_at order t) same ∙ also_named.1 in
       let places : r ≡ s = ap (λ (routed : Routed). routed.server) (same_Some (to_place r named.0) (to_place s also_named.0) both) in
       let moved : slice_get (histories_of pool.sites r) k ≡ Some e = ap (λ (p : ℕ). slice_get (histories_of pool.sites p) k) places ∙ also in

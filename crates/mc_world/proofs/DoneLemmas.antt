@@ -22,7 +22,8 @@ use Rattle.mc_account.specs.Lanes.{Lane, fresh_lane}
 use Rattle.mc_account.specs.Orders.{Order, note, note_all}
 use Rattle.mc_account.specs.Holds.{changed, grown}
 use Rattle.mc_account.proofs.HoldsLemmas.{changed-other, changed-own}
-use Rattle.mc_world.specs.CourseHolds.{CourseHolds, HaveOneConnection, HaveOneGeneration}
+use Rattle.mc_history.proofs.NamedLemmas.{keeps_note, keeps_note_all, keeps_push}
+use Rattle.mc_world.specs.CourseHolds.{CourseHolds, HaveOneConnection, HaveOneGeneration, LivesHold}
 use Rattle.mc_world.specs.LogHolds.{LogHolds}
 use Rattle.mc_world.specs.Logs.{Log}
 use Rattle.mc_world.specs.Courses.{IsDone}
@@ -35,6 +36,7 @@ use Rattle.mc_world.specs.Worlds.{ClientState, CourseState, client_at, put_out_o
 use Rattle.mc_world.proofs.CourseLemmas.{read_changed, with_client-length}
 use Rattle.mc_world.proofs.ConnectionLemmas.{connections_stay}
 use Rattle.mc_world.proofs.GenerationStayLemmas.{generations_stay}
+use Rattle.mc_world.proofs.LifeLemmas.{lives_stay}
 use Rattle.mc_world.proofs.LogHoldsLemmas.{log_client_goes, log_client_takes, log_end_seen, log_hears, log_late_bytes, log_loses, log_reaches_proxy, log_reaches_server, log_returns, log_takes_reply}
 use Rattle.mc_world.proofs.LogTurnLemmas.{log_late_turn, log_puts, log_server_takes, log_takes}
 use Rattle.mc_world.proofs.OutputLemmas.{sent_admitted, unsent, unsent_gone, unsent_kept, unsent_lost, unsent_noted, unsent_other, unsent_own, unsent_sent, unsent_sent_other, without_updated}
@@ -44,8 +46,8 @@ use Rattle.mc_world.proofs.PoolLemmas.{pool_client_goes, pool_client_takes, pool
 pub stood_as : (ring : RingState) (opening : CacheState) (order : Order) (lanes : ℕ → Lane) (new : CourseState) (texts sent outs : ℕ → List ℕ)
     → ((n : ℕ) → texts n ≡ text_of new n) → ((n : ℕ) → sent n ≡ taken_by new n) → ((n : ℕ) → outs n ≡ put_out_of new n)
     → PoolHolds opening texts sent order lanes new.pool → LogHolds ring order outs new.log new.pool → new.pool.proxy.admitted ≡ length new.clients
-    → HaveOneGeneration new.pool → HaveOneConnection new.log new.pool → CourseHolds ring opening new
-stood_as ring opening order lanes new texts sent outs text_is sent_is out_is pool log numbered generations connections =
+    → HaveOneGeneration new.pool → HaveOneConnection new.log new.pool → LivesHold opening order new.log new.pool.sites → CourseHolds ring opening new
+stood_as ring opening order lanes new texts sent outs text_is sent_is out_is pool log numbered generations connections lives =
     let text_same : texts ≡ text_of new = λ i n. text_is n i in
     let sent_same : sent ≡ taken_by new = λ i n. sent_is n i in
     grind arith
@@ -55,14 +57,14 @@ pub same_clients : (ring : RingState) (opening : CacheState) (order : Order) (la
     → new.clients ≡ old.clients → ((n : ℕ) → unsent new.pool.proxy.sessions n ≡ unsent old.pool.proxy.sessions n) → new.pool.proxy.admitted ≡ old.pool.proxy.admitted
     → old.pool.proxy.admitted ≡ length old.clients
     → PoolHolds opening (text_of old) (taken_by old) order lanes new.pool → LogHolds ring order (put_out_of old) new.log new.pool
-    → HaveOneGeneration new.pool → HaveOneConnection new.log new.pool → CourseHolds ring opening new
-same_clients ring opening order lanes old new same outputs admitted numbered pool log generations connections =
+    → HaveOneGeneration new.pool → HaveOneConnection new.log new.pool → LivesHold opening order new.log new.pool.sites → CourseHolds ring opening new
+same_clients ring opening order lanes old new same outputs admitted numbered pool log generations connections lives =
     stood_as ring opening order lanes new (text_of old) (taken_by old) (put_out_of old)
     (λ n. ap (λ (cs : List ClientState). (client_at cs n).text) (sym same))
     (λ n. ap (λ (cs : List ClientState). (client_at cs n).taken) (sym same))
     (λ n. ap (λ (cs : List ClientState). (client_at cs n).taken ++ unsent old.pool.proxy.sessions n) (sym same)
     ∙ ap (λ (bytes : List ℕ). taken_by new n ++ bytes) (sym (outputs n)))
-    pool log (admitted ∙ numbered ∙ ap (λ (cs : List ClientState). length cs) (sym same)) generations connections
+    pool log (admitted ∙ numbered ∙ ap (λ (cs : List ClientState). length cs) (sym same)) generations connections lives
 
 -- a client whose session is open is there
 pub is_there : (ring : RingState) (opening : CacheState) (c : CourseState) (client : ℕ) (session : SessionState) → CourseHolds ring opening c
@@ -80,8 +82,8 @@ pub heard : (ring : RingState) (opening : CacheState) (order : Order) (lanes : �
     → ((n : ℕ) → unsent new.pool.proxy.sessions n ≡ unsent old.pool.proxy.sessions n) → new.pool.proxy.admitted ≡ old.pool.proxy.admitted
     → old.pool.proxy.admitted ≡ length old.clients
     → PoolHolds opening (grown client bytes (text_of old)) (taken_by old) order lanes new.pool → LogHolds ring order (put_out_of old) new.log new.pool
-    → HaveOneGeneration new.pool → HaveOneConnection new.log new.pool → CourseHolds ring opening new
-heard ring opening order lanes old new client bytes inside is outputs admitted numbered pool log generations connections =
+    → HaveOneGeneration new.pool → HaveOneConnection new.log new.pool → LivesHold opening order new.log new.pool.sites → CourseHolds ring opening new
+heard ring opening order lanes old new client bytes inside is outputs admitted numbered pool log generations connections lives =
     let taken_is : (n : ℕ) → taken_by old n ≡ taken_by new n = λ n.
     sym (ap (λ (cs : List ClientState). (client_at cs n).taken) is
     ∙ read_changed (λ (c : ClientState). c.taken) client (record (client_at old.clients client) { text = (client_at old.clients client).text ++ bytes }) old.clients inside n
@@ -92,7 +94,7 @@ heard ring opening order lanes old new client bytes inside is outputs admitted n
     taken_is
     (λ n. ap (λ (t : List ℕ). t ++ unsent old.pool.proxy.sessions n) (taken_is n) ∙ ap (λ (b : List ℕ). taken_by new n ++ b) (sym (outputs n)))
     pool log (admitted ∙ numbered ∙ sym (ap (λ (cs : List ClientState). length cs) is
-    ∙ with_client-length client (record (client_at old.clients client) { text = (client_at old.clients client).text ++ bytes }) old.clients)) generations connections
+    ∙ with_client-length client (record (client_at old.clients client) { text = (client_at old.clients client).text ++ bytes }) old.clients)) generations connections lives
 
 -- a client has taken bytes: what was put out to it is the same
 pub took : (ring : RingState) (opening : CacheState) (order : Order) (lanes : ℕ → Lane) (old new : CourseState) (client : ℕ) (bytes : List ℕ)
@@ -102,8 +104,8 @@ pub took : (ring : RingState) (opening : CacheState) (order : Order) (lanes : �
     → ((n : ℕ) → client ≢ n → unsent new.pool.proxy.sessions n ≡ unsent old.pool.proxy.sessions n) → new.pool.proxy.admitted ≡ old.pool.proxy.admitted
     → old.pool.proxy.admitted ≡ length old.clients
     → PoolHolds opening (text_of old) (grown client bytes (taken_by old)) order lanes new.pool → LogHolds ring order (put_out_of old) new.log new.pool
-    → HaveOneGeneration new.pool → HaveOneConnection new.log new.pool → CourseHolds ring opening new
-took ring opening order lanes old new client bytes inside is own others admitted numbered pool log generations connections =
+    → HaveOneGeneration new.pool → HaveOneConnection new.log new.pool → LivesHold opening order new.log new.pool.sites → CourseHolds ring opening new
+took ring opening order lanes old new client bytes inside is own others admitted numbered pool log generations connections lives =
     let text_is : (n : ℕ) → text_of old n ≡ text_of new n = λ n.
     sym (ap (λ (cs : List ClientState). (client_at cs n).text) is
     ∙ read_changed (λ (c : ClientState). c.text) client (record (client_at old.clients client) { taken = (client_at old.clients client).taken ++ bytes }) old.clients inside n
@@ -121,7 +123,7 @@ took ring opening order lanes old new client bytes inside is own others admitted
     ∙ ap (λ (b : List ℕ). taken_by new n ++ b) (sym (others n e.1)))
     (eqb_tells client n))
     pool log (admitted ∙ numbered ∙ sym (ap (λ (cs : List ClientState). length cs) is
-    ∙ with_client-length client (record (client_at old.clients client) { taken = (client_at old.clients client).taken ++ bytes }) old.clients)) generations connections
+    ∙ with_client-length client (record (client_at old.clients client) { taken = (client_at old.clients client).taken ++ bytes }) old.clients)) generations connections lives
 
 -- the log has the event
 logged : (ring : RingState) (order : Order) (outs : ℕ → List ℕ) (pool : PoolState) (log log' : Log) → log' ≡ log → LogHolds ring order outs log pool → LogHolds ring order outs log' pool
@@ -150,6 +152,7 @@ course_done ring opening (ClientBytes client bytes) old new h e =
     (logged ring h.order (put_out_of old) new.pool (old.log ++ Happened (ClientBytes client tt) ∷ []) new.log e.log
     (log_hears ring h.order (put_out_of old) old.log client bytes tt old.pool new.pool hears h.log))
     (generations_stay (ClientBytes client bytes) old.pool new.pool e.pool h.generations) (connections_stay ring opening (ClientBytes client bytes) old new h e)
+    (lives_stay ring opening (ClientBytes client bytes) h.order old new h (λ _ _ k. k) e)
 course_done ring opening (ClientGone client) old new h e =
     let goes = e.pool.1 in
     let inside = is_there ring opening old client e.pool.0.0 h e.pool.0.1 in
@@ -170,6 +173,7 @@ course_done ring opening (ClientGone client) old new h e =
     (logged ring h.order (put_out_of old) new.pool (old.log ++ Happened (ClientGone client) ∷ []) new.log e.log
     (log_client_goes ring h.order (put_out_of old) old.log client old.pool new.pool goes h.log))
     (generations_stay (ClientGone client) old.pool new.pool e.pool h.generations) (connections_stay ring opening (ClientGone client) old new h e)
+    (lives_stay ring opening (ClientGone client) h.order old new h (λ _ _ k. k) e)
 course_done ring opening (ProxyTurn client) old new h e =
     same_clients ring opening (h.order ++ asked_by e.pool ∷ []) h.lanes old new e.clients
     (unsent_kept client old.pool.proxy new.pool.proxy (IsTurn client turns.Took old.pool.proxy.ring old.pool.proxy.losses) e.pool.steps e.pool.steps.step.1.output)
@@ -178,6 +182,7 @@ course_done ring opening (ProxyTurn client) old new h e =
     (logged ring (h.order ++ asked_by e.pool ∷ []) (put_out_of old) new.pool (old.log ++ Happened (ProxyTurn client) ∷ []) new.log e.log
     (log_takes ring h.order (put_out_of old) old.log client old.pool new.pool e.pool h.log))
     (generations_stay (ProxyTurn client) old.pool new.pool e.pool h.generations) (connections_stay ring opening (ProxyTurn client) old new h e)
+    (lives_stay ring opening (ProxyTurn client) (h.order ++ asked_by e.pool ∷ []) old new h (keeps_push h.order (asked_by e.pool)) e)
 course_done ring opening (ToServer server generation count) old new h e = elim e.pool [
   | inl here ↦
       same_clients ring opening h.order
@@ -187,6 +192,7 @@ course_done ring opening (ToServer server generation count) old new h e = elim e
       (logged ring h.order (put_out_of old) new.pool (old.log ++ Happened (ToServer server generation count) ∷ []) new.log e.log
       (log_reaches_server ring h.order (put_out_of old) old.log server generation count count old.pool new.pool here.0 h.log))
       (generations_stay (ToServer server generation count) old.pool new.pool e.pool h.generations) (connections_stay ring opening (ToServer server generation count) old new h e)
+      (lives_stay ring opening (ToServer server generation count) h.order old new h (λ _ _ k. k) e)
   | inr late ↦
       same_clients ring opening h.order h.lanes old new e.clients
       (λ n. ap (λ (p : ProxyState). unsent p.sessions n) late.1.there.proxy) (ap (λ (p : ProxyState). p.admitted) late.1.there.proxy) h.numbered
@@ -194,6 +200,7 @@ course_done ring opening (ToServer server generation count) old new h e = elim e
       (logged ring h.order (put_out_of old) new.pool (old.log ++ Happened (ToServer server generation count) ∷ []) new.log e.log
       (log_late_bytes ring h.order (put_out_of old) old.log server generation count late.0 count old.pool new.pool late.1 h.log))
       (generations_stay (ToServer server generation count) old.pool new.pool e.pool h.generations) (connections_stay ring opening (ToServer server generation count) old new h e)
+      (lives_stay ring opening (ToServer server generation count) h.order old new h (λ _ _ k. k) e)
 ]
 course_done ring opening (ServerTurn server generation moment) old new h e = elim e.pool.1 [
   | inl here ↦
@@ -203,6 +210,7 @@ course_done ring opening (ServerTurn server generation moment) old new h e = eli
       (logged ring h.order (put_out_of old) new.pool (old.log ++ Happened (ServerTurn server generation moment) ∷ []) new.log e.log
       (log_server_takes ring opening (text_of old) (taken_by old) h.order h.lanes (put_out_of old) old.log server generation moment old.pool new.pool here.0 h.pool h.log))
       (generations_stay (ServerTurn server generation moment) old.pool new.pool e.pool h.generations) (connections_stay ring opening (ServerTurn server generation moment) old new h e)
+      (lives_stay ring opening (ServerTurn server generation moment) h.order old new h (λ _ _ k. k) e)
   | inr late ↦
       same_clients ring opening h.order h.lanes old new e.clients
       (λ n. ap (λ (p : ProxyState). unsent p.sessions n) late.1.there.proxy) (ap (λ (p : ProxyState). p.admitted) late.1.there.proxy) h.numbered
@@ -210,6 +218,7 @@ course_done ring opening (ServerTurn server generation moment) old new h e = eli
       (logged ring h.order (put_out_of old) new.pool (old.log ++ Happened (ServerTurn server generation moment) ∷ []) new.log e.log
       (log_late_turn ring h.order (put_out_of old) old.log server generation late.0 moment old.pool new.pool late.1 h.log))
       (generations_stay (ServerTurn server generation moment) old.pool new.pool e.pool h.generations) (connections_stay ring opening (ServerTurn server generation moment) old new h e)
+      (lives_stay ring opening (ServerTurn server generation moment) h.order old new h (λ _ _ k. k) e)
 ]
 course_done ring opening (ToProxy server count) old new h e =
     same_clients ring opening h.order (changed server (record (h.lanes server) {
@@ -220,6 +229,7 @@ course_done ring opening (ToProxy server count) old new h e =
     (logged ring h.order (put_out_of old) new.pool (old.log ++ Happened (ToProxy server count) ∷ []) new.log e.log
     (log_reaches_proxy ring h.order (put_out_of old) old.log server count count old.pool new.pool e.pool h.log))
     (generations_stay (ToProxy server count) old.pool new.pool e.pool h.generations) (connections_stay ring opening (ToProxy server count) old new h e)
+    (lives_stay ring opening (ToProxy server count) h.order old new h (λ _ _ k. k) e)
 course_done ring opening (ReplyTurn server) old new h e =
     let answers = e.pool.answers in
     same_clients ring opening (note answers.tag (Reply answers.reply) h.order)
@@ -230,6 +240,7 @@ course_done ring opening (ReplyTurn server) old new h e =
     (logged ring (note answers.tag (Reply answers.reply) h.order) (put_out_of old) new.pool (old.log ++ Happened (ReplyTurn server) ∷ []) new.log e.log
     (log_takes_reply ring (text_of old) (taken_by old) h.order h.lanes (put_out_of old) old.log server old.pool new.pool e.pool h.pool.proxy h.log))
     (generations_stay (ReplyTurn server) old.pool new.pool e.pool h.generations) (connections_stay ring opening (ReplyTurn server) old new h e)
+    (lives_stay ring opening (ReplyTurn server) (note answers.tag (Reply answers.reply) h.order) old new h (keeps_note answers.tag (Reply answers.reply) h.order) e)
 course_done ring opening (Emit client) old new h e =
     let holds = pool_puts opening (text_of old) (taken_by old) h.order h.lanes client old.pool new.pool e.pool h.pool in
     stood_as ring opening h.order h.lanes new (text_of old) (taken_by old) (put_out_of new)
@@ -245,6 +256,7 @@ course_done ring opening (Emit client) old new h e =
     h.log))
     (e.pool.steps.admitted ∙ h.numbered ∙ ap (λ (cs : List ClientState). length cs) (sym e.clients))
     (generations_stay (Emit client) old.pool new.pool e.pool h.generations) (connections_stay ring opening (Emit client) old new h e)
+    (lives_stay ring opening (Emit client) h.order old new h (λ _ _ k. k) e)
 course_done ring opening (ClientTakes client count) old new h e =
     let takes = e.pool.1 in
     let inside = is_there ring opening old client e.pool.0.0 h e.pool.0.1 in
@@ -258,6 +270,7 @@ course_done ring opening (ClientTakes client count) old new h e =
     (logged ring h.order (put_out_of old) new.pool (old.log ++ Happened (ClientTakes client count) ∷ []) new.log e.log
     (log_client_takes ring h.order (put_out_of old) old.log client count count old.pool new.pool takes h.log))
     (generations_stay (ClientTakes client count) old.pool new.pool e.pool h.generations) (connections_stay ring opening (ClientTakes client count) old new h e)
+    (lives_stay ring opening (ClientTakes client count) h.order old new h (λ _ _ k. k) e)
 course_done ring opening (LinkLost server) old new h e =
     let tags : List Tag = map (λ (w : Waiting). w.1) (link_at old.pool.proxy.links server).waiting in
     same_clients ring opening (note_all tags Lost h.order) h.lanes old new e.clients
@@ -268,6 +281,7 @@ course_done ring opening (LinkLost server) old new h e =
     (old.log ++ Happened (LinkLost server) ∷ []) new.log e.log
     (log_loses ring (text_of old) (taken_by old) h.order h.lanes (put_out_of old) old.log server old.pool new.pool e.pool h.pool.proxy h.log))
     (generations_stay (LinkLost server) old.pool new.pool e.pool h.generations) (connections_stay ring opening (LinkLost server) old new h e)
+    (lives_stay ring opening (LinkLost server) (note_all tags Lost h.order) old new h (keeps_note_all tags Lost h.order) e)
 course_done ring opening (LinkBack server) old new h e =
     same_clients ring opening h.order (changed server (fresh_lane (length h.order)) h.lanes) old new e.clients
     (λ n. ap (λ (p : ProxyState). unsent p.sessions n) e.pool.proxy) (ap (λ (p : ProxyState). p.admitted) e.pool.proxy) h.numbered
@@ -275,6 +289,7 @@ course_done ring opening (LinkBack server) old new h e =
     (logged ring h.order (put_out_of old) new.pool (old.log ++ Happened (LinkBack server) ∷ []) new.log e.log
     (log_returns ring h.order (put_out_of old) old.log server old.pool new.pool e.pool h.log))
     (generations_stay (LinkBack server) old.pool new.pool e.pool h.generations) (connections_stay ring opening (LinkBack server) old new h e)
+    (lives_stay ring opening (LinkBack server) h.order old new h (λ _ _ k. k) e)
 course_done ring opening (ServerSeesEnd server generation) old new h e =
     let ends = e.pool.1 in
     same_clients ring opening h.order h.lanes old new e.clients
@@ -283,3 +298,4 @@ course_done ring opening (ServerSeesEnd server generation) old new h e =
     (logged ring h.order (put_out_of old) new.pool (old.log ++ Happened (ServerSeesEnd server generation) ∷ []) new.log e.log
     (log_end_seen ring h.order (put_out_of old) old.log server generation e.pool.0 old.pool new.pool ends h.log))
     (generations_stay (ServerSeesEnd server generation) old.pool new.pool e.pool h.generations) (connections_stay ring opening (ServerSeesEnd server generation) old new h e)
+    (lives_stay ring opening (ServerSeesEnd server generation) h.order old new h (λ _ _ k. k) e)

@@ -35,10 +35,10 @@ use Rattle.mc_world.specs.LogHolds.{LogHolds}
 use Rattle.mc_world.specs.Logs.{Log, loses, number_of}
 use Rattle.mc_world.specs.Pools.{PoolHolds}
 use Rattle.mc_world.specs.Sites.{SiteHolds}
-use Rattle.mc_world.specs.WorldState.{PoolState, SiteState, histories_of}
+use Rattle.mc_world.specs.WorldState.{PoolState, SiteState, begun_of, histories_of}
 use Rattle.mc_world.proofs.CommandLemmas.{times-one, times_is_count}
 use Rattle.mc_world.proofs.CountLemmas.{times-tags}
-use Rattle.mc_world.proofs.LogEntryLemmas.{got_map, got_some, got_there, history_at}
+use Rattle.mc_world.proofs.LogEntryLemmas.{begun_at, got_map, got_some, got_there, history_at}
 use Rattle.mc_world.proofs.LogLemmas.{number-before, stays_up}
 use Rattle.mc_world.proofs.LogLivingLemmas.{commands_split, made_of_entry}
 
@@ -114,7 +114,7 @@ reply_known Awaited told never = absurd (false≢true told)
 reply_known Lost told never = absurd (never refl)
 reply_known (Reply reply) told never = (reply, refl)
 
--- a site of which no command is lost, and whose server made all on one connection
+-- a site of which no command is lost, and whose server is in its first life and made all on one connection
 record IsHeld (place : ℕ) (order : Order) (lane : Lane) (link : LinkState) (opening : CacheState) (site : SiteState) : Type 0 where
   pub holds : SiteHolds place order lane link opening site
   pub passed : LaneHolds place order lane link
@@ -122,6 +122,7 @@ record IsHeld (place : ℕ) (order : Order) (lane : Lane) (link : LinkState) (op
   pub numbered : (number : ℕ) → AreInOrder (entries_of number order)
   pub sized : All IsSized order
   pub never : (tag : Tag) (atom : Atom (List ℕ)) → command_at order tag ≡ Some (to_place place atom) → outcome_at order tag ≡ Some Lost → ⊥
+  pub first : holds.past ≡ []
   pub whole : made_on site.connection holds.made ≡ holds.made
 
 -- the commands to it are those sent before its lane began, those that its server took, and the others
@@ -139,9 +140,10 @@ nothing_before place order lane link opening site (c ∷ cs) h is =
     let reply = reply_known first.outcome first.told (λ lost. h.never c.1 c.0 first.command (first.known ∙ ap (λ (o : Outcome). Some o) lost)) in
     let entry = h.holds.replied c.1 c.0 reply.0 first.command (first.known ∙ ap (λ (o : Outcome). Some o) reply.1) in
     let from = made_of_entry place order lane link opening site h.holds entry.0 entry.1 entry.2 in
+    let made_at : slice_get h.holds.made entry.0 ≡ Some from.m = ap (λ (ms : List Made). slice_get (ms ++ h.holds.made) entry.0) (sym h.first) ∙ from.at in
     let there : slice_get (tags_of (commands_on site.connection h.holds.made)) entry.0 ≡ Some c.1 =
     ap (λ (ms : List Made). slice_get (tags_of (map (λ (m : Made). m.command) ms)) entry.0) h.whole
-    ∙ got_map (λ (x : Tagged). x.1) (map (λ (m : Made). m.command) h.holds.made) entry.0 from.m.command (got_map (λ (m : Made). m.command) h.holds.made entry.0 from.m from.at)
+    ∙ got_map (λ (x : Tagged). x.1) (map (λ (m : Made). m.command) h.holds.made) entry.0 from.m.command (got_map (λ (m : Made). m.command) h.holds.made entry.0 from.m made_at)
     ∙ ap (λ (t : Tag). Some t) (from.tag ∙ entry.3) in
     let parts : times c.1 (tags_of (commands_to place order))
     ≡ times c.1 (tags_of (((c ∷ cs) ++ commands_on site.connection h.holds.made) ++ (h.holds.living h.up).others)) =
@@ -166,7 +168,7 @@ held_follows place order lane link opening site h =
     let all : commands_to place order ≡ commands_on site.connection h.holds.made ++ (h.holds.living h.up).others =
     all_parts place order lane link opening site h ∙ ap (λ (xs : List Tagged). (xs ++ commands_on site.connection h.holds.made) ++ (h.holds.living h.up).others) front in
     let tags : map tag_in site.history ≡ tags_of (commands_on site.connection h.holds.made) =
-    ap (λ (es : List Entry). map tag_in es) h.holds.history ∙ tags_made_of h.holds.made
+    ap (λ (es : List Entry). map tag_in es) h.holds.history ∙ ap (λ (ms : List Made). map tag_in (map entry_of (ms ++ h.holds.made))) h.first ∙ tags_made_of h.holds.made
     ∙ ap (λ (ms : List Made). tags_of (map (λ (m : Made). m.command) ms)) (sym h.whole) in (
       tags_of (h.holds.living h.up).others,
       ap (λ (ts : List Tag). ts ++ tags_of (h.holds.living h.up).others) tags
@@ -186,6 +188,11 @@ made_whole place order lane link opening site h up one =
     ap (λ (n : ℕ). made_on n h.made) first
     ∙ all_on h.made (λ number past. (h.server.unused number (omega (arith, past, one))).nothing_taken)
 
+-- a server in its first life made nothing before it
+no_past : (past : List Made) → length past ≡ 0 → past ≡ []
+no_past [] none = refl
+no_past (m ∷ ms) none = absurd (omega (arith, none))
+
 -- where a link is never lost, no command to its server is told lost
 pub nothing_lost : (place : ℕ) (tag : Tag) (history : List Entry) (log : Log) → number_of (loses place) log ≡ 0 → IsToldLost place tag history log → ⊥
 nothing_lost place tag history log none (inl down) = grind (arith, true≢false, number-before, stays_up)
@@ -198,9 +205,10 @@ none_past (s ∷ ss) zero past = absurd (omega (arith, past))
 none_past (s ∷ ss) (suc place) past = none_past ss place (omega (arith, past))
 
 pub followed : (ring : RingState) (opening : CacheState) (texts sent : ℕ → List ℕ) (order : Order) (lanes : ℕ → Lane) (outs : ℕ → List ℕ) (log : Log) (pool : PoolState)
-    → PoolHolds opening texts sent order lanes pool → LogHolds ring order outs log pool → HaveOneConnection log pool → (place : ℕ) → number_of (loses place) log ≡ 0
+    → PoolHolds opening texts sent order lanes pool → LogHolds ring order outs log pool → HaveOneConnection log pool
+    → ((place : ℕ) → number_of (loses place) log ≡ 0 → begun_of pool.sites place ≡ 0) → (place : ℕ) → number_of (loses place) log ≡ 0
     → (untaken : List Tag) × (map tag_in (histories_of pool.sites place) ++ untaken ≡ tags_of (commands_to place order))
-followed ring opening texts sent order lanes outs log pool pool_holds h first place none = ⊎_elim
+followed ring opening texts sent order lanes outs log pool pool_holds h first alive place none = ⊎_elim
     (λ inside.
     let site = got_some pool.sites place inside in
     let up = sym (h.servers.links place inside) ∙ stays_up place log none in
@@ -213,6 +221,7 @@ followed ring opening texts sent order lanes outs log pool pool_holds h first pl
       numbered = pool_holds.proxy.numbered;
       sized = pool_holds.proxy.sized;
       never = λ tag atom command lost. nothing_lost place tag (histories_of pool.sites place) log none (h.commands.told tag place atom Lost command lost);
+      first = no_past holds.past (holds.begun ∙ sym (begun_at pool.sites place site.0 site.1) ∙ alive place none);
       whole = made_whole place order (lanes place) (link_at pool.proxy.links place) opening site.0 holds up (first place site.0 site.1 none);
     })))
     (λ past. (tags_of (commands_to place order), ap (λ (es : List Entry). map tag_in es ++ tags_of (commands_to place order)) (none_past pool.sites place past)))

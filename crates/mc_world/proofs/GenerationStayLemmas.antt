@@ -17,6 +17,7 @@ use Rattle.mc_account.proofs.LaneLemmas.{link_other, link_own, up_is_there}
 use Rattle.mc_world.specs.Courses.{Happens}
 use Rattle.mc_world.specs.CourseHolds.{HaveOneGeneration, IsOfLink}
 use Rattle.mc_world.specs.Pools.{AtSite, LinkReturns, LosesLink, cut_off}
+use Rattle.mc_world.specs.Restarts.{ServerRestarts, restarted}
 use Rattle.mc_world.specs.WorldState.{PoolState, SiteState, WayState}
 use Rattle.mc_world.specs.Worlds.{first_site}
 use Rattle.mc_event.specs.declared.events.Event.{Event}
@@ -257,3 +258,15 @@ generations_stay (LinkBack server) old new e h = back_stays server old new e h
 generations_stay (ServerSeesEnd server generation) old new e h =
     one_site server e.1.there.site e.1.there.now old new e.1.there.at
     (kept_removed e.1.there.site e.1.there.now e.0 (ap (λ (s : SiteState). s.generation) e.1.ends.all_else) (ap (λ (s : SiteState). s.lost) e.1.ends.all_else)) e.1.there.sites (same_links old.proxy.links new.proxy.links (ap (λ (p : ProxyState). p.links) e.1.there.proxy)) h
+
+-- a server restarts: its generation is the same, and none was lost
+pub generations_restart : (place : ℕ) (opening : CacheState) (old new : PoolState) → ServerRestarts place opening old new → HaveOneGeneration old → HaveOneGeneration new
+generations_restart place opening old new e h =
+    one_site place e.site (restarted opening e.site) old new e.at
+    (λ link of. record {
+      same = of.same;
+      rising = λ i j v w at_v at_w before. absurd (none-some v (sym (get_none i) ∙ at_v));
+      most = λ i w at. absurd (none-some w (sym (get_none i) ∙ at));
+      below = λ up i w at. absurd (none-some w (sym (get_none i) ∙ at));
+    })
+    e.sites (same_links old.proxy.links new.proxy.links (ap (λ (p : ProxyState). p.links) e.proxy)) h

@@ -1,5 +1,5 @@
 -- A course holds after a server has joined.
-use Rattle.std.proofs.Common.{◌≡◌, ◌∙◌, ⊎_elim, ℕ, zero, suc, ◌<◌, ◌≤◌, inl, inr, Bool, true, if◌then◌else◌, List, [], ◌∷◌, ◌++◌, length, Option, None, slice_get, refl, sym, ap, subst, arith}
+use Rattle.std.proofs.Common.{◌≡◌, ◌∙◌, ⊎_elim, ℕ, zero, suc, ◌<◌, ◌≤◌, inl, inr, Bool, true, if◌then◌else◌, List, [], ◌∷◌, ◌++◌, length, Option, None, slice_get, refl, sym, ap, subst, append-nil, arith}
 use Rattle.std.specs.Prelude.{All}
 use Rattle.std.proofs.lemmas.Bool.{cases_lt}
 use Rattle.std.proofs.lemmas.List.{get_or_append_left, get_or_push, length_push}
@@ -27,18 +27,19 @@ use Rattle.mc_account.proofs.OpenSessions.{other_number}
 use Rattle.mc_account.proofs.HoldsLemmas.{changed-other, changed-own}
 use Rattle.mc_account.proofs.WithinLemmas.{commands_within, within-more}
 use Rattle.mc_history.specs.Named.{AreReplied}
-use Rattle.mc_world.specs.CourseHolds.{CourseHolds, HaveOneGeneration, IsOfLink}
+use Rattle.mc_world.specs.CourseHolds.{CourseHolds, HaveOneGeneration, IsOfLink, LivesHold}
 use Rattle.mc_world.specs.Joins.{HasServerJoined, ServerJoins}
 use Rattle.mc_world.specs.LogHolds.{LogHolds, ServersHold}
 use Rattle.mc_world.specs.Logs.{HasJoined, IsRingAfter, Log}
 use Rattle.mc_world.specs.Pools.{PoolHolds}
 use Rattle.mc_world.specs.Sites.{SiteHolds}
-use Rattle.mc_world.specs.WorldState.{PoolState, SiteState, WayState, histories_of}
+use Rattle.mc_world.specs.WorldState.{PoolState, SiteState, WayState, begun_of, histories_of}
 use Rattle.mc_world.specs.Worlds.{CourseState, first_site, put_out_of, taken_by, text_of}
-use Rattle.mc_world.specs.declared.logs.Logged.TheVariants.{Happened, Joined}
+use Rattle.mc_world.specs.declared.logs.Logged.TheVariants.{Happened, Joined, Restarted}
 use Rattle.mc_world.proofs.ConnectionLemmas.{connections_join}
 use Rattle.mc_world.proofs.DoneLemmas.{same_clients}
 use Rattle.mc_world.proofs.GenerationStayLemmas.{first_of_link}
+use Rattle.mc_world.proofs.LifeLemmas.{lives_on, sizes_of}
 use Rattle.mc_world.proofs.LogCommandLemmas.{commands_still}
 use Rattle.mc_world.proofs.LogEntryLemmas.{HasUntakenAt, got_inside, got_pushed}
 use Rattle.mc_world.proofs.LogHistoryLemmas.{histories_go}
@@ -115,6 +116,7 @@ ring_joined : (opening now next : RingState) (log : Log) (server : ℕ) (address
 ring_joined opening now next [] server address joined h = (next, subst (λ (r : RingState). HasJoined server address r next) h joined, refl)
 ring_joined opening now next (Happened event ∷ es) server address joined h = ring_joined opening now next es server address joined h
 ring_joined opening now next (Joined other at ∷ es) server address joined h = (h.0, h.1, ring_joined h.0 now next es server address joined h.2)
+ring_joined opening now next (Restarted other ∷ es) server address joined h = ring_joined opening now next es server address joined h
 
 none_at : (i : ℕ) → ◌≡◌ {A = Option WayState} (slice_get [] i) None
 none_at zero = refl
@@ -206,6 +208,26 @@ join_generations address opening old new e same h other site at =
           (subst (λ (s : SiteState). IsOfLink (up_link 1) s) (sym last.1) (first_of_link opening)))
     ]
 
+-- what was taken in each life is the same
+begun_joined : (opening : CacheState) (sites : List SiteState) (place : ℕ) → begun_of (sites ++ first_site opening ∷ []) place ≡ begun_of sites place
+begun_joined opening [] zero = refl
+begun_joined opening [] (suc place) = refl
+begun_joined opening (site ∷ sites) zero = refl
+begun_joined opening (site ∷ sites) (suc place) = begun_joined opening sites place
+
+lives_join : (ring : RingState) (opening : CacheState) (order : Order) (outs : ℕ → List ℕ) (address : List ℕ) (old new : CourseState) → HasServerJoined address opening old new
+    → LogHolds ring order outs old.log old.pool → LivesHold opening order old.log old.pool.sites → LivesHold opening order new.log new.pool.sites
+lives_join ring opening order outs address old new e logs h =
+    subst (λ (l : Log). LivesHold opening order l new.pool.sites) (sym e.log)
+    (subst (λ (ss : List SiteState). LivesHold opening order (old.log ++ Joined (length old.pool.proxy.ring.servers) address ∷ []) ss) (sym e.pool.sites)
+    (lives_on opening order order old.log (Joined (length old.pool.proxy.ring.servers) address) old.pool.sites (old.pool.sites ++ first_site opening ∷ [])
+    (λ _ _ k. k)
+    (record {
+      begun = begun_joined opening old.pool.sites;
+      more = λ place. ([], histories_joined opening old.pool.sites place ∙ sym (append-nil (histories_of old.pool.sites place)));
+    })
+    (λ place. refl) (sizes_of ring order outs old.log old.pool logs) h))
+
 -- the course holds
 pub course_joins : (ring : RingState) (opening : CacheState) (address : List ℕ) (old new : CourseState) → IsGoodCache opening → CourseHolds ring opening old
     → HasServerJoined address opening old new → CourseHolds ring opening new
@@ -217,3 +239,4 @@ course_joins ring opening address old new good h e =
     (log_joins ring h.order (put_out_of old) old.log address opening old.pool new.pool e.pool h.log))
     (join_generations address opening old.pool new.pool e.pool (h.log.servers.linked ∙ sym h.log.servers.sited) h.generations)
     (connections_join address opening old new e h.connections)
+    (lives_join ring opening h.order (put_out_of old) address old new e h.log h.lives)

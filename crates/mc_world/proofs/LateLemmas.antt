@@ -31,11 +31,11 @@ use Rattle.mc_history.specs.declared.entries.Entry.{Entry}
 use Rattle.mc_world.specs.Sites.{IsLiving, IsLostWay, SiteHolds, untaken_times}
 use Rattle.mc_world.specs.WorldState.{SiteState, WayState}
 use Rattle.mc_history.proofs.OutcomeLemmas.{replied_push}
-use Rattle.mc_world.proofs.CountLemmas.{times-made, untaken-set}
+use Rattle.mc_world.proofs.CountLemmas.{untaken-set}
 use Rattle.mc_history.proofs.GenerationLemmas.{reads_others}
 use Rattle.mc_history.proofs.NamedLemmas.{each_push}
 use Rattle.mc_history.proofs.MadeLemmas.{cache_of, made_push, replayed_made}
-use Rattle.mc_world.proofs.SiteLemmas.{appended, commands_push_other, commands_push_own, entry_by, get_none, is_made, lost_elsewhere, lost_untouched, made_of, next_is, other_is, same_end, still_good, taking_by}
+use Rattle.mc_world.proofs.SiteLemmas.{appended, commands_push_other, commands_push_own, entry_by, get_none, is_made, lost_elsewhere, lost_untouched, made_of, next_is, one_more, other_is, same_end, still_good, taking_by}
 use Rattle.mc_history.specs.Named.{IsNamed, tags_made, times}
 
 -- what is in a list in which one is another
@@ -67,11 +67,11 @@ apart_set ways i way now same at apart j k v w at_v at_w differ = elim (get_set 
 ]
 
 -- the living generation, where something happens on another connection
-living_elsewhere : (place : ℕ) (order : Order) (lane : Lane) (made made' : List Made) (texts texts' sent : ℕ → List ℕ) (site : SiteState) (server : ServerState) (history : List Entry) (lost : List WayState)
+living_elsewhere : (place : ℕ) (order : Order) (lane : Lane) (all all' made made' : List Made) (texts texts' sent : ℕ → List ℕ) (site : SiteState) (server : ServerState) (history : List Entry) (lost : List WayState)
     → texts' site.connection ≡ texts site.connection → commands_on site.connection made' ≡ commands_on site.connection made → connection_at server site.connection ≡ connection_at site.server site.connection
-    → ((t : Tag) → times t (tags_made made') + untaken_times t lost ≤ times t (tags_made made) + untaken_times t site.lost)
-    → IsLiving place order lane made texts sent site → IsLiving place order lane made' texts' sent (record site { server = server; history = history; lost = lost })
-living_elsewhere place order lane made made' texts texts' sent site server history lost text commands is fewer h = record {
+    → ((t : Tag) → times t (tags_made all') + untaken_times t lost ≤ times t (tags_made all) + untaken_times t site.lost)
+    → IsLiving place order lane all made texts sent site → IsLiving place order lane all' made' texts' sent (record site { server = server; history = history; lost = lost })
+living_elsewhere place order lane all all' made made' texts texts' sent site server history lost text commands is fewer h = record {
   end = h.end;
   is_open = is ∙ h.is_open;
   out = text ∙ h.out;
@@ -100,10 +100,12 @@ site_late_fed place order lane link opening site server i way piece rest at goin
       untaken = own.untaken;
       named = own.named;
     } in
-    let fewer : (t : Tag) → times t (tags_made h.made) + untaken_times t (slice_set site.lost i (record way { going = rest })) ≤ times t (tags_made h.made) + untaken_times t site.lost =
+    let fewer : (t : Tag) → times t (tags_made (h.past ++ h.made)) + untaken_times t (slice_set site.lost i (record way { going = rest })) ≤ times t (tags_made (h.past ++ h.made)) + untaken_times t site.lost =
     λ t. omega (arith, untaken-set t site.lost i way (record way { going = rest }) at) in
     record {
+      past = h.past;
       made = h.made;
+      begun = h.begun;
       texts = grown way.connection piece h.texts;
       sent = h.sent;
       server = ServerHolds-fed opening h.texts h.sent (map taking_of h.made) way.connection piece site.server server h.server steps;
@@ -116,7 +118,7 @@ site_late_fed place order lane link opening site server i way piece rest at goin
       replied = h.replied;
       once = λ t. omega (arith, h.once t, fewer t);
       living = λ up. let differ : way.connection ≢ site.connection = λ same. h.apart_living up i way at (sym same) in
-          living_elsewhere place order lane h.made h.made h.texts (grown way.connection piece h.texts) h.sent site server site.history (slice_set site.lost i (record way { going = rest }))
+          living_elsewhere place order lane (h.past ++ h.made) (h.past ++ h.made) h.made h.made h.texts (grown way.connection piece h.texts) h.sent site server site.history (slice_set site.lost i (record way { going = rest }))
           (grown-other way.connection site.connection piece h.texts differ) refl (other_is way.connection site.connection site.server server (Feeds piece) steps differ) fewer (h.living up);
       lost = λ j w at_w. elim (get_set site.lost i (record way { going = rest }) j w at_w) [
         | inl k ↦ subst (λ (x : WayState). IsLostWay place order h.made (grown way.connection piece h.texts) server x) (sym k.1) now
@@ -163,6 +165,7 @@ site_late_turned place order lane link opening site server moment i way tag tags
     let tag_is : tag ≡ next.command.1 = cc in
     let tags_are : tags ≡ map (λ (c : Tagged). c.1) next.past = cc in
     let entry_is : entry_by tag moment steps.step.1.served.0 reply ≡ entry_of m = ap₂ (λ (t : Tag) (bytes : List ℕ). entry_by t moment steps.step.1.served.0 bytes) tag_is reply_is in
+    let all_is : (h.past ++ h.made) ++ m ∷ [] ≡ h.past ++ (h.made ++ m ∷ []) = append_assoc h.past h.made (m ∷ []) in
     let taking : map taking_of h.made ++ entry_taken steps ∷ [] ≡ map taking_of (h.made ++ m ∷ []) =
     ap (λ (what : Taken). map taking_of h.made ++ (taking_by way.connection what moment steps.step.1.served.0) ∷ []) next.what_is ∙ sym (map-append taking_of h.made (m ∷ [])) in
     let now_open : connection_at server way.connection ≡ Some steps.after =
@@ -179,26 +182,30 @@ site_late_turned place order lane link opening site server moment i way tag tags
       untaken = tags_are;
       named = next_named.1;
     } in
-    let fewer : (t : Tag) → times t (tags_made (h.made ++ m ∷ [])) + untaken_times t (slice_set site.lost i (record way { untaken = tags })) ≤ times t (tags_made h.made) + untaken_times t site.lost =
+    let fewer : (t : Tag) → times t (tags_made (h.past ++ (h.made ++ m ∷ []))) + untaken_times t (slice_set site.lost i (record way { untaken = tags })) ≤ times t (tags_made (h.past ++ h.made)) + untaken_times t site.lost =
     λ t. let one : times t way.untaken ≡ times t (tag ∷ tags) = ap (λ (ts : List Tag). times t ts) named in
     let own_tag : times t (tag ∷ []) ≡ times t (next.command.1 ∷ []) = ap (λ (x : Tag). times t (x ∷ [])) tag_is in
-    omega (arith, times-made t h.made m, untaken-set t site.lost i way (record way { untaken = tags }) at, one, own_tag) in
+    omega (arith, one_more h.past h.made m t, untaken-set t site.lost i way (record way { untaken = tags }) at, one, own_tag) in
     record {
+      past = h.past;
       made = h.made ++ m ∷ [];
+      begun = h.begun;
       texts = h.texts;
       sent = h.sent;
       server = subst (λ (es : List Taking). ServerHolds opening h.texts h.sent es server) taking
           (ServerHolds-took opening h.texts h.sent (map taking_of h.made) way.connection moment site.server server h.server steps);
       good_cache = still_good site.server.cache server.cache m steps.step.0 next.what_is steps.step.1.served.1.cache good below h.good_cache;
       answers = made_push opening h.made m h.answers made;
-      history = ap₂ (λ (es : List Entry) (e : Entry). es ++ e ∷ []) h.history entry_is ∙ sym (map-append entry_of h.made (m ∷ []));
+      history = ap₂ (λ (es : List Entry) (e : Entry). es ++ e ∷ []) h.history entry_is ∙ sym (map-append entry_of (h.past ++ h.made) (m ∷ []))
+          ∙ ap (λ (ms : List Made). map entry_of ms) all_is;
       good = h.good;
-      named = each_push (λ (x : Made). IsNamed place order x.command) h.made m h.named next_named.0;
+      named = subst (λ (ms : List Made). Each (λ (x : Made). IsNamed place order x.command) ms) all_is
+          (each_push (λ (x : Made). IsNamed place order x.command) (h.past ++ h.made) m h.named next_named.0);
       all_named = h.all_named;
       replied = replied_push place order site.history (entry_by tag moment steps.step.1.served.0 reply) h.replied;
       once = λ t. omega (arith, h.once t, fewer t);
       living = λ up. let differ : way.connection ≢ site.connection = λ is. h.apart_living up i way at (sym is) in
-          living_elsewhere place order lane h.made (h.made ++ m ∷ []) h.texts h.texts h.sent site server (site.history ++ entry_by tag moment steps.step.1.served.0 reply ∷ []) (slice_set site.lost i (record way { untaken = tags }))
+          living_elsewhere place order lane (h.past ++ h.made) (h.past ++ (h.made ++ m ∷ [])) h.made (h.made ++ m ∷ []) h.texts h.texts h.sent site server (site.history ++ entry_by tag moment steps.step.1.served.0 reply ∷ []) (slice_set site.lost i (record way { untaken = tags }))
           refl (commands_push_other site.connection h.made m differ) (other_is way.connection site.connection site.server server (IsTurn way.connection moment Took) steps differ) fewer (h.living up);
       lost = λ j w at_w. elim (get_set site.lost i (record way { untaken = tags }) j w at_w) [
         | inl k ↦ subst (λ (x : WayState). IsLostWay place order (h.made ++ m ∷ []) h.texts server x) (sym k.1) now
@@ -263,11 +270,13 @@ pub site_ended : (place : ℕ) (order : Order) (lane : Lane) (link : LinkState) 
 site_ended place order lane link opening site server i way at closes not_open h =
     let still : (number : ℕ) → way.connection ≢ number → connection_at server number ≡ connection_at site.server number =
     λ number differ. ap (λ (s : ServerState). connection_at s number) closes ∙ closed_other way.connection number site.server.connections differ in
-    let fewer : (t : Tag) → times t (tags_made h.made) + untaken_times t (remove site.lost i) ≤ times t (tags_made h.made) + untaken_times t site.lost =
+    let fewer : (t : Tag) → times t (tags_made (h.past ++ h.made)) + untaken_times t (remove site.lost i) ≤ times t (tags_made (h.past ++ h.made)) + untaken_times t site.lost =
     λ t. omega (arith, untaken-removed t site.lost i) in
     let was : (j : ℕ) (w : WayState) → slice_get (remove site.lost i) j ≡ Some w → slice_get site.lost (shift i j) ≡ Some w = λ j w at_w. sym (get_removed site.lost i j) ∙ at_w in
     record {
+      past = h.past;
       made = h.made;
+      begun = h.begun;
       texts = h.texts;
       sent = h.sent;
       server = ServerHolds-closed opening h.texts h.sent (map taking_of h.made) way.connection site.server server h.server closes not_open;
@@ -280,7 +289,7 @@ site_ended place order lane link opening site server i way at closes not_open h 
       replied = h.replied;
       once = λ t. omega (arith, h.once t, fewer t);
       living = λ up. let differ : way.connection ≢ site.connection = λ is. h.apart_living up i way at (sym is) in
-          living_elsewhere place order lane h.made h.made h.texts h.texts h.sent site server site.history (remove site.lost i) refl refl (still site.connection differ) fewer (h.living up);
+          living_elsewhere place order lane (h.past ++ h.made) (h.past ++ h.made) h.made h.made h.texts h.texts h.sent site server site.history (remove site.lost i) refl refl (still site.connection differ) fewer (h.living up);
       lost = λ j w at_w.
           let differ = h.apart i (shift i j) way w at (was j w at_w) (shift_past i j) in
           lost_elsewhere place order h.made h.texts h.texts site.server server w refl (still w.connection differ) (h.lost (shift i j) w (was j w at_w));

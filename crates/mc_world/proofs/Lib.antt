@@ -26,6 +26,8 @@ pub mod LogLivingLemmas
 pub mod LogHoldsLemmas
 pub mod LogTurnLemmas
 pub mod FollowLemmas
+pub mod GoingLemmas
+pub mod LifeLemmas
 pub mod PolicyLemmas
 pub mod LogAccountLemmas
 pub mod WorldOpeningLemmas
@@ -35,6 +37,7 @@ pub mod GenerationStayLemmas
 pub mod ConnectionLemmas
 pub mod DoneLemmas
 pub mod JoinLemmas
+pub mod RestartLemmas
 pub mod RunLemmas
 pub mod ServingLemmas
 pub mod RaisingLemmas

@@ -19,13 +19,14 @@ use Rattle.mc_account.proofs.WithinLemmas.{commands_within}
 use Rattle.mc_history.specs.Histories.{HasReply, tag_in}
 use Rattle.mc_history.specs.declared.entries.Entry.{Entry}
 use Rattle.mc_world.specs.Accounts.{Accounts, NotAnswered}
-use Rattle.mc_world.specs.CourseHolds.{HaveOneConnection}
+use Rattle.mc_world.specs.CourseHolds.{HaveOneConnection, LivesHold}
 use Rattle.mc_world.specs.LogHolds.{AreOrdered, IsFresh, IsPlaced, LogHolds}
 use Rattle.mc_world.specs.Logs.{Log, before, number_of, puts, serves}
 use Rattle.mc_world.specs.Pools.{PoolHolds}
 use Rattle.mc_world.specs.WorldState.{PoolState, WayState, histories_of}
 use Rattle.mc_world.proofs.CommandLemmas.{commands_accounted}
 use Rattle.mc_world.proofs.FollowLemmas.{followed}
+use Rattle.mc_world.proofs.LifeLemmas.{lives_legal}
 use Rattle.mc_world.proofs.LogEntryLemmas.{got_some, history_at}
 use Rattle.mc_world.proofs.PolicyLemmas.{answers_chosen}
 
@@ -104,9 +105,9 @@ replied_at opening texts sent order lanes pool place tag atom reply h inside com
 
 -- the whole account
 pub log_accounts : (ring : RingState) (opening : CacheState) (texts sent : ℕ → List ℕ) (order : Order) (lanes : ℕ → Lane) (outs : ℕ → List ℕ) (log : Log) (pool : PoolState)
-    → PoolHolds opening texts sent order lanes pool → LogHolds ring order outs log pool → HaveOneConnection log pool
+    → PoolHolds opening texts sent order lanes pool → LogHolds ring order outs log pool → HaveOneConnection log pool → LivesHold opening order log pool.sites
     → Accounts pool.proxy.losses ring opening order texts outs (histories_of pool.sites) log
-log_accounts ring opening texts sent order lanes outs log pool holds h first =
+log_accounts ring opening texts sent order lanes outs log pool holds h first lives =
     let commands = commands_accounted opening texts sent order lanes pool holds in
     record {
       asked = commands.asked;
@@ -114,13 +115,13 @@ log_accounts ring opening texts sent order lanes outs log pool holds h first =
       numbered = holds.proxy.numbered;
       rings = h.requests.rings;
       sized = commands.sized;
-      legal = commands.legal;
+      legal = lives_legal ring opening order outs log pool h commands.legal lives;
       once = commands.once;
       replied = λ tag place atom reply command known.
           replied_at opening texts sent order lanes pool place tag atom reply holds (commands_within (length pool.sites) order h.requests.inside tag (to_place place atom) command) command known;
       lost = λ tag place atom command lost. h.commands.told tag place atom Lost command lost;
       ordered = λ place j k d e r q first second lt same replied also. ordered_replies order d e r q (h.histories.ordered place j k d e first second lt) same replied also;
-      followed = followed ring opening texts sent order lanes outs log pool holds h first;
+      followed = followed ring opening texts sent order lanes outs log pool holds h first lives.first;
       answered = λ client. (h.answers.put client).complete;
       put = λ client. sym (append-nil (outs client)) ∙ (h.answers.put client).answers ∙ answers_chosen pool.proxy.losses client (number_of (puts client) log) order holds.proxy.chosen;
       after = h.answers.after;

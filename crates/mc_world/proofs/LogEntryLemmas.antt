@@ -7,7 +7,7 @@ use Rattle.mc_link.specs.declared.turns.Tag.{Tag}
 use Rattle.mc_account.specs.Lookups.{asked_at}
 use Rattle.mc_account.specs.Orders.{Entry as Asked, Order, entries_of}
 use Rattle.mc_account.proofs.OrderLemmas.{entries_push_other, entries_push_own}
-use Rattle.mc_world.specs.WorldState.{SiteState, WayState, histories_of}
+use Rattle.mc_world.specs.WorldState.{SiteState, WayState, begun_of, histories_of}
 
 -- what is in a list is inside it
 pub got_inside : {X : Type 0} (xs : List X) (k : ℕ) (x : X) → slice_get xs k ≡ Some x → k < length xs
@@ -84,6 +84,13 @@ history_at [] (suc place) site at = absurd (none-some site at)
 history_at (s ∷ ss) zero site at = ap (λ (x : SiteState). x.history) (same_Some s site at)
 history_at (s ∷ ss) (suc place) site at = history_at ss place site at
 
+-- and where its life began
+pub begun_at : (sites : List SiteState) (place : ℕ) (site : SiteState) → slice_get sites place ≡ Some site → begun_of sites place ≡ site.begun
+begun_at [] zero site at = absurd (none-some site at)
+begun_at [] (suc place) site at = absurd (none-some site at)
+begun_at (s ∷ ss) zero site at = ap (λ (x : SiteState). x.begun) (same_Some s site at)
+begun_at (s ∷ ss) (suc place) site at = begun_at ss place site at
+
 -- where one site is another
 pub history_own : (sites : List SiteState) (place : ℕ) (site now : SiteState) → slice_get sites place ≡ Some site → histories_of (slice_set sites place now) place ≡ now.history
 history_own [] zero site now at = absurd (none-some site at)
@@ -97,6 +104,19 @@ history_other (s ∷ ss) zero now zero differ = absurd (differ refl)
 history_other (s ∷ ss) zero now (suc other) differ = refl
 history_other (s ∷ ss) (suc place) now zero differ = refl
 history_other (s ∷ ss) (suc place) now (suc other) differ = history_other ss place now other (λ same. differ (ap suc same))
+
+pub begun_own : (sites : List SiteState) (place : ℕ) (site now : SiteState) → slice_get sites place ≡ Some site → begun_of (slice_set sites place now) place ≡ now.begun
+begun_own [] zero site now at = absurd (none-some site at)
+begun_own [] (suc place) site now at = absurd (none-some site at)
+begun_own (s ∷ ss) zero site now at = refl
+begun_own (s ∷ ss) (suc place) site now at = begun_own ss place site now at
+
+pub begun_other : (sites : List SiteState) (place : ℕ) (now : SiteState) (other : ℕ) → place ≢ other → begun_of (slice_set sites place now) other ≡ begun_of sites other
+begun_other [] place now other differ = refl
+begun_other (s ∷ ss) zero now zero differ = absurd (differ refl)
+begun_other (s ∷ ss) zero now (suc other) differ = refl
+begun_other (s ∷ ss) (suc place) now zero differ = refl
+begun_other (s ∷ ss) (suc place) now (suc other) differ = begun_other ss place now other (λ same. differ (ap suc same))
 
 pub history_still : (sites : List SiteState) (place : ℕ) (site now : SiteState) → slice_get sites place ≡ Some site → now.history ≡ site.history
     → (other : ℕ) → histories_of (slice_set sites place now) other ≡ histories_of sites other

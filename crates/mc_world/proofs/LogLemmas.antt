@@ -4,7 +4,7 @@ use Rattle.std.proofs.lemmas.List.{length-append}
 use Rattle.mc_ring.specs.Rings.{RingState}
 use Rattle.mc_event.specs.declared.events.Event.TheVariants.{LinkBack, LinkLost, ServerTurn}
 use Rattle.mc_world.specs.declared.logs.Logged.{Logged}
-use Rattle.mc_world.specs.declared.logs.Logged.TheVariants.{Happened, Joined}
+use Rattle.mc_world.specs.declared.logs.Logged.TheVariants.{Happened, Joined, Restarted}
 use Rattle.mc_world.specs.Logs.{IsRingAfter, Log, before, loses, moment_of, moments_of, number_of, serves, up_by, up_from}
 
 pub number-push : (is : Logged → Bool) (log : Log) (e : Logged) → number_of is (log ++ e ∷ []) ≡ number_of is log + (if is e then 1 else 0)
@@ -73,6 +73,20 @@ number-one is log e own =
     let one : ◌≡◌ {A = ℕ} (if is e then 1 else 0) 1 = ap (λ (v : Bool). if v then 1 else 0) own in
     omega (arith, more, one)
 
+-- the whole log is before an event that was not done
+pub before-past : (is : Logged → Bool) (number : ℕ) (log : Log) → number_of is log ≤ number → before is number log ≡ log
+before-past is number [] h = refl
+before-past is zero (x ∷ xs) h =
+    (elim (is x) as (λ v. (if v then suc (number_of is xs) else number_of is xs) ≤ zero → (if v then [] else x ∷ before is zero xs) ≡ x ∷ xs) [
+      | true ↦ λ k. absurd (omega (arith, k))
+      | false ↦ λ k. ap (λ (es : Log). x ∷ es) (before-past is zero xs k)
+    ]) h
+before-past is (suc number) (x ∷ xs) h =
+    (elim (is x) as (λ v. (if v then suc (number_of is xs) else number_of is xs) ≤ suc number → x ∷ before is (if v then number else suc number) xs ≡ x ∷ xs) [
+      | true ↦ λ k. ap (λ (es : Log). x ∷ es) (before-past is number xs (omega (arith, k)))
+      | false ↦ λ k. ap (λ (es : Log). x ∷ es) (before-past is (suc number) xs k)
+    ]) h
+
 -- there are no more before an event than in all
 counted : (v : Bool) (few many : ℕ) → few ≤ many → (if v then suc few else few) ≤ (if v then suc many else many)
 counted true few many le = omega (arith, le)
@@ -89,17 +103,26 @@ number-before is kind zero (x ∷ xs) =
 number-before is kind (suc number) (x ∷ xs) =
     counted (is x) (number_of is (before kind (if kind x then number else suc number) xs)) (number_of is xs) (number-before is kind (if kind x then number else suc number) xs)
 
--- an event joins no server
+-- an event joins no server, and restarts none
 abbrev pub IsEvent : Logged → Type 0
 IsEvent (Happened event) = Unit {0}
 IsEvent (Joined server address) = ⊥
+IsEvent (Restarted server) = ⊥
 
 -- it leaves the ring as it was
 pub ring-push : (opening now : RingState) (log : Log) (e : Logged) → IsEvent e → IsRingAfter opening log now → IsRingAfter opening (log ++ e ∷ []) now
 ring-push opening now [] (Happened event) is h = h
 ring-push opening now [] (Joined server address) is h = absurd is
+ring-push opening now [] (Restarted server) is h = absurd is
 ring-push opening now (Happened event ∷ es) e is h = ring-push opening now es e is h
 ring-push opening now (Joined server address ∷ es) e is h = (h.0, h.1, ring-push h.0 now es e is h.2)
+ring-push opening now (Restarted server ∷ es) e is h = ring-push opening now es e is h
+
+pub ring-restart : (opening now : RingState) (log : Log) (server : ℕ) → IsRingAfter opening log now → IsRingAfter opening (log ++ Restarted server ∷ []) now
+ring-restart opening now [] server h = h
+ring-restart opening now (Happened event ∷ es) server h = ring-restart opening now es server h
+ring-restart opening now (Joined other address ∷ es) server h = (h.0, h.1, ring-restart h.0 now es server h.2)
+ring-restart opening now (Restarted other ∷ es) server h = ring-restart opening now es server h
 
 -- moments of a server
 pub moments-push : (server : ℕ) (log : Log) (e : Logged) → moments_of server (log ++ e ∷ []) ≡ moments_of server log ++ moment_of server e

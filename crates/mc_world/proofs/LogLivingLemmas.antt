@@ -33,14 +33,14 @@ pub record IsMadeOf (place : ℕ) (order : Order) (made : List Made) (j : ℕ) (
   pub named : command_at order m.command.1 ≡ Some (to_place place m.command.0)
 
 pub made_of_entry : (place : ℕ) (order : Order) (lane : Lane) (link : LinkState) (opening : CacheState) (site : SiteState) (h : SiteHolds place order lane link opening site) (j : ℕ) (d : Entry)
-    → slice_get site.history j ≡ Some d → IsMadeOf place order h.made j d
+    → slice_get site.history j ≡ Some d → IsMadeOf place order (h.past ++ h.made) j d
 made_of_entry place order lane link opening site h j d at =
-    let m = got_mapped entry_of h.made j d (ap (λ (es : List Entry). slice_get es j) (sym h.history) ∙ at) in
+    let m = got_mapped entry_of (h.past ++ h.made) j d (ap (λ (es : List Entry). slice_get es j) (sym h.history) ∙ at) in
     record {
       m = m.0;
       at = m.1;
       tag = ap (λ (e : Entry). tag_in e) m.2;
-      named = named_made place order h.made j m.0 h.named m.1;
+      named = named_made place order (h.past ++ h.made) j m.0 h.named m.1;
     }
 
 -- the commands to a place: those sent before its living generation came up, those of it that the server took, and the others
@@ -53,10 +53,10 @@ commands_split place order lane made others is =
 
 -- a command that was made is not among those that the server has not taken
 made_or_not : (place : ℕ) (order : Order) (lane : Lane) (link : LinkState) (opening : CacheState) (site : SiteState) (up : link.up ≡ true) (h : SiteHolds place order lane link opening site)
-    → ((number : ℕ) → AreInOrder (entries_of number order)) → (j k : ℕ) (m : Made) → slice_get h.made j ≡ Some m → slice_get (h.living up).others k ≡ Some m.command → ⊥
+    → ((number : ℕ) → AreInOrder (entries_of number order)) → (j k : ℕ) (m : Made) → slice_get (h.past ++ h.made) j ≡ Some m → slice_get (h.living up).others k ≡ Some m.command → ⊥
 made_or_not place order lane link opening site up h numbered j k m made other =
     let living = h.living up in
-    let first = times-one m.command.1 (tags_made h.made) j (got_map (λ (x : Made). x.command.1) h.made j m made) in
+    let first = times-one m.command.1 (tags_made (h.past ++ h.made)) j (got_map (λ (x : Made). x.command.1) (h.past ++ h.made) j m made) in
     let second = times-one m.command.1 (tags_of living.others) k (got_map (λ (c : Tagged). c.1) living.others k m.command other) in
     let few = count_to m.command.1 place order in
     let one = tag_once m.command.1 order (numbered m.command.1.session) in

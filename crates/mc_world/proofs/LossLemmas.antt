@@ -1,4 +1,4 @@
--- A server and its ways hold after the loss and the return of its link, and after what happens on a lost generation.
+-- A server and its ways hold after the loss and the return of its link, and after the server has restarted.
 use Rattle.std.proofs.Common.{◌≡◌, ◌≢◌, ◌∙◌, ℕ, zero, suc, ◌+◌, ◌⊎◌, inl, inr, true, List, [], ◌∷◌, ◌++◌, length, map, drop, Some, None, slice_get, refl, sym, ap, ap₂, subst, append-nil, arith}
 use Rattle.std.specs.List.{list_all}
 use Rattle.std.proofs.lemmas.List.{drop-drop, drop-map, drop_all, length-map, map-append}
@@ -10,11 +10,14 @@ use Rattle.mc_cache.specs.CacheState.{CacheState}
 use Rattle.mc_server.specs.ServerState.{ServerState, connection_at, fresh_connection, with_fresh}
 use Rattle.mc_server.specs.Holds.{ServerHolds}
 use Rattle.mc_server.proofs.ConnectionLemmas.{fresh_other, fresh_own}
-use Rattle.mc_server.proofs.HoldsLemmas.{ServerHolds-admitted, given}
+use Rattle.mc_server.proofs.HoldsLemmas.{ServerHolds-admitted, ServerHolds-new, given}
 use Rattle.mc_account.specs.Lanes.{Lane, LaneHolds, fresh_lane, spelled}
 use Rattle.mc_account.specs.Orders.{Order, Tagged, commands_to}
 use Rattle.mc_history.specs.Generations.{commands_of_lane, is_good}
-use Rattle.mc_history.specs.Made.{Each, Made, commands_on, read_as, taking_of}
+use Rattle.mc_history.specs.Made.{Each, Made, commands_on, entry_of, read_as, taking_of}
+use Rattle.mc_history.specs.declared.entries.Entry.{Entry}
+use Rattle.mc_cache_laws.specs.GoodCaches.{IsGoodCache}
+use Rattle.mc_world.specs.Restarts.{restarted}
 use Rattle.mc_world.specs.Sites.{IsLostWay, SiteHolds}
 use Rattle.mc_world.specs.WorldState.{SiteState, WayState}
 use Rattle.mc_history.proofs.MadeLemmas.{taken_on}
@@ -23,7 +26,7 @@ use Rattle.mc_world.proofs.CountLemmas.{untaken-push}
 use Rattle.mc_world.proofs.MoveLemmas.{lost_kept, made_kept}
 use Rattle.mc_history.proofs.NamedLemmas.{Keeps, each_back, kept_named, named_since}
 use Rattle.mc_world.proofs.SiteLemmas.{get_none, good_since, tags_wait}
-use Rattle.mc_history.specs.Named.{IsNamed, tags_of, times}
+use Rattle.mc_history.specs.Named.{IsNamed, tags_made, tags_of, times}
 
 -- what is in a list with one more after
 pub get_pushed : (ways : List WayState) (way : WayState) (i : ℕ) (w : WayState) → slice_get (ways ++ way ∷ []) i ≡ Some w
@@ -77,7 +80,9 @@ site_lost place order order' lane link link' opening site generation up down kee
           (subst (λ (cs : List Tagged). Each (IsNamed place order) cs) living.commands (named_since place lane.since order h.all_named));
     } in
     record {
+      past = h.past;
       made = h.made;
+      begun = h.begun;
       texts = h.texts;
       sent = h.sent;
       server = h.server;
@@ -85,7 +90,7 @@ site_lost place order order' lane link link' opening site generation up down kee
       answers = h.answers;
       history = h.history;
       good = ap (λ (cs : List Tagged). list_all is_good cs) commands ∙ h.good;
-      named = made_kept place order order' h.made keeps h.named;
+      named = made_kept place order order' (h.past ++ h.made) keeps h.named;
       all_named = subst (λ (cs : List Tagged). Each (IsNamed place order') cs) (sym commands) (kept_named place order order' (commands_to place order) keeps h.all_named);
       replied = replied_kept place order order' site.history news h.replied;
       once = λ t. let more = untaken-push t site.lost way in let same : times t way.untaken ≡ times t (tags_of living.others) = ap (λ (ts : List Tag). times t ts) own.untaken in
@@ -130,7 +135,9 @@ site_back place order lane link link' opening site generation closed h =
     let differs : (i : ℕ) (way : WayState) → slice_get site.lost i ≡ Some way → site.server.admitted ≢ way.connection =
     λ i way at. let w = h.lost i way at in let below = given opening h.texts h.sent (map taking_of h.made) site.server way.connection w.end h.server w.is_open in λ same. omega (arith, below, same) in
     record {
+      past = h.past;
       made = h.made;
+      begun = h.begun;
       texts = h.texts;
       sent = h.sent;
       server = ServerHolds-admitted opening h.texts h.sent (map taking_of h.made) site.server h.server;
@@ -163,4 +170,31 @@ site_back place order lane link link' opening site generation closed h =
       };
       apart = h.apart;
       apart_living = λ _ i way at. differs i way at;
+    }
+
+-- a server whose link is down restarts: nothing of its connections and ways is left, and it made nothing in this life yet
+pub site_restarted : (place : ℕ) (order : Order) (lane : Lane) (link : LinkState) (opening : CacheState) (site : SiteState) → IsGoodCache opening → (link.up ≡ true → ⊥)
+    → SiteHolds place order lane link opening site → SiteHolds place order lane link opening (restarted opening site)
+site_restarted place order lane link opening site good down h =
+    let whole : (h.past ++ h.made) ++ [] ≡ h.past ++ h.made = append-nil (h.past ++ h.made) in
+    record {
+      past = h.past ++ h.made;
+      made = [];
+      begun = sym (ap (λ (es : List Entry). length es) h.history ∙ length-map (h.past ++ h.made) entry_of);
+      texts = λ _. [];
+      sent = λ _. [];
+      server = ServerHolds-new opening;
+      good_cache = good;
+      answers = tt;
+      history = h.history ∙ ap (λ (ms : List Made). map entry_of ms) (sym whole);
+      good = h.good;
+      named = subst (λ (ms : List Made). Each (λ (m : Made). IsNamed place order m.command) ms) (sym whole) h.named;
+      all_named = h.all_named;
+      replied = h.replied;
+      once = λ t. let same : times t (tags_made ((h.past ++ h.made) ++ [])) ≡ times t (tags_made (h.past ++ h.made)) = ap (λ (ms : List Made). times t (tags_made ms)) whole in
+          omega (arith, h.once t, same);
+      living = λ up. absurd (down up);
+      lost = λ i way at. absurd (none-some way (sym (get_none i) ∙ at));
+      apart = λ i j v w at. absurd (none-some v (sym (get_none i) ∙ at));
+      apart_living = λ up. absurd (down up);
     }

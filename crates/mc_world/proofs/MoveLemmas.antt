@@ -14,6 +14,7 @@ use Rattle.mc_server.proofs.HoldsLemmas.{ServerHolds-sent, grown-own}
 use Rattle.mc_account.specs.Lanes.{Lane, LaneHolds}
 use Rattle.mc_account.specs.Orders.{Entry as Asked, Order, Tagged, commands_in, commands_to, entries_of}
 use Rattle.mc_account.proofs.OrderLemmas.{commands-push, passes_joined}
+use Rattle.mc_account.proofs.RisingLemmas.{past_front}
 use Rattle.mc_history.specs.Generations.{AreJoined, commands_of_lane, is_good}
 use Rattle.mc_history.specs.Made.{Each, Made, commands_on, entry_of, made_on, replies_on, taking_of}
 use Rattle.mc_request.specs.declared.parts.Atom.{Atom}
@@ -62,7 +63,9 @@ pub site_kept : (place : ℕ) (order order' : Order) (lane lane' : Lane) (link l
 site_kept place order order' lane lane' link link' opening site keeps news commands still same h =
     let same_times : (t : Tag) → times t (tags_of (commands_to place order')) ≡ times t (tags_of (commands_to place order)) = λ t. ap (λ (cs : List Tagged). times t (tags_of cs)) commands in
     record {
+      past = h.past;
       made = h.made;
+      begun = h.begun;
       texts = h.texts;
       sent = h.sent;
       server = h.server;
@@ -70,7 +73,7 @@ site_kept place order order' lane lane' link link' opening site keeps news comma
       answers = h.answers;
       history = h.history;
       good = ap (λ (cs : List Tagged). list_all is_good cs) commands ∙ h.good;
-      named = made_kept place order order' h.made keeps h.named;
+      named = made_kept place order order' (h.past ++ h.made) keeps h.named;
       all_named = subst (λ (cs : List Tagged). Each (IsNamed place order') cs) (sym commands) (kept_named place order order' (commands_to place order) keeps h.all_named);
       once = λ t. omega (arith, h.once t, same_times t);
       replied = replied_kept place order order' site.history news h.replied;
@@ -98,7 +101,9 @@ site_asked place order e lane link link' opening site still since good number fr
     let longer : (t : Tag) → times t (tags_of (commands_to place (order ++ e ∷ []))) ≡ times t (tags_of (commands_to place order)) + times t (tags_of (commands_in place e)) =
     λ t. ap (λ (cs : List Tagged). times t (tags_of cs)) (commands-push place order e) ∙ times-tags t (commands_to place order) (commands_in place e) in
     record {
+      past = h.past;
       made = h.made;
+      begun = h.begun;
       texts = h.texts;
       sent = h.sent;
       server = h.server;
@@ -106,7 +111,7 @@ site_asked place order e lane link link' opening site still since good number fr
       answers = h.answers;
       history = h.history;
       good = ap (λ (cs : List Tagged). list_all is_good cs) (commands-push place order e) ∙ passes_joined is_good (commands_to place order) (commands_in place e) h.good good;
-      named = made_kept place order (order ++ e ∷ []) h.made (keeps_push order e) h.named;
+      named = made_kept place order (order ++ e ∷ []) (h.past ++ h.made) (keeps_push order e) h.named;
       all_named = subst (λ (cs : List Tagged). Each (IsNamed place (order ++ e ∷ [])) cs) (sym (commands-push place order e))
           (each_append (IsNamed place (order ++ e ∷ [])) (commands_to place order) (commands_in place e) (kept_named place order (order ++ e ∷ []) (commands_to place order) (keeps_push order e) h.all_named) (named_in place order e number));
       once = λ t. omega (arith, h.once t, longer t);
@@ -155,7 +160,9 @@ site_returned place order lane link link' opening site count up h =
     let living = h.living up in
     let piece : List ℕ = take count (output_of (connection_at site.server site.connection)) in
     record {
+      past = h.past;
       made = h.made;
+      begun = h.begun;
       texts = h.texts;
       sent = grown site.connection piece h.sent;
       server = ServerHolds-sent opening h.texts h.sent (map taking_of h.made) site.connection count site.server
@@ -285,14 +292,17 @@ site_replied place order order' lane lane' link link' opening site tag reply up 
     ∙ ap (λ (ws : List Waiting). map (λ (w : Waiting). w.1) ws) (sym before.waiting))
     ∙ oldest) in
     let after = entry_after site.connection h.made (length lane.replies) tag reply living.others tag_at inside told_at in
+    let there : slice_get (h.past ++ h.made) (length h.past + after.k) ≡ Some after.m = past_front h.past h.made after.k (length h.past + after.k) refl ∙ after.at in
     let name : command_at order tag ≡ Some (to_place place after.m.command.0) =
-    ap (λ (u : Tag). command_at order u) (sym after.tag_is) ∙ named_made place order h.made after.k after.m h.named after.at in
+    ap (λ (u : Tag). command_at order u) (sym after.tag_is) ∙ named_made place order (h.past ++ h.made) (length h.past + after.k) after.m h.named there in
     let longer : length lane'.replies ≡ length (lane.replies ++ reply ∷ []) = ap (λ (rs : List (AReply (List ℕ))). length rs) replies in
     record {
       some = some;
       named = (after.m.command.0, same_commands tag ∙ name);
       holds = record {
+        past = h.past;
         made = h.made;
+        begun = h.begun;
         texts = h.texts;
         sent = h.sent;
         server = h.server;
@@ -300,7 +310,7 @@ site_replied place order order' lane lane' link link' opening site tag reply up 
         answers = h.answers;
         history = h.history;
         good = good';
-        named = made_kept place order order' h.made keeps h.named;
+        named = made_kept place order order' (h.past ++ h.made) keeps h.named;
         all_named = subst (λ (cs : List Tagged). Each (IsNamed place order') cs) (sym commands) (kept_named place order order' (commands_to place order) keeps h.all_named);
         once = λ t. omega (arith, h.once t, same_times t);
         replied = λ u atom q is known. elim (news u (Reply q) known) [
@@ -309,9 +319,10 @@ site_replied place order order' lane lane' link link' opening site tag reply up 
               let same_reply : q ≡ reply = told_same q reply k.1 in
               let both : Some (to_place place after.m.command.0) ≡ Some (to_place place atom) = sym name ∙ ap (λ (v : Tag). command_at order v) (sym k.0) ∙ sym (same_commands u) ∙ is in
               let atom_is : after.m.command.0 ≡ atom = ap (λ (r : Routed). r.atom) (same_Some (to_place place after.m.command.0) (to_place place atom) both) in (
-                after.k,
+                length h.past + after.k,
                 entry_of after.m,
-                ap (λ (es : List Entry). slice_get es after.k) h.history ∙ entry_made h.made after.k after.m after.at,
+                ap (λ (es : List Entry). slice_get es (length h.past + after.k)) h.history
+                    ∙ entry_made (h.past ++ h.made) (length h.past + after.k) after.m there,
                 after.tag_is ∙ sym k.0,
                 ap₂ (λ (a : Atom (List ℕ)) (r : AReply (List ℕ)). spelling_of a r) atom_is (after.reply_is ∙ sym same_reply),
               )

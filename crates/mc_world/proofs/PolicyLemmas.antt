@@ -13,7 +13,8 @@ use Rattle.mc_world.specs.Accounts.{answers_by}
 use Rattle.mc_world.specs.Courses.{Happens, IsDone}
 use Rattle.mc_world.specs.Happens.{Does}
 use Rattle.mc_world.specs.Joins.{HasServerJoined}
-use Rattle.mc_world.specs.Runs.{Call, Calls, Join, Step}
+use Rattle.mc_world.specs.Restarts.{HasServerRestarted}
+use Rattle.mc_world.specs.Runs.{Call, Calls, Join, Restart, Step}
 use Rattle.mc_world.specs.WorldState.{PoolState}
 use Rattle.mc_world.specs.Worlds.{CourseState}
 use Rattle.mc_world.specs.declared.errors.Step.{Step as AStep}
@@ -55,6 +56,15 @@ happened_losses (ServerSeesEnd server generation) old new h = same_losses old.pr
 kept : (old new : CourseState) → new ≡ old → new.pool.proxy.losses ≡ old.pool.proxy.losses
 kept old new same = ap (λ (c : CourseState). c.pool.proxy.losses) same
 
+-- a restart
+restart_keeps_losses : (place : ℕ) (cache : CacheState) (old new : CourseState) → HasServerRestarted place cache old new → new.pool.proxy.losses ≡ old.pool.proxy.losses
+restart_keeps_losses place cache old new h =
+    let cut : h.cut.pool.proxy.losses ≡ old.pool.proxy.losses = elim h.loses [
+      | inl lost ↦ happened_losses (LinkLost place) old.pool h.cut.pool lost.1.pool
+      | inr still ↦ kept old h.cut still.1
+    ] in
+    same_losses h.cut.pool.proxy new.pool.proxy h.pool.proxy ∙ cut
+
 -- any list of calls
 pub called_losses : (opening : CacheState) (calls : List Call) (old new : CourseState) → Calls opening calls old new → new.pool.proxy.losses ≡ old.pool.proxy.losses
 called_losses opening [] old new run = kept old new run
@@ -70,8 +80,14 @@ called_losses opening (Join address ∷ calls) old new run =
       | inr same ↦ kept old run.0 same
     ] in
     called_losses opening calls run.0 new run.2 ∙ first
+called_losses opening (Restart place ∷ calls) old new run =
+    let first : run.0.pool.proxy.losses ≡ old.pool.proxy.losses = elim run.1 [
+      | inl restarted ↦ restart_keeps_losses place opening old run.0 restarted
+      | inr same ↦ kept old run.0 same
+    ] in
+    called_losses opening calls run.0 new run.2 ∙ first
 
--- a step, and a join, that may have been refused
+-- a step, a join, and a restart, that may have been refused
 pub stepped_losses : (event : Event (List ℕ)) (r : Result AStep WorldError) (old new : CourseState) → IfOk r (λ step. Does step (IsDone event old new) (new ≡ old))
     → OnErr r (new ≡ old) → new.pool.proxy.losses ≡ old.pool.proxy.losses
 stepped_losses event (Ok Done) old new done refused = happened_losses event old.pool new.pool done.pool
@@ -82,6 +98,11 @@ pub joined_losses : {T E : Type 0} (address : List ℕ) (cache : CacheState) (r 
     → OnErr r (new ≡ old) → new.pool.proxy.losses ≡ old.pool.proxy.losses
 joined_losses address cache (Ok value) old new joined refused = joined.pool.proxy.losses
 joined_losses address cache (Err e) old new joined refused = kept old new refused
+
+pub restarted_losses : {T E : Type 0} (place : ℕ) (cache : CacheState) (r : Result T E) (old new : CourseState) → OnOk r (HasServerRestarted place cache old new)
+    → OnErr r (new ≡ old) → new.pool.proxy.losses ≡ old.pool.proxy.losses
+restarted_losses place cache (Ok value) old new restarted refused = restart_keeps_losses place cache old new restarted
+restarted_losses place cache (Err e) old new restarted refused = kept old new refused
 
 -- the first requests of a client
 own_chosen : (losses : Losses) (v : Bool) (e : Asked) (mine : Order) → IsToldAs losses e → All (IsToldAs losses) mine → All (IsToldAs losses) (if v then e ∷ mine else mine)

@@ -12,6 +12,7 @@ use Rattle.mc_route.specs.declared.outcomes.Outcome.TheVariants.{Lost, Reply}
 use Rattle.mc_link.specs.LinkState.{LinkState, Waiting, down_link, up_link}
 use Rattle.mc_link.specs.declared.turns.Tag.{Tag}
 use Rattle.mc_cache.specs.CacheState.{CacheState}
+use Rattle.mc_cache_laws.specs.GoodCaches.{IsGoodCache}
 use Rattle.mc_server.specs.ServerState.{connection_at, output_of, with_fresh}
 use Rattle.mc_session.specs.Sending.{handed}
 use Rattle.mc_session.specs.SessionState.{SessionState, link_at, with_link}
@@ -26,11 +27,12 @@ use Rattle.mc_account.proofs.OrderLemmas.{commands-note}
 use Rattle.mc_account.proofs.HoldsLemmas.{holds-gone, holds-sent, changed-other, changed-own, entry_taken, holds-emitted, holds-fed, holds-took}
 use Rattle.mc_history.specs.Generations.{commands_of_lane}
 use Rattle.mc_world.specs.Pools.{ClientGoes, TakesBytes, EndSeen, LateBytes, LateTurn, LinkReturns, HearsClient, LosesLink, PoolHolds, PutsAnswer, ReachesProxy, ReachesServer, ServerTakes, TakesReply, TakesRequest}
+use Rattle.mc_world.specs.Restarts.{ServerRestarts, restarted}
 use Rattle.mc_world.specs.Sites.{SiteHolds}
 use Rattle.mc_world.specs.WorldState.{PoolState, SiteState}
 use Rattle.mc_history.proofs.GoodLemmas.{good_in, taken_is_good}
 use Rattle.mc_world.proofs.LateLemmas.{site_ended, site_late_fed, site_late_turned}
-use Rattle.mc_world.proofs.LossLemmas.{site_back, site_lost}
+use Rattle.mc_world.proofs.LossLemmas.{site_back, site_lost, site_restarted}
 use Rattle.mc_world.proofs.MoveLemmas.{site_asked, site_kept, site_replied, site_returned}
 use Rattle.mc_request.specs.declared.parts.Atom.{Atom}
 use Rattle.mc_session.specs.Sending.{at_once}
@@ -376,3 +378,18 @@ pool_client_goes opening texts sent order lanes client old new e h = record {
   sites = same_sites opening order lanes old new e.sites (ap (λ (p : ProxyState). p.links) e.proxy) h.sites;
   bytes = h.bytes;
 }
+
+-- a server restarts
+pub pool_restarts : (opening : CacheState) (texts sent : ℕ → List ℕ) (order : Order) (lanes : ℕ → Lane) (place : ℕ) (old new : PoolState)
+    → IsGoodCache opening → ServerRestarts place opening old new → PoolHolds opening texts sent order lanes old → PoolHolds opening texts sent order lanes new
+pool_restarts opening texts sent order lanes place old new good e h =
+    let site = site_restarted place order (lanes place) (link_at old.proxy.links place) opening e.site good e.down (h.sites place e.site e.at) in
+    let links_are : new.proxy.links ≡ old.proxy.links = ap (λ (p : ProxyState). p.links) e.proxy in
+    record {
+      proxy = subst (λ (p : ProxyState). ProxyHolds texts sent order lanes p) (sym e.proxy) h.proxy;
+      sites = sites_with opening order lanes old new place (restarted opening e.site) e.sites
+          (subst (λ (l : LinkState). SiteHolds place order (lanes place) l opening (restarted opening e.site)) (sym (ap (λ (ls : List LinkState). link_at ls place) links_are)) site)
+          (λ other s differ at. other_link opening order order lanes lanes place other old.proxy.links new.proxy.links s
+          (ap (λ (ls : List LinkState). link_at ls other) links_are) refl (λ _ _ k. k) (λ _ _ _ is known. (is, known)) refl refl (h.sites other s at));
+      bytes = h.bytes;
+    }

@@ -1,4 +1,4 @@
--- A course holds after every list of events and joins of servers, and so gives account.
+-- A course holds after every list of events, joins and restarts of servers, and so gives account.
 use Rattle.std.proofs.Common.{◌≡◌, ℕ, List, [], ◌∷◌, inl, inr, sym, subst, arith}
 use Rattle.mc_ring.specs.Rings.{IsRing, RingState}
 use Rattle.mc_route.specs.declared.losses.Losses.{Losses}
@@ -7,12 +7,13 @@ use Rattle.mc_cache_laws.specs.GoodCaches.{IsGoodCache}
 use Rattle.mc_cache_laws.proofs.GoodStepLemmas.{opening_is_good}
 use Rattle.mc_world.specs.Accounts.{Account}
 use Rattle.mc_world.specs.CourseHolds.{CourseHolds}
-use Rattle.mc_world.specs.Runs.{Call, Calls, Join, Step}
+use Rattle.mc_world.specs.Runs.{Call, Calls, Join, Restart, Step}
 use Rattle.mc_world.specs.Worlds.{CourseState, history_of, put_out_of, taken_by, text_of, world_opened}
 use Rattle.mc_world.proofs.DoneLemmas.{course_done}
 use Rattle.mc_world.proofs.JoinLemmas.{course_joins}
 use Rattle.mc_world.proofs.LogAccountLemmas.{log_accounts}
 use Rattle.mc_world.proofs.PolicyLemmas.{called_losses}
+use Rattle.mc_world.proofs.RestartLemmas.{course_restarts}
 use Rattle.mc_world.proofs.WorldOpeningLemmas.{course_opens}
 
 -- a course that holds gives account
@@ -20,7 +21,7 @@ pub course_accounts : (losses : Losses) (ring : RingState) (opening : CacheState
     → Account losses ring opening (text_of c) (put_out_of c) (history_of c) c.log
 course_accounts losses ring opening c h chosen =
     subst (λ (l : Losses). Account l ring opening (text_of c) (put_out_of c) (history_of c) c.log) chosen
-    (h.order, log_accounts ring opening (text_of c) (taken_by c) h.order h.lanes (put_out_of c) c.log c.pool h.pool h.log h.connections)
+    (h.order, log_accounts ring opening (text_of c) (taken_by c) h.order h.lanes (put_out_of c) c.log c.pool h.pool h.log h.connections h.lives)
 
 -- and so it does after every list of calls
 pub course_called : (ring : RingState) (opening : CacheState) (calls : List Call) (old new : CourseState) → IsGoodCache opening → CourseHolds ring opening old
@@ -36,6 +37,12 @@ course_called ring opening (Join address ∷ calls) old new good h run =
     course_called ring opening calls run.0 new good
     (elim run.1 [
       | inl joined ↦ course_joins ring opening address old run.0 good h joined
+      | inr same ↦ subst (λ (c : CourseState). CourseHolds ring opening c) (sym same) h
+    ]) run.2
+course_called ring opening (Restart place ∷ calls) old new good h run =
+    course_called ring opening calls run.0 new good
+    (elim run.1 [
+      | inl restarted ↦ course_restarts ring opening place old run.0 good h restarted
       | inr same ↦ subst (λ (c : CourseState). CourseHolds ring opening c) (sym same) h
     ]) run.2
 

@@ -36,7 +36,7 @@ use Rattle.mc_history.proofs.OutcomeLemmas.{replied_push}
 use Rattle.mc_history.proofs.NamedLemmas.{each_back, each_push, named_since}
 use Rattle.mc_history.proofs.RefusalLemmas.{one_tells}
 use Rattle.mc_history.proofs.MadeLemmas.{answer_made, cache_made, cache_of, commands_made, made_push, replayed_made, spelled_by_head}
-use Rattle.mc_history.specs.Named.{IsNamed, tags_of, times}
+use Rattle.mc_history.specs.Named.{IsNamed, tags_made, tags_of, times}
 
 -- a connection of another number is as it was
 pub other_is : (number other : ℕ) (old new : ServerState) (Step : CacheState → CacheState → ConnectionState → ConnectionState → Type 0) → Steps number old new Step → number ≢ other
@@ -55,7 +55,9 @@ pub site_fed : (place : ℕ) (order : Order) (lane : Lane) (link link' : LinkSta
     → SiteHolds place order (record lane { out = lane.out ++ piece }) link' opening (record site { server = server })
 site_fed place order lane link link' opening site server piece up up' steps h =
     let living = h.living up in record {
+      past = h.past;
       made = h.made;
+      begun = h.begun;
       texts = grown site.connection piece h.texts;
       sent = h.sent;
       server = ServerHolds-fed opening h.texts h.sent (map taking_of h.made) site.connection piece site.server server h.server steps;
@@ -249,6 +251,11 @@ pub others_of : (others : List Tagged) (command : Tagged) (past : List Tagged) �
     → (tag : Tag) → times tag (tags_of others) ≡ times tag (command.1 ∷ []) + times tag (tags_of past)
 others_of others command past is tag = grind arith
 
+-- how often a tag is among what was made in all lives, where one more was made in this one
+pub one_more : (past made : List Made) (m : Made) (tag : Tag)
+    → times tag (tags_made (past ++ (made ++ m ∷ []))) ≡ times tag (tags_made (past ++ made)) + times tag (m.command.1 ∷ [])
+one_more past made m tag = ap (λ (ms : List Made). times tag (tags_made ms)) (sym (append_assoc past made (m ∷ []))) ∙ times-made tag (past ++ made) m
+
 -- a turn of the living connection: the history has the command that waits next, at that moment, with the bytes that the server appended
 pub site_turned : (place : ℕ) (order : Order) (lane : Lane) (link : LinkState) (opening : CacheState) (site : SiteState) (server : ServerState) (moment : ℕ) (tag : Tag) (reply : List ℕ)
     → (up : link.up ≡ true) → (steps : Steps site.connection site.server server (IsTurn site.connection moment Took))
@@ -276,22 +283,27 @@ site_turned place order lane link opening site server moment tag reply up steps 
     (waits_next place order lane link opening site up h takes.next.command takes.next.past holds takes.next.is) in
     let entry_is : record { client = tag.session; request = tag.request; atom = tag.atom; moment = moment; refused = steps.step.1.served.0; reply = reply } ≡ entry_of m =
     ap₂ (λ (t : Tag) (bytes : List ℕ). entry_by t moment steps.step.1.served.0 bytes) tag_is reply_is in
+    let all_is : (h.past ++ h.made) ++ m ∷ [] ≡ h.past ++ (h.made ++ m ∷ []) = append_assoc h.past h.made (m ∷ []) in
     let taking : map taking_of h.made ++ entry_taken steps ∷ [] ≡ map taking_of (h.made ++ m ∷ []) =
     ap (λ (what : Taken). map taking_of h.made ++ (taking_by site.connection what moment steps.step.1.served.0) ∷ []) takes.next.what_is ∙ sym (map-append taking_of h.made (m ∷ [])) in
     record {
+      past = h.past;
       made = h.made ++ m ∷ [];
+      begun = h.begun;
       texts = h.texts;
       sent = h.sent;
       server = subst (λ (es : List Taking). ServerHolds opening h.texts h.sent es server) taking
           (ServerHolds-took opening h.texts h.sent (map taking_of h.made) site.connection moment site.server server h.server steps);
       good_cache = still_good site.server.cache server.cache m steps.step.0 takes.next.what_is steps.step.1.served.1.cache takes.good below h.good_cache;
       answers = made_push opening h.made m h.answers made;
-      history = ap₂ (λ (es : List Entry) (e : Entry). es ++ e ∷ []) h.history entry_is ∙ sym (map-append entry_of h.made (m ∷ []));
+      history = ap₂ (λ (es : List Entry) (e : Entry). es ++ e ∷ []) h.history entry_is ∙ sym (map-append entry_of (h.past ++ h.made) (m ∷ []))
+          ∙ ap (λ (ms : List Made). map entry_of ms) all_is;
       good = h.good;
-      named = each_push (λ (x : Made). IsNamed place order x.command) h.made m h.named next_named;
+      named = subst (λ (ms : List Made). Each (λ (x : Made). IsNamed place order x.command) ms) all_is
+          (each_push (λ (x : Made). IsNamed place order x.command) (h.past ++ h.made) m h.named next_named);
       all_named = h.all_named;
       replied = replied_push place order site.history (entry_by tag moment steps.step.1.served.0 reply) h.replied;
-      once = λ t. omega (arith, living.once t, others_times t, times-made t h.made m);
+      once = λ t. omega (arith, living.once t, others_times t, one_more h.past h.made m t);
       living = λ _. record {
         end = steps.after;
         is_open = ap (λ (cs : List (ℕ × ConnectionState)). connection_at (record server { connections = cs }) site.connection) steps.is
@@ -305,7 +317,7 @@ site_turned place order lane link opening site server moment tag reply up steps 
         ahead =
             let longer : length (commands_on site.connection (h.made ++ m ∷ [])) ≡ length (commands_on site.connection h.made ++ takes.next.command ∷ []) = ap (λ (cs : List Tagged). length cs) (commands_push_own h.made m) in
             omega (arith, living.ahead, longer, length-append (commands_on site.connection h.made) (takes.next.command ∷ []));
-        once = λ t. omega (arith, living.once t, others_times t, times-made t h.made m);
+        once = λ t. omega (arith, living.once t, others_times t, one_more h.past h.made m t);
       };
       lost = λ i way at. let differ = h.apart_living up i way at in
           lost_untouched place order h.made m h.texts site.server server way differ

@@ -9,6 +9,7 @@ use Rattle.mc_world.specs.Courses.{Applies, CourseServes, IsDone}
 use Rattle.mc_world.specs.CourseHolds.{CourseHolds, WorldHolds}
 use Rattle.mc_world.specs.Happens.{Does}
 use Rattle.mc_world.specs.Joins.{HasServerJoined}
+use Rattle.mc_world.specs.Restarts.{HasServerRestarted}
 use Rattle.mc_world.specs.Steps.{GivesAccount, IsTried, RunsTo, StepsTo}
 use Rattle.mc_world.specs.Worlds.{CourseState, WorldState, cache_of, world_opened}
 use Rattle.mc_world.specs.declared.errors.Step.{Step}
@@ -17,6 +18,7 @@ use Rattle.mc_world.specs.declared.errors.WorldError.{WorldError}
 use Rattle.mc_event.specs.declared.events.Event.{Event}
 use Rattle.mc_world.proofs.DoneLemmas.{course_done, is_there}
 use Rattle.mc_world.proofs.JoinLemmas.{course_joins}
+use Rattle.mc_world.proofs.RestartLemmas.{course_restarts}
 use Rattle.mc_world.proofs.RunLemmas.{course_accounts}
 use Rattle.mc_world.proofs.ServingLemmas.{pool_serves}
 use Rattle.mc_world.proofs.WorldOpeningLemmas.{course_opens}
@@ -77,6 +79,16 @@ course_joined ring budget items address cache (Ok value) old new bounds opens h 
     course_joins ring (opening_cache budget items 0) address old new (opening_is_good budget items 0 bounds.some_items (omega arith)) h
     (subst (λ (s : CacheState). HasServerJoined address s old new) opens joined)
 course_joined ring budget items address cache (Err e) old new bounds opens h joined refused =
+    subst (λ (c : CourseState). CourseHolds ring (opening_cache budget items 0) c) (sym refused) h
+
+-- and after a restart that may have been
+pub course_restarted : {T E : Type 0} (ring : RingState) (budget items place : ℕ) (cache : CacheState) (r : Result T E) (old new : CourseState) → IsWithinBounds budget items
+    → cache ≡ opening_cache budget items 0 → CourseHolds ring (opening_cache budget items 0) old → OnOk r (HasServerRestarted place cache old new) → OnErr r (new ≡ old)
+    → CourseHolds ring (opening_cache budget items 0) new
+course_restarted ring budget items place cache (Ok value) old new bounds opens h restarted refused =
+    course_restarts ring (opening_cache budget items 0) place old new (opening_is_good budget items 0 bounds.some_items (omega arith)) h
+    (subst (λ (s : CacheState). HasServerRestarted place s old new) opens restarted)
+course_restarted ring budget items place cache (Err e) old new bounds opens h restarted refused =
     subst (λ (c : CourseState). CourseHolds ring (opening_cache budget items 0) c) (sym refused) h
 
 -- what a step that was refused, and one that was not, count for

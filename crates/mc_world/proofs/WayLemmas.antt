@@ -1,18 +1,22 @@
 -- By which way the bytes and the turns of a generation go, and what is told of it.
-use Rattle.std.proofs.Common.{◌≡◌, ◌∙◌, ◌↔◌, ⊎_elim, ℕ, ◌^◌, ◌<◌, inl, inr, List, Result, Ok, Err, IfOk, Some, slice_get, refl, sym, ap}
+use Rattle.std.proofs.Common.{◌≡◌, ◌∙◌, ◌↔◌, ⊎_elim, ℕ, ◌^◌, ◌<◌, inl, inr, List, [], ◌∷◌, ◌++◌, length, Result, Ok, Err, IfOk, Some, slice_get, refl, sym, ap, subst}
+use Rattle.std.proofs.lemmas.List.{length-set}
 use Rattle.std.proofs.lemmas.Option.{same_Some}
-use Rattle.mc_world.specs.Applies.{Lives}
+use Rattle.mc_cache.specs.CacheState.{CacheState}
+use Rattle.mc_world.specs.Applies.{IsUp, Lives}
 use Rattle.mc_world.specs.Courses.{ByWay, Happens, HappensTo, clients_after}
 use Rattle.mc_world.specs.Happens.{Does}
 use Rattle.mc_world.specs.Logs.{Log}
-use Rattle.mc_world.specs.Pools.{LateBytes, LateTurn, ReachesServer, ServerTakes}
+use Rattle.mc_world.specs.Pools.{LateBytes, LateTurn, LosesLink, ReachesServer, ServerTakes}
+use Rattle.mc_world.specs.Restarts.{HasServerRestarted, ServerRestarts}
 use Rattle.mc_world.specs.WorldState.{PoolState, SiteState}
 use Rattle.mc_world.specs.Worlds.{ClientState, CourseState}
 use Rattle.mc_world.specs.declared.errors.Step.{Step}
 use Rattle.mc_world.specs.declared.errors.Step.TheVariants.{Done, Nothing}
 use Rattle.mc_world.specs.declared.errors.WorldError.{WorldError}
 use Rattle.mc_event.specs.declared.events.Event.{Event}
-use Rattle.mc_event.specs.declared.events.Event.TheVariants.{ServerTurn, ToServer}
+use Rattle.mc_event.specs.declared.events.Event.TheVariants.{LinkLost, ServerTurn, ToServer}
+use Rattle.mc_world.specs.declared.logs.Logged.TheVariants.{Happened, Restarted}
 
 abbrev pub course_of : PoolState → List ClientState → Log → CourseState
 course_of pool clients log = record { pool = pool; clients = clients; log = log }
@@ -66,3 +70,35 @@ happened event clients log old new same happens = record { pool = happens; clien
 
 pub rested : (clients : List ClientState) (log : Log) (old new : PoolState) → new ≡ old → course_of new clients log ≡ course_of old clients log
 rested clients log old new same = ap (λ (p : PoolState). course_of p clients log) same
+
+-- a server has restarted, and its link was lost first
+pub lost_and_restarted : (place : ℕ) (cache : CacheState) (old cut new pool : PoolState) (clients clients' : List ClientState) (log log' : Log) (step : Step) → step ≡ Done
+    → Does step (LosesLink place old cut) (cut ≡ old) → ((step ≡ Done) ↔ IsUp place old) → ServerRestarts place cache cut new → pool ≡ new → clients' ≡ clients
+    → log' ≡ (log ++ Happened (LinkLost place) ∷ []) ++ Restarted place ∷ [] → HasServerRestarted place cache (course_of old clients log) (course_of pool clients' log')
+lost_and_restarted place cache old cut new pool clients clients' log log' step is told applies restarts pool_is clients_are log_is =
+    let loses : LosesLink place old cut = subst (λ (s : Step). Does s (LosesLink place old cut) (cut ≡ old)) is told in
+    record {
+      cut = course_of cut clients (log ++ Happened (LinkLost place) ∷ []);
+      loses = inl (applies.0 is, record { pool = loses; clients = refl; log = refl });
+      pool = subst (λ (p : PoolState). ServerRestarts place cache cut p) (sym pool_is) restarts;
+      clients = clients_are;
+      log = log_is;
+    }
+
+-- or was down
+pub down_and_restarted : (place : ℕ) (cache : CacheState) (old cut new pool : PoolState) (clients clients' : List ClientState) (log log' : Log) (step : Step) → (step ≡ Done → ⊥)
+    → Does step (LosesLink place old cut) (cut ≡ old) → ((step ≡ Done) ↔ IsUp place old) → ServerRestarts place cache cut new → pool ≡ new → clients' ≡ clients
+    → log' ≡ log ++ Restarted place ∷ [] → HasServerRestarted place cache (course_of old clients log) (course_of pool clients' log')
+down_and_restarted place cache old cut new pool clients clients' log log' Done differ told applies restarts pool_is clients_are log_is = absurd (differ refl)
+down_and_restarted place cache old cut new pool clients clients' log log' Nothing differ told applies restarts pool_is clients_are log_is = record {
+  cut = course_of old clients log;
+  loses = inr (λ up. differ (applies.1 up), refl);
+  pool = subst (λ (p : PoolState). ServerRestarts place cache old p) (sym pool_is) (subst (λ (p : PoolState). ServerRestarts place cache p new) told restarts);
+  clients = clients_are;
+  log = log_is;
+}
+
+-- as many servers are there after a loss
+pub cut_as_many : (step : Step) (place : ℕ) (old new : PoolState) → Does step (LosesLink place old new) (new ≡ old) → length new.sites ≡ length old.sites
+cut_as_many Done place old new h = ap (λ (ss : List SiteState). length ss) h.there.sites ∙ length-set old.sites place h.there.now
+cut_as_many Nothing place old new same = ap (λ (p : PoolState). length p.sites) same

@@ -29,7 +29,7 @@ use Rattle.mc_world.specs.CourseHolds.{CourseHolds, IsOfLink}
 use Rattle.mc_world.specs.LogHolds.{IsFresh, LogHolds}
 use Rattle.mc_world.specs.Pools.{PoolHolds}
 use Rattle.mc_world.specs.Sites.{SiteHolds}
-use Rattle.mc_world.specs.WorldState.{SiteState, histories_of}
+use Rattle.mc_world.specs.WorldState.{SiteState, begun_of, histories_of}
 use Rattle.mc_world.specs.Worlds.{ClientState, client_at, first_site, fresh_sessions, nobody, opening_pool, opening_proxy, world_opened}
 use Rattle.mc_world.proofs.DoneLemmas.{stood_as}
 use Rattle.mc_world.proofs.GenerationStayLemmas.{first_of_link}
@@ -100,7 +100,9 @@ same_site opening (suc n) (suc place) site at = same_site opening n place site a
 pub first_site_holds : (place : ℕ) (order : Order) (link : LinkState) (opening : CacheState) → IsGoodCache opening → commands_to place order ≡ [] → AreReplied place order []
     → SiteHolds place order (fresh_lane (length order)) link opening (first_site opening)
 first_site_holds place order link opening good none replied = record {
+  past = [];
   made = [];
+  begun = refl;
   texts = λ _. [];
   sent = λ _. [];
   server = ServerHolds-admitted opening (λ _. []) (λ _. []) [] (record { cache = opening; connections = []; admitted = 0 }) (ServerHolds-new opening);
@@ -171,6 +173,11 @@ no_history opening zero place = refl
 no_history opening (suc n) zero = refl
 no_history opening (suc n) (suc place) = no_history opening n place
 
+none_begun : (opening : CacheState) (n place : ℕ) → begun_of (replicate n (first_site opening)) place ≡ 0
+none_begun opening zero place = refl
+none_begun opening (suc n) zero = refl
+none_begun opening (suc n) (suc place) = none_begun opening n place
+
 none_lost : (opening : CacheState) (n place : ℕ) (site : SiteState) → slice_get (replicate n (first_site opening)) place ≡ Some site → site.lost ≡ []
 none_lost opening n place site at = ap (λ (s : SiteState). s.lost) (sym (same_site opening n place site at))
 
@@ -232,3 +239,8 @@ course_opens losses ring clients budget items is_ring some =
     (sym (length-replicate clients nobody))
     (opening_generations (opening_cache budget items 0) (length ring.servers))
     (λ place site at never. ap (λ (s : SiteState). s.server.admitted) (sym (same_site (opening_cache budget items 0) (length ring.servers) place site at)))
+    (record {
+      begun = none_begun (opening_cache budget items 0) (length ring.servers);
+      first = λ place never. none_begun (opening_cache budget items 0) (length ring.servers) place;
+      ended = λ place life early. absurd (omega (arith, early));
+    })

@@ -1,5 +1,5 @@
 -- The account of a run: this project's own.
-use Rattle.std.specs.Prelude.{ℕ, ◌≡◌, ◌<◌, ◌≤◌, ◌⊎◌, true, false, List, [], ◌∷◌, ◌++◌, map, take, Some, slice_get, All}
+use Rattle.std.specs.Prelude.{ℕ, ◌≡◌, ◌<◌, ◌≤◌, ◌⊎◌, true, false, List, [], ◌∷◌, ◌++◌, map, take, drop, Some, slice_get, All}
 use Rattle.std.specs.List.{list_all}
 use Rattle.mc_request.specs.declared.parts.Atom.{Atom}
 use Rattle.mc_request.specs.declared.parts.Taken.{Taken}
@@ -15,7 +15,7 @@ use Rattle.mc_session.specs.Emits.{answer_by}
 use Rattle.mc_cache.specs.CacheState.{CacheState}
 use Rattle.mc_account.specs.Orders.{AreInOrder, Entry as Asked, IsSized, Order, commands_to, entries_of, is_complete, taken_of}
 use Rattle.mc_history.specs.declared.entries.Entry.{Entry}
-use Rattle.mc_world.specs.Logs.{IsRingAfter, Log, before, is_up, loses, moments_of, number_of, puts, serves, takes, turns_of}
+use Rattle.mc_world.specs.Logs.{IsRingAfter, Log, before, in_life, is_up, loses, moments_of, number_of, puts, serves, takes, turns_of}
 use Rattle.mc_history.specs.Histories.{HasNone, HasReply, IsLegal, tag_in}
 use Rattle.mc_history.specs.Named.{tags_of}
 use Rattle.mc_account.specs.Lookups.{IsBefore, asked_at, command_at, outcome_at}
@@ -60,8 +60,8 @@ pub record Accounts (losses : Losses) (ring : RingState) (opening : CacheState) 
   pub numbered : (client : ℕ) → AreInOrder (entries_of client order)
   pub rings : (client request : ℕ) (e : Asked) → asked_at order client request ≡ Some e → IsRingAfter ring (before (takes client) request log) e.ring
   pub sized : All IsSized order
-  -- each history is legal, and no command has two entries in all of them
-  pub legal : (place : ℕ) → IsLegal order place opening (histories place)
+  -- what a server took in each of its lives is legal, and no command has two entries in all histories
+  pub legal : (place life : ℕ) → IsLegal order place opening (in_life place life log (histories place))
   pub once : (r s j k : ℕ) (d e : Entry) → slice_get (histories r) j ≡ Some d → slice_get (histories s) k ≡ Some e → tag_in d ≡ tag_in e
       → (r ≡ s) × (j ≡ k)
   -- a reply is that of its server's history
@@ -90,10 +90,12 @@ abbrev pub Account : Losses → RingState → CacheState → (ℕ → List ℕ) 
 Account losses ring opening texts outs histories log = (order : Order) × Accounts losses ring opening order texts outs histories log
 
 -- The clauses of the account that speak of no place of the log: each client's requests were taken in order, each command has its outcome,
--- each history is legal, and no command has two entries in all of them.
-pub record AccountsForCommands (opening : CacheState) (order : Order) (texts : ℕ → List ℕ) (histories : ℕ → List Entry) : Type 0 where
+-- what each server took since its life began is legal, all that it ever took are commands to it, and no command has two entries in all
+-- histories.
+pub record AccountsForCommands (opening : CacheState) (order : Order) (texts : ℕ → List ℕ) (histories : ℕ → List Entry) (begun : ℕ → ℕ) : Type 0 where
   pub asked : (client : ℕ) → (untaken : List Taken) × (taken_of client order ++ untaken ≡ requests_of (texts client))
   pub sized : All IsSized order
-  pub legal : (place : ℕ) → IsLegal order place opening (histories place)
+  pub legal : (place : ℕ) → IsLegal order place opening (drop (begun place) (histories place))
+  pub named : (place k : ℕ) (e : Entry) → slice_get (histories place) k ≡ Some e → (atom : Atom (List ℕ)) × (command_at order (tag_in e) ≡ Some (to_place place atom))
   pub once : (r s j k : ℕ) (d e : Entry) → slice_get (histories r) j ≡ Some d → slice_get (histories s) k ≡ Some e → tag_in d ≡ tag_in e
       → (r ≡ s) × (j ≡ k)

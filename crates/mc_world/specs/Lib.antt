@@ -11,6 +11,7 @@ pub mod Worlds
 pub mod Courses
 pub mod CourseHolds
 pub mod Joins
+pub mod Restarts
 pub mod Runs
 pub mod Refusals
 pub mod Openings

@@ -1,16 +1,17 @@
 -- What was done, in order, and places in it: this project's own.
-use Rattle.std.specs.Prelude.{ℕ, ◌≡◌, zero, suc, ◌==◌, Bool, true, false, List, [], ◌∷◌, ◌++◌, length, if◌then◌else◌}
+use Rattle.std.specs.Prelude.{ℕ, ◌≡◌, zero, suc, ◌==◌, Bool, true, false, List, [], ◌∷◌, ◌++◌, length, take, drop, if◌then◌else◌}
 use Rattle.mc_ring.specs.Points.{pairs_at, points_of}
 use Rattle.mc_ring.specs.Rings.{RingState, Shows}
 use Rattle.mc_event.specs.declared.events.Event.TheVariants.{Emit, LinkBack, LinkLost, ProxyTurn, ServerTurn}
+use Rattle.mc_history.specs.declared.entries.Entry.{Entry}
 use Rattle.mc_world.specs.declared.logs.Logged.{Logged}
-use Rattle.mc_world.specs.declared.logs.Logged.TheVariants.{Happened, Joined}
+use Rattle.mc_world.specs.declared.logs.Logged.TheVariants.{Happened, Joined, Restarted}
 
 -- what was done, the oldest first, without the bytes of clients
 abbrev pub Log : Type 0
 Log = List Logged
 
--- what does this: it takes a request of this client; puts one of its answers out; this server takes a request; its link is lost
+-- what does this: it takes a request of this client; puts one of its answers out; this server takes a request; its link is lost; it restarts
 abbrev pub takes : ℕ → Logged → Bool
 takes client (Happened (ProxyTurn of)) = of == client
 takes client other = false
@@ -27,6 +28,10 @@ abbrev pub loses : ℕ → Logged → Bool
 loses server (Happened (LinkLost at)) = at == server
 loses server other = false
 
+abbrev pub restarts : ℕ → Logged → Bool
+restarts server (Restarted at) = at == server
+restarts server other = false
+
 -- how many there are
 abbrev pub number_of : (Logged → Bool) → Log → ℕ
 number_of is [] = 0
@@ -37,6 +42,15 @@ abbrev pub before : (Logged → Bool) → ℕ → Log → Log
 before is number [] = []
 before is zero (e ∷ es) = if is e then [] else e ∷ before is zero es
 before is (suc number) (e ∷ es) = e ∷ before is (if is e then number else suc number) es
+
+-- how many requests a server took before a life of it, the first life being number 0: each restart ends one
+abbrev pub taken_before : ℕ → ℕ → Log → ℕ
+taken_before server zero log = 0
+taken_before server (suc life) log = number_of (serves server) (before (restarts server) life log)
+
+-- what it took in a life, of its history: nothing where it had no life of that number
+abbrev pub in_life : ℕ → ℕ → Log → List Entry → List Entry
+in_life server life log history = drop (taken_before server life log) (take (taken_before server (suc life) log) history)
 
 -- whose requests were taken, one by each turn of the proxy
 abbrev pub turn_of : Logged → List ℕ
@@ -82,3 +96,4 @@ abbrev pub IsRingAfter : RingState → Log → RingState → Type 0
 IsRingAfter ring [] now = now ≡ ring
 IsRingAfter ring (Happened event ∷ es) now = IsRingAfter ring es now
 IsRingAfter ring (Joined server address ∷ es) now = (next : RingState) × HasJoined server address ring next × IsRingAfter next es now
+IsRingAfter ring (Restarted server ∷ es) now = IsRingAfter ring es now

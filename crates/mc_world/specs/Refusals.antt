@@ -1,15 +1,15 @@
--- Why a server cannot join. Want of memory is none of these causes.
-use Rattle.std.specs.Prelude.{ℕ, nat_le, List, length, Option, Some, None, Result, Ok, Err, if◌then◌else◌}
+-- Why a server cannot join, or restart. Want of memory is none of these causes.
+use Rattle.std.specs.Prelude.{ℕ, nat_le, nat_lt, List, length, Option, Some, None, Result, Ok, Err, if◌then◌else◌}
 use Rattle.mc_proxy.specs.Joins.{has_server}
 use Rattle.mc_world.specs.declared.errors.WorldError.{WorldError}
-use Rattle.mc_world.specs.declared.errors.WorldError.TheVariants.{AlreadyThere, Memory, RingFull}
+use Rattle.mc_world.specs.declared.errors.WorldError.TheVariants.{AlreadyThere, Memory, NoServer, RingFull}
 
 -- a cause other than memory
 abbrev pub cause_of : WorldError → Option WorldError
 cause_of Memory = None
 cause_of other = Some other
 
--- why a join was refused, where it was for another cause than memory
+-- why a join or a restart was refused, where it was for another cause than memory
 abbrev pub refusal_in : {T S : Type 0} → Result T (WorldError × S) → Option WorldError
 refusal_in (Ok value) = None
 refusal_in (Err refused) = cause_of refused.0
@@ -20,3 +20,7 @@ refusal_of servers address =
     if nat_le 64 (length servers) then Some RingFull
     else if has_server servers address then Some AlreadyThere
     else None
+
+-- why the server of a place cannot restart, where there are so many: there is none at that place
+abbrev pub restart_refusal_of : ℕ → ℕ → Option WorldError
+restart_refusal_of servers place = if nat_lt place servers then None else Some NoServer

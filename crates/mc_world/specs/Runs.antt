@@ -3,6 +3,7 @@ use Rattle.std.specs.Prelude.{ℕ, ◌≡◌, ◌⊎◌, List, [], ◌∷◌}
 use Rattle.mc_cache.specs.CacheState.{CacheState}
 use Rattle.mc_world.specs.Courses.{IsDone}
 use Rattle.mc_world.specs.Joins.{HasServerJoined}
+use Rattle.mc_world.specs.Restarts.{HasServerRestarted}
 use Rattle.mc_world.specs.Worlds.{CourseState}
 use Rattle.mc_event.specs.declared.events.Event.{Event}
 
@@ -16,13 +17,16 @@ pub data Call : Type 0 where
   Step : Event (List ℕ) → Call
   -- a server of this address joins
   Join : List ℕ → Call
+  -- the server of this place restarts
+  Restart : ℕ → Call
 
--- what a call does, where this is the cache of a server that joins: nothing has changed where it does not apply, is refused, or memory was
+-- what a call does, where this is the cache of a server that joins or restarts: nothing has changed where it does not apply, is refused, or memory was
 abbrev pub IsCalled : CacheState → Call → CourseState → CourseState → Type 0
 IsCalled opening (Step event) old new = Goes event old new
 IsCalled opening (Join address) old new = HasServerJoined address opening old new ⊎ (new ≡ old)
+IsCalled opening (Restart place) old new = HasServerRestarted place opening old new ⊎ (new ≡ old)
 
--- calls of both kinds one after another, in any order
+-- calls of each kind one after another, in any order
 abbrev pub Calls : CacheState → List Call → CourseState → CourseState → Type 0
 Calls opening [] old new = new ≡ old
 Calls opening (call ∷ calls) old new = (next : CourseState) × IsCalled opening call old next × Calls opening calls next new

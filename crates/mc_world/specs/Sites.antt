@@ -20,8 +20,8 @@ untaken_times tag [] = 0
 untaken_times tag (way ∷ ways) = times tag way.untaken + untaken_times tag ways
 
 -- The living generation: its connection is open; what left the one end came to the other, both ways; of the commands that were sent the
--- server took the first, and of these the replies to the first were taken.
-pub record IsLiving (place : ℕ) (order : Order) (lane : Lane) (made : List Made) (texts sent : ℕ → List ℕ) (site : SiteState) : Type 0 where
+-- server took the first, and of these the replies to the first were taken. No command was sent more often than it was taken, in any life.
+pub record IsLiving (place : ℕ) (order : Order) (lane : Lane) (all made : List Made) (texts sent : ℕ → List ℕ) (site : SiteState) : Type 0 where
   pub end : ConnectionState
   pub is_open : connection_at site.server site.connection ≡ Some end
   pub out : texts site.connection ≡ lane.out
@@ -29,7 +29,7 @@ pub record IsLiving (place : ℕ) (order : Order) (lane : Lane) (made : List Mad
   pub others : List Tagged
   pub commands : commands_of_lane place order lane ≡ commands_on site.connection made ++ others
   pub ahead : site.ahead + length lane.replies ≡ length (commands_on site.connection made)
-  pub once : (tag : Tag) → times tag (tags_made made) + times tag (tags_of others) + untaken_times tag site.lost ≤ times tag (tags_of (commands_to place order))
+  pub once : (tag : Tag) → times tag (tags_made all) + times tag (tags_of others) + untaken_times tag site.lost ≤ times tag (tags_of (commands_to place order))
 
 -- A lost generation: its connection is open; what came and what is on its way spells what the server took and what it has not.
 pub record IsLostWay (place : ℕ) (order : Order) (made : List Made) (texts : ℕ → List ℕ) (server : ServerState) (way : WayState) : Type 0 where
@@ -41,23 +41,25 @@ pub record IsLostWay (place : ℕ) (order : Order) (made : List Made) (texts : �
   pub untaken : way.untaken ≡ map (λ command. command.1) others
   pub named : Each (IsNamed place order) others
 
--- A server is where what it made leaves it, with each of its ways: its history tells what it made, and its cache is one whose replies
--- can be had.
+-- A server is where what it made in this life leaves it, with each of its ways: its history tells what it made in all its lives, and its
+-- cache is one whose replies can be had.
 pub record SiteHolds (place : ℕ) (order : Order) (lane : Lane) (link : LinkState) (opening : CacheState) (site : SiteState) : Type 0 where
+  pub past : List Made
   pub made : List Made
+  pub begun : length past ≡ site.begun
   pub texts : ℕ → List ℕ
   pub sent : ℕ → List ℕ
   pub server : ServerHolds opening texts sent (map taking_of made) site.server
   pub good_cache : IsGoodCache site.server.cache
   pub answers : AreMade opening made
-  pub history : site.history ≡ map entry_of made
+  pub history : site.history ≡ map entry_of (past ++ made)
   pub good : list_all is_good (commands_to place order) ≡ true
-  pub named : Each (λ m. IsNamed place order m.command) made
+  pub named : Each (λ m. IsNamed place order m.command) (past ++ made)
   pub all_named : Each (IsNamed place order) (commands_to place order)
   pub replied : AreReplied place order site.history
   -- each command that was sent was taken, or is still to be taken, once at most
-  pub once : (tag : Tag) → times tag (tags_made made) + untaken_times tag site.lost ≤ times tag (tags_of (commands_to place order))
-  pub living : link.up ≡ true → IsLiving place order lane made texts sent site
+  pub once : (tag : Tag) → times tag (tags_made (past ++ made)) + untaken_times tag site.lost ≤ times tag (tags_of (commands_to place order))
+  pub living : link.up ≡ true → IsLiving place order lane (past ++ made) made texts sent site
   pub lost : (i : ℕ) (way : WayState) → slice_get site.lost i ≡ Some way → IsLostWay place order made texts site.server way
   -- no two ways share a connection
   pub apart : (i j : ℕ) (v w : WayState) → slice_get site.lost i ≡ Some v → slice_get site.lost j ≡ Some w → i ≢ j → v.connection ≢ w.connection

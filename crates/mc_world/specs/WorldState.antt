@@ -17,11 +17,12 @@ pub record WayState : Type 0 where
 abbrev pub IsRising : List WayState → Type 0
 IsRising ways = (i j : ℕ) (v w : WayState) → slice_get ways i ≡ Some v → slice_get ways j ≡ Some w → i < j → v.generation < w.generation
 
--- a server with its ways: what it took; the living generation, its connection, and how many commands it took there whose replies the
+-- a server with its ways: what it took in all its lives, and how many requests before this one; the living generation, its connection, and how many commands it took there whose replies the
 -- proxy has not taken; and the lost generations
 pub record SiteState : Type 0 where
   pub server : ServerState
   pub history : List Entry
+  pub begun : ℕ
   pub generation : ℕ
   pub connection : ℕ
   pub ahead : ℕ
@@ -29,7 +30,7 @@ pub record SiteState : Type 0 where
 
 -- the site of a server whose link is of the first generation, over its first connection
 abbrev pub with_server : ServerState → SiteState
-with_server server = record { server = server; history = []; generation = 1; connection = 0; ahead = 0; lost = [] }
+with_server server = record { server = server; history = []; begun = 0; generation = 1; connection = 0; ahead = 0; lost = [] }
 
 -- the proxy, and the servers by place
 pub record PoolState : Type 0 where
@@ -41,3 +42,9 @@ abbrev pub histories_of : List SiteState → ℕ → List Entry
 histories_of [] place = []
 histories_of (site ∷ sites) zero = site.history
 histories_of (site ∷ sites) (suc place) = histories_of sites place
+
+-- how many requests they took before their lives began: none where there is no server
+abbrev pub begun_of : List SiteState → ℕ → ℕ
+begun_of [] place = 0
+begun_of (site ∷ sites) zero = site.begun
+begun_of (site ∷ sites) (suc place) = begun_of sites place

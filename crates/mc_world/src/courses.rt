@@ -36,7 +36,8 @@ impl<S: Store + Drop> Course<S> {
     ghost use Rattle.mc_world.specs.Courses.{Applies, ByWay, CourseServes, HappensTo, IsDone};
     ghost use Rattle.mc_world.specs.Happens.{Does};
     ghost use Rattle.mc_world.specs.Joins.{HasServerJoined};
-    ghost use Rattle.mc_world.specs.Refusals.{refusal_in, refusal_of};
+    ghost use Rattle.mc_world.specs.Refusals.{refusal_in, refusal_of, restart_refusal_of};
+    ghost use Rattle.mc_world.specs.Restarts.{HasServerRestarted};
     ghost use Rattle.mc_world.specs.declared.errors.Step.TheVariants.{Done};
     ghost use Rattle.mc_event.specs.declared.events.Event.TheVariants.{ClientBytes, ClientGone, ClientTakes, ServerTurn, ToServer};
 
@@ -92,6 +93,38 @@ impl<S: Store + Drop> Course<S> {
             address: copy,
         });
         Ok(place)
+    }
+
+    /// A server is another, which has admitted nobody. Its link is lost first, if it is up. At an error nothing has changed, and the
+    /// server that was to come is given back with the cause.
+    pub(crate) fn restart(
+        &mut self,
+        place: usize,
+        server: Server<S>,
+    ) -> Result<(), (WorldError, Server<S>)>
+        requires serves { CourseServes self.old }
+        requires fresh { server ≡ record { cache = server.cache; connections = []; admitted = 0 } }
+        ensures restarted { OnOk result (HasServerRestarted place server.cache self.old self.new) }
+        ensures refused { refusal_in result ≡ restart_refusal_of (length self.old.pool.sites) place }
+        ensures given_back { IfErr result (λ refused. refused.1.cache ≡ server.cache) }
+        ensures err { OnErr result (self.new ≡ self.old) }
+    {
+        if place >= self.pool.sites().len() {
+            return Err((WorldError::NoServer, server));
+        }
+        let Ok(()) = self.log.reserve(2) else {
+            return Err((WorldError::Memory, server));
+        };
+        let Ok(step) = self.pool.lose_link(place) else {
+            return Err((WorldError::Memory, server));
+        };
+        self.pool.restart(place, server);
+        if let Step::Done = step {
+            self.log
+                .push_reserved(Logged::Happened(Event::LinkLost { server: place }));
+        }
+        self.log.push_reserved(Logged::Restarted { server: place });
+        Ok(())
     }
 
     /// Does it, but for the log.

@@ -31,6 +31,9 @@ pub enum WorldError {
     /// 4: the ring has a server of this address.
     #[error("the server is there already")]
     AlreadyThere,
+    /// 5: there is no server of this place.
+    #[error("no such server")]
+    NoServer,
 }
 
 impl From<AllocError> for WorldError {

@@ -14,7 +14,7 @@ ghost use Rattle.mc_world.specs.Accounts.{Account, AccountsForCommands};
 ghost use Rattle.mc_world.specs.Logs.{Log, before, is_up, number_of, up_by};
 ghost use Rattle.mc_world.specs.declared.logs.Logged.{Logged};
 ghost use Rattle.mc_world.specs.Pools.{ClientGoes, TakesBytes, EndSeen, LateBytes, LateTurn, LinkReturns, HearsClient, LosesLink, PoolHolds, PutsAnswer, ReachesProxy, ReachesServer, ServerTakes, TakesReply, TakesRequest, asked_by};
-ghost use Rattle.mc_world.specs.WorldState.{PoolState, SiteState, histories_of};
+ghost use Rattle.mc_world.specs.WorldState.{PoolState, SiteState, begun_of, histories_of};
 ghost use Rattle.mc_history.specs.Named.{AreReplied};
 
 /// Where nothing has happened, the account is given.
@@ -77,11 +77,11 @@ pub fn lost_ways_keep_pools()
 {}
 
 /// A pool that is where its calls left it (`PoolHolds`) gives account of its commands. Each client's requests were taken in order, each
-/// server's history is legal and of commands that were sent to it, and no command has two entries in all of them. A reply that is
-/// known of a command is that of its entry in the history of its server.
+/// server's history since its life began is legal, all its entries are of commands that were sent to it, and no command has two entries in all
+/// histories. A reply that is known of a command is that of its entry in the history of its server.
 pub fn pools_account_for_commands()
     ensures commands { (opening : CacheState) (texts sent : ℕ → List ℕ) (order : Order) (lanes : ℕ → Lane) (pool : PoolState)
-        → PoolHolds opening texts sent order lanes pool → AccountsForCommands opening order texts (histories_of pool.sites) }
+        → PoolHolds opening texts sent order lanes pool → AccountsForCommands opening order texts (histories_of pool.sites) (begun_of pool.sites) }
     ensures replied { (opening : CacheState) (texts sent : ℕ → List ℕ) (order : Order) (lanes : ℕ → Lane) (pool : PoolState) (place : ℕ) (site : SiteState)
         → PoolHolds opening texts sent order lanes pool → slice_get pool.sites place ≡ Some site → AreReplied place order site.history }
 {}

@@ -1,12 +1,13 @@
 //! A pool: a proxy, its servers, the ways between them, their clients, and all that can happen to them; and the account that it
 //! gives.
 //!
-//! A [`World`] takes a list of events, one by one ([`World::step`], [`World::run`]), and servers that join ([`World::join_server`]).
+//! A [`World`] takes a list of events, one by one ([`World::step`], [`World::run`]), servers that join ([`World::join_server`]) and
+//! servers that die and begin anew with nothing ([`World::restart_server`]).
 //! Whatever it took, it gives account ([`World::gives_account`]): that is its invariant, and in the contract of each of these calls.
 //!
-//! [`every_run_gives_account`] is the theorem of the pool. Whatever list of events is done and whichever servers join, each as the
+//! [`every_run_gives_account`] is the theorem of the pool. Whatever list of events is done and whichever servers join or restart, each as the
 //! contracts of the proxy's and the servers' own calls say it, each client's bytes are its requests' answers in order, without gap; each server's executed
-//! commands are one history that the abstract cache replays; each answered command is once in its owner's history, and each lost one
+//! commands are one history, which the abstract cache replays life by life; each answered command is once in its owner's history, and each lost one
 //! at most once. The statement is the record `Accounts` of `specs/Accounts.antt`, over places in the log of what was done
 //! (`specs/Logs.antt`) and histories (`mc_history`). What each event does is `specs/Courses.antt`, with one record for each in
 //! `specs/Pools.antt`.
@@ -16,7 +17,7 @@
 //!
 //! [`Pool`] has a call for each event, over servers with their ways ([`Site`]): it does what the event's record says exactly where
 //! the event applies ([`Pool::applies`], `specs/Applies.antt`), and changes nothing else. What its calls rest on ([`courses_serve`]) holds wherever a course
-//! is. [`Pool::join`] lets a server join, or gives it back. No call waits.
+//! is. [`Pool::join`] lets a server join, or gives it back; [`Pool::restart`] puts a fresh one in the place of one. No call waits.
 #![tactic(auto)]
 
 mod acts;
@@ -33,6 +34,7 @@ mod logs;
 mod lost_ways;
 mod openings;
 mod pools;
+mod restarts;
 mod sites;
 mod turning;
 mod ways;

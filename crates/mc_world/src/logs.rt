@@ -15,4 +15,9 @@ pub enum Logged {
         /// Its address.
         address: Address,
     },
+    /// A server that restarted, with nothing left of what it had.
+    Restarted {
+        /// The server's place.
+        server: usize,
+    },
 }

@@ -100,11 +100,26 @@ fn opened_site<S: Store + Drop>(
     ensures opened { IfOk result (λ site. site ≡ first_site (opening_cache budget items 0)) }
     ensures only_memory { IsOkUnless result errors.Memory }
 {
-    let counter = CasCounter::starting_at(0);
-    let cache = Cache::new(alloc, store, budget, items, counter);
-    let mut server = Server::new(alloc, cache);
+    let mut server = fresh_server(alloc, budget, items, store);
     server.admit()?;
     Ok(Site::first(alloc, server))
+}
+
+/// A server over a store, which has admitted nobody.
+pub(crate) fn fresh_server<S: Store + Drop>(
+    alloc: Global,
+    budget: u64,
+    items: usize,
+    store: S,
+) -> Server<S>
+    requires bounds { IsWithinBounds budget items }
+    requires empty { S.items store ≡ [] }
+    requires room { HasRoom items (S.most store) }
+    ensures { result ≡ record { cache = opening_cache budget items 0; connections = []; admitted = 0 } }
+{
+    let counter = CasCounter::starting_at(0);
+    let cache = Cache::new(alloc, store, budget, items, counter);
+    Server::new(alloc, cache)
 }
 
 /// Clients that sent and took nothing.

@@ -64,7 +64,7 @@ impl<S: Store + Drop> Pool<S> {
         self.proxy.output(client)
     }
 
-    /// What the server of a place took, in order: nothing where there is none.
+    /// What the server of a place took in all its lives, in order: nothing where there is none.
     pub fn history(&self, place: usize) -> &[Entry]
         ensures { result.now ≡ histories_of self.now.sites place }
     {

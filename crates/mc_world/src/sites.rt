@@ -16,7 +16,10 @@ use std::marker::Model;
 pub struct Site<S: Store + Drop> {
     pub(crate) alloc: Global,
     pub(crate) server: Server<S>,
+    /// What it took in all its lives.
     pub(crate) history: Vec<Entry>,
+    /// How many of these it took before its life began.
+    pub(crate) begun: usize,
     /// The living generation, or the last that lived.
     pub(crate) generation: u64,
     /// The number of its connection.
@@ -35,6 +38,7 @@ impl<S: Store + Drop> Model for Site<S> {
     ghost view = { λ s. record {
       server = s.server;
       history = s.history.items;
+      begun = s.begun;
       generation = s.generation;
       connection = s.connection;
       ahead = s.ahead;
@@ -57,6 +61,7 @@ impl<S: Store + Drop> Site<S> {
             alloc,
             server,
             history: Vec::new(alloc),
+            begun: 0,
             generation: 1,
             connection: 0,
             ahead: 0,
@@ -64,11 +69,18 @@ impl<S: Store + Drop> Site<S> {
         }
     }
 
-    /// What the server took, in order.
+    /// What the server took in all its lives, in order.
     pub fn history(&self) -> &[Entry]
         ensures { result.now ≡ self.now.history }
     {
         self.history.as_slice()
+    }
+
+    /// How many requests it took before its life began: each restart begins one.
+    pub fn begun(&self) -> usize
+        ensures { result ≡ self.now.begun }
+    {
+        self.begun
     }
 
     /// How many commands the server took of the living generation whose replies the proxy has not taken.

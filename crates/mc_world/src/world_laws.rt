@@ -43,8 +43,8 @@ pub fn courses_serve()
     ensures { (ring : RingState) (opening : CacheState) (c : CourseState) → CourseHolds ring opening c → PoolServes c.pool }
 {}
 
-/// Whatever is done, in whatever order, and whichever servers join: each client's bytes are its requests' answers in order, without
-/// gap; each server's executed commands are one history that the abstract cache replays; each answered command is once in its
+/// Whatever is done, in whatever order, and whichever servers join or restart: each client's bytes are its requests' answers in order,
+/// without gap; each server's executed commands are one history, which the abstract cache replays life by life; each answered command is once in its
 /// owner's history, each lost one at most once. The owner is that of the moment at which the request was taken.
 pub fn every_run_gives_account()
     ensures { (losses : Losses) (ring : RingState) (clients budget items : ℕ) (calls : List Call) (c : CourseState) → IsRing ring → IsWithinBounds budget items
@@ -75,7 +75,7 @@ pub fn every_world_gives_account<S: Store + Drop>(
     Ok(world)
 }
 
-/// Whatever was done, and whichever servers joined: where none of the events applies by which bytes move, turns are taken, answers are
+/// Whatever was done, and whichever servers joined or restarted: where none of the events applies by which bytes move, turns are taken, answers are
 /// put out and ends are seen, the pool is quiet. Each request of each client that has not gone is answered, and nothing is left on any
 /// way. No client had 2^64 - 1 requests.
 pub fn nothing_is_stuck()

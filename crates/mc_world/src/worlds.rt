@@ -5,14 +5,12 @@ use crate::clients::Client;
 use crate::courses::Course;
 use crate::errors::{Step, WorldError};
 use crate::logs::Logged;
-use crate::openings::{copy_of, empty_stores, opened_course};
-use mc_cache::{Cache, is_within_bounds};
+use crate::openings::{copy_of, empty_stores, fresh_server, opened_course};
+use mc_cache::is_within_bounds;
 use mc_event::Event;
 use mc_history::Entry;
-use mc_item::CasCounter;
 use mc_ring::{Address, Ring};
 use mc_route::Losses;
-use mc_server::Server;
 use mc_store::{ListStore, Store};
 use mc_text::Block;
 use std::alloc::Global;
@@ -22,8 +20,8 @@ use std::marker::Model;
 pub const MAX_CLIENTS: usize = 1024;
 
 /// A proxy and its servers, the ways between them, their clients, and all that was done. Contracts see all of it, and that it gives
-/// account: each client's bytes are its requests' answers in order, each server's executed commands are one history that the
-/// abstract cache replays, each answered command is once in its owner's history, and each lost one at most once.
+/// account: each client's bytes are its requests' answers in order, each server's executed commands are one history, which the
+/// abstract cache replays life by life, each answered command is once in its owner's history, and each lost one at most once.
 #[derive(Drop)]
 pub struct World<S: Store + Drop> {
     alloc: Global,
@@ -81,7 +79,8 @@ impl<S: Store + Drop> World<S> {
     ghost use Rattle.mc_cache.specs.CacheState.{HasRoom};
     ghost use Rattle.mc_world.specs.Courses.{Applies};
     ghost use Rattle.mc_world.specs.Joins.{HasServerJoined};
-    ghost use Rattle.mc_world.specs.Refusals.{refusal_in, refusal_of};
+    ghost use Rattle.mc_world.specs.Refusals.{refusal_in, refusal_of, restart_refusal_of};
+    ghost use Rattle.mc_world.specs.Restarts.{HasServerRestarted};
     ghost use Rattle.mc_world.specs.Openings.{CanOpen};
     ghost use Rattle.mc_world.specs.Steps.{GivesAccount, RunsTo, StepsTo};
     ghost use Rattle.mc_world.specs.Worlds.{cache_of, history_of, opening_world, put_out_of, text_of, world_opened};
@@ -196,10 +195,31 @@ impl<S: Store + Drop> World<S> {
         ensures given_back { IfErr result (λ refused. (S.items refused.1 ≡ []) × HasRoom self.old.items (S.most refused.1)) }
         ensures err { OnErr result (self.new ≡ self.old) }
     {
-        let counter = CasCounter::starting_at(0);
-        let cache = Cache::new(self.alloc, store, self.budget, self.items, counter);
-        match self.course.join(address, Server::new(self.alloc, cache)) {
+        let server = fresh_server(self.alloc, self.budget, self.items, store);
+        match self.course.join(address, server) {
             Ok(place) => Ok(place),
+            Err((cause, server)) => Err((cause, server.into_store())),
+        }
+    }
+
+    /// The server of a place dies and begins anew over this store, with the bounds of the others. Its link is lost, if it was up; every
+    /// connection and every lost generation of it is gone with their bytes; its cache is empty, and numbers of items begin at 1.
+    ///
+    /// `NoServer` is answered where there is no server of this place, else `Memory` where there is none. Then nothing has changed, and
+    /// the store is given back, as empty as it was.
+    pub fn restart_server(&mut self, server: usize, store: S) -> Result<(), (WorldError, S)>
+        requires empty { S.items store ≡ [] }
+        requires room { HasRoom self.old.items (S.most store) }
+        ensures restarted { OnOk result (HasServerRestarted server (cache_of self.old) self.old.course self.new.course) }
+        ensures opened { (self.new.opening ≡ self.old.opening) × (self.new.budget ≡ self.old.budget) × (self.new.items ≡ self.old.items) × (self.new.losses ≡ self.old.losses) }
+        ensures account { GivesAccount self.new }
+        ensures refused { refusal_in result ≡ restart_refusal_of (length self.old.course.pool.sites) server }
+        ensures given_back { IfErr result (λ refused. (S.items refused.1 ≡ []) × HasRoom self.old.items (S.most refused.1)) }
+        ensures err { OnErr result (self.new ≡ self.old) }
+    {
+        let fresh = fresh_server(self.alloc, self.budget, self.items, store);
+        match self.course.restart(server, fresh) {
+            Ok(()) => Ok(()),
             Err((cause, server)) => Err((cause, server.into_store())),
         }
     }
@@ -230,7 +250,7 @@ impl<S: Store + Drop> World<S> {
         Ok(bytes)
     }
 
-    /// What the server of a place took, in order: nothing where there is none.
+    /// What the server of a place took in all its lives, in order: nothing where there is none.
     pub fn history(&self, server: usize) -> &[Entry]
         ensures { result.now ≡ history_of self.now.course server }
     {

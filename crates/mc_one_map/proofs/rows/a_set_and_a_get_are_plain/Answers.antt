@@ -13,6 +13,7 @@ both = (record { of_map = refl; answered = refl; kept = refl }, (record { of_map
 pub returns-clause-plain : goal.returns-clause-plain
 returns-clause-plain c = record {
   unjoined = refl;
+  alive = λ place. refl;
   plain = λ place.
       elim (place == 0) as (λ v. ArePlainSteps (opening_cache 1000 2 0) (commands_of (command_at set_and_get)
       (if v then entry_of 7 0 5 (codes "STORED\r\n") ∷ entry_of 8 0 6 (codes "VALUE k 0 1\r\nv\r\nEND\r\n") ∷ [] else []))) [

@@ -1,10 +1,18 @@
 use Rattle.std.proofs.Common.{rules, ◌≡◌, ◌∙◌, ◌<◌, false, List, Some, None, length, slice_get, refl, sym, ap, subst}
-use Rattle.std.proofs.lemmas.Option.{slice_get_read}
-use Rattle.mc_world.specs.Applies.{Lives, way_of}
+use Rattle.std.proofs.lemmas.Option.{slice_get_past, slice_get_read}
+use Rattle.mc_world.specs.Applies.{CanServeLate, Lives, way_of}
 use Rattle.mc_world.specs.WorldState.{SiteState, WayState}
 use Rattle.mc_world.proofs.AppliesLemmas.{found_way, pool_of}
-use Rattle.mc_world.proofs.ApplyingLemmas.{by_late, by_living, lost_no_way, never, not_so, serves_living, serves_lost}
+use Rattle.mc_world.proofs.ApplyingLemmas.{by_late, by_living, by_nowhere, lost_no_way, never, not_so, serves_living, serves_lost}
 use Rattle.mc_world.proofs.pools.Pool.can_serve.Goals as goal
+
+-- there is no such server
+pub returns-in_default : goal.returns-in_default
+returns-in_default g c =
+    let none : slice_get c.self.inside.sites.items c.args.place ≡ None =
+    ap (λ (ss : List SiteState). slice_get ss c.args.place) (sym c.deref.ensures.value) ∙ slice_get_past c.deref.result.now c.args.place c.in_default.ensures.lookup.3 in
+    let pool = pool_of c.self.inside.proxy c.self.inside.sites.items in
+    rw (← c.self.view_is) (never _ (by_nowhere c.args.place c.args.generation pool _ _ none (λ (late : CanServeLate c.args.place c.args.generation pool). late.there)))
 
 -- the generation lives
 pub returns-then-lives : goal.returns-then-lives

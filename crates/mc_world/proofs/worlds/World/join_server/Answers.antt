@@ -7,20 +7,20 @@ use Rattle.mc_world.proofs.worlds.World.join_server.Goals as goal
 -- the course holds after the join
 pub invariant_of-self : goal.invariant_of-self
 invariant_of-self g c =
-    let opens : c.new.result.cache ≡ opening_cache c.self.inside.budget c.self.inside.items 0 = search rules in
+    let opens : c.fresh_server-server.result.cache ≡ opening_cache c.self.inside.budget c.self.inside.items 0 = search rules in
     record {
       bounds = c.self.invariant.bounds;
-      losses = joined_losses c.args.address c.new.result.cache c.join.result c.self.inside.course c.join.new.self c.join.ensures.joined c.join.ensures.err ∙ c.self.invariant.losses;
-      course = course_joined c.self.inside.opening c.self.inside.budget c.self.inside.items c.args.address c.new.result.cache c.join.result c.self.inside.course c.join.new.self
+      losses = joined_losses c.args.address c.fresh_server-server.result.cache c.join.result c.self.inside.course c.join.new.self c.join.ensures.joined c.join.ensures.err ∙ c.self.invariant.losses;
+      course = course_joined c.self.inside.opening c.self.inside.budget c.self.inside.items c.args.address c.fresh_server-server.result.cache c.join.result c.self.inside.course c.join.new.self
           c.self.invariant.bounds opens c.self.invariant.course c.join.ensures.joined c.join.ensures.err;
     }
 
 pub returns-clause-account : goal.returns-clause-account
 returns-clause-account g c =
-    let opens : c.new.result.cache ≡ opening_cache c.self.inside.budget c.self.inside.items 0 = search rules in
+    let opens : c.fresh_server-server.result.cache ≡ opening_cache c.self.inside.budget c.self.inside.items 0 = search rules in
     world_accounts (record { course = c.join.new.self; losses = c.self.inside.losses; opening = c.self.inside.opening; budget = c.self.inside.budget; items = c.self.inside.items }) (record {
       bounds = c.self.invariant.bounds;
-      losses = joined_losses c.args.address c.new.result.cache c.join.result c.self.inside.course c.join.new.self c.join.ensures.joined c.join.ensures.err ∙ c.self.invariant.losses;
-      course = course_joined c.self.inside.opening c.self.inside.budget c.self.inside.items c.args.address c.new.result.cache c.join.result c.self.inside.course c.join.new.self
+      losses = joined_losses c.args.address c.fresh_server-server.result.cache c.join.result c.self.inside.course c.join.new.self c.join.ensures.joined c.join.ensures.err ∙ c.self.invariant.losses;
+      course = course_joined c.self.inside.opening c.self.inside.budget c.self.inside.items c.args.address c.fresh_server-server.result.cache c.join.result c.self.inside.course c.join.new.self
           c.self.invariant.bounds opens c.self.invariant.course c.join.ensures.joined c.join.ensures.err;
     })
