@@ -2,6 +2,7 @@
 """Measures what a request costs a server, beside Debian's memcached with one thread; or a proxy, beside Debian's nutcracker.
 
 Usage: serve.py SERVER [--through PROXY] [--stores KIND,KIND] [--beside PROGRAM] [--cases NAME,NAME ..] [--seconds S] [--rounds N] [--free]
+                [--scrape]
 
 SERVER is the built mc_serverd. It is measured with each of its stores, `table` and `lru`, or those of --stores. (memcached in its
 place measures memcached beside itself, with --stores table: all ratios are to be about 1.)
@@ -14,6 +15,9 @@ ways show it.
 With --through, PROXY (the built mc_proxyd) is measured beside nutcracker (`distribution: ketama`, `hash: md5`): both are in
 front of the same two servers, which are SERVER's, on processors of their own where there are enough. What these servers spend
 on a request is told too, since a proxy may send them more or fewer commands.
+
+With --scrape, SERVER (or PROXY) has a listener of operators, which is asked for /metrics once a second, as Prometheus would ask. A round
+has a second then. So `--beside SERVER --stores table --scrape` shows what a scrape costs, as a part of all that the server does.
 
 What is measured is the processor time of the server's process, by its own clock, over the requests of a round: its own
 code and the kernel's work for it. How fast the load is matters little to that. A cost is the median of all rounds. A ratio is
@@ -36,13 +40,14 @@ import statistics
 import subprocess
 import sys
 import tempfile
+import threading
 import time
 from typing import NamedTuple
 
 HERE = pathlib.Path(__file__).resolve().parent
 sys.path.insert(0, str(HERE.parent / "tests" / "lib"))
 
-from servers import Proxy, Server, connected
+from servers import HOST, Proxy, Server, connected, free_port, is_memcached
 
 STORES = ["table", "lru"]  # the first is SERVER's default
 COST_OF_AN_ITEM = 64
@@ -141,6 +146,36 @@ class Load:
             each.stdout.close()
 
 
+class Scrapes:
+    """Asks a listener of operators for /metrics once a second, in a thread of its own."""
+
+    def __init__(self):
+        self.port, self.asked, self.answered = free_port(), 0, 0
+        self.ended, self.thread = threading.Event(), threading.Thread(target=self.ask)
+
+    def words(self):
+        """The words for the program that is asked."""
+        return ["--admin", f"{HOST}:{self.port}"]
+
+    def ask(self):
+        while not self.ended.wait(1):
+            self.asked += 1
+            with connected(self.port) as connection:
+                connection.sendall(b"GET /metrics HTTP/1.1\r\nHost: localhost\r\n\r\n")
+                answer = b"".join(iter(lambda: connection.recv(65536), b""))
+            self.answered += b"\nmemcached_up 1\n" in answer
+
+    def __enter__(self):
+        self.thread.start()
+        return self
+
+    def __exit__(self, *_):
+        self.ended.set()
+        self.thread.join()
+        if self.answered < max(self.asked, 1):
+            raise SystemExit(f"bench/serve.py: {self.answered} of {self.asked} scrapes were answered")
+
+
 class Round(NamedTuple):
     requests: int
     seconds: float
@@ -190,11 +225,20 @@ class Pair:
             self.stack = self.stack.pop_all()
 
     def start(self):
-        return [self.server(program) for program in self.bench.programs]
+        return self.started(self.server)
 
-    def server(self, program):
+    def started(self, begin):
+        """Both programs; the first one is scraped, if that is asked for."""
+        if not self.bench.scrape:
+            return [begin(program) for program in self.bench.programs]
+        scrapes = Scrapes()
+        first = begin(self.bench.programs[0], scrapes.words())
+        self.stack.enter_context(scrapes)
+        return [first, begin(self.bench.programs[1])]
+
+    def server(self, program, words=()):
         budget = self.data.keys * (KEY_SIZE + self.data.size + COST_OF_AN_ITEM) * 11 // 10
-        words = self.bench.words_of(program)
+        words = [*self.bench.words_of(program), *words]
         return self.stack.enter_context(Server(program, budget, self.data.keys * 11 // 10, words=words))
 
     def load(self, each, words, parts=1):
@@ -239,8 +283,11 @@ class PairOfProxies(Pair):
         self.behind = [self.server(self.bench.server) for _ in range(SERVERS_OF_A_PROXY)]
         for number, server in enumerate(self.behind, 2):
             pin(server.process.pid, self.bench.processor(number))
-        addresses = [server.address for server in self.behind]
-        return [self.stack.enter_context(Proxy(program, addresses)) for program in self.bench.programs]
+        self.addresses = [server.address for server in self.behind]
+        return self.started(self.proxy)
+
+    def proxy(self, program, words=()):
+        return self.stack.enter_context(Proxy(program, self.addresses, words))
 
 
 class Bench:
@@ -249,7 +296,7 @@ class Bench:
     def __init__(self, asked, folder, store):
         self.server, self.store, self.is_of_proxies = asked.server, store, asked.through is not None
         self.programs = [asked.through or asked.server, asked.beside]
-        self.seconds, self.rounds = asked.seconds, asked.rounds
+        self.seconds, self.rounds, self.scrape = asked.seconds, asked.rounds, asked.scrape
         self.processors, self.loops = ([], 2) if asked.free else (processors(), 1)
         self.load = str(folder / "load")
         subprocess.run(["cc", "-O2", "-o", self.load, str(HERE / "load.c"), "-lm"], check=True)
@@ -355,6 +402,8 @@ def told_machine(bench, versions):
 
 def names_of(bench):
     names = [" ".join([pathlib.Path(program).name, *bench.words_of(program)]) for program in bench.programs]
+    if bench.scrape:
+        names[0] += ", scraped"
     return names if names[0] != names[1] else [f"{names[0]} 1", f"{names[1]} 2"]
 
 
@@ -423,10 +472,12 @@ def main():
     words.add_argument("--stores", default=",".join(STORES), help="the kinds of SERVER's store (table,lru)")
     words.add_argument("--beside", metavar="PROGRAM", help="memcached, or for a proxy nutcracker")
     words.add_argument("--cases", help="the names of some, with commas; all, where none are given")
-    words.add_argument("--seconds", type=float, default=0.25, help="of a round, for each server (0.25)")
+    words.add_argument("--seconds", type=float, help="of a round, for each server (0.25, and 1 with --scrape)")
     words.add_argument("--rounds", type=int, default=30, help="of a case (30)")
     words.add_argument("--free", action="store_true", help="keep nothing on a processor, and load by two processes")
+    words.add_argument("--scrape", action="store_true", help="ask SERVER, or PROXY, for /metrics once a second")
     asked = words.parse_args()
+    asked.seconds = asked.seconds or (1 if asked.scrape else 0.25)
     cases, others = (CASES_OF_PROXIES, OTHERS_OF_PROXIES) if asked.through else (CASES, OTHERS)
     names = [case.name for case in cases] + others
     wanted = asked.cases.split(",") if asked.cases else names
@@ -437,6 +488,8 @@ def main():
         words.error(f"the stores are {', '.join(STORES)}")
     if asked.rounds < 2:
         words.error("a case has two rounds or more")
+    if asked.scrape and (asked.seconds < 1 or is_memcached(asked.server)):
+        words.error("--scrape is of mc_serverd or mc_proxyd, in rounds of a second or more")
     beside = "nutcracker" if asked.through else "memcached"
     asked.beside = asked.beside or shutil.which(beside, path=os.environ["PATH"] + ":/usr/sbin")
     if asked.beside is None:

@@ -25,7 +25,8 @@ refuse() {
     exit 1
 }
 
-# CHANGELOG.md as a Debian changelog. An entry begins with `## VERSION (YEAR-MONTH-DAY)`, and has a line for each change.
+# CHANGELOG.md as a Debian changelog. An entry begins with `## VERSION (YEAR-MONTH-DAY)`, and has a line for each change; further lines of a
+# change begin with two spaces.
 changelog() {
     local line day='' number
     while IFS= read -r line; do
@@ -37,7 +38,7 @@ changelog() {
             ;;
         '- '*) fmt -w 74 <<< "${line#- }" | sed '1s/^/  * /; 1!s/^/    /' ;;
         esac
-    done < CHANGELOG.md
+    done < <(sed ':all; N; $!b all; s/\n  / /g' CHANGELOG.md)
     sign "$day"
 }
 

@@ -1,6 +1,6 @@
 #!/usr/bin/env bash
-# Puts built programs, their manual pages and the systemd units below a folder. The units name the programs below PREFIX, which is
-# another folder than the first where the files are packed.
+# Puts built programs, their manual pages, the systemd units and the script that these call below a folder. The units name both below PREFIX,
+# which is another folder than the first where the files are packed.
 #
 # Usage: install.sh FOLDER PREFIX PROGRAM..
 set -eu
@@ -14,6 +14,7 @@ for name in "$@"; do
     mkdir -p "$folder/share/man/man1"
     "$here/manual.py" "$program" > "$folder/share/man/man1/$name.1"
 done
+install -D -m 755 "$here/serving.sh" "$folder/lib/wiersbol/serving.sh"
 mkdir -p "$folder/lib/systemd/system"
 for unit in "$here"/*.service; do
     sed "s|@PREFIX@|$prefix|g" "$unit" > "$folder/lib/systemd/system/$(basename "$unit")"

@@ -46,6 +46,7 @@ add tests/gate/tutorial.py
 add tests/gate/hashes.py
 add bench/plot.py --check
 add tests/gate/watched.py
+add tests/gate/installed.py
 add tests/gate/examples.sh
 add tests/gate/prefixes.py
 add tests/gate/random.sh 5 2000

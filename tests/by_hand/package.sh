@@ -5,8 +5,8 @@
 #
 # The clean root is Debian bookworm (debootstrap, minbase), from the mirror that apt's sources on this machine name. It is in a temporary
 # folder, which is deleted at the end. Its mounts, processes and sockets are in namespaces of their own, so any port is free. No service
-# manager runs: the script reads a unit's Environment, EnvironmentFile, ExecStart and LimitNOFILE, and starts the program as a user
-# who owns nothing. It does not try what else a unit says, such as MemoryMax. It needs debootstrap, unshare and ip.
+# manager runs: the script reads a unit's Environment, EnvironmentFile, ExecStart, ExecStartPost and LimitNOFILE, and starts the program as a
+# user who owns nothing. It does not try what else a unit says, such as MemoryMax. It needs debootstrap, unshare and ip.
 #
 # A line says what each check saw. The last line is 'N passed, M failed'.
 set -u
@@ -86,33 +86,84 @@ installer() {
     in_root "$@" > "$root/../installer" 2>&1 || { tail -n 5 "$root/../installer"; return 1; }
 }
 
-# Runs the program of a unit in the place of this process. Words: UNIT INSTANCE, and words for the program beside those of the unit.
-run_unit() {
-    local unit=$root/usr/lib/systemd/system/$1 text line
-    text=$(sed "s/%i/$2/g" "$unit")
-    shift 2
+# Runs a command line of a unit in the place of this process, as a user who owns nothing, with what the unit and its file of settings set.
+# Words: KEY UNIT INSTANCE, and words beside those of the unit.
+run_line() {
+    local key=$1 unit=$root/usr/lib/systemd/system/$2 text line
+    text=$(sed "s/%i/$3/g" "$unit")
+    shift 3
     of_unit() { sed -n "s/^$1=//p" <<< "$text"; }
     eval "export $(of_unit Environment)"
     while IFS= read -r line; do
         export "${line?}"
-    done < <(grep -E '^[A-Z]+=' "$root$(of_unit EnvironmentFile | sed 's/^-//')")
-    ulimit -n "$(of_unit LimitNOFILE)"
-    eval "exec chroot --userspec=65534:65534 '$root' $(of_unit ExecStart) \"\$@\""
+    done < <(grep -E '^[A-Z]+=' "$root$(of_unit EnvironmentFile | sed 's/^-//')" 2> /dev/null)
+    ulimit -n "${descriptors:-$(of_unit LimitNOFILE)}"
+    eval "exec ${within:-} chroot --userspec=65534:65534 '$root' $(of_unit "$key") \"\$@\""
 }
 
-# Starts a unit, and sees that it says where it listens. Words: PORT UNIT INSTANCE.
-starts() {
+# Runs the program of a unit in the place of this process. Words: UNIT INSTANCE, and words for the program beside those of the unit.
+run_unit() {
+    run_line ExecStart "$@"
+}
+
+# Starts a unit in the background, as `$!`. What it says is in files of its port. Words: PORT UNIT INSTANCE.
+begin() {
     local port=$1
     shift
-    : > "$root/../said"
-    run_unit "$@" > "$root/../said" 2> "$root/../errors" &
+    run_unit "$@" > "$root/../said.$port" 2> "$root/../errors.$port" &
     started+=($!)
-    for _ in $(seq 100); do
-        ! grep -qx "listening 127.0.0.1:$port" "$root/../said" || return 0
-        sleep 0.1
-    done
-    cat "$root/../said" "$root/../errors"
+}
+
+# Whether a unit counts as started, by its ExecStartPost. Words: PROCESS UNIT INSTANCE.
+is_started() {
+    (
+        export MAINPID=$1
+        within='timeout 60'
+        shift
+        run_line ExecStartPost "$@"
+    )
+}
+
+# Starts a unit, and sees that it counts as started, and says where it listens. Words: PORT UNIT INSTANCE.
+starts() {
+    begin "$@"
+    if is_started $! "${@:2}" && grep -qx "listening 127.0.0.1:$1" "$root/../said.$1"; then
+        return 0
+    fi
+    cat "$root/../said.$1" "$root/../errors.$1"
     return 1
+}
+
+# Whether a unit of a server that has no memory for its table has failed. Words: PORT UNIT INSTANCE.
+fails_without_memory() {
+    (
+        started=()
+        ulimit -Sv 1000000
+        begin "$@"
+        ulimit -Sv unlimited
+        ! is_started $! "${@:2}" || return 1
+        wait $!
+        is_same 4 $? && grep -x 'mc_serverd: out of memory' "$root/../errors.$1" > /dev/null
+    )
+}
+
+# Whether a unit counts as started though clients have all descriptors of its program, which serves them after that. Words: PORT UNIT INSTANCE.
+starts_full() {
+    (
+        started=()
+        trap end_all EXIT
+        descriptors=16 begin "$@"
+        process=$!
+        until grep -qx "listening 127.0.0.1:$1" "$root/../said.$1" || ! kill -0 "$process"; do
+            sleep 0.1
+        done
+        exec {served}<> "/dev/tcp/127.0.0.1/$1" || return 1
+        for _ in $(seq 15); do
+            exec {client}<> "/dev/tcp/127.0.0.1/$1" || return 1
+        done
+        is_started "$process" "${@:2}" || return 1
+        printf 'version\r\n' >&"$served" && read -r -t 10 line <&"$served" && [[ $line = 'VERSION '* ]]
+    )
 }
 
 # Ends what was started, and waits for its end.
@@ -121,14 +172,104 @@ end_all() {
     started=()
 }
 
-# Sends bytes to a port, and sees that these come back until the connection ends.
-answers() {
-    local seen
+# What comes back from a port to these bytes, until the connection ends.
+asked() {
     exec 3<> "/dev/tcp/127.0.0.1/$1" || return 1
     printf '%b' "$2" >&3
-    seen=$(timeout 10 cat <&3)
+    timeout 10 cat <&3
     exec 3>&-
-    is_same "$(printf '%b' "$3")" "$seen"
+}
+
+# Sends bytes to a port, and sees that these come back until the connection ends.
+answers() {
+    is_same "$(printf '%b' "$3")" "$(asked "$1" "$2")"
+}
+
+# Whether what comes back to these bytes has a line, within ten seconds. Words: PORT BYTES LINE.
+shows() {
+    for _ in $(seq 100); do
+        ! asked "$1" "$2" | tr -d '\r' | grep -qx "$3" || return 0
+        sleep 0.1
+    done
+    asked "$1" "$2"
+    return 1
+}
+
+# Whether the program at a port has said a line on standard error, within ten seconds. Words: PORT LINE.
+says() {
+    for _ in $(seq 100); do
+        ! grep -qx "$2" "$root/../errors.$1" || return 0
+        sleep 0.1
+    done
+    cat "$root/../errors.$1"
+    return 1
+}
+
+# Stores twenty keys through the proxy at a port, or gets them: what comes back, a line for each kind and how often it came.
+twenty() {
+    local text='' number
+    for number in $(seq 20); do
+        text+="${2//KEY/key-$number}"
+    done
+    asked "$1" "${text}quit\\r\\n" | tr -d '\r' | sed 's/^VALUE .*/VALUE/' | sort | uniq -c | sed 's/^ *//'
+}
+
+all_are_stored() {
+    is_same '20 STORED' "$(twenty "$1" 'set KEY 0 0 1\r\nx\r\n')"
+}
+
+# Whether they are within ten seconds: a server that is back is used once the proxy has tried it again.
+are_stored_again() {
+    for _ in $(seq 100); do
+        ! all_are_stored "$1" > /dev/null || return 0
+        sleep 0.1
+    done
+    all_are_stored "$1"
+}
+
+# Whether some keys are found, and the others are those of a lost server.
+some_are_lost() {
+    local seen lost
+    seen=$(twenty "$1" 'get KEY\r\n')
+    lost=$(sed -n 's/ SERVER_ERROR link lost$//p' <<< "$seen")
+    is_same "$((20 - lost)) END
+$lost SERVER_ERROR link lost
+$((20 - lost)) VALUE
+$((20 - lost)) x" "$seen" && [ "$lost" -gt 0 ] && [ "$lost" -lt 20 ]
+}
+
+# What an operator does with a pool: asks at --admin, adds a server, and loses one and gets it back. The settings are as before after it.
+checks_of_a_pool() {
+    local proxy=$root/etc/default/mc_proxyd stats='stats\r\nquit\r\n' first
+    cp -p "$proxy" "$root/../mc_proxyd"
+    echo 'OPTIONS=--items auto --admin 127.0.0.1:9150' > "$root/etc/default/mc_serverd-11221"
+    echo 'OPTIONS=--items 16777216' > "$root/etc/default/mc_serverd-11222"
+    printf '%s\n' LISTEN=127.0.0.1:11223 'OPTIONS=--admin 127.0.0.1:9151' 'SERVERS=--servers /etc/pool' >> "$proxy"
+    echo 127.0.0.1:11221 > "$root/etc/pool"
+
+    check 'a unit whose server has no memory for its table has failed' fails_without_memory 11222 mc_serverd@.service 11222
+    check 'a unit whose server has no descriptor left counts as started' starts_full 11221 mc_serverd@.service 11221
+    check 'a server starts with --admin' starts 11221 mc_serverd@.service 11221
+    first=${started[-1]}
+    check 'it answers /healthz' shows 9150 'GET /healthz HTTP/1.0\r\n\r\n' ok
+    check 'it answers stats' shows 9150 "$stats" 'STAT up 1'
+    check 'a proxy starts with --admin and a file of servers' starts 11223 mc_proxyd.service ''
+    check 'it answers /healthz' shows 9151 'GET /healthz HTTP/1.0\r\n\r\n' ok
+    check 'it answers stats, and its server is up' shows 9151 "$stats" 'STAT server:127.0.0.1:11221:up 1'
+    check 'a second server starts' starts 11222 mc_serverd@.service 11222
+    echo 127.0.0.1:11222 >> "$root/etc/pool"
+    check 'a line that is appended to the file joins' says 11223 'mc_proxyd: 127.0.0.1:11222 joined'
+    check 'the server that joined is up' shows 9151 "$stats" 'STAT server:127.0.0.1:11222:up 1'
+    check 'the pool stores twenty keys' all_are_stored 11223
+    { kill -KILL "$first" && wait "$first"; } 2> /dev/null
+    check 'a server that is killed is reported lost' says 11223 'mc_proxyd: 127.0.0.1:11221 lost: .*'
+    check 'gets of its keys are answered as lost, and those of the other server are right' some_are_lost 11223
+    check 'it starts again' starts 11221 mc_serverd@.service 11221
+    check 'the pool stores twenty keys again' are_stored_again 11223
+    check 'it is reported back' says 11223 'mc_proxyd: 127.0.0.1:11221 back'
+    end_all
+    cp -p "$root/../mc_proxyd" "$proxy"
+    rm "$root/etc/pool" "$root/etc/default/mc_serverd-11221" "$root/etc/default/mc_serverd-11222"
 }
 
 plays() {
@@ -186,11 +327,12 @@ newer_package() {
 }
 
 inside() {
-    local version newer started=()
+    local version newer started=() running
     local programs=(/usr/bin/mc_serverd /usr/bin/mc_proxyd /usr/bin/mc_sim)
     local settings=(/etc/default/mc_serverd-11211 /etc/default/mc_proxyd)
     local units=(/usr/lib/systemd/system/mc_serverd@.service /usr/lib/systemd/system/mc_proxyd.service)
     local pages=(/usr/share/man/man1/mc_serverd.1.gz /usr/share/man/man1/mc_proxyd.1.gz /usr/share/man/man1/mc_sim.1.gz)
+    local script=/usr/lib/wiersbol/serving.sh
     local links=/etc/systemd/system/multi-user.target.wants
     local store='set a 0 0 1\r\nx\r\nget a\r\nquit\r\n' stored='STORED\r\nVALUE a 0 1\r\nx\r\nEND\r\n'
     version=$(dpkg-deb -f "$package" Version)
@@ -205,13 +347,17 @@ inside() {
     check 'dpkg installs it' installer dpkg -i /root/package.deb
     check "version $version is installed" has_status "$version installed"
     check 'each file has its sum' verifies ''
-    check 'programs, units, settings and manual pages are there' are_there "${programs[@]}" "${units[@]}" "${settings[@]}" "${pages[@]}"
+    check 'programs, units, settings and manual pages are there' are_there "${programs[@]}" "${units[@]}" "${settings[@]}" "${pages[@]}" "$script"
     check 'the unit mc_serverd@11211 starts a server' starts 11211 mc_serverd@.service 11211
     check 'the server answers set and get' answers 11211 "$store" "$stored"
     check 'the unit mc_proxyd starts a proxy' starts 11212 mc_proxyd.service ''
     check 'the proxy answers set and get' answers 11212 "${store//set a/set b}" "$stored"
     check 'the proxy finds what the server stored' answers 11212 'get a\r\nquit\r\n' 'VALUE a 0 1\r\nx\r\nEND\r\n'
     check 'mc_sim plays a script' plays
+    running=("${started[@]}")
+    started=()
+    checks_of_a_pool
+    started=("${running[@]}")
 
     echo 'OPTIONS=--budget 2000000 --items 1000' >> "$root${settings[0]}"
     check 'the settings file of a server reaches it' \
@@ -241,7 +387,7 @@ inside() {
     ln -s "${units[0]}" "$root$links/mc_serverd@11211.service"
     ln -s "${units[1]}" "$root$links/mc_proxyd.service"
     check 'dpkg removes it' installer dpkg -r wiersbol
-    check 'programs, units and manual pages are gone' are_gone "${programs[@]}" "${units[@]}" "${pages[@]}" /usr/share/doc/wiersbol
+    check 'programs, units and manual pages are gone' are_gone "${programs[@]}" "${units[@]}" "${pages[@]}" "${script%/*}" /usr/share/doc/wiersbol
     check 'settings stay' are_there "${settings[@]}"
     check 'dpkg purges it' installer dpkg -P wiersbol
     check 'nothing is left but the settings of another port' is_all_that_is_left /etc/default/mc_serverd-11213

@@ -118,9 +118,13 @@ def statistics_are_shown(program):
 
 
 def settings_are_shown(program):
-    words = "--store lru --idle 7 --report 3600 --answer 2048".split()
+    words = "--store lru --idle 7 --report 3600 --answer 2048 --cas-from now --memory-exit 9".split()
     with server(program, *words) as (_, admin):
         want(masked(admin.told(b"stats settings\r\nquit\r\n")), (HERE / "serverd.settings").read_text())
+    for words, last in (([], b"0"), (["--cas-from", "18"], b"18")):
+        with server(program, *words) as (_, admin):
+            lines = admin.told(b"stats settings\r\nquit\r\n").splitlines()
+            want([line for line in lines if b"cas_from" in line or b"memory_exit" in line], [b"STAT cas_from " + last, b"STAT memory_exit 0"])
 
 
 def it_says_that_it_serves(program):

@@ -140,6 +140,11 @@ class Chart:
     def on_end(self, place, generation):
         self.dot(self.server(int(place)), f"sees the end of generation {generation}", "gone")
 
+    def on_restart(self, place):
+        if self.up[int(place)]:
+            self.on_lost(place)
+        self.dot(self.server(int(place)), "dies, and begins anew with nothing", "gone")
+
     def on_join(self, address):
         self.columns.append(f"server {len(self.generations)}")
         self.generations.append(1)

@@ -89,7 +89,7 @@ refuses_words() {
 # Whether mc_sim says what each line of some scripts does (sim.trace), and prints the same as without that.
 tells_lines() {
     local name
-    for name in pool_points_and_empty_lines pool_lost_where_the_link_is_down pool_drain pool_losses_missed_get_of_four_keys; do
+    for name in pool_points_and_empty_lines pool_lost_where_the_link_is_down pool_drain pool_restart pool_losses_missed_get_of_four_keys; do
         "$built" --trace < "$examples/pool/$name.txt" > "$scratch/out" 2>> "$scratch/trace" || return 1
         cmp -s "$scratch/out" "$examples/pool/$name.out" || return 1
     done

@@ -445,6 +445,44 @@ class KeepsTheLate(Pool):
         return super().drain(moment)
 
 
+class KeepsTheCache(Pool):
+    """A server that restarts has its items still."""
+
+    def restart(self, place):
+        cache = self.sites[place].cache
+        done = super().restart(place)
+        self.sites[place].cache = cache
+        return done
+
+
+class KeepsTheNumbers(Pool):
+    """A server that restarts goes on counting its items' numbers."""
+
+    def restart(self, place):
+        number = self.sites[place].cache.counter
+        done = super().restart(place)
+        self.sites[place].cache.counter = number
+        return done
+
+
+class KeepsTheWays(Pool):
+    """A server that restarts still serves its lost generations."""
+
+    def restart(self, place):
+        ways = self.sites[place].ways
+        done = super().restart(place)
+        self.sites[place].ways = ways
+        return done
+
+
+class ForgetsItsHistory(Pool):
+    """The history of a server that restarts begins anew."""
+
+    def restart(self, place):
+        self.sites[place].history.clear()
+        return super().restart(place)
+
+
 class GoneIsServed(Pool):
     """A client that went still has its requests taken."""
 
@@ -461,6 +499,7 @@ MISTAKES = [
     StoredWhenDown, AlwaysLost, LosesTheTaken, RisingMoments, OtherBytes, Unfinished, OtherText, SilentFaults, LostOften, LostStored,
     MissTold, MissedWhole, HiddenTold, HidesAll, FirstShown, SaysQuietMisses, OtherLosses, ToldRefused,
     LaterFirst, OthersFirst, AnsweredUnserved, LostInvents, ForgetsTheFlush, LeavesTheLast, DrainsAtZero, KeepsTheLate,
+    KeepsTheCache, KeepsTheNumbers, KeepsTheWays, ForgetsItsHistory,
 ]  # fmt: skip
 
 

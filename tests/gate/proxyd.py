@@ -93,37 +93,31 @@ REFUSED = {
     "before_the_list_is_looked_at": (["x", "--bind"], UNKNOWN),
 }
 
-# What is no list of servers behind 127.0.0.1:1.
+NO_SERVER, DOUBLED, ONE_TOO_MANY = (
+    "is no [<name>:<port>=]<host>:<port>", "has the name of an earlier one", "is one too many: at most 64 servers",
+)  # fmt: skip
+
+# What is no word of a server, behind 127.0.0.1:1.
+BAD_WORDS = {
+    "an_empty_word": "", "no_port": "a", "no_host": ":1", "port_0": "a:0", "port_65536": "a:65536", "a_leading_zero": "a:01", "a_sign": "a:+1",
+    "a_colon_alone": ":", "two_colons": "a:1:2", "a_space": "a:1 ", "another_alphabet": "\u00e4:1", "an_underscore": "a_b:1",
+    "a_long_host": "a" * 256 + ":1", "an_address_of_version_6": "[::1]:1", "no_name": "=a:1", "no_address": "a:1=", "two_names": "a:1=b:1=c:1",
+    "a_name_without_a_port": "a=b:1", "an_address_without_a_port": "a:1=b",
+}  # fmt: skip
+
+# What is no list of servers behind 127.0.0.1:1, and why.
 BAD_LISTS = {
-    "one_twice": ["127.0.0.1:1"],
-    "65": OTHERS,
-    "an_empty_word": [""],
-    "no_port": ["a"],
-    "no_host": [":1"],
-    "port_0": ["a:0"],
-    "port_65536": ["a:65536"],
-    "a_leading_zero": ["a:01"],
-    "a_sign": ["a:+1"],
-    "a_colon_alone": [":"],
-    "two_colons": ["a:1:2"],
-    "a_space": ["a:1 "],
-    "another_alphabet": ["\u00e4:1"],
-    "an_underscore": ["a_b:1"],
-    "a_long_host": ["a" * 256 + ":1"],
-    "an_address_of_version_6": ["[::1]:1"],
-    "no_name": ["=a:1"],
-    "no_address": ["a:1="],
-    "two_names": ["a:1=b:1=c:1"],
-    "a_name_without_a_port": ["a=b:1"],
-    "an_address_without_a_port": ["a:1=b"],
-    "the_name_of_another": ["127.0.0.1:1=b:1"],
-    "one_name_twice": ["a:1=b:1", "a:1=c:1"],
-    "nobody_joins": ["--join-after", "1"],
-    "no_address_joins": ["--join-after", "1", "--join", "a"],
-    "one_of_the_list_joins": ["--join-after", "1", "--join", "127.0.0.1:1"],
-    "the_name_of_one_joins": ["--join-after", "1", "--join", "127.0.0.1:1=b:1"],
-    "no_named_address_joins": ["--join-after", "1", "--join", "a:1=b"],
-    "a_65th_joins": ["--join-after", "1", "--join", "a:1", *OTHERS[1:]],
+    "one_twice": (["127.0.0.1:1"], f"server 2 '127.0.0.1:1' {DOUBLED}"),
+    "65": (OTHERS, f"server 65 '{OTHERS[-1]}' {ONE_TOO_MANY}"),
+    "a_bad_word_before_one_twice": (["b:2", "c", "b:2"], f"server 3 'c' {NO_SERVER}"),
+    "the_name_of_another": (["127.0.0.1:1=b:1"], f"server 2 '127.0.0.1:1=b:1' {DOUBLED}"),
+    "one_name_twice": (["a:1=b:1", "a:1=c:1"], f"server 3 'a:1=c:1' {DOUBLED}"),
+    "nobody_joins": (["--join-after", "1"], "--join-after without --join"),
+    "no_address_joins": (["--join-after", "1", "--join", "a"], f"--join 'a' {NO_SERVER}"),
+    "one_of_the_list_joins": (["--join-after", "1", "--join", "127.0.0.1:1"], f"--join '127.0.0.1:1' {DOUBLED}"),
+    "the_name_of_one_joins": (["--join-after", "1", "--join", "127.0.0.1:1=b:1"], f"--join '127.0.0.1:1=b:1' {DOUBLED}"),
+    "no_named_address_joins": (["--join-after", "1", "--join", "a:1=b"], f"--join 'a:1=b' {NO_SERVER}"),
+    "a_65th_joins": (["--join-after", "1", "--join", "a:1", *OTHERS[1:]], f"--join 'a:1' {ONE_TOO_MANY}"),
 }
 
 # Strange bytes, where `get <key>` waits for its reply.
@@ -150,9 +144,10 @@ def start(words="", limits=(), says=True):
 # Words.
 
 
-def bad_lists_are_told(words):
+def bad_lists_are_told(words, mistake):
+    """With the word that has the mistake."""
     for check in ([], ["--check"]):
-        want(PROXY.run(*words, *check), (2, "", "mc_proxyd: bad server list\n"))
+        want(PROXY.run(*words, *check), (2, "", f"mc_proxyd: {mistake}\nmc_proxyd: bad server list\n"))
 
 
 def no_server_is_refused():
@@ -253,6 +248,7 @@ def a_proxy_starts_before_its_servers():
             asked(client, gets[0] + gets[1], b"END\r\n" + LOST)
             is_said(proxy, f"{addresses[1]} refused: connection refused")
             pool.restart(1)
+            answered_in_time(client, gets[1], b"END\r\n")
             is_said(proxy, f"{addresses[1]} back")
             asked(client, gets[0] + gets[1], b"END\r\n" * 2)
 
@@ -296,6 +292,7 @@ def idle_before_a_server_that_was_killed():
         idle_costs_little(pool)
         nothing_is_said(pool)
         pool.restart(0)
+        answered_in_time(client, b"get %s\r\n" % keys[0], b"END\r\n")
         is_said(pool, f"{gone} back")
         pool.servers[1].process.send_signal(signal.SIGCONT)
         want(received_to_the_end(half), stored(keys[1])[3])
@@ -307,8 +304,9 @@ def a_strange_reply_is_said():
         pool.links[0].sendall(b"END\r\n")
         is_said(pool, f"{address} lost: strange reply")
         pool.lost(0, client)
+        nothing_is_said(pool)  # It is connected, and has not answered yet.
+        is_asked_and_answers(pool.links[0], client, b"a")
         is_said(pool, f"{address} back")
-        nothing_is_said(pool)
 
 
 def a_server_that_takes_no_connection_is_said():
@@ -346,8 +344,8 @@ def a_reply_without_memory_is_said():
         is_said(pool, f"{address} lost: out of memory")
         allow_memory(pool, resource.RLIM_INFINITY)
         pool.lost(0, client, was_reset)
-        is_said(pool, f"{address} back")
         is_asked_and_answers(pool.links[0], client, b"a")
+        is_said(pool, f"{address} back")
 
 
 def a_join_that_is_refused_is_said_and_tried_again():
@@ -371,15 +369,13 @@ def a_join_that_is_refused_is_said_and_tried_again():
 
 
 def at_most_one_line_is_said_in_a_second():
-    """Of a server whose link is lost by its first bytes, each time that it is back."""
-    with Played() as pool:
+    """Of a server that answers once each time that it is connected, and loses its link by its next bytes."""
+    with Played() as pool, pool.connected() as client:
         address, begun = pool.servers[0].address, time.monotonic()
-        pool.servers[0].listener.settimeout(QUIET)
         while time.monotonic() < begun + 4:
-            with contextlib.suppress(OSError):
-                pool.links[0].sendall(b"?\r\n")
-            with contextlib.suppress(TimeoutError):
-                pool.links[0] = pool.stack.enter_context(pool.servers[0].accept())
+            is_asked_and_answers(pool.links[0], client, b"a")
+            pool.links[0].sendall(b"?\r\n")
+            pool.lost(0, client)
         pool.proxy.process.kill()
         most = math.ceil(time.monotonic() - begun) + 1
         said = pool.proxy.process.stderr.read().decode().splitlines()
@@ -742,8 +738,10 @@ def next_report(pool):
 def checks():
     """Each check by its name."""
     yield from checks_of_words(PROXY, SETTINGS, REFUSED, HELP)
-    for name, words in BAD_LISTS.items():
-        yield f"bad server list, {name}", bad_lists_are_told, (words,)
+    for name, word in BAD_WORDS.items():
+        yield f"bad server list, {name}", bad_lists_are_told, ([word], f"server 2 '{word}' {NO_SERVER}")
+    for name, (words, mistake) in BAD_LISTS.items():
+        yield f"bad server list, {name}", bad_lists_are_told, (words, mistake)
     yield from checks_of_connections(start, "mc_proxyd", 7, DIALOGUES, "16 open files allow 9")
     yield no_client_gets_a_standard_stream.__name__, no_client_gets_a_standard_stream, (PROXY,)
     for check in (

@@ -11,18 +11,19 @@ import subprocess
 import time
 
 import lookups
-from checks import PATIENCE, asked, is_served, received, want, want_at_most
+from checks import PATIENCE, asked, is_served, received, received_to_the_end, want, want_at_most
 from connections import fields_of, lines_said
 from live_pool import (
-    LOST, Played, Pool, answered_in_time, bytes_before_a_reset, is_asked_and_answers, is_lost_and_refused, is_said, nothing_comes,
-    stored,
+    LOST, QUIET, SECONDS_TO_RETURN, Played, Pool, answered_in_time, bytes_before_a_reset, is_asked_and_answers, is_lost_and_refused, is_said,
+    nothing_comes, nothing_is_said, stored,
 )  # fmt: skip
 from losses import checks_of_losses
 from rings import Ring
-from servers import Proxy, Server
+from servers import HOST, Proxy, Server, connected, free_port
 
 LATE = 0.4  # seconds of a --timeout that a check waits for
 USUAL_TIMEOUT = 1  # seconds of the --timeout that a proxy has without the word
+UNASKED = 10  # seconds after which a server that has lost commands, and that nobody asks, is up
 KEEPALIVE = {  # a second to the first question, between two, their number, and milliseconds in all
     "a link": (5, 1, 5, 10_000),
     "a client": (30, 10, 3, 60_000),
@@ -109,6 +110,87 @@ def a_hung_server_is_given_up_without_words():
         answered_in_time(client, hung, b"END\r\n")
 
 
+def shown_up(port, server):
+    """Whether a server is up, as an operator is shown it at a port."""
+    with connected(port) as operator:
+        operator.sendall(b"stats\r\nquit\r\n")
+        lines = received_to_the_end(operator).decode().splitlines()
+    [up] = [line.rpartition(" ")[2] for line in lines if line.startswith(f"STAT server:{server}:up ")]
+    return up == "1"
+
+
+def a_hung_server_is_down_until_it_replies():
+    """Its system accepts each connection. It is lost once, and back with its first reply."""
+    port = free_port()
+    with Pool(["--timeout", str(int(LATE * 1000)), "--admin", f"{HOST}:{port}"]) as pool, pool.connected() as client:
+        hung, get = pool.servers[0], b"get %s\r\n" % pool.ring.key(0)
+        asked(client, get, b"END\r\n")
+        want(shown_up(port, hung.address), True)
+        hung.process.send_signal(signal.SIGSTOP)
+        asked(client, get, LOST)
+        is_said(pool, f"{hung.address} lost: no reply in time")
+        deadline = time.monotonic() + 5
+        while time.monotonic() < deadline:
+            asked(client, get, LOST)
+            want(shown_up(port, hung.address), False)
+            time.sleep(QUIET)
+        nothing_is_said(pool)
+        hung.process.send_signal(signal.SIGCONT)
+        answered_in_time(client, get, b"END\r\n")
+        is_said(pool, f"{hung.address} back")
+        want(shown_up(port, hung.address), True)
+
+
+def a_server_that_nobody_asks_is_up_once_it_is_connected():
+    """And it is not said that it is back: it has not replied."""
+    port = free_port()
+    with Pool(["--admin", f"{HOST}:{port}"]) as pool, pool.connected() as client:
+        asked(client, b"get %s\r\n" % pool.ring.key(0), b"END\r\n")
+        gone = pool.servers[0].address
+        pool.servers[0].stop()
+        is_lost_and_refused(pool, gone)
+        want(shown_up(port, gone), False)
+        pool.restart(0)
+        deadline = time.monotonic() + PATIENCE
+        while not shown_up(port, gone):
+            want(time.monotonic() < deadline, True)
+            time.sleep(QUIET)
+        nothing_is_said(pool)
+
+
+def a_server_that_lost_a_command_is_up_once_nobody_asks():
+    """Two servers lose a command. One was killed and is started again, and nobody asks it: it is up ten seconds after it is connected. The other is
+    stopped, and is asked every two seconds: it stays down, though its system accepts each connection."""
+    port = free_port()
+    with Pool(["--timeout", str(int(LATE * 1000)), "--admin", f"{HOST}:{port}"]) as pool, pool.connected() as client:
+        hung, killed = pool.servers
+        ask_hung, ask_killed = (b"get %s\r\n" % pool.ring.key(place) for place in (0, 1))
+        asked(client, ask_hung + ask_killed, b"END\r\n" * 2)
+        for server in pool.servers:
+            server.process.send_signal(signal.SIGSTOP)
+        client.sendall(ask_killed)
+        nothing_comes(client)
+        killed.stop()
+        want(received(client, len(LOST)), LOST)
+        begun = time.monotonic()
+        pool.restart(1)
+        asks = 0
+        while not shown_up(port, killed.address):
+            want_at_most(time.monotonic() - begun, UNASKED + SECONDS_TO_RETURN)
+            if time.monotonic() >= begun + 2 * asks:
+                asked(client, ask_hung, LOST)
+                asks += 1
+            want(shown_up(port, hung.address), False)
+            time.sleep(QUIET)
+        want(time.monotonic() - begun > UNASKED - 0.01, True)
+        want(shown_up(port, hung.address), False)
+        asked(client, ask_killed, b"END\r\n")
+        want(shown_up(port, killed.address), True)
+        hung.process.send_signal(signal.SIGCONT)
+        answered_in_time(client, ask_hung, b"END\r\n")
+        want(shown_up(port, hung.address), True)
+
+
 def a_server_that_was_away_is_used_soon():
     """It was away for a moment: of the tries at it the second comes after 0.1 to 0.2 seconds, and the third after 0.2 to 0.4 more."""
     with Played() as pool, pool.connected() as client:
@@ -172,14 +254,15 @@ def descriptors_of_links_are_reserved():
         for client in clients[:most]:
             want(received(client, 15), b"VERSION 1.6.0\r\n")
         is_said(pool, f"no more clients: {files} allow {most}")
+        asked(clients[0], b"get %s\r\n" % pool.ring.key(0), b"END\r\n")
         gone = pool.servers[0].address
         for _ in range(2):
             time.sleep(1.1)  # At most one line in a second is said of it.
             pool.servers[0].stop()
             is_lost_and_refused(pool, gone)
             pool.restart(0)
+            answered_in_time(clients[0], b"get %s\r\n" % pool.ring.key(0), b"END\r\n")
             is_said(pool, f"{gone} back")
-            asked(clients[0], b"get %s\r\n" % pool.ring.key(0), b"END\r\n")
         want(select.select(clients[most:], [], [], 0)[0], [])
         for client in clients[:most]:
             client.close()
@@ -220,7 +303,8 @@ def a_server_is_replaced_at_another_address():
                 told = lines_said(proxy, 3)[1:]
                 want([fields_of(line, "mc_proxyd")["server"] for line in told], names)
         with proxy_in_front([], words) as proxy, proxy.connected() as client:
-            asked(client, *stored(keys[1], b"at " + second.address.encode())[2:])
+            for server, key in zip((other, second), keys):
+                asked(client, *stored(key, b"at " + server.address.encode())[2:])
             other.stop()
             is_lost_and_refused(proxy, names[0])
 
@@ -252,6 +336,9 @@ def checks_of_links():
         what_is_undelivered_dies_with_its_link,
         a_server_that_sends_is_not_late,
         a_hung_server_is_given_up_without_words,
+        a_hung_server_is_down_until_it_replies,
+        a_server_that_nobody_asks_is_up_once_it_is_connected,
+        a_server_that_lost_a_command_is_up_once_nobody_asks,
         a_server_that_was_away_is_used_soon,
         the_system_looks_for_peers,
         a_server_that_takes_nothing_is_gone,

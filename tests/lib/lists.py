@@ -88,6 +88,9 @@ class Listed:
     def is_not_taken(self, mistake):
         self.is_said(f"{self.file} not taken: {mistake}")
 
+    def is_taken_again(self):
+        self.is_said(f"{self.file} taken again")
+
 
 def keys_are_at_owners(listed, client, servers, names):
     """By the ring of these names: each server has its own key, seen without the proxy."""
@@ -134,10 +137,15 @@ def a_list_is_refused(text, mistake):
 
 
 def what_is_no_file_is_refused():
+    """With the system's cause, in short words: /proc/self/mem fails as it is read, with EIO."""
     with tempfile.TemporaryDirectory() as folder:
-        pipe = os.path.join(folder, "pipe")
+        pipe, loop = os.path.join(folder, "pipe"), os.path.join(folder, "loop")
         os.mkfifo(pipe)
-        for path, mistake in ((folder, "not a file"), (pipe, "not a file"), (pipe + "x", "entity not found")):
+        os.symlink(loop, loop)
+        for path, mistake in (
+            (folder, "not a file"), (pipe, "not a file"), (pipe + "x", "no such file"), (pipe + "/x", "not a directory"),
+            (loop, "too many levels of symbolic links"), (pipe + "x" * 255, "file name too long"), ("/proc/self/mem", "errno 5"),
+        ):  # fmt: skip
             told = f"mc_proxyd: {path}: {mistake}\nmc_proxyd: bad server list\n"
             want(Program(Pool.programs[0]).run("--servers", path), (2, "", told))
 
@@ -193,17 +201,32 @@ def two_lines_join_at_a_time():
 
 
 def an_address_is_taken_over():
-    """No key moves: the server of that name is another."""
+    """No key moves: the server of that name is another. That the old one is lost is not said beside it."""
     with Listed() as listed, listed.proxy.connected() as client:
         is_served(client)
         one, two = listed.names
         other = listed.new_server()
         listed.write(f"{one}={other.address}\n{two}\n")
-        is_said(listed.proxy, f"{one} lost: address changed", f"{one} back")
+        listed.is_said(f"{one} now at {other.address}")
         keys_are_at_owners(listed, client, [other, listed.servers[1]], listed.names)
+        listed.is_said(f"{one} back")
         listed.write(listed.text())
-        is_said(listed.proxy, f"{one} lost: address changed", f"{one} back")
+        listed.is_said(f"{one} now at {one}")
         keys_are_at_owners(listed, client, listed.servers, listed.names)
+        listed.is_said(f"{one} back")
+
+
+def an_address_that_refuses_likewise_is_said():
+    """Nobody is at the old address, nor at the new one."""
+    with Listed() as listed, listed.proxy.connected() as client:
+        listed.append(f"c:1={HOST}:1\n")
+        is_said(listed.proxy, "c:1 joined", "c:1 refused: connection refused")
+        is_served(client)
+        for port in (2, 3):
+            listed.write(listed.text() + f"c:1={HOST}:{port}\n")
+            is_said(listed.proxy, f"c:1 now at {HOST}:{port}", "c:1 refused: connection refused")
+        time.sleep(LOOKS)
+        nothing_is_said(listed.proxy)
 
 
 def an_address_that_was_wrong_is_mended():
@@ -216,27 +239,33 @@ def an_address_that_was_wrong_is_mended():
         key = Ring([*listed.names, "c:1"]).key(2)
         asked(client, b"get %s\r\n" % key, LOST)
         listed.write(listed.text() + f"c:1={third.address}\n")
-        listed.is_said("c:1 back")
+        listed.is_said(f"c:1 now at {third.address}")
         keys_are_at_owners(listed, client, [*listed.servers, third], [*listed.names, "c:1"])
+        listed.is_said("c:1 back")
 
 
-CHANGES_THAT_ARE_REFUSED = {
-    "one_is_taken_out": lambda names: (1, f"{names[0]}\n{names[2]}\n"),
-    "the_last_is_taken_out": lambda names: (2, f"{names[0]}\n{names[1]}\n# "),
-    "one_has_another_name": lambda names: (0, f"a:1={names[0]}\n{names[1]}\n{names[2]}\n"),
-    "two_change_places": lambda names: (1, f"{names[0]}\n{names[2]}\n{names[1]}\n"),
-    "one_is_put_in_front": lambda names: (0, f"{HOST}:2\n" + "".join(f"{name}\n" for name in names)),
+CHANGES_THAT_ARE_REFUSED = {  # the place of the first server that is not there, the list, and what it has at that place
+    "one_is_taken_out": lambda names: (1, f"{names[0]}\n{names[2]}\n", names[2]),
+    "the_last_is_taken_out": lambda names: (2, f"{names[0]}\n{names[1]}\n# ", None),
+    "one_has_another_name": lambda names: (0, f"a:1={names[0]}\n{names[1]}\n{names[2]}\n", "a:1"),
+    "two_change_places": lambda names: (1, f"{names[0]}\n{names[2]}\n{names[1]}\n", names[2]),
+    "one_is_put_in_front": lambda names: (0, f"{HOST}:2\n" + "".join(f"{name}\n" for name in names), f"{HOST}:2"),
 }
 
 
 def servers_stay():
-    """A list that does not have them at their places changes nothing: what it appends does not join. It is said once for each change."""
+    """A list that does not have them at their places changes nothing: what it appends does not join. It is said once for each change, and
+    once that the list is taken again."""
     with Listed(3) as listed, listed.proxy.connected() as client:
         for text_of in CHANGES_THAT_ARE_REFUSED.values():
-            place, text = text_of(listed.names)
+            place, text, other = text_of(listed.names)
             listed.write(text + f"{HOST}:1\n")
-            listed.is_said(f"{listed.names[place]} stays: a list is not taken whose server {place + 1} is another")
+            listed.is_not_taken(f"server {place + 1} is {listed.names[place]}, the list has {other or f'no server {place + 1}'}")
             keys_are_at_owners(listed, client, listed.servers, listed.names)
+        time.sleep(LOOKS)
+        nothing_is_said(listed.proxy)
+        listed.write(listed.text())
+        listed.is_taken_again()
         time.sleep(LOOKS)
         nothing_is_said(listed.proxy)
 
@@ -252,6 +281,7 @@ def a_mistake_changes_nothing():
         keys_are_at_owners(listed, client, listed.servers, listed.names)
         listed.write(listed.text() + f"{third.address}\n")
         listed.is_said(f"{third.address} joined")
+        listed.is_taken_again()
         keys_are_at_owners(listed, client, [*listed.servers, third], [*listed.names, third.address])
 
 
@@ -264,6 +294,7 @@ def half_a_line_is_not_taken():
         keys_are_at_owners(listed, client, listed.servers, listed.names)
         listed.append(third.address[-1:] + "\n")
         listed.is_said(f"{third.address} joined")
+        listed.is_taken_again()
         keys_are_at_owners(listed, client, [*listed.servers, third], [*listed.names, third.address])
 
 
@@ -271,7 +302,7 @@ def a_file_that_is_away_changes_nothing():
     with Listed() as listed, listed.proxy.connected() as client:
         third = listed.new_server()
         listed.file.unlink()
-        listed.is_not_taken("entity not found")
+        listed.is_not_taken("no such file")
         time.sleep(LOOKS)
         nothing_is_said(listed.proxy)
         listed.file.mkdir()
@@ -280,6 +311,7 @@ def a_file_that_is_away_changes_nothing():
         listed.file.rmdir()
         listed.write(listed.text() + f"{third.address}\n")
         listed.is_said(f"{third.address} joined")
+        listed.is_taken_again()
         keys_are_at_owners(listed, client, [*listed.servers, third], [*listed.names, third.address])
 
 
@@ -302,6 +334,7 @@ def what_cannot_be_read_changes_nothing():
         want_at_most(listed.proxy.memory("VmHWM"), 20_000_000)
         nothing_is_said(listed.proxy)
         listed.write(text)
+        listed.is_taken_again()
         time.sleep(LOOKS)
         nothing_is_said(listed.proxy)
         keys_are_at_owners(listed, client, listed.servers, listed.names)
@@ -371,6 +404,7 @@ def a_look_without_a_descriptor_is_said():
         listed.append(f"{third.address}\n")
         resource.prlimit(pid, resource.RLIMIT_NOFILE, (soft, hard))
         listed.is_said(f"{third.address} joined")
+        listed.is_taken_again()
         keys_are_at_owners(listed, client, [*listed.servers, third], [*listed.names, third.address])
 
 
@@ -393,6 +427,7 @@ def checks_of_lists():
         a_line_that_is_appended_joins,
         two_lines_join_at_a_time,
         an_address_is_taken_over,
+        an_address_that_refuses_likewise_is_said,
         an_address_that_was_wrong_is_mended,
         servers_stay,
         a_mistake_changes_nothing,

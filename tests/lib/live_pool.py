@@ -163,8 +163,8 @@ def is_said(proxy, *lines):
 
 
 def is_lost_and_refused(proxy, server):
-    """Sees that a server is said to be lost, and then to refuse. Its system may have taken the next connection in between, while the
-    server's process ended: that one is reset."""
+    """Sees that a server is said to be lost, and then to refuse. The server has answered before: a connection that its process has not taken
+    yet is reset, and not ended. So is the next one, which its system may have taken while the process ended."""
     line, said = b"", []
     while f"mc_proxyd: {server} refused: connection refused\n" not in said:
         stream = proxy.process.stderr

@@ -160,9 +160,12 @@ def descriptors_of_look_ups_are_reserved():
             is_served(client)
         is_said(proxy, f"no more clients: {files} allow {most}")
         want(settles(lambda: sockets_of(proxy)), 2 + most + 3)  # two listen or are a link
+        get = b"get %s\r\n" % Ring([living.address, place]).key(0)
+        asked(clients[0], get, b"END\r\n")
         living.stop()
         is_lost_and_refused(proxy, living.address)
         with Server(SERVER, port=living.port):
+            answered_in_time(clients[0], get, b"END\r\n")
             is_said(proxy, f"{living.address} back")
 
 
@@ -248,7 +251,9 @@ def an_answer_after_the_try_is_taken():
         place = f"slower.example:{server.port}"
         with in_front([], [place]) as proxy, proxy.connected() as client:
             asked(client, b"get a\r\n", LOST)
-            is_said(proxy, f"{place} refused: look-up timed out", f"{place} back")
+            is_said(proxy, f"{place} refused: look-up timed out")
+            answered_in_time(client, b"get a\r\n", b"END\r\n", PATIENCE)
+            is_said(proxy, f"{place} back")
             asked(client, *stored(Ring([place]).key(0))[:2])
             want(threads_of(proxy), OWN)
 
@@ -299,6 +304,8 @@ def a_name_that_joins_holds_up_nobody():
             asked_promptly(client, here, 3)
             is_said(proxy, f"{name} refused: look-up timed out")
             pathlib.Path(file.name).write_text(f"{living.address}\n{name}={other.address}\n")
+            is_said(proxy, f"{name} now at {other.address}")
+            answered_in_time(client, b"get %s\r\n" % there, b"END\r\n", 2 * PATIENCE)
             is_said(proxy, f"{name} back")
             asked(client, *stored(there)[:2])
             with other.connected() as direct:

@@ -475,6 +475,13 @@ class Pool:
         self.sites.append(self.new_site())
         return True
 
+    def restart(self, place):
+        """The server dies and begins anew with nothing: its link is lost first, if it is up, and no way to it is left."""
+        self.lost(place)
+        site, fresh = self.sites[place], self.new_site()
+        site.cache, site.ways = fresh.cache, {}
+        return True
+
     # All that is left to do
 
     def drain(self, moment):
@@ -580,6 +587,9 @@ class Account:
         self.generation = [1] * script.servers
         self.sent = [{1: []} for _ in range(script.servers)]  # tags by generation
         self.waiting = [[] for _ in range(script.servers)]
+        self.begun = [[] for _ in told.histories]  # how many turns came before each restart
+        self.buried = collections.Counter()  # the last generation that a restart ended, by place
+        self.losses = collections.defaultdict(list)  # the places in the log, by server
         self.ring = script.ring()
         self.come = [bytearray() for _ in range(script.clients)]
         self.gone = set()
@@ -633,6 +643,8 @@ class Account:
         assert count > 0 or not request.atoms
 
     def log_serve(self, at, place, generation, moment):
+        if generation <= self.buried[place]:
+            self.fault(f"event {at[0]}: generation {generation} of server {place} ended when that restarted")
         self.turns[place].append((at, generation, moment))
 
     def log_reply(self, at, place):
@@ -644,6 +656,7 @@ class Account:
         if not self.up[place]:
             return self.fault(f"event {at[0]}: the link of server {place} is down")
         self.up[place] = False
+        self.losses[place].append(at)
         for tag in self.waiting[place]:
             self.outcome[tag] = "lost"
         self.waiting[place] = []
@@ -654,6 +667,12 @@ class Account:
         self.up[place] = True
         self.generation[place] += 1
         self.sent[place][self.generation[place]] = []
+
+    def log_restart(self, at, place):
+        if self.up[place]:
+            self.log_lost(at, place)
+        self.begun[place].append(len(self.turns[place]))
+        self.buried[place] = self.generation[place]
 
     def log_bytes(self, at, client, data):
         self.come[client] += data
@@ -706,7 +725,9 @@ class Account:
         for place, history in enumerate(self.told.histories):
             served = collections.Counter()
             cache, connection = Server(0, self.script.budget, self.script.items), Connection()
-            for entry, (at, generation, moment) in zip(history, self.turns[place]):
+            for number, (entry, (at, generation, moment)) in enumerate(zip(history, self.turns[place])):
+                if number in self.begun[place]:
+                    cache = Server(0, self.script.budget, self.script.items)
                 tag = Tag(*entry[:3])
                 if self.owner.get(tag) != place or tag in self.unsent:
                     self.fault(f"history {place}: {tag} was not sent there")
@@ -768,17 +789,13 @@ class Account:
 
     def check_losses(self):
         """Each lost command: its link was down when it was taken, or it was lost before it was answered."""
-        losses = collections.defaultdict(list)
-        for at, (name, *words) in self.log:
-            if name == "lost":
-                losses[words[0]].append(at)
         for tag, outcome in self.outcome.items():
             if outcome != "lost" or tag[:2] not in self.put:
                 continue
             if tag in self.unsent:
                 if tag in self.entries:
                     self.fault(f"{tag} was never sent and has an entry")
-            elif not any(self.taken[tag[:2]] < at < self.put[tag[:2]] for at in losses[self.owner[tag]]):
+            elif not any(self.taken[tag[:2]] < at < self.put[tag[:2]] for at in self.losses[self.owner[tag]]):
                 self.fault(f"{tag} is lost and its link was not")
 
 

@@ -66,10 +66,12 @@ class World:
         self.scene = PoolScene(dice, self.pool)
         self.left = [b""] * clients  # what is still to come of a client's command
         lost = dice.choice([0, 0.1, 0.3, 1])
+        restart = random.Random(f"restarts {seed}").choice([0, 0, 0.1, 0.6])
         self.chances = {
             "bytes": 6, "turn": 6, "toserver": 5, "serve": 6, "toproxy": 5, "reply": 6, "emit": 6, "takes": 2,
-            "lost": lost, "back": lost * 2, "end": lost * dice.choice([0.2, 1]),
+            "lost": lost, "back": max(lost, restart) * 2, "end": lost * dice.choice([0.2, 1]),
             "gone": dice.choice([0, 0, 0.05]), "join": dice.choice([0, 0, 0.1]), "drain": dice.choice([0, 0, 0.05, 0.3]),
+            "restart": restart,
         }  # fmt: skip
         self.greed = dice.choice([0.2, 0.7, 1])  # how often all bytes move
         self.blind = dice.choice([0, 0.05, 0.2])  # how often an event is any event
@@ -112,6 +114,7 @@ class World:
             "reply": lambda site: site.up and site.come,
             "lost": lambda site: site.up,
             "back": lambda site: not site.up,
+            "restart": lambda site: True,
         }
         return self.sites_that(tests[name])
 

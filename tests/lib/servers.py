@@ -183,12 +183,12 @@ class Listener:
 class Server(Listener):
     """A server, with a budget of bytes and a limit of items (memcached has its own ways with both), and further words."""
 
-    def __init__(self, program, budget=67108864, items=65536, port=None, words=(), on=None):
+    def __init__(self, program, budget=67108864, items=65536, port=None, words=(), on=None, **streams):
         port = port or free_port()
         self.says_where = not is_memcached(program)
         if self.says_where:
             words = [*f"--listen {address_on(on, port)} --budget {budget} --items {items}".split(), *words]
-            super().__init__(program, words, port, on=on)
+            super().__init__(program, words, port, on=on, **streams)
         else:
             megabytes = 64 + 2 * budget // 2**20
             words = f"-l {HOST} -p {port} -U 0 -t 1 -u nobody -m {megabytes} -c 2000".split()

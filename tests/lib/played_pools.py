@@ -1,0 +1,258 @@
+"""A pool of one server, played by a script on a socket of this machine: a right one, and some that make a mistake each. A checker of pools is
+tried on them.
+
+    with Relay(seed) as pool:
+        ..pool.connected()..
+
+Each request is done by the model of a server (model.py), one at a time. Now and then the link to the server is lost with a request, which is
+answered `SERVER_ERROR link lost`: it is done now, later or never.
+"""
+
+import contextlib
+import random
+import socket
+import threading
+
+from live_pool import LOST
+from model import Connection, Server
+from pool_model import Reader
+from servers import HOST, connected
+
+BUDGET, ITEMS = 67108864, 64
+LOSES, IS_LATE, ERRS = 0.03, 0.2, 0.05  # how often a link is lost, a late request is done before another, and a mistake is made
+SECONDS_TO_SWAP = 0.01
+
+
+class Relay:
+    """A pool that makes no mistake. `restart` has its server begin anew."""
+
+    def __init__(self, seed, losses="told"):
+        self.dice, self.losses, self.lock = random.Random(seed), losses, threading.RLock()
+        self.cache, self.late, self.closes = self.new_cache(), [], []
+        self.listener = socket.create_server((HOST, 0))
+        self.port = self.listener.getsockname()[1]
+        self.ended = False
+        threading.Thread(target=self.accepts, daemon=True).start()
+
+    def __enter__(self):
+        return self
+
+    def __exit__(self, *_):
+        self.ended = True
+        with contextlib.suppress(OSError):
+            self.listener.shutdown(socket.SHUT_RDWR)
+        self.listener.close()
+        for connection in self.closes:
+            with contextlib.suppress(OSError):
+                connection.shutdown(socket.SHUT_RDWR)
+            connection.close()
+
+    def connected(self):
+        return connected(self.port)
+
+    def accepts(self):
+        with contextlib.suppress(OSError):
+            while not self.ended:
+                connection, _ = self.listener.accept()
+                self.closes.append(connection)
+                threading.Thread(target=self.serves, args=(connection,), daemon=True).start()
+
+    def serves(self, connection):
+        unread, reader = b"", Reader()
+        with contextlib.suppress(OSError):
+            while piece := connection.recv(65536):
+                unread += piece
+                while request := reader.read(unread):
+                    text, unread = unread[: request.size], unread[request.size :]
+                    connection.sendall(self.answer(connection, text))
+
+    # What a pool does with a request. A mistake overrides one of these.
+
+    def new_cache(self):
+        return Server(0, BUDGET, ITEMS)
+
+    def restart(self):
+        with self.lock:
+            self.cache = self.new_cache()
+
+    def answer(self, connection, text):
+        """The answer to a request of a client."""
+        with self.lock:
+            if self.late and self.errs(IS_LATE):
+                self.executed(self.late.pop())
+            return self.lost(text) if self.errs(LOSES) else self.executed(text)
+
+    def lost(self, text):
+        """The answer to a request with which the link is lost."""
+        kind = self.dice.randrange(3)
+        if kind == 0:
+            self.executed(text)
+        elif kind == 1:
+            self.late.append(text)
+        name = text.split()[0]
+        return LOST if self.losses == "told" or name not in MISSES else MISSES[name]
+
+    def executed(self, text):
+        connection = Connection()
+        connection.unread = text
+        self.cache.turn(connection, 0)
+        return connection.output
+
+    def errs(self, how_often=ERRS):
+        return self.dice.random() < how_often
+
+
+class AnswersNothing(Relay):
+    """Each connection ends at its first request."""
+
+    def serves(self, connection):
+        with contextlib.suppress(OSError):
+            connection.recv(65536)
+            connection.shutdown(socket.SHUT_RDWR)
+
+
+MISSES = {b"get": b"END\r\n", b"gets": b"END\r\n", b"mg": b"EN\r\n"}
+
+
+class SendsAgain(Relay):
+    """A lost request is sent again, once the link is back."""
+
+    def lost(self, text):
+        self.executed(text)
+        self.late.append(text)
+        return LOST
+
+
+class SwapsReplies(Relay):
+    """Replies of two clients are swapped, if they have one form: the value, or the number, is that of the other's request."""
+
+    def __init__(self, *words):
+        self.waits, self.changed = None, threading.Condition()
+        super().__init__(*words)
+
+    def answer(self, connection, text):
+        reply = super().answer(connection, text)
+        form = form_of(reply)
+        with self.changed:
+            if form is None:
+                return reply
+            if self.waits is None and self.errs():
+                return self.waits_for_another(connection, form, reply)
+            if self.waits is None or self.waits[:2] != [form, False] or self.waits[2] is connection:
+                return reply
+            other, self.waits[1], self.waits[3] = self.waits[3], True, reply
+            self.changed.notify_all()
+            return with_key_of(reply, other)
+
+    def waits_for_another(self, connection, form, reply):
+        self.waits = waits = [form, False, connection, reply]
+        self.changed.wait_for(lambda: waits[1], SECONDS_TO_SWAP)
+        self.waits = None
+        return with_key_of(reply, waits[3])
+
+
+def form_of(reply):
+    """What replies may be swapped without a client's notice: those of one number, and of one value without a number."""
+    if reply[:-2].isdigit():
+        return "number"
+    line, *value = reply.split(b"\r\n")
+    is_one = line.startswith(b"VALUE ") and len(line.split()) == 4 and value[1:] == [b"END", b""]
+    return ("value", value[0].isdigit()) if is_one else None
+
+
+def with_key_of(reply, other):
+    """Another reply, with the key of this one."""
+    if not reply.startswith(b"VALUE "):
+        return other
+    return other.replace(other.split(b" ", 2)[1], reply.split(b" ", 2)[1], 1)
+
+
+class ShowsOlder(Relay):
+    """A get is answered as another of the same key was, a while before."""
+
+    def __init__(self, *words):
+        self.before = {}
+        super().__init__(*words)
+
+    def executed(self, text):
+        reply = super().executed(text)
+        if not text.startswith(b"get ") or reply == b"END\r\n":
+            return reply
+        older = self.before.get(text, reply)
+        if self.errs():
+            return older
+        self.before[text] = reply
+        return reply
+
+
+class ComesBack(Relay):
+    """A get of an item that is held misses. Later gets show it."""
+
+    def executed(self, text):
+        reply = super().executed(text)
+        return b"END\r\n" if text.startswith(b"get ") and self.errs() else reply
+
+
+class KeepsItems(Relay):
+    """A server that is restarted keeps its items."""
+
+    def restart(self):
+        pass
+
+
+class AnswersAhead(Relay):
+    """A store is answered, and done later."""
+
+    def executed(self, text):
+        if not text.startswith(b"set ") or not self.errs():
+            return super().executed(text)
+        self.late.append(text)
+        return b"STORED\r\n"
+
+
+class AddsAlways(Relay):
+    """An add stores, though something is held. No client can see that: the register may have forgotten it."""
+
+    def executed(self, text):
+        text = b"set" + text[3:] if text.startswith(b"add ") and self.errs() else text
+        return super().executed(text)
+
+
+class Uncompared(Server):
+    def store(self, mode, key, flags, exptime, block, compare, moment):
+        held = self.settle(key, moment)
+        compare = held.number if compare is not None and held is not None else compare
+        return super().store(mode, key, flags, exptime, block, compare, moment)
+
+
+class ComparesNothing(Relay):
+    """A cas stores, whatever number the item has."""
+
+    def new_cache(self):
+        return Uncompared(0, BUDGET, ITEMS)
+
+
+class Repeating(Server):
+    def next_number(self):
+        return super().next_number() // 2 + 1
+
+
+class GivesTwice(Relay):
+    """Two items in turn get one number."""
+
+    def new_cache(self):
+        return Repeating(0, BUDGET, ITEMS)
+
+
+class CountsForNothing(Relay):
+    """A count is answered by its number, and is not done."""
+
+    def executed(self, text):
+        before = list(self.cache.items)
+        reply = super().executed(text)
+        if text.startswith(b"incr ") and self.errs():
+            self.cache.items = before
+        return reply
+
+
+MISTAKES = (SendsAgain, SwapsReplies, ShowsOlder, ComesBack, KeepsItems, AnswersAhead, ComparesNothing, GivesTwice, CountsForNothing)
