@@ -25,7 +25,7 @@ run:
 
 serve:
 	@./prove.py mc_serverd
-	@crates/mc_serverd/out/mc_serverd --items auto
+	@crates/mc_serverd/out/mc_serverd --items auto --cas-from now
 
 pool:
 	@./prove.py mc_serverd mc_proxyd

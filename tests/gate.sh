@@ -58,6 +58,7 @@ add tests/gate/refused.py crates/mc_rows/out/mc_rows_tests refusals::clients_are
 add tests/gate/refused.py crates/mc_rows/out/mc_rows_tests refusals::clients_are_answered_all_the_same_over_lru 1
 add tests/gate/refused.py crates/mc_rows/out/mc_rows_tests refusals::clients_are_answered_all_the_same_over_a_table
 add tests/gate/refused.py crates/mc_pool_rows/out/mc_pool_rows_tests pools::dialogues_of_a_pool_go_so
+add tests/gate/refused.py crates/mc_pool_rows/out/mc_pool_rows_tests pools::dialogues_with_missed_losses_go_so
 add tests/gate/refused.py crates/mc_pool_rows/out/mc_pool_rows_tests worlds::links_are_lost_and_back
 add tests/gate/refused_scripts.py
 add tests/gate/serverd.py crates/mc_serverd/out/mc_serverd

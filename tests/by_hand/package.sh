@@ -272,6 +272,41 @@ checks_of_a_pool() {
     rm "$root/etc/pool" "$root/etc/default/mc_serverd-11221" "$root/etc/default/mc_serverd-11222"
 }
 
+# Whether a program at a port of operators lists a client that is connected to another port. Words: PORT OPERATORS.
+lists_a_client() {
+    exec {client}<> "/dev/tcp/127.0.0.1/$1" || return 1
+    shows "$2" 'stats conns\r\nquit\r\n' 'STAT [0-9]*:addr tcp:127\.0\.0\.1:[0-9]*'
+    local status=$?
+    exec {client}>&-
+    return "$status"
+}
+
+# What an operator may choose for a proxy: a server's name apart from its address, lost keys that miss, lines for a collector of logs.
+checks_of_choices() {
+    local proxy=$root/etc/default/mc_proxyd first line='{"time":"[^"]*","program":"mc_proxyd","text":"cache-a:1 TEXT"}'
+    cp -p "$proxy" "$root/../mc_proxyd"
+    printf '%s\n' LISTEN=127.0.0.1:11223 'OPTIONS=--admin 127.0.0.1:9151 --lost missed --log=json' 'SERVERS=--servers /etc/pool' >> "$proxy"
+    echo cache-a:1=127.0.0.1:11221 > "$root/etc/pool"
+
+    check 'a server starts behind a name' starts 11221 mc_serverd@.service 11221
+    first=${started[-1]}
+    check 'a proxy starts that knows it by its name' starts 11223 mc_proxyd.service ''
+    check 'it answers set and get' answers 11223 "$store" "$stored"
+    check 'a browser is given a page' shows 9151 'GET / HTTP/1.0\r\n\r\n' '<!doctype html>'
+    check 'it says who is connected' lists_a_client 11223 9151
+    { kill -KILL "$first" && wait "$first"; } 2> /dev/null
+    check 'its server is killed: a line of JSON says so' says 11223 "${line/TEXT/lost: .*}"
+    check 'gets of its keys miss' answers 11223 'get a\r\nquit\r\n' 'END\r\n'
+    check 'a store is told' answers 11223 'set a 0 0 1\r\nx\r\nquit\r\n' 'SERVER_ERROR link lost\r\n'
+    check 'a server starts at another address' starts 11222 mc_serverd@.service 11222
+    echo cache-a:1=127.0.0.1:11222 > "$root/etc/pool"
+    check 'the name is at that address' says 11223 "${line/TEXT/now at 127.0.0.1:11222}"
+    check 'the pool stores twenty keys there' are_stored_again 11223
+    end_all
+    cp -p "$root/../mc_proxyd" "$proxy"
+    rm "$root/etc/pool"
+}
+
 plays() {
     local seen
     seen=$(printf '%s\n' 'server 1 67108864 1000' 'bytes 0 set a 0 0 1\r\nx\r\nget a\r\n' 'turn 0 100' 'turn 0 100' | in_root mc_sim)
@@ -357,6 +392,7 @@ inside() {
     running=("${started[@]}")
     started=()
     checks_of_a_pool
+    checks_of_choices
     started=("${running[@]}")
 
     echo 'OPTIONS=--budget 2000000 --items 1000' >> "$root${settings[0]}"

@@ -52,7 +52,7 @@ def main():
     with contextlib.ExitStack() as stack:
         stack.callback(hear, signal.SIG_IGN)  # Once all are ended: the interpreter would else die of one more.
         try:
-            servers = [stack.enter_context(Server(asked.server)) for _ in range(asked.servers)]
+            servers = [stack.enter_context(Server(asked.server, items="auto", words=["--cas-from", "now"])) for _ in range(asked.servers)]
             proxy = stack.enter_context(Proxy(asked.proxy, [server.address for server in servers]))
             tell(proxy, servers)
             ended, status = os.wait()

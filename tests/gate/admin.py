@@ -4,8 +4,8 @@ operators who mean ill can do to others.
 
 Usage: admin.py SERVER PROXY
 
-serverd.metrics and proxyd.metrics are what /metrics shows of a server and of a proxy, serverd.stats and serverd.settings what the lines
-`stats` and `stats settings` are answered: of what is another at each run (a process, a time, a port) the value is a word in
+serverd.metrics and proxyd.metrics are what /metrics shows of a server and of a proxy, serverd.stats what the line `stats` is answered,
+serverd.settings and proxyd.settings what `stats settings` is: of what is another at each run (a process, a time, a port) the value is a word in
 capitals. It prints a line for each check that fails; the last line is 'N passed, M failed'. All that is started is ended with its check.
 """
 
@@ -201,6 +201,13 @@ def a_proxy_shows_its_servers(program, proxy_program):
             lines = admin.told(b"stats\r\nquit\r\n").splitlines()
             for part, number in ((b"up", 0), (b"losses", 1), (b"sent", 1), (b"lost", 0), (b"waiting", 0)):
                 want(b"STAT server:%s:%s %d" % (address, part, number) in lines, True)
+
+
+def settings_of_a_proxy_are_shown(proxy_program):
+    port = free_port()
+    words = f"--idle 7 --held 3M --timeout 900 --lost missed --report 3600 --admin {HOST}:{port}".split()
+    with Proxy(proxy_program, [f"{HOST}:{free_port()}" for _ in range(2)], words):
+        want(masked(Admin(port).told(b"stats settings\r\nquit\r\n")), (HERE / "proxyd.settings").read_text())
 
 
 def a_proxy_shows_its_choice(proxy_program):
@@ -542,6 +549,7 @@ def checks_of(program, proxy_program):
     yield "an_address_that_is_none_is_told", an_address_that_is_none_is_told, (program,)
     yield "an_address_of_a_proxy_that_is_none_is_told", an_address_that_is_none_is_told, (proxy_program, "127.0.0.1:1")
     yield "a_proxy_shows_its_servers", a_proxy_shows_its_servers, (program, proxy_program)
+    yield "settings_of_a_proxy_are_shown", settings_of_a_proxy_are_shown, (proxy_program,)
     yield "a_proxy_shows_its_choice", a_proxy_shows_its_choice, (proxy_program,)
     yield "a_proxy_lists_its_clients", a_proxy_lists_its_clients, (program, proxy_program)
 
