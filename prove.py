@@ -55,6 +55,7 @@ SECONDS = {
     "mc_history": 15,
     "mc_item": 20,
     "mc_jobs": 480,
+    "mc_linearizable": 20,
     "mc_link": 70,
     "mc_numbered": 24,
     "mc_one_map": 28,

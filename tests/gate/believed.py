@@ -1,15 +1,18 @@
 #!/usr/bin/env python3
-"""Lists the definitions that one must believe to believe the two headlines: what a pool gives account of, and what one server answers.
+"""Lists the definitions that one must believe to believe the headlines: that each key of a pool is linearizable, what a pool gives account
+of, and what one server answers.
 
 Usage: believed.py [--check]
 
 From the clauses of a function's contract it follows the names of definitions, as they are imported (`ghost use` in a source, `use` in
 specs/), from one definition to the next, and the types of the sources that these name. It writes docs/BELIEVED.md: the definitions by
 crate and file, how many there are, and their lines, without comments and empty ones. What Rattle's own libraries define is not listed,
-nor are helpers that only proofs cite.
+nor are helpers that only proofs cite. Of the first headline it lists the grammar of lines, flags and replies apart, and how calls of a
+`World` read it; it prints all the rest whole, with its comments, as docs/LINEARIZABLE.md.
 
-With --check nothing is written: it is seen that docs/BELIEVED.md is this list, that README.md tells its figures, and that
-docs/DEFINITIONS.md names each definition. The last line is 'N passed, M failed': one for each definition, and one for each file.
+With --check nothing is written: it is seen that docs/BELIEVED.md and docs/LINEARIZABLE.md are these lists, that README.md tells their
+figures, and that docs/DEFINITIONS.md names each definition. The last line is 'N passed, M failed': one for each definition, and one for
+each file.
 """
 
 import argparse
@@ -24,6 +27,7 @@ sys.path.insert(0, str(pathlib.Path(__file__).resolve().parents[1] / "lib"))
 from suite import CRATES, TOP, counted
 
 LIST, EXPLAINED, README = TOP / "docs" / "BELIEVED.md", TOP / "docs" / "DEFINITIONS.md", TOP / "README.md"
+WHOLE = TOP / "docs" / "LINEARIZABLE.md"
 
 HEAD = re.compile(r"(?:abbrev|unfoldable|pub|abstract)(?: pub)?(?: (?:record|data))? (\S+)")
 IMPORT = re.compile(r"use Rattle\.(\w+)\.specs\.([\w.]+?)(?:\.\{([^}]*)\}| as (\w+))[ \t]*;?\s*$", re.M)
@@ -33,7 +37,8 @@ RUST_USE = re.compile(r"(?m)^(?:pub )?use (\w+)(?:::\w+)*::(?:\{([^}]*)\}|(\w+))
 
 
 class Root(NamedTuple):
-    """A theorem: its title, the function whose contract it is, the clauses that state it, and what it says."""
+    """A theorem: its title, the function whose contract it is, the clauses that state it, what it says, and lists of its own for some of
+    the definitions: their title, their crate, file and names, and what is said of them."""
 
     title: str
     crate: str
@@ -41,9 +46,36 @@ class Root(NamedTuple):
     function: str
     clauses: tuple
     says: str
+    apart: tuple = ()
 
+
+GRAMMAR = (
+    "The grammar of lines, flags and replies",
+    (
+        ("mc_request", "Requests.antt", "requests_of"),
+        ("mc_request", "Faults.antt", "fault_line"),
+        ("mc_reply", "Spelling.antt", "spelling_of"),
+        ("mc_reply", "Spelling.antt", "answer_of"),
+    ),
+    "Which requests a text is, and how replies and answers are spelled. Scripts and the Python model of `tests/lib/model.py` try the same.",
+)
+
+READINGS = (
+    "How a world is read",
+    tuple(("mc_world", "Worlds.antt", name) for name in ("WorldState", "text_of", "put_out_of", "history_of")),
+    "`World::text`, `put_out`, `history` and `log` give what these definitions say.",
+)
 
 ROOTS = [
+    Root(
+        "Each key of a pool",
+        "mc_linearizable",
+        "worlds.rt",
+        "worlds_are_linearizable",
+        ("linearizable",),
+        "Whatever is done to a pool, each client gets the answers to its own requests, in order, and each key is linearizable, as a register that may forget.",
+        (GRAMMAR, READINGS),
+    ),
     Root(
         "The account of a pool",
         "mc_world",
@@ -72,6 +104,9 @@ class Definition(NamedTuple):
 
     def is_type(self):
         return self.file.endswith(".rt")
+
+
+REGISTER = Definition("mc_registers", "Registers.antt", "IsRun")
 
 
 # The text of definitions.
@@ -223,16 +258,31 @@ def contract_of(root):
     return "\n".join(stated), imported(before)
 
 
-def reached(root):
-    """All that the clauses of a theorem lead to."""
-    text, scope = contract_of(root)
-    found, left = set(), list(named(text, scope))
+def led_to(left, but=frozenset()):
+    """All that definitions lead to, with them, where some are not followed."""
+    found, left = set(), list(left)
     while left:
         it = left.pop()
-        if it not in found:
+        if it not in found and it not in but:
             found.add(it)
             left += next_of(it)
     return found
+
+
+def reached(root):
+    """All that the clauses of a theorem lead to."""
+    return led_to(named(*contract_of(root)))
+
+
+def parted(root):
+    """What is read for a theorem alone, and then each list of its own: of the definitions there, and of what they lead to beside."""
+    lists = [{Definition(*it) for it in names} for _, names, _ in root.apart]
+    alone = led_to(named(*contract_of(root)), set().union(*lists))
+    parts = [led_to(names) for names in lists[:1]]
+    alone -= set().union(*parts)
+    for names in lists[1:]:
+        parts.append(led_to(names) - alone - set().union(*parts))
+    return alone, parts
 
 
 # The list.
@@ -246,7 +296,8 @@ def sizes(found):
 def told(found):
     definitions = sizes([it for it in found if not it.is_type()])
     types = sizes([it for it in found if it.is_type()])
-    return f"{definitions[0]:,} definitions, {definitions[1]:,} lines; {types[0]:,} types of the sources, {types[1]:,} lines"
+    last = f"; {types[0]:,} types of the sources, {types[1]:,} lines" if types[0] else ""
+    return f"{definitions[0]:,} definitions, {definitions[1]:,} lines{last}"
 
 
 def order():
@@ -265,23 +316,103 @@ def rows(found, place):
         yield f"| `{crate}/{place}/{file}` | {len(names)} | {sizes(here)[1]} | {', '.join(f'`{name}`' for name in names)} |"
 
 
+def tables(found):
+    """Tables of definitions and of types."""
+    for head, place, kind in (("Definitions", "specs", False), ("Types", "src", True)):
+        here = {it for it in found if it.is_type() is kind}
+        if here:
+            yield from (f"| File | {head} | Lines | Names |", "|---|---|---|---|")
+            yield from rows(here, place)
+            yield ""
+
+
 def section(root):
-    found = reached(root)
+    alone, parts = parted(root)
     clauses = " and ".join(f"`{it}`" for it in root.clauses)
     of = "World::step" if root.function == "step" else root.function
     yield from (f"## {root.title}", "", root.says)
-    yield from (f"That is the clause {clauses} of `{root.crate}::{of}`. To believe it, read {told(found)}.", "")
-    for head, place, kind in (("Definitions", "specs", False), ("Types", "src", True)):
-        yield from (f"| File | {head} | Lines | Names |", "|---|---|---|---|")
-        yield from rows({it for it in found if it.is_type() is kind}, place)
-        yield ""
+    yield from (f"That is the clause {clauses} of `{root.crate}::{of}`. To believe it, read {told(alone)}.", *beside(root, parts), "")
+    yield from tables(alone)
+    for (title, _, says), part in zip(root.apart, parts):
+        yield from (f"### {title}", "", says, "")
+        yield from tables(part)
+
+
+def beside(root, parts):
+    """What is said of a theorem's own lists, and of its longest part."""
+    if parts:
+        longest = led_to([REGISTER]) & parted(root)[0]
+        yield f"Longest is the register, what each command does to its one item (`{REGISTER.name}`): {told(longest)}."
+        yield from (f"[LINEARIZABLE.md]({WHOLE.name}) prints all of these whole. Beside them there are, below:", "", *numbered(root, parts))
+
+
+def numbered(root, parts):
+    """How long each list of a theorem's own is."""
+    for (title, _, _), part in zip(root.apart, parts):
+        yield f"- {title[0].lower()}{title[1:]}: {told(part)}"
+
+
+# The first headline, printed.
+
+
+def texts_of(crate, file, names):
+    """The text of definitions of a file, or of types, in their order there, each with the comments right above it."""
+    is_type = file.endswith(".rt")
+    place, head, comment = ("src", TYPE, "//") if is_type else ("specs", HEAD, "--")
+    lines = (CRATES / crate / place / file).read_text().splitlines()
+    for number, line in enumerate(lines):
+        found = head.match(line)
+        if not found or found[1].strip("◌") not in names or line.startswith("pub mod"):
+            continue
+        first, last = number, number + 1
+        while first and lines[first - 1].startswith((comment, "#[")):
+            first -= 1
+        many = len(lines_of(Definition(crate, file, found[1].strip("◌"))))
+        while len(code_lines(lines[number:last], comment)) < many:
+            last += 1
+        yield "\n".join(lines[first:last])
+
+
+def whole(root):
+    """What is read for a theorem alone, the highest crate first."""
+    alone, _ = parted(root)
+    crates = order()
+    for file in sorted({(it.crate, it.file) for it in alone}, key=lambda it: (it[1].endswith(".rt"), -crates.index(it[0]), it[1])):
+        names = {it.name for it in alone if (it.crate, it.file) == file}
+        kind = "rust" if file[1].endswith(".rt") else "text"
+        place = "src" if kind == "rust" else "specs"
+        yield from (f"## `{file[0]}/{place}/{file[1]}`", "", f"```{kind}", "\n\n".join(texts_of(*file, names)), "```", "")
+
+
+def printed():
+    """The page that prints the first headline."""
+    root = ROOTS[0]
+    alone, parts = parted(root)
+    lines = [
+        "# Each key of a pool is linearizable",
+        "",
+        f"The clause `linearizable` of `{root.crate}::{root.function}`, printed but for two lists: {told(alone)}.",
+        "Comments and empty lines are not counted. The highest crate is first, and each file is in its own order.",
+        "",
+        "Not printed, and listed in [BELIEVED.md](BELIEVED.md):",
+        "",
+        *numbered(root, parts),
+        "",
+        "What Rattle's own libraries define is trusted. [LAWS.md](LAWS.md) says the clause in words, and [DEFINITIONS.md](DEFINITIONS.md) has the",
+        "source of each definition. `tests/gate/believed.py` writes this page.",
+        "",
+    ]
+    return "\n".join([*lines, *whole(root)]).rstrip() + "\n"
+
+
+# The list.
 
 
 def document():
     lines = [
         "# What must be believed",
         "",
-        "A theorem says no more than the definitions that it names. These are all of them, for the two headlines of the README: what their",
+        "A theorem says no more than the definitions that it names. These are all of them, for the headlines of the README: what their",
         "clauses name, and what that names in turn, down to Rattle's own libraries, which are trusted. All other definitions of `specs/`",
         "serve proofs and other calls. Lines are counted without comments and empty ones. [DEFINITIONS.md](DEFINITIONS.md) explains each.",
         "How a type of the sources is seen by contracts is in its `impl Model`, which is not counted. `tests/gate/believed.py` writes this list.",
@@ -289,8 +420,8 @@ def document():
     ]
     for root in ROOTS:
         lines += section(root)
-    both = reached(ROOTS[0]) & reached(ROOTS[1])
-    return "\n".join([*lines, f"Both have in common {told(both)}.", ""])
+    both = reached(ROOTS[1]) & reached(ROOTS[2])
+    return "\n".join([*lines, f"The account and one server have in common {told(both)}.", ""])
 
 
 def checks():
@@ -300,8 +431,9 @@ def checks():
         if not it.is_type():
             yield it.name in explained, f"docs/DEFINITIONS.md does not name {it.name} of {it.crate}/specs/{it.file}"
     yield LIST.is_file() and LIST.read_text() == document(), "docs/BELIEVED.md is stale: run tests/gate/believed.py"
+    yield WHOLE.is_file() and WHOLE.read_text() == printed(), "docs/LINEARIZABLE.md is stale: run tests/gate/believed.py"
     for root in ROOTS:
-        count = f"{sizes([it for it in reached(root) if not it.is_type()])[1]:,} lines"
+        count = f"{sizes([it for it in parted(root)[0] if not it.is_type()])[1]:,} lines"
         yield count in README.read_text(), f"README.md does not say that {root.title.lower()} takes {count}"
 
 
@@ -311,6 +443,7 @@ def main():
     asked = words.parse_args()
     if not asked.check:
         LIST.write_text(document())
+        WHOLE.write_text(printed())
         return 0
     found = list(checks())
     for is_right, why in found:

@@ -13,9 +13,9 @@ ghost use Rattle.mc_world.specs.Logs.{Log, number_of, restarts};
 ghost use Rattle.mc_one_map.specs.Executions.{commands_of};
 ghost use Rattle.mc_one_map.specs.OneMaps.{AreOfOneMap, joins};
 
-/// Why no server may restart. A client stores an item, and is answered so. Its server restarts, and its link comes back. The client gets the
-/// item, and is answered that there is none. The run gives account, no server joined, and each command is a plain step of a cache that
-/// goes on. The histories are not those of one map.
+/// Why no server may restart. In this account a client stores an item, and is answered so. Its server restarts, and its link comes back. The
+/// client gets the item, and is answered that there is none. No server joined, and each command is a plain step of a cache that goes on.
+/// The histories are not those of one map.
 pub fn restarted_servers_are_not_one_map()
     ensures { (losses : Losses) → (ring : RingState) × (order : Order) × (texts : ℕ → List ℕ) × (outs : ℕ → List ℕ) × (histories : ℕ → List Entry) × (log : Log)
         × Accounts losses ring (opening_cache 1000 10 0) order texts outs histories log

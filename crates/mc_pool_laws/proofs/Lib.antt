@@ -2,6 +2,7 @@ pub mod OneRing
 pub mod SentLemmas
 pub mod ToldLemmas
 pub mod PlaceLemmas
+pub mod OwnerLemmas
 pub mod LossLemmas
 pub mod PutLemmas
 pub mod WantedLemmas

@@ -40,7 +40,7 @@ executed_or_lost losses ring opening order texts outs histories log h tag comman
     entry_or_loss histories log tag command known.0 (told_by losses ring opening order texts outs histories log h tag command known.0 at known.1 known.2)
 
 -- an entry is the only one of its command
-only_entry : (losses : Losses) (ring : RingState) (opening : CacheState) (order : Order) (texts outs : ℕ → List ℕ) (histories : ℕ → List Entry) (log : Log)
+pub only_entry : (losses : Losses) (ring : RingState) (opening : CacheState) (order : Order) (texts outs : ℕ → List ℕ) (histories : ℕ → List Entry) (log : Log)
     → Accounts losses ring opening order texts outs histories log → (place : ℕ) (tag : Tag) → HasEntry (histories place) tag → HasOneEntry histories place tag
 only_entry losses ring opening order texts outs histories log h place tag entry = (
   entry.0,

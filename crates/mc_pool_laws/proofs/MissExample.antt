@@ -126,7 +126,7 @@ pub in_two : {X : Type 0} (a b : X) (k : ℕ) (y : X) → slice_get (a ∷ b ∷
 in_two a b zero y at = inl (refl, sym (same_Some a y at))
 in_two a b (suc k) y at = let h = one_here b k y at in inr (ap suc h.0, h.1)
 
-in_three : {X : Type 0} (a b c : X) (k : ℕ) (y : X) → slice_get (a ∷ b ∷ c ∷ []) k ≡ Some y
+pub in_three : {X : Type 0} (a b c : X) (k : ℕ) (y : X) → slice_get (a ∷ b ∷ c ∷ []) k ≡ Some y
     → ((k ≡ 0) × (y ≡ a)) ⊎ (((k ≡ 1) × (y ≡ b)) ⊎ ((k ≡ 2) × (y ≡ c)))
 in_three a b c zero y at = inl (refl, sym (same_Some a y at))
 in_three a b c (suc k) y at = inr (elim (in_two b c k y at) [

@@ -8,7 +8,7 @@ use Rattle.mc_world.specs.declared.logs.Logged.TheVariants.{Happened}
 use Rattle.mc_world.proofs.LogLemmas.{before-more, before-other}
 
 -- what is before an event is the first of the log
-front_of : (kind : Logged → Bool) (k : ℕ) (log : Log) → (rest : Log) × (log ≡ before kind k log ++ rest)
+pub front_of : (kind : Logged → Bool) (k : ℕ) (log : Log) → (rest : Log) × (log ≡ before kind k log ++ rest)
 front_of kind k [] = ([], refl)
 front_of kind zero (x ∷ xs) =
     let again = front_of kind zero xs in

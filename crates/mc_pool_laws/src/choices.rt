@@ -57,8 +57,8 @@ pub fn done_is_executed()
         → (replies : List (Reply (List ℕ))) × (answer ≡ answer_of what replies) × HaveReplies histories client request 0 (route_of_taken h.ring h.what) replies }
 {}
 
-/// A miss says nothing of its server. With `Missed` a client stores an item, gets it, is answered that there is none, gets it again, and is
-/// answered its value. It sent nothing else, and no other client sent anything: the command of the first get was lost.
+/// A miss says nothing of its server. In this account, with `Missed`, a client stores an item, gets it, is answered that there is none, gets it
+/// again, and is answered its value. It sent nothing else, and no other client sent anything: the command of the first get was lost.
 pub fn a_miss_says_nothing_of_its_server()
     ensures { (ring : RingState) × (outs : ℕ → List ℕ) × (histories : ℕ → List Entry) × (log : Log)
         × Account Missed ring (opening_cache 1000 10 0) (λ client. if 0 == client then codes "set k 0 0 1\r\nv\r\nget k\r\nget k\r\n" else []) outs histories log

@@ -30,8 +30,8 @@ pub fn histories_are_replayed()
         → IsReplayed ring texts log place opening (in_life place life log (histories place)) }
 {}
 
-/// Why life by life: a server that restarts keeps nothing. A client stores an item, and is answered so. Its server restarts, and its link
-/// comes back. The client gets the item, and is answered that there is none. One cache does not replay both commands.
+/// Why life by life: a server that restarts keeps nothing. In this account a client stores an item, and is answered so. Its server restarts,
+/// and its link comes back. The client gets the item, and is answered that there is none. One cache does not replay both commands.
 pub fn restarted_servers_keep_nothing()
     ensures { (losses : Losses) → (ring : RingState) × (outs : ℕ → List ℕ) × (histories : ℕ → List Entry) × (log : Log)
         × Account losses ring (opening_cache 1000 10 0) (λ client. if 0 == client then codes "set k 0 0 1\r\nv\r\nget k\r\n" else []) outs histories log

@@ -28,7 +28,7 @@ use Rattle.mc_cache.specs.Settling.{is_dead_at}
 use Rattle.mc_cache.specs.Step.{Content, numbered, compared, unmet, unstored, content_by, touched, expiry_by, counted}
 use Rattle.mc_cache_laws.specs.OneMap.{KeyOutcome}
 use Rattle.mc_registers.specs.Registers.{Given, put_as, unless, store_as, get_as, number_as, count_as, update_as, register_step, Done, turn, may_give, last_by, IsRun}
-use Rattle.mc_registers.specs.Guarantees.{is_done, has_written, may_have_written, HaveNotWritten, AreQuiet, update_in, is_whole, ReadsSeeOwnWrites, IsSteadyRun, AddsExclude, CasLosesNothing, IsCountOrQuiet, AreCountsOrQuiet, number_by, IsCounted, AreCounted, CountersCount}
+use Rattle.mc_registers.specs.Guarantees.{is_done, has_written, may_have_written, HaveNotWritten, AreQuiet, update_in, is_whole, ReadsSeeOwnWrites, IsSteadyRun, AddsExclude, CasLosesNothing, OldNumbersDoNotFit, IsCountOrQuiet, AreCountsOrQuiet, number_by, IsCounted, AreCounted, CountersCount}
 use Rattle.mc_registers.proofs.LeftLemmas.{IsSame, IsKept, IsLeft, kept-left, left-same, left-both, left-found, IsFresh, IsUndone, compared-undone, unstored-undone, told-done, step-leaves}
 
 -- a turn leaves what was held, or none, or what is fresh
@@ -58,7 +58,7 @@ quiet-left forgotten given held e is quiet =
       | inr fresh ↦ absurd (let wrote : may_have_written e.atom e.reply ≡ true = fresh.1 in cc)
     ]
 
-quiet-run : (between : List Done) (last : ℕ) (held : Option Body) (es : List Done) → AreQuiet between → IsRun last held (between ++ es)
+pub quiet-run : (between : List Done) (last : ℕ) (held : Option Body) (es : List Done) → AreQuiet between → IsRun last held (between ++ es)
     → (next : ℕ) × (left : Option Body) × IsLeft held left × IsRun next left es
 quiet-run [] last held es quiet run = (last, held, left-same held, run)
 quiet-run (e ∷ between) last held es quiet run =
@@ -106,7 +106,7 @@ found-held : (gone : Bool) (held : Option Body) (body : Body) → cond gone None
 found-held true held body is = absurd cc
 found-held false held body is = is
 
-read-shows : (forgotten : Bool) (given : Given) (held : Option Body) (e : Done) (key : List ℕ) (touch : Option ℤ) (with_cas : Bool) (flags : ℕ) (cas : Option ℕ) (value : List ℕ)
+pub read-shows : (forgotten : Bool) (given : Given) (held : Option Body) (e : Done) (key : List ℕ) (touch : Option ℤ) (with_cas : Bool) (flags : ℕ) (cas : Option ℕ) (value : List ℕ)
     → e.reply ≡ (turn forgotten given held e).1 → e.atom ≡ atoms.Get key touch with_cas → e.reply ≡ Hit flags cas value
     → ShowsHeld held flags cas value (turn forgotten given held e).0
 read-shows forgotten given held e key touch with_cas flags cas value is gets hits =
@@ -283,7 +283,7 @@ past-compares number last held body past is same =
     let after : IsPast number last (Some body) = subst (λ (h : Option Body). IsPast number last h) is past in
     omega (arith, after.1, same)
 
-cas-past : (between back : List Done) (number last : ℕ) (held : Option Body) (cas : Done) (mode : StoreMode) (key : List ℕ) (flags : ℕ) (exptime : ℤ) (value : List ℕ)
+pub cas-past : (between back : List Done) (number last : ℕ) (held : Option Body) (cas : Done) (mode : StoreMode) (key : List ℕ) (flags : ℕ) (exptime : ℤ) (value : List ℕ)
     → IsPast number last held → IsRun last held (between ++ cas ∷ back) → update_in cas.atom ≡ Some (Store mode (Some number) key flags exptime value) → is_done cas.reply ≡ true → ⊥
 cas-past between back number last held cas mode key flags exptime value past run compares done =
     let rest = past-run between number last held (cas ∷ back) past run in
@@ -331,6 +331,10 @@ cas_loses_nothing last held front between back read cas mode number key flags ex
     subst (λ (l : Option Body). IsAt number (last_by part.0 l) l) (sym shows.left_is) (its, its) in
     cas-run between back number (last_by part.0 left) left cas mode key flags exptime value starts r.4 compares done
 
+pub old_numbers_do_not_fit : (last : ℕ) → OldNumbersDoNotFit last
+old_numbers_do_not_fit last front back cas mode number key flags exptime value run less compares =
+    false_from_ne_true (is_done cas.reply) (λ done. cas-past front back number last None cas mode key flags exptime value less run compares done)
+
 -- what is held is a number
 abbrev pub IsNumber : ℕ → Option Body → Type 0
 IsNumber number None = Unit {0}
@@ -341,11 +345,11 @@ number-left number held None is left = tt
 number-left number None (Some after) is left = absurd left
 number-left number (Some body) (Some after) is left = ap (λ v. read_u64 v) left.value ∙ is
 
-counted-small : (direction : Direction) (delta number : ℕ) → number < 2 ^ 64 → counted direction delta number < 2 ^ 64
+pub counted-small : (direction : Direction) (delta number : ℕ) → number < 2 ^ 64 → counted direction delta number < 2 ^ 64
 counted-small Up delta number small = omega arith
 counted-small Down delta number small = omega arith
 
-quiet-counted : (number : ℕ) (atom : Atom (List ℕ)) (reply : Reply (List ℕ)) → may_have_written atom reply ≡ false → IsCounted number atom reply × (number_by number atom reply ≡ number)
+pub quiet-counted : (number : ℕ) (atom : Atom (List ℕ)) (reply : Reply (List ℕ)) → may_have_written atom reply ≡ false → IsCounted number atom reply × (number_by number atom reply ≡ number)
 quiet-counted number (atoms.Get key touch with_cas) reply quiet = (tt, refl)
 quiet-counted number (atoms.Update (Store mode compare key flags exptime value)) reply quiet = (tt, refl)
 quiet-counted number (atoms.Update (Touch key exptime)) reply quiet = (tt, refl)

@@ -1,5 +1,5 @@
 -- What a command on the key leaves of what was held: the same item, none, or one under the number that it was given.
-use Rattle.std.proofs.Common.{◌≡◌, ◌∙◌, ℕ, ◌&&◌, ◌==◌, ℤ, inl, inr, ◌⊎◌, Bool, true, false, cond, List, Option, Some, None, Ok, Err, refl, sym, ap, subst}
+use Rattle.std.proofs.Common.{◌≡◌, ◌∙◌, ℕ, ◌&&◌, ◌||◌, ◌==◌, ℤ, inl, inr, ◌⊎◌, Bool, true, false, cond, List, Option, Some, None, Ok, Err, refl, sym, ap, subst}
 use Rattle.std.specs.Fmt.{decimal}
 use Rattle.std.specs.Option.{option_map_or, option_or, is_some}
 use Rattle.mc_text.specs.Numbers.{read_u64}
@@ -22,17 +22,18 @@ use Rattle.mc_reply.specs.declared.replies.Marks.{Marks}
 use Rattle.mc_reply.specs.declared.replies.Marks.TheVariants.{Plain, Won}
 use Rattle.mc_reply.specs.declared.replies.Reply.{Reply}
 use Rattle.mc_reply.specs.declared.replies.Reply.TheVariants.{Stored, NotStored, Exists, NotFound, Deleted, Touched, Flushed, Number, Miss, Hit, Meta, Fault}
-use Rattle.mc_cache.specs.Showing.{told}
-use Rattle.mc_cache.specs.Step.{Content, numbered, compared, unmet, unstored, content_by, expiry_by, counted, made_by}
+use Rattle.mc_cache.specs.Showing.{needs_filling, told}
+use Rattle.mc_cache.specs.Step.{Content, numbered, compared, unmet, unstored, content_by, expiry_by, counted, made_by, looked_at}
 use Rattle.mc_cache_laws.specs.OneMap.{KeyOutcome, touch_key, told_key}
 use Rattle.mc_registers.specs.Registers.{Given, put_as, unless, delete_as, number_as, count_as, update_as, register_step}
 use Rattle.mc_registers.specs.Guarantees.{is_done, has_written, may_have_written}
 
--- the item is as it was, but for its expiry and its marks
+-- the item is as it was, but for its expiry; and a client may have been told to fill it
 pub record IsSame (before after : Body) : Type 0 where
   pub flags : after.flags ≡ before.flags
   pub cas : after.cas ≡ before.cas
   pub value : after.value ≡ before.value
+  pub won : before.won ≡ true → after.won ≡ true
 
 abbrev pub IsKept : Option Body → Option Body → Type 0
 IsKept None None = Unit {0}
@@ -42,7 +43,7 @@ IsKept (Some before) (Some after) = IsSame before after
 
 kept-same : (held : Option Body) → IsKept held held
 kept-same None = tt
-kept-same (Some body) = record { flags = refl; cas = refl; value = refl }
+kept-same (Some body) = record { flags = refl; cas = refl; value = refl; won = λ won. won }
 
 -- or it is there no more
 abbrev pub IsLeft : Option Body → Option Body → Type 0
@@ -52,7 +53,7 @@ IsLeft (Some before) (Some after) = IsSame before after
 
 pub left-same : (held : Option Body) → IsLeft held held
 left-same None = tt
-left-same (Some body) = record { flags = refl; cas = refl; value = refl }
+left-same (Some body) = record { flags = refl; cas = refl; value = refl; won = λ won. won }
 
 pub kept-left : (before after : Option Body) → IsKept before after → IsLeft before after
 kept-left None None kept = tt
@@ -68,6 +69,7 @@ left-both (Some before) (Some between) (Some after) first second = record {
   flags = second.flags ∙ first.flags;
   cas = second.cas ∙ first.cas;
   value = second.value ∙ first.value;
+  won = λ won. second.won (first.won won);
 }
 
 pub left-found : (gone : Bool) (held : Option Body) → IsLeft held (cond gone None held)
@@ -135,7 +137,7 @@ delete-leaves given (Some body) compare false =
 
 touch-leaves : (given : Given) (held : Option Body) (exptime : ℤ) (moment : ℕ) → Leaves given held (touch_key held exptime moment)
 touch-leaves given None exptime moment = stays given None NotFound refl
-touch-leaves given (Some body) exptime moment = inl (record { flags = refl; cas = refl; value = refl }, refl)
+touch-leaves given (Some body) exptime moment = inl (record { flags = refl; cas = refl; value = refl; won = λ won. won }, refl)
 
 abbrev pub number_body : ℕ → Deadline → ℕ → Body
 number_body flags expiry number = numbered (record { flags = flags; expiry = expiry; won = false; value = decimal number }) 0
@@ -161,7 +163,7 @@ count-leaves given (Some body) counting moment =
     (λ number. number_as given (Some body) body.flags (expiry_by counting.exptime moment body.expiry) (counted counting.direction counting.delta number))
     (read_u64 body.value) (Some body, Fault NonNumeric)) (compared-undone counting.compare (Some body)) (count_held-leaves given body counting moment (read_u64 body.value))
 
-update-leaves : (given : Given) (held : Option Body) (update : Update (List ℕ) (List ℕ)) (moment : ℕ) → Leaves given held (update_as given held update moment)
+pub update-leaves : (given : Given) (held : Option Body) (update : Update (List ℕ) (List ℕ)) (moment : ℕ) → Leaves given held (update_as given held update moment)
 update-leaves given held (Store mode compare key flags exptime value) moment =
     let new : Content = record { flags = flags; expiry = deadline_of exptime moment; won = false; value = value } in
     let body : Body = numbered (content_by mode held new) 0 in
@@ -199,12 +201,21 @@ make-leaves given key get None moment is = inl (tt, refl)
 make-leaves (Err fault) key get (Some create) moment is = inl (tt, refl)
 make-leaves (Ok number) key get (Some create) moment is = inr (refl, ap (λ (c : Option ℤ). is_some c && true) is)
 
+-- `mg` finds an item
+pub looked-same : (get : MetaGet) (moment : ℕ) (body : Body) → IsSame body (looked_at get moment body)
+looked-same get moment body = record {
+  flags = refl;
+  cas = refl;
+  value = refl;
+  won = λ won. ap (λ v. v || needs_filling get.recache moment body) won;
+}
+
 pub step-leaves : (given : Given) (held : Option Body) (atom : Atom (List ℕ)) (moment : ℕ) → LeavesBy given held atom (register_step given held atom moment)
 step-leaves given None (atoms.Get key exptime with_cas) moment = inl (tt, refl)
-step-leaves given (Some body) (atoms.Get key exptime with_cas) moment = inl (record { flags = refl; cas = refl; value = refl }, refl)
+step-leaves given (Some body) (atoms.Get key exptime with_cas) moment = inl (record { flags = refl; cas = refl; value = refl; won = λ won. won }, refl)
 step-leaves given held (atoms.Update update) moment = update-leaves given held update moment
 step-leaves given None (atoms.Meta (metas.Get key get)) moment = make-leaves given key get get.create moment refl
-step-leaves given (Some body) (atoms.Meta (metas.Get key get)) moment = inl (record { flags = refl; cas = refl; value = refl }, refl)
+step-leaves given (Some body) (atoms.Meta (metas.Get key get)) moment = inl (looked-same get moment body, refl)
 step-leaves given held (atoms.Meta (metas.Update update show)) moment =
     let o : KeyOutcome = update_as given held update moment in
     subst (λ v. (IsKept held o.0 × (v ≡ false)) ⊎ (IsFresh given o.0 × (v ≡ true))) (sym (told-done show moment Plain o.0 o.1)) (update-leaves given held update moment)

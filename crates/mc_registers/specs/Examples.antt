@@ -1,13 +1,15 @@
 -- Small histories of one key, in short: this project's own.
-use Rattle.std.specs.Prelude.{ℕ, pos, List, Some, None, codes}
+use Rattle.std.specs.Prelude.{ℕ, pos, true, List, [], Some, None, codes}
 use Rattle.mc_request.specs.Meanings.{plain_counting}
 use Rattle.mc_request.specs.declared.parts.Atom.{Atom}
 use Rattle.mc_request.specs.declared.parts.Direction.TheVariants.{Up}
 use Rattle.mc_request.specs.declared.parts.StoreMode.{StoreMode}
+use Rattle.mc_request.specs.declared.parts.StoreMode.TheVariants.{Set}
+use Rattle.mc_reply.specs.declared.replies.Marks.{Marks}
 use Rattle.mc_reply.specs.declared.replies.Reply.{Reply}
-use Rattle.mc_reply.specs.declared.replies.Reply.TheVariants.{Hit, Meta}
+use Rattle.mc_reply.specs.declared.replies.Reply.TheVariants.{Hit, Meta, Stored}
 use Rattle.mc_reply.specs.Replies.{nothing_shown}
-use Rattle.mc_cache_laws.specs.Examples.{get_of, get_with_number, store_of, cas_of, delete_of, incr_of, ma_of}
+use Rattle.mc_cache_laws.specs.Examples.{get_of, get_with_number, store_of, cas_of, delete_of, incr_of, ma_of, mg_making, mg_recaching, md_of, done, marked}
 use Rattle.mc_registers.specs.Registers.{Done, IsRun}
 
 -- the key of the examples
@@ -44,6 +46,21 @@ counting_up delta reply = answered (incr_of the_key delta) reply
 abbrev pub making_counter : ℕ → Done
 making_counter initial =
     answered (ma_of (record (plain_counting Up 1) { create = Some (record { exptime = pos 0; initial = initial }) }) the_key (codes "")) (Meta nothing_shown None)
+
+-- `mg` that makes an item which never dies, where there is none; and one that asks, at a moment, to fill an item that ends within 30 seconds.
+-- Each is shown these marks, and nothing else
+abbrev pub making : Marks → Done
+making marks = answered (mg_making the_key (pos 0) []) (Meta (marked marks) None)
+
+abbrev pub recaching_at : ℕ → Marks → Done
+recaching_at moment marks = answered_at moment (mg_recaching the_key 30 []) (Meta (marked marks) None)
+
+-- a value that dies 20 seconds later is stored at a moment; and what is held is called stale
+abbrev pub storing_at : ℕ → Done
+storing_at moment = answered_at moment (store_of Set (pos 20) the_key (codes "v")) Stored
+
+abbrev pub invalidating_at : ℕ → Done
+invalidating_at moment = answered_at moment (md_of None true the_key) done
 
 -- a hit that shows a value, and one that shows a number too
 abbrev pub a_hit : List ℕ → Reply (List ℕ)

@@ -1,5 +1,5 @@
 -- What an application may rely on: runs of one key's register, in a client's words. This project's own.
-use Rattle.std.specs.Prelude.{◌≡◌, ℕ, ◌<◌, ◌^◌, ◌&&◌, ◌⊎◌, ℤ, Bool, true, false, List, [], ◌∷◌, ◌++◌, Option, Some, None, is_some}
+use Rattle.std.specs.Prelude.{◌≡◌, ℕ, ◌<◌, ◌≤◌, ◌^◌, ◌&&◌, ◌⊎◌, ℤ, Bool, true, false, List, [], ◌∷◌, ◌++◌, Option, Some, None, is_some}
 use Rattle.mc_item.specs.declared.bodies.Body.{Body}
 use Rattle.mc_request.specs.declared.meta.Counting.{Counting}
 use Rattle.mc_request.specs.declared.meta.MetaCommand.TheVariants as metas
@@ -115,3 +115,10 @@ CasLosesNothing last held =
     → (at : List ℕ) (touch : Option ℤ) (with_cas : Bool) → read.atom ≡ atoms.Get at touch with_cas
     → (shown_flags : ℕ) (shown : List ℕ) → read.reply ≡ Hit shown_flags (Some number) shown
     → update_in cas.atom ≡ Some (Store mode (Some number) key flags exptime value) → is_done cas.reply ≡ true → HaveNotWritten between
+
+-- And across lives. The numbers of a life begin above one of an earlier life: then no command that compares that number stores.
+abbrev pub OldNumbersDoNotFit : ℕ → Type 0
+OldNumbersDoNotFit last =
+    (front back : List Done) (cas : Done) (mode : StoreMode) (number : ℕ) (key : List ℕ) (flags : ℕ) (exptime : ℤ) (value : List ℕ)
+    → IsRun last None (front ++ cas ∷ back) → number ≤ last → update_in cas.atom ≡ Some (Store mode (Some number) key flags exptime value)
+    → is_done cas.reply ≡ false

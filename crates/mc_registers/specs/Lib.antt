@@ -2,4 +2,5 @@ pub mod Registers
 pub mod Examples
 pub mod Laws
 pub mod Guarantees
+pub mod Recache
 pub mod Told

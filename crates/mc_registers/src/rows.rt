@@ -2,9 +2,10 @@
 ghost use Rattle.std.specs.Prelude.{[], ◌∷◌, pos, codes};
 ghost use Rattle.mc_request.specs.declared.faults.Fault.TheVariants.{OutOfMemory};
 ghost use Rattle.mc_request.specs.declared.parts.StoreMode.TheVariants.{Set, Add, Append};
+ghost use Rattle.mc_reply.specs.declared.replies.Marks.TheVariants.{Plain, Won, WonStale, StaleSent, Sent};
 ghost use Rattle.mc_reply.specs.declared.replies.Reply.TheVariants.{Stored, NotStored, Exists, Deleted, Number, Miss, Fault};
 ghost use Rattle.mc_cache_laws.specs.Examples.{store_of, get_of};
-ghost use Rattle.mc_registers.specs.Examples.{the_key, answered_at, storing, comparing, getting, getting_number, deleting, counting_up, a_hit, a_numbered_hit, IsLife};
+ghost use Rattle.mc_registers.specs.Examples.{the_key, answered_at, storing, comparing, getting, getting_number, deleting, counting_up, making, recaching_at, storing_at, invalidating_at, a_hit, a_numbered_hit, IsLife};
 
 /// A value that is stored is shown, until another is stored in its place, or joined to it.
 pub fn stored_values_are_shown()
@@ -36,4 +37,12 @@ pub fn numbers_are_compared()
 /// A store that is refused leaves what is held.
 pub fn refused_stores_change_nothing()
     ensures { IsLife (storing Set (codes "a") Stored ∷ storing Set (codes "b") (Fault OutOfMemory) ∷ getting (a_hit (codes "a")) ∷ []) }
+{}
+
+/// Of the clients that find a mark one is told to fill the item.
+pub fn marks_are_won()
+    ensures made { IsLife (making Won ∷ making Sent ∷ getting (a_hit (codes "")) ∷ []) }
+    ensures ending { IsLife (storing_at 100 ∷ recaching_at 105 Won ∷ recaching_at 106 Sent ∷ []) }
+    ensures stale { IsLife (storing_at 100 ∷ recaching_at 105 Won ∷ invalidating_at 106 ∷ recaching_at 107 WonStale ∷ recaching_at 108 StaleSent ∷ []) }
+    ensures fresh { IsLife (storing Set (codes "a") Stored ∷ recaching_at 105 Plain ∷ []) }
 {}

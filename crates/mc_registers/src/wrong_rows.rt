@@ -2,9 +2,10 @@
 ghost use Rattle.std.specs.Prelude.{[], ◌∷◌, pos, codes};
 ghost use Rattle.mc_request.specs.declared.faults.Fault.TheVariants.{OutOfMemory};
 ghost use Rattle.mc_request.specs.declared.parts.StoreMode.TheVariants.{Set, Add, Replace};
+ghost use Rattle.mc_reply.specs.declared.replies.Marks.TheVariants.{Won};
 ghost use Rattle.mc_reply.specs.declared.replies.Reply.TheVariants.{Stored, NotStored, Deleted, Number, Miss, Fault};
 ghost use Rattle.mc_cache_laws.specs.Examples.{store_of, get_of};
-ghost use Rattle.mc_registers.specs.Examples.{the_key, answered_at, storing, comparing, getting, getting_number, deleting, counting_up, a_hit, a_numbered_hit, IsNoLife};
+ghost use Rattle.mc_registers.specs.Examples.{the_key, answered_at, storing, comparing, getting, getting_number, deleting, counting_up, recaching_at, storing_at, a_hit, a_numbered_hit, IsNoLife};
 
 /// A hit after a deletion, or after a miss, is of an item that was stored since.
 pub fn deleted_items_are_not_shown()
@@ -33,4 +34,10 @@ pub fn numbers_are_not_given_twice()
 /// A dead item is not shown.
 pub fn dead_items_are_not_shown()
     ensures { IsNoLife (answered_at 100 (store_of Set (pos 10) the_key (codes "a")) Stored ∷ answered_at 110 (get_of the_key) (a_hit (codes "a")) ∷ []) }
+{}
+
+/// A mark is won once, and no item is won that has no mark.
+pub fn marks_are_not_won_twice()
+    ensures twice { IsNoLife (storing_at 100 ∷ recaching_at 105 Won ∷ recaching_at 106 Won ∷ []) }
+    ensures fresh { IsNoLife (storing Set (codes "a") Stored ∷ recaching_at 105 Won ∷ []) }
 {}

@@ -76,7 +76,8 @@ impl World<ListStore> {
 }
 
 impl<S: Store + Drop> World<S> {
-    ghost use Rattle.mc_cache.specs.CacheState.{HasRoom};
+    ghost use Rattle.mc_cache.specs.CacheState.{HasRoom, IsWithinBounds};
+    ghost use Rattle.mc_ring.specs.Rings.{IsRing};
     ghost use Rattle.mc_world.specs.Courses.{Applies};
     ghost use Rattle.mc_world.specs.Joins.{HasServerJoined};
     ghost use Rattle.mc_world.specs.Refusals.{refusal_in, refusal_of, restart_refusal_of};
@@ -177,6 +178,14 @@ impl<S: Store + Drop> World<S> {
         ensures { GivesAccount self.now }
     {
         let _ = &self.alloc;
+    }
+
+    /// Each world was opened with a ring, and with bounds that a cache may have. The call does nothing: its contract is the law.
+    pub fn opens_well(&self)
+        ensures ring { IsRing self.now.opening }
+        ensures bounds { IsWithinBounds self.now.budget self.now.items }
+    {
+        let _ = self.opening.servers();
     }
 
     /// A server over this store joins at the last place, which is given, with the bounds of the others; its link is up. A request

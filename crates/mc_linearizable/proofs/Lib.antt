@@ -1,0 +1,14 @@
+pub mod TimeLemmas
+pub mod MoveLemmas
+pub mod LinearLemmas
+pub mod PipelineLemmas
+pub mod OnceLemmas
+pub mod LateStore
+pub mod NeverStore
+pub mod SpelledLemmas
+pub mod LifeRuns
+pub mod CutLemmas
+pub mod ClientLemmas
+pub mod CounterLemmas
+pub mod FillLemmas
+pub mod AddLemmas

@@ -1,0 +1,142 @@
+-- Each key of an account is linearizable.
+use Rattle.std.proofs.Common.{◌≡◌, ◌∙◌, ⊎_elim, ℕ, ◌<◌, ◌≤◌, inl, inr, true, List, Some, slice_get, ap, subst, arith}
+use Rattle.std.proofs.lemmas.Bool.{cases_lt}
+use Rattle.mc_request.specs.declared.parts.Atom.{Atom}
+use Rattle.mc_ring.specs.Rings.{IsRing, RingState}
+use Rattle.mc_route.specs.declared.losses.Losses.{Losses}
+use Rattle.mc_route.specs.Routes.{to_place}
+use Rattle.mc_route.specs.declared.outcomes.Outcome.{Outcome}
+use Rattle.mc_route.specs.declared.outcomes.Outcome.TheVariants.{Awaited, Lost, Reply}
+use Rattle.mc_link.specs.declared.turns.Tag.{Tag}
+use Rattle.mc_cache.specs.CacheState.{CacheState, IsWithinBounds, opening_cache}
+use Rattle.mc_account.specs.Lookups.{command_at}
+use Rattle.mc_account.specs.Orders.{Order}
+use Rattle.mc_history.specs.declared.entries.Entry.{Entry}
+use Rattle.mc_history.specs.Histories.{tag_in}
+use Rattle.mc_registers.specs.Laws.{is_on}
+use Rattle.mc_registers.proofs.RunLemmas.{opening-knows}
+use Rattle.mc_registers.proofs.ToldLemmas.{told-runs}
+use Rattle.mc_world.specs.Accounts.{Accounts}
+use Rattle.mc_world.specs.Logs.{Log, before, in_life, number_of, puts, serves, takes}
+use Rattle.mc_world.specs.Runs.{Call, Calls}
+use Rattle.mc_world.specs.Steps.{GivesAccount}
+use Rattle.mc_world.specs.Worlds.{CourseState, WorldState, history_of, put_out_of, text_of, world_opened}
+use Rattle.mc_world.proofs.LogLemmas.{number-before}
+use Rattle.mc_world.proofs.RunLemmas.{calls_account}
+use Rattle.mc_pool_laws.specs.Told.{IsToldBy}
+use Rattle.mc_pool_laws.proofs.PlaceLemmas.{before-front}
+use Rattle.mc_pool_laws.proofs.ToldLemmas.{known_at, told_by}
+use Rattle.mc_linearizable.specs.Linearizable.{Became, ComesFirst, Executed, IsAccountedWorld, IsEarlier, IsLinearizable, IsLinearizablePool, IsLinearizableWorld, WasReplied}
+use Rattle.mc_linearizable.proofs.MoveLemmas.{taken_lower}
+use Rattle.mc_linearizable.proofs.TimeLemmas.{number_later, taken_earlier}
+
+-- a command that was answered by its reply before another was taken was not executed after it, nor at its turn
+not_later : (losses : Losses) (ring : RingState) (opening : CacheState) (order : Order) (texts outs : ℕ → List ℕ) (histories : ℕ → List Entry) (log : Log)
+    → Accounts losses ring opening order texts outs histories log → (place j k : ℕ) (d e : Entry) → slice_get (histories place) j ≡ Some d
+    → slice_get (histories place) k ≡ Some e → j ≤ k → WasReplied order (tag_in e) → IsEarlier (tag_in e) (tag_in d) log → ⊥
+not_later losses ring opening order texts outs histories log h place j k d e at also less replied earlier =
+    let taken : d.request < number_of (takes d.client) (before (serves place) j log) = (h.placed place j d at).0 in
+    let waits : number_of (puts e.client) (before (serves place) k log) ≤ e.request = (h.placed place k e also).1 replied.0 replied.1 in
+    let more = number_later (takes d.client) (serves place) j k log less in
+    let same = before-front (takes d.client) (serves place) d.request k log (omega (arith, taken, more)) in
+    let few = number-before (puts e.client) (takes d.client) d.request (before (serves place) k log) in
+    let answered : e.request < number_of (puts e.client) (before (takes d.client) d.request (before (serves place) k log)) =
+    subst (λ (l : Log). e.request < number_of (puts e.client) l) same earlier in
+    omega (arith, answered, few, waits)
+
+keeps_time : (losses : Losses) (ring : RingState) (opening : CacheState) (order : Order) (texts outs : ℕ → List ℕ) (histories : ℕ → List Entry) (log : Log)
+    → Accounts losses ring opening order texts outs histories log → IsRing ring → (key : List ℕ) (a b : Executed order histories key) → WasReplied order (tag_in a.entry)
+    → IsEarlier (tag_in a.entry) (tag_in b.entry) log → ComesFirst a b
+keeps_time losses ring opening order texts outs histories log h good key a b replied earlier =
+    let early = taken_earlier losses ring opening order texts outs histories log h (tag_in a.entry) (tag_in b.entry) earlier in
+    let lower = taken_lower losses ring opening order texts outs histories log h good key (tag_in a.entry) (tag_in b.entry) a.place b.place a.atom b.atom
+    a.command b.command a.on b.on early in
+    ⊎_elim
+    (λ less. inl less)
+    (λ not_less.
+    let same : a.place ≡ b.place = omega (arith, lower, not_less) in
+    let at : slice_get (histories b.place) a.number ≡ Some a.entry = subst (λ (p : ℕ). slice_get (histories p) a.number ≡ Some a.entry) same a.at in
+    ⊎_elim
+    (λ less. inr (same, less))
+    (λ late. absurd (not_later losses ring opening order texts outs histories log h b.place b.number a.number b.entry a.entry b.at at late replied earlier))
+    (cases_lt a.number b.number))
+    (cases_lt a.place b.place)
+
+-- what became of a command on the key
+became_by : (order : Order) (histories : ℕ → List Entry) (log : Log) (key : List ℕ) (tag : Tag) (place : ℕ) (atom : Atom (List ℕ)) (outcome : Outcome)
+    → command_at order tag ≡ Some (to_place place atom) → is_on key atom ≡ true → IsToldBy histories log tag (to_place place atom) outcome
+    → Became order histories log key tag place atom outcome
+became_by order histories log key tag place atom (Reply reply) at on told = (
+  record {
+    place = place;
+    number = told.0;
+    entry = told.1;
+    atom = atom;
+    at = told.2;
+    command = ap (λ (t : Tag). command_at order t) told.3 ∙ at;
+    on = on;
+  },
+  told.3,
+  told.4,
+)
+became_by order histories log key tag place atom Lost at on told = told
+became_by order histories log key tag place atom Awaited at on told = told
+
+pub linearizable : (losses : Losses) (ring : RingState) (budget items counter : ℕ) (order : Order) (texts outs : ℕ → List ℕ) (histories : ℕ → List Entry) (log : Log)
+    → IsRing ring → IsWithinBounds budget items → Accounts losses ring (opening_cache budget items counter) order texts outs histories log
+    → (key : List ℕ) → IsLinearizable counter order histories log key
+linearizable losses ring budget items counter order texts outs histories log good bounds h key = record {
+  lives = λ place life.
+      let all = told-runs order place (in_life place life log (histories place)) (opening_cache budget items counter) counter
+      (λ k. opening-knows budget items counter k bounds) (h.legal place life) in
+      (all.0, all.1, all.2 key);
+  in_time = keeps_time losses ring (opening_cache budget items counter) order texts outs histories log h good key;
+  told = λ tag place atom at on answered.
+      let known = known_at losses ring (opening_cache budget items counter) order texts outs histories log h tag (to_place place atom) at answered in (
+        known.0,
+        known.1,
+        became_by order histories log key tag place atom known.0 at on
+            (told_by losses ring (opening_cache budget items counter) order texts outs histories log h tag (to_place place atom) known.0 at known.1 known.2),
+      );
+  once = λ a b same. h.once a.place b.place a.number b.number a.entry b.entry a.at b.at same;
+}
+
+pub pool_linearizable : (losses : Losses) (ring : RingState) (budget items counter : ℕ) (order : Order) (texts outs : ℕ → List ℕ) (histories : ℕ → List Entry) (log : Log)
+    → IsRing ring → IsWithinBounds budget items → Accounts losses ring (opening_cache budget items counter) order texts outs histories log
+    → IsLinearizablePool losses counter order texts outs histories log
+pool_linearizable losses ring budget items counter order texts outs histories log good bounds h = record {
+  asked = h.asked;
+  turns = h.turns;
+  sized = h.sized;
+  put = h.put;
+  after = h.after;
+  told = λ tag place atom at answered.
+      let known = known_at losses ring (opening_cache budget items counter) order texts outs histories log h tag (to_place place atom) at answered in (
+        known.0,
+        known.1,
+        told_by losses ring (opening_cache budget items counter) order texts outs histories log h tag (to_place place atom) known.0 at known.1 known.2,
+      );
+  moments = h.moments;
+  keys = linearizable losses ring budget items counter order texts outs histories log good bounds h;
+}
+
+pub run_linearizable : (losses : Losses) (ring : RingState) (clients budget items : ℕ) (calls : List Call) (c : CourseState) → IsRing ring → IsWithinBounds budget items
+    → Calls (opening_cache budget items 0) calls (world_opened losses ring clients budget items).course c
+    → (order : Order) × Accounts losses ring (opening_cache budget items 0) order (text_of c) (put_out_of c) (history_of c) c.log
+    × IsLinearizablePool losses 0 order (text_of c) (put_out_of c) (history_of c) c.log
+run_linearizable losses ring clients budget items calls c good bounds called =
+    let account = calls_account losses ring clients budget items calls c good bounds called in
+    (account.0, account.1, pool_linearizable losses ring budget items 0 account.0 (text_of c) (put_out_of c) (history_of c) c.log good bounds account.1)
+
+pub world_accounted : (w : WorldState) → IsRing w.opening → IsWithinBounds w.budget w.items → GivesAccount w → IsAccountedWorld w
+world_accounted w good bounds account = (
+  account.0,
+  account.1,
+  pool_linearizable w.losses w.opening w.budget w.items 0 account.0 (text_of w.course) (put_out_of w.course) (history_of w.course) w.course.log good bounds account.1,
+)
+
+pub world_linearizable : (w : WorldState) → IsRing w.opening → IsWithinBounds w.budget w.items → GivesAccount w → IsLinearizableWorld w
+world_linearizable w good bounds account = (
+  account.0,
+  pool_linearizable w.losses w.opening w.budget w.items 0 account.0 (text_of w.course) (put_out_of w.course) (history_of w.course) w.course.log good bounds account.1,
+)

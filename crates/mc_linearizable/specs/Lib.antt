@@ -1,0 +1,2 @@
+pub mod Linearizable
+pub mod Clients

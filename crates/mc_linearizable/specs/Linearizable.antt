@@ -1,0 +1,110 @@
+-- Each key of a pool is linearizable: source Herlihy and Wing, "Linearizability: a correctness condition for concurrent objects" (1990). The
+-- commands on a key have one order. In it a register that may forget (mc_registers) gives the replies that the proxy took. It keeps to real
+-- time: if the proxy took a command's reply, and put out its answer before it took another request, the command comes first. A lost command
+-- happens at most once, at any time after it was taken: so theirs is of calls that never return. Its client is answered by the choice for
+-- lost commands: by a line that says so, or as if it had missed. All else is this project's own.
+--
+-- Stronger than theirs: the order is a known one, by place, and at one place that of the server's turns. A request is taken after its client has
+-- sent it, and answered before its client has the answer. A client that does not wait for its answers has its order too
+-- (`pipelined_commands_keep_their_order`).
+-- Weaker: a `get` of several keys is a command for each, so it may show values that were never held together. A flush has no key: a register
+-- may forget at any time, and nothing says that it does. Of two keys no common order is stated. Their theorem 1 has one for commands of one key
+-- each: what is linearizable key by key is so as a whole. That is not proved here.
+use Rattle.std.specs.Prelude.{ℕ, ◌≡◌, ◌<◌, ◌⊎◌, ◌++◌, true, List, Some, None, All, map, slice_get, take}
+use Rattle.mc_request.specs.Requests.{requests_of}
+use Rattle.mc_request.specs.declared.parts.Atom.{Atom}
+use Rattle.mc_request.specs.declared.parts.Taken.{Taken}
+use Rattle.mc_reply.specs.Spelling.{spelling_of}
+use Rattle.mc_reply.specs.declared.replies.Reply.{Reply as AReply}
+use Rattle.mc_route.specs.Routes.{to_place}
+use Rattle.mc_route.specs.declared.losses.Losses.{Losses}
+use Rattle.mc_route.specs.declared.outcomes.Outcome.{Outcome}
+use Rattle.mc_route.specs.declared.outcomes.Outcome.TheVariants.{Awaited, Lost, Reply}
+use Rattle.mc_link.specs.declared.turns.Tag.{Tag}
+use Rattle.mc_account.specs.Lookups.{command_at, outcome_at}
+use Rattle.mc_account.specs.Orders.{Entry as Asked, IsSized, Order, entries_of, taken_of}
+use Rattle.mc_history.specs.declared.entries.Entry.{Entry}
+use Rattle.mc_history.specs.Histories.{tag_in}
+use Rattle.mc_registers.specs.Registers.{Done, IsRun}
+use Rattle.mc_registers.specs.Laws.{is_on}
+use Rattle.mc_registers.specs.Told.{TellEach, on_key}
+use Rattle.mc_world.specs.Accounts.{Accounts, IsToldLost, answers_by}
+use Rattle.mc_world.specs.Logs.{Log, before, in_life, moments_of, number_of, puts, takes, turns_of}
+use Rattle.mc_world.specs.Worlds.{WorldState, cache_of, history_of, put_out_of, text_of}
+use Rattle.mc_pool_laws.specs.Told.{IsToldBy, WasAnswered}
+
+-- a command on a key that was executed: its entry is the one of this number in the history of this place
+pub record Executed (order : Order) (histories : ℕ → List Entry) (key : List ℕ) : Type 0 where
+  pub place : ℕ
+  pub number : ℕ
+  pub entry : Entry
+  pub atom : Atom (List ℕ)
+  pub at : slice_get (histories place) number ≡ Some entry
+  pub command : command_at order (tag_in entry) ≡ Some (to_place place atom)
+  pub on : is_on key atom ≡ true
+
+-- The one order of a key's commands. A key stays where it is, or goes to a server that joins, whose place is higher: so a command comes before
+-- another if its place is lower, or if it is earlier in the same history.
+abbrev pub ComesFirst : {order : Order} {histories : ℕ → List Entry} {key : List ℕ} → Executed order histories key → Executed order histories key → Type 0
+ComesFirst a b = (a.place < b.place) ⊎ ((a.place ≡ b.place) × (a.number < b.number))
+
+-- real time: the request of a command was answered before that of another was taken
+abbrev pub IsEarlier : Tag → Tag → Log → Type 0
+IsEarlier a b log = WasAnswered a (before (takes b.session) b.request log)
+
+-- The proxy took the reply to a command. A client may not see it: a `get` of two keys of which one was lost can be answered by one line.
+abbrev pub WasReplied : Order → Tag → Type 0
+WasReplied order tag = (reply : AReply (List ℕ)) × (outcome_at order tag ≡ Some (Reply reply))
+
+-- What became of a command on a key: it was executed, and its entry has the reply that the proxy took; or it was lost, as the log shows.
+abbrev pub Became : Order → (ℕ → List Entry) → Log → List ℕ → Tag → ℕ → Atom (List ℕ) → Outcome → Type 0
+Became order histories log key tag place atom (Reply reply) =
+    (x : Executed order histories key) × (tag_in x.entry ≡ tag) × (x.entry.reply ≡ spelling_of atom reply)
+Became order histories log key tag place atom Lost = IsToldLost place tag (histories place) log
+Became order histories log key tag place atom Awaited = ⊥
+
+-- Of these entries those on a key are a run of its register. It holds nothing at first, and answers each command what its entry has.
+abbrev pub AreOfRegister : ℕ → Order → ℕ → List ℕ → List Entry → Type 0
+AreOfRegister counter order place key entries = (all : List Done) × TellEach order place entries all × IsRun counter None (on_key key all)
+
+-- A key is linearizable: by its order, which each life of each server goes on with.
+pub record IsLinearizable (counter : ℕ) (order : Order) (histories : ℕ → List Entry) (log : Log) (key : List ℕ) : Type 0 where
+  -- in this order a register may give these replies, if it begins anew with each life of a server
+  pub lives : (place life : ℕ) → AreOfRegister counter order place key (in_life place life log (histories place))
+  -- the order keeps to real time, of each command whose reply the proxy took
+  pub in_time : (a b : Executed order histories key) → WasReplied order (tag_in a.entry) → IsEarlier (tag_in a.entry) (tag_in b.entry) log → ComesFirst a b
+  -- each command whose request was answered is in it, with the reply that the proxy took, or was lost
+  pub told : (tag : Tag) (place : ℕ) (atom : Atom (List ℕ)) → command_at order tag ≡ Some (to_place place atom) → is_on key atom ≡ true → WasAnswered tag log
+      → (outcome : Outcome) × (outcome_at order tag ≡ Some outcome) × Became order histories log key tag place atom outcome
+  -- and none is in it twice
+  pub once : (a b : Executed order histories key) → tag_in a.entry ≡ tag_in b.entry → (a.place ≡ b.place) × (a.number ≡ b.number)
+
+-- A pool is linearizable, each key by itself, by an order of all requests that were taken. Most clauses are those of its account (mc_world).
+-- Which rings route requests is of the account, and not of this.
+pub record IsLinearizablePool (losses : Losses) (counter : ℕ) (order : Order) (texts outs : ℕ → List ℕ) (histories : ℕ → List Entry) (log : Log) : Type 0 where
+  -- the requests of each client were taken as it sent them, in order, by the turns of the log; each of their commands has its outcome
+  pub asked : (client : ℕ) → (untaken : List Taken) × (taken_of client order ++ untaken ≡ requests_of (texts client))
+  pub turns : map (λ (e : Asked). e.session) order ≡ turns_of log
+  pub sized : All IsSized order
+  -- each client was given the answers to its first requests, one for each put of the log, by the outcomes of their commands and the choice for
+  -- lost commands; each request was taken before it was answered
+  pub put : (client : ℕ) → outs client ≡ answers_by losses (take (number_of (puts client) log) (entries_of client order))
+  pub after : (client request : ℕ) → request < number_of (puts client) log → request < number_of (takes client) (before (puts client) request log)
+  -- the outcome of each of these commands is the reply that its server gave, or that it was lost, as the log shows
+  pub told : (tag : Tag) (place : ℕ) (atom : Atom (List ℕ)) → command_at order tag ≡ Some (to_place place atom) → WasAnswered tag log
+      → (outcome : Outcome) × (outcome_at order tag ≡ Some outcome) × IsToldBy histories log tag (to_place place atom) outcome
+  -- a history has one entry for each turn of its server, at its moment
+  pub moments : (place : ℕ) → map (λ (e : Entry). e.moment) (histories place) ≡ moments_of place log
+  -- each key is linearizable
+  pub keys : (key : List ℕ) → IsLinearizable counter order histories log key
+
+-- so is each world, by some order: of its clients' texts, what was put out to them, its servers' histories, and its log
+abbrev pub IsLinearizableWorld : WorldState → Type 0
+IsLinearizableWorld w =
+    (order : Order) × IsLinearizablePool w.losses 0 order (text_of w.course) (put_out_of w.course) (history_of w.course) w.course.log
+
+-- and by an order by which it gives account
+abbrev pub IsAccountedWorld : WorldState → Type 0
+IsAccountedWorld w =
+    (order : Order) × Accounts w.losses w.opening (cache_of w) order (text_of w.course) (put_out_of w.course) (history_of w.course) w.course.log
+    × IsLinearizablePool w.losses 0 order (text_of w.course) (put_out_of w.course) (history_of w.course) w.course.log

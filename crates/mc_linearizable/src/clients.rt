@@ -1,0 +1,55 @@
+//! What the clients of a linearizable pool may rely on, of one key. Each world is such a pool (`worlds_are_linearizable`). The functions do
+//! nothing: their contracts are the laws.
+ghost use Rattle.std.specs.Prelude.{ℕ, List};
+ghost use Rattle.mc_route.specs.declared.losses.Losses.{Losses};
+ghost use Rattle.mc_account.specs.Orders.{Order};
+ghost use Rattle.mc_history.specs.declared.entries.Entry.{Entry};
+ghost use Rattle.mc_world.specs.Logs.{Log};
+ghost use Rattle.mc_linearizable.specs.Linearizable.{IsLinearizablePool};
+ghost use Rattle.mc_linearizable.specs.Clients.{AnAddExcludes, ClientsCount, ClientsLoseNoCas, ClientsReadOwnWrites, HasRun, OneClientFills};
+
+/// All commands on a key that a server executed in one of its lives, in order, are a run of the key's register. So each law of runs
+/// (`mc_registers`) is one of commands that clients sent.
+pub fn commands_are_in_their_run()
+    ensures { (losses : Losses) (counter : ℕ) (order : Order) (texts outs : ℕ → List ℕ) (histories : ℕ → List Entry) (log : Log)
+        → IsLinearizablePool losses counter order texts outs histories log → (key : List ℕ) (place life : ℕ)
+        → HasRun counter order histories log key place life }
+{}
+
+/// A client stored a whole value, and was answered so. A `get` that was taken after that answer, and hits, shows it, or another command that may
+/// have written comes between the two. So it is whichever servers joined or restarted. In the run `another_value_is_read` (`mc_registers`) the
+/// other command is another store, and in the account `lost_commands_may_come_late` it is a lost one.
+pub fn clients_read_own_writes()
+    ensures { (losses : Losses) (counter : ℕ) (order : Order) (texts outs : ℕ → List ℕ) (histories : ℕ → List Entry) (log : Log)
+        → IsLinearizablePool losses counter order texts outs histories log → (key : List ℕ) → ClientsReadOwnWrites order histories log key }
+{}
+
+/// A hit of `gets` or `gats` showed a number. A `cas` with it, or an `ms` with `C`, was taken after that answer, and stored, in the same life of the
+/// same server. No command between the two has written. In the run `numbers_fit_another_life` (`mc_registers`) the server began anew in between.
+pub fn clients_lose_no_cas()
+    ensures { (losses : Losses) (counter : ℕ) (order : Order) (texts outs : ℕ → List ℕ) (histories : ℕ → List Entry) (log : Log)
+        → IsLinearizablePool losses counter order texts outs histories log → (key : List ℕ) → ClientsLoseNoCas order histories log key }
+{}
+
+/// A client was answered a number by `incr` or `decr`. The next command on the key that may have written is one too, and its client was answered
+/// a number: the one that it counts to. In the run `forgotten_counters_begin_anew` (`mc_registers`) a count makes an item of its own.
+pub fn clients_count()
+    ensures { (losses : Losses) (counter : ℕ) (order : Order) (texts outs : ℕ → List ℕ) (histories : ℕ → List Entry) (log : Log)
+        → IsLinearizablePool losses counter order texts outs histories log → (key : List ℕ) → ClientsCount order histories log key }
+{}
+
+/// Two clients were shown W by `mg`, and no command between the two has written. Then the second asked for an item to be made, by `N`. It says
+/// nothing of clients that always ask by `N`: of them `recache_has_one_winner` (`mc_registers`) speaks. In two of the runs `marks_are_won_again`
+/// (`mc_registers`) the item is called stale, or stored anew.
+pub fn one_client_fills()
+    ensures { (losses : Losses) (counter : ℕ) (order : Order) (texts outs : ℕ → List ℕ) (histories : ℕ → List Entry) (log : Log)
+        → IsLinearizablePool losses counter order texts outs histories log → (key : List ℕ) → OneClientFills order histories log key }
+{}
+
+/// An `add` stored, and no command between an earlier one and it may have written. If an item was held after the earlier one, it was forgotten, or
+/// was dead. So of two clients whose `add` stored the second found the lock forgotten, dead or written. In a run of `forgotten_locks_are_taken`
+/// (`mc_registers`) it is deleted.
+pub fn an_add_excludes()
+    ensures { (losses : Losses) (counter : ℕ) (order : Order) (texts outs : ℕ → List ℕ) (histories : ℕ → List Entry) (log : Log)
+        → IsLinearizablePool losses counter order texts outs histories log → (key : List ℕ) → AnAddExcludes order histories log key }
+{}

@@ -1,0 +1,23 @@
+//! A pool is linearizable, each key by itself, though links are lost and servers die: what an application may rely on.
+//!
+//! No program uses this crate. Its functions do nothing: their contracts are the laws. `specs/Linearizable.antt` says what linearizable is,
+//! and where it is more, and less, than Herlihy and Wing's. The register of a key is that of `mc_registers`, whose laws hold in each life of a
+//! server.
+#![tactic(auto)]
+
+mod clients;
+mod laws;
+mod losses;
+mod worlds;
+
+pub use clients::{
+    an_add_excludes, clients_count, clients_lose_no_cas, clients_read_own_writes,
+    commands_are_in_their_run, one_client_fills,
+};
+pub use laws::{
+    every_run_is_linearizable, pipelined_commands_keep_their_order, pools_are_linearizable,
+};
+pub use losses::{
+    lost_commands_happen_at_most_once, lost_commands_may_come_late, lost_commands_may_never_happen,
+};
+pub use worlds::worlds_are_linearizable;
