@@ -2,7 +2,7 @@
 """Measures what a request costs a server, beside Debian's memcached with one thread; or a proxy, beside Debian's nutcracker.
 
 Usage: serve.py SERVER [--through PROXY] [--stores KIND,KIND] [--beside PROGRAM] [--cases NAME,NAME ..] [--seconds S] [--rounds N] [--free]
-                [--scrape]
+                [--scrape] [--missed]
 
 SERVER is the built mc_serverd. It is measured with each of its stores, `table` and `lru`, or those of --stores. (memcached in its
 place measures memcached beside itself, with --stores table: all ratios are to be about 1.)
@@ -17,7 +17,8 @@ front of the same two servers, which are SERVER's, on processors of their own wh
 on a request is told too, since a proxy may send them more or fewer commands.
 
 With --scrape, SERVER (or PROXY) has a listener of operators, which is asked for /metrics once a second, as Prometheus would ask. A round
-has a second then. So `--beside SERVER --stores table --scrape` shows what a scrape costs, as a part of all that the server does.
+has a second then. So `--beside SERVER --stores table --scrape` shows what a scrape costs, as a part of all that the server does. With --missed,
+PROXY has `--lost missed`: so `--through PROXY --beside PROXY --missed` shows what that choice costs.
 
 What is measured is the processor time of the server's process, by its own clock, over the requests of a round: its own
 code and the kernel's work for it. How fast the load is matters little to that. A cost is the median of all rounds. A ratio is
@@ -230,9 +231,9 @@ class Pair:
     def started(self, begin):
         """Both programs; the first one is scraped, if that is asked for."""
         if not self.bench.scrape:
-            return [begin(program) for program in self.bench.programs]
+            return [begin(self.bench.programs[0], self.bench.first), begin(self.bench.programs[1])]
         scrapes = Scrapes()
-        first = begin(self.bench.programs[0], scrapes.words())
+        first = begin(self.bench.programs[0], [*self.bench.first, *scrapes.words()])
         self.stack.enter_context(scrapes)
         return [first, begin(self.bench.programs[1])]
 
@@ -297,6 +298,7 @@ class Bench:
         self.server, self.store, self.is_of_proxies = asked.server, store, asked.through is not None
         self.programs = [asked.through or asked.server, asked.beside]
         self.seconds, self.rounds, self.scrape = asked.seconds, asked.rounds, asked.scrape
+        self.first = ["--lost", "missed"] if asked.missed else []
         self.processors, self.loops = ([], 2) if asked.free else (processors(), 1)
         self.load = str(folder / "load")
         subprocess.run(["cc", "-O2", "-o", self.load, str(HERE / "load.c"), "-lm"], check=True)
@@ -402,6 +404,7 @@ def told_machine(bench, versions):
 
 def names_of(bench):
     names = [" ".join([pathlib.Path(program).name, *bench.words_of(program)]) for program in bench.programs]
+    names[0] = " ".join([names[0], *bench.first])
     if bench.scrape:
         names[0] += ", scraped"
     return names if names[0] != names[1] else [f"{names[0]} 1", f"{names[1]} 2"]
@@ -476,6 +479,7 @@ def main():
     words.add_argument("--rounds", type=int, default=30, help="of a case (30)")
     words.add_argument("--free", action="store_true", help="keep nothing on a processor, and load by two processes")
     words.add_argument("--scrape", action="store_true", help="ask SERVER, or PROXY, for /metrics once a second")
+    words.add_argument("--missed", action="store_true", help="PROXY has --lost missed")
     asked = words.parse_args()
     asked.seconds = asked.seconds or (1 if asked.scrape else 0.25)
     cases, others = (CASES_OF_PROXIES, OTHERS_OF_PROXIES) if asked.through else (CASES, OTHERS)
@@ -490,6 +494,8 @@ def main():
         words.error("a case has two rounds or more")
     if asked.scrape and (asked.seconds < 1 or is_memcached(asked.server)):
         words.error("--scrape is of mc_serverd or mc_proxyd, in rounds of a second or more")
+    if asked.missed and asked.through is None:
+        words.error("--missed is of a proxy: --through PROXY")
     beside = "nutcracker" if asked.through else "memcached"
     asked.beside = asked.beside or shutil.which(beside, path=os.environ["PATH"] + ":/usr/sbin")
     if asked.beside is None:
