@@ -110,13 +110,17 @@ def a_hung_server_is_given_up_without_words():
         answered_in_time(client, hung, b"END\r\n")
 
 
-def shown_up(port, server):
-    """Whether a server is up, as an operator is shown it at a port."""
+def figure(port, server, name):
+    """A figure of a server's link, as an operator is shown it at a port."""
     with connected(port) as operator:
         operator.sendall(b"stats\r\nquit\r\n")
         lines = received_to_the_end(operator).decode().splitlines()
-    [up] = [line.rpartition(" ")[2] for line in lines if line.startswith(f"STAT server:{server}:up ")]
-    return up == "1"
+    [number] = [line.rpartition(" ")[2] for line in lines if line.startswith(f"STAT server:{server}:{name} ")]
+    return int(number)
+
+
+def shown_up(port, server):
+    return figure(port, server, "up") == 1
 
 
 def a_hung_server_is_down_until_it_replies():
@@ -206,6 +210,37 @@ def a_server_that_was_away_is_used_soon():
             want_at_most(time.monotonic() - begun, 0.8)
             is_served(client)
             is_asked_and_answers(pool.links[0], client, b"a")
+
+
+# Servers that close idle clients.
+
+
+class Closing(Pool):
+    """A pool whose servers close a client that has sent nothing for a second, and so a link."""
+
+    def new_server(self, port=None):
+        return Server(self.programs[1], port=port, words=["--idle", "1"])
+
+
+def a_link_that_nobody_needs_is_ended_and_nothing_is_lost():
+    """Of two links one is asked all along, and stays. The other ends once nobody has needed it for as long as --idle says. The proxy connects
+    again at once, so the next get is answered rightly. No command is lost."""
+    port = free_port()
+    with Closing(["--admin", f"{HOST}:{port}"]) as pool, pool.connected() as client:
+        quiet, busy = (server.address for server in pool.servers)
+        (put, told, get, shown), ask_busy = stored(pool.ring.key(0)), b"get %s\r\n" % pool.ring.key(1)
+        begun = time.monotonic()
+        asked(client, put, told)
+        while figure(port, quiet, "losses") == 0 or not shown_up(port, quiet):
+            want_at_most(time.monotonic() - begun, PATIENCE)
+            asked(client, ask_busy, b"END\r\n")
+            time.sleep(QUIET)
+        want(time.monotonic() - begun > 1, True)
+        is_said(pool, f"{quiet} lost: connection ended")
+        asked(client, get, shown)
+        want([figure(port, quiet, name) for name in ("losses", "lost")], [1, 0])
+        want([figure(port, busy, name) for name in ("losses", "lost")], [0, 0])
+        is_said(pool, f"{quiet} back")
 
 
 # Peers that are gone without a word.
@@ -340,6 +375,7 @@ def checks_of_links():
         a_server_that_nobody_asks_is_up_once_it_is_connected,
         a_server_that_lost_a_command_is_up_once_nobody_asks,
         a_server_that_was_away_is_used_soon,
+        a_link_that_nobody_needs_is_ended_and_nothing_is_lost,
         the_system_looks_for_peers,
         a_server_that_takes_nothing_is_gone,
         descriptors_of_links_are_reserved,
