@@ -5,8 +5,9 @@
 #
 # The clean root is Debian bookworm (debootstrap, minbase), from the mirror that apt's sources on this machine name. It is in a temporary
 # folder, which is deleted at the end. Its mounts, processes and sockets are in namespaces of their own, so any port is free. No service
-# manager runs: the script reads a unit's Environment, EnvironmentFile, ExecStart, ExecStartPost and LimitNOFILE, and starts the program as a
-# user who owns nothing. It does not try what else a unit says, such as MemoryMax. It needs debootstrap, unshare and ip.
+# manager runs: the script reads a unit's Environment, EnvironmentFile, ExecStart, ExecStartPost, RestartSec and LimitNOFILE, and starts the
+# program as a user who owns nothing. It does not try what else a unit says, such as MemoryMax. It needs debootstrap, unshare and ip. If lintian
+# is installed, it looks at the package too.
 #
 # A line says what each check saw. The last line is 'N passed, M failed'.
 set -u
@@ -134,6 +135,16 @@ starts() {
     return 1
 }
 
+# Whether a server at the port of another one says so, as the journal has it, and ends. Words: PORT UNIT INSTANCE.
+says_that_it_is_in_use() {
+    local said
+    said=$(JOURNAL_STREAM=8:1 run_unit "${@:2}" 2>&1)
+    is_same "3
+mc_serverd: cannot listen
+mc_serverd: 127.0.0.1:$1: address in use" "$?
+$said"
+}
+
 # Whether a unit of a server that has no memory for its table has failed. Words: PORT UNIT INSTANCE.
 fails_without_memory() {
     (
@@ -144,6 +155,32 @@ fails_without_memory() {
         ! is_started $! "${@:2}" || return 1
         wait $!
         is_same 4 $? && grep -x 'mc_serverd: out of memory' "$root/../errors.$1" > /dev/null
+    )
+}
+
+# Whether a server ends by its --memory-exit, if it may take only 8 MB more than at its start and its clients store 1 MB again and again.
+# Words: PORT UNIT INSTANCE.
+ends_without_memory() {
+    (
+        started=()
+        trap end_all EXIT
+        trap '' PIPE
+        starts "$@" || return 1
+        taken=$(sed -n 's/^VmSize:[[:space:]]*\([0-9]*\) kB$/\1/p' "$root/proc/${started[-1]}/status")
+        end_all
+        ulimit -Sv $((taken + 8000))
+        begin "$@"
+        process=$!
+        ulimit -Sv unlimited
+        is_started "$process" "${@:2}" || return 1
+        for number in $(seq 600); do
+            kill -0 "$process" || break
+            printf 'set f%d 0 0 1000000\r\n%1000000s\r\nquit\r\n' "$number" '' > "/dev/tcp/127.0.0.1/$1"
+            sleep 0.02
+        done 2> /dev/null
+        ! kill -0 "$process" 2> /dev/null || return 1
+        wait "$process"
+        is_same 4 $? && grep -x 'mc_serverd: out of memory for 2 seconds' "$root/../errors.$1" > /dev/null
     )
 }
 
@@ -195,6 +232,31 @@ shows() {
     return 1
 }
 
+# Whether what comes back to these bytes has each of these lines. Words: PORT BYTES LINE..
+shows_all() {
+    local line
+    for line in "${@:3}"; do
+        shows "$1" "$2" "$line" || return 1
+    done
+}
+
+# The cas number of what is stored now at a port.
+new_number() {
+    asked "$1" 'set c 0 0 1\r\nx\r\ngets c\r\nquit\r\n' | tr -d '\r' | sed -n 's/^VALUE c 0 1 //p'
+}
+
+# Whether the server that was started last, killed and started again after the time that its unit waits, counts cas numbers above those before.
+# Words: PORT UNIT INSTANCE.
+numbers_rise() {
+    local before after
+    before=$(new_number "$1")
+    { kill -KILL "${started[-1]}" && wait "${started[-1]}"; } 2> /dev/null
+    sleep "$(sed -n 's/^RestartSec=//p' "$root/usr/lib/systemd/system/$2")"
+    starts "$@" || return 1
+    after=$(new_number "$1")
+    [ -n "$before" ] && [ "$after" -gt "$before" ] || { echo "  $before before, $after after"; return 1; }
+}
+
 # Whether the program at a port has said a line on standard error, within ten seconds. Words: PORT LINE.
 says() {
     for _ in $(seq 100); do
@@ -242,7 +304,7 @@ $((20 - lost)) x" "$seen" && [ "$lost" -gt 0 ] && [ "$lost" -lt 20 ]
 checks_of_a_pool() {
     local proxy=$root/etc/default/mc_proxyd stats='stats\r\nquit\r\n' first
     cp -p "$proxy" "$root/../mc_proxyd"
-    echo 'OPTIONS=--items auto --admin 127.0.0.1:9150' > "$root/etc/default/mc_serverd-11221"
+    echo 'OPTIONS=--budget 100M --items auto --answer 1M --memory-exit 7 --admin 127.0.0.1:9150' > "$root/etc/default/mc_serverd-11221"
     echo 'OPTIONS=--items 16777216' > "$root/etc/default/mc_serverd-11222"
     printf '%s\n' LISTEN=127.0.0.1:11223 'OPTIONS=--admin 127.0.0.1:9151' 'SERVERS=--servers /etc/pool' >> "$proxy"
     echo 127.0.0.1:11221 > "$root/etc/pool"
@@ -252,7 +314,10 @@ checks_of_a_pool() {
     check 'a server starts with --admin' starts 11221 mc_serverd@.service 11221
     first=${started[-1]}
     check 'it answers /healthz' shows 9150 'GET /healthz HTTP/1.0\r\n\r\n' ok
+    check 'it answers /metrics' shows 9150 'GET /metrics HTTP/1.0\r\n\r\n' 'memcached_up 1'
     check 'it answers stats' shows 9150 "$stats" 'STAT up 1'
+    check 'it answers stats settings, as its file has them' shows_all 9150 'stats settings\r\nquit\r\n' \
+        'STAT maxbytes 104857600' 'STAT items 873813' 'STAT answer 1048576' 'STAT memory_exit 7' 'STAT cas_from 0'
     check 'a proxy starts with --admin and a file of servers' starts 11223 mc_proxyd.service ''
     check 'it answers /healthz' shows 9151 'GET /healthz HTTP/1.0\r\n\r\n' ok
     check 'it answers stats, and its server is up' shows 9151 "$stats" 'STAT server:127.0.0.1:11221:up 1'
@@ -281,6 +346,21 @@ lists_a_client() {
     return "$status"
 }
 
+# What an operator relies on of a server by itself.
+checks_of_a_server() {
+    local settings=$root/etc/default/mc_serverd-11224
+    check 'a server starts without a file of settings' starts 11224 mc_serverd@.service 11224
+    check 'a second one at its port says that the address is in use' says_that_it_is_in_use 11224 mc_serverd@.service 11224
+    check 'started again, it gives greater cas numbers' numbers_rise 11224 mc_serverd@.service 11224
+    end_all
+    echo 'OPTIONS=--budget 1G --items auto' > "$settings"
+    check 'a budget in letters is taken' \
+        settings_reach mc_serverd@.service 11224 'listen 127.0.0.1:11224 budget 1073741824 items 8947848 accept 0'
+    echo 'OPTIONS=--budget 1G --items 1000000 --memory-exit 2' > "$settings"
+    check 'a server that is refused memory ends by --memory-exit' ends_without_memory 11224 mc_serverd@.service 11224
+    rm "$settings"
+}
+
 # What an operator may choose for a proxy: a server's name apart from its address, lost keys that miss, lines for a collector of logs.
 checks_of_choices() {
     local proxy=$root/etc/default/mc_proxyd first line='{"time":"[^"]*","program":"mc_proxyd","text":"cache-a:1 TEXT"}'
@@ -307,6 +387,14 @@ checks_of_choices() {
     rm "$root/etc/pool"
 }
 
+# Whether the programs have the version of the package.
+versions_are_alike() {
+    local program
+    for program in mc_serverd mc_proxyd; do
+        is_same "$program $version" "$(in_root "$program" --version | cut -d ' ' -f 1,2)" || return 1
+    done
+}
+
 plays() {
     local seen
     seen=$(printf '%s\n' 'server 1 67108864 1000' 'bytes 0 set a 0 0 1\r\nx\r\nget a\r\n' 'turn 0 100' 'turn 0 100' | in_root mc_sim)
@@ -319,6 +407,10 @@ settings_reach() {
 
 files() {
     find "$root" -xdev | sed "s|^$root||" | sort
+}
+
+linted() {
+    lintian --fail-on error "$package" > "$root/../linted" 2>&1 || { tail -n 20 "$root/../linted"; return 1; }
 }
 
 # Whether these paths are there, or are not.
@@ -379,6 +471,11 @@ inside() {
     mkdir -p "$root$links"
     files > "$root/../before"
 
+    if command -v lintian > /dev/null; then
+        check 'lintian names no error' linted
+    else
+        echo 'lintian is not installed: it did not look at the package'
+    fi
     check 'dpkg installs it' installer dpkg -i /root/package.deb
     check "version $version is installed" has_status "$version installed"
     check 'each file has its sum' verifies ''
@@ -389,10 +486,12 @@ inside() {
     check 'the proxy answers set and get' answers 11212 "${store//set a/set b}" "$stored"
     check 'the proxy finds what the server stored' answers 11212 'get a\r\nquit\r\n' 'VALUE a 0 1\r\nx\r\nEND\r\n'
     check 'mc_sim plays a script' plays
+    check 'the programs have the version of the package' versions_are_alike
     running=("${started[@]}")
     started=()
     checks_of_a_pool
     checks_of_choices
+    checks_of_a_server
     started=("${running[@]}")
 
     echo 'OPTIONS=--budget 2000000 --items 1000' >> "$root${settings[0]}"
