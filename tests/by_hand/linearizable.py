@@ -1,14 +1,14 @@
 #!/usr/bin/env python3
-"""Checks from outside that each key of a pool is a register that may forget, while servers and the proxy are killed, stopped and restarted.
+"""Checks from outside that each key of a pool is a register that may forget, while servers and proxies are killed, stopped and restarted.
 
-Usage: linearizable.py [--seconds N] [--seed N] [--servers N] [--clients N] [--program-folder FOLDER] [--lost told|missed]
+Usage: linearizable.py [--seconds N] [--seed N] [--servers N] [--proxies N] [--clients N] [--program-folder FOLDER] [--lost told|missed]
        linearizable.py --self-test [--seed N] [--verbose]
-                                    (60 seconds, seed 1, 2 servers, 12 clients, the programs that were built in crates/, told)
+                                    (60 seconds, seed 1, 2 servers, 1 proxy, 12 clients, the programs that were built in crates/, told)
 
-FOLDER has the programs mc_serverd and mc_proxyd. The servers and one proxy run on this machine. Clients send commands through the proxy,
-each client one at a time. They record when a command was sent, when its answer had arrived, and the answer. Meanwhile programs are killed
-and started again, and stopped for a while (SIGSTOP). The proxy gives a server up after 0.3 seconds of silence. The last server holds one
-item less than it has keys, so it evicts all along.
+FOLDER has the programs mc_serverd and mc_proxyd. The servers and the proxies run on this machine. Each client sends commands through one proxy,
+one at a time. All clients share the keys, so with two proxies each key is used through both. They record when a command was sent, when its
+answer had arrived, and the answer. Meanwhile programs are killed and started again, and stopped for a while (SIGSTOP). A proxy gives a server
+up after 0.3 seconds of silence. The last server holds one item less than it has keys, so it evicts all along.
 
 **What is checked.** The calls on each key are linearizable (Herlihy and Wing 1990). So they have one order in which a register that may
 forget its item before any command answers as the clients were answered. A call that was answered before another was sent comes first. The
@@ -78,7 +78,7 @@ PAUSE, PAUSE_LOST = 0.002, 0.06  # seconds between a client's commands, at most,
 PATIENCE = 30  # seconds that a client waits for an answer
 MOST_TO_END = 10  # seconds more, in which a client ends
 SECONDS_TO_RETURN = 20
-TIMEOUT = "300"  # milliseconds of silence, until the proxy gives a server up
+TIMEOUT = "300"  # milliseconds of silence, until a proxy gives a server up
 CALM, AWAY, STOPPED = 0.6, 0.4, 1.0  # seconds between faults, until a program is started again, and of a stop, at most
 LINES = {
     b"STORED\r\n": STORED,
@@ -184,12 +184,12 @@ class Client(threading.Thread):
 
     def __init__(self, run, number):
         super().__init__(daemon=True)
-        self.run_of, self.dice = run, random.Random(f"{run.seed} {number}")
+        self.run_of, self.number, self.dice = run, number, random.Random(f"{run.seed} {number}")
         self.error, self.numbers, self.told = None, {}, collections.Counter()
         self.connect()
 
     def connect(self):
-        self.connection = self.run_of.pool.connected()
+        self.connection = self.run_of.pool.connected(self.number)
         self.connection.settimeout(PATIENCE)
         self.answers = Answers(self.connection)
 
@@ -454,19 +454,20 @@ def wrong_numbers(place, items):
 
 
 class LivePool:
-    """Servers and a proxy that were built."""
+    """Servers and proxies that were built."""
 
-    def __init__(self, programs, servers, lost, stack):
+    def __init__(self, programs, servers, proxies, lost, stack):
         self.server_program, self.proxy_program = programs
         self.places, self.words = servers, ["--timeout", TIMEOUT, "--lost", lost]
-        self.servers = [None] * servers
+        self.servers, self.proxies = [None] * servers, [None] * proxies
         stack.callback(self.stop)
-        self.ports, self.port = [free_port() for _ in range(servers)], free_port()
+        self.ports, self.proxy_ports = [free_port() for _ in range(servers)], [free_port() for _ in range(proxies)]
         for place in range(servers):
             self.start_server(place)
         self.addresses = [server.address for server in self.servers]
         self.ring = Ring(self.addresses)
-        self.start_proxy()
+        for at in range(proxies):
+            self.start_proxy(at)
         self.faults = [
             self.server_killed, self.server_killed, self.server_stopped, self.server_stopped_and_killed, self.proxy_killed,
             self.proxy_stopped, self.server_killed_behind_a_stopped_proxy,
@@ -476,16 +477,17 @@ class LivePool:
         items = KEYS_AT_A_SERVER - 1 if place == self.places - 1 else MANY
         self.servers[place] = Server(self.server_program, items=items, port=self.ports[place], stderr=subprocess.DEVNULL)
 
-    def start_proxy(self):
-        self.proxy = Proxy(self.proxy_program, self.addresses, self.words, port=self.port, stderr=subprocess.DEVNULL)
+    def start_proxy(self, at):
+        self.proxies[at] = Proxy(self.proxy_program, self.addresses, self.words, port=self.proxy_ports[at], stderr=subprocess.DEVNULL)
 
     def stop(self):
-        for program in (*self.servers, getattr(self, "proxy", None)):
+        for program in (*self.servers, *self.proxies):
             if program is not None:
                 program.stop()
 
-    def connected(self):
-        return self.proxy.connected()
+    def connected(self, number):
+        """A connection of the client of a number, to the proxy that it has."""
+        return self.proxies[number % len(self.proxies)].connected()
 
     def name(self, place, number):
         return self.ring.keys(place, 1, f"k{number}-")[0]
@@ -504,16 +506,17 @@ class LivePool:
         self.start_server(place)
 
     def returns(self, run, place):
-        """Waits until a server is used again, and some time more."""
-        deadline, ask, line = time.monotonic() + SECONDS_TO_RETURN, b"delete %s\r\n" % self.ring.keys(place, 1, "none-")[0], LOST
-        with self.connected() as probe:
-            answers = Answers(probe)
-            while line == LOST:
-                if time.monotonic() > deadline:
-                    raise Wrong(f"server {place} is not used again")
-                probe.sendall(ask)
-                line = answers.line()
-                time.sleep(0.005)
+        """Waits until each proxy uses a server again, and some time more."""
+        deadline, ask = time.monotonic() + SECONDS_TO_RETURN, b"delete %s\r\n" % self.ring.keys(place, 1, "none-")[0]
+        for proxy in self.proxies:
+            with proxy.connected() as probe:
+                answers, line = Answers(probe), LOST
+                while line == LOST:
+                    if time.monotonic() > deadline:
+                        raise Wrong(f"server {place} is not used again")
+                    probe.sendall(ask)
+                    line = answers.line()
+                    time.sleep(0.005)
         self.rests(run)
 
     @contextlib.contextmanager
@@ -544,19 +547,20 @@ class LivePool:
         self.returns(run, place)
 
     def proxy_killed(self, run):
-        self.proxy.stop()
+        at = run.dice.randrange(len(self.proxies))
+        self.proxies[at].stop()
         self.rests(run, AWAY / 4)
-        self.start_proxy()
+        self.start_proxy(at)
         self.rests(run)
 
     def proxy_stopped(self, run):
-        with self.stopped(run, self.proxy):
+        with self.stopped(run, run.dice.choice(self.proxies)):
             pass
         self.rests(run)
 
     def server_killed_behind_a_stopped_proxy(self, run):
         place = run.dice.randrange(self.places)
-        with self.stopped(run, self.proxy, STOPPED / 10):
+        with self.stopped(run, run.dice.choice(self.proxies), STOPPED / 10):
             self.ends(run, place)
             self.starts(run, place)
         self.returns(run, place)
@@ -569,7 +573,9 @@ class PlayedPool:
 
     def __init__(self, relay):
         self.relay, self.faults = relay, [self.server_restarted]
-        self.connected = relay.connected
+
+    def connected(self, _):
+        return self.relay.connected()
 
     @staticmethod
     def name(_, number):
@@ -588,7 +594,7 @@ def tell(run, asked, seconds):
     told, faults = run.told, run.faults
     commands = told["answered"] + told["link lost"] + told["unanswered"]
     missed = f", {told['misses']:,} of their keys missed, which says nothing" if run.misses_say_nothing else ""
-    print(f"lost {asked.lost}, {asked.servers} servers, 1 proxy, {asked.clients} clients, seed {asked.seed}, {seconds:.0f} seconds")
+    print(f"lost {asked.lost}, servers {asked.servers}, proxies {asked.proxies}, clients {asked.clients}, seed {asked.seed}, {seconds:.0f} seconds")
     print(f"{commands:,} commands: {told['answered']:,} answered{missed}, {told['link lost']:,} told that the link was lost,", end=" ")
     print(f"{told['unanswered']:,} without an answer")
     kills, stops = (sum(count for name, count in faults.items() if word in name) for word in ("killed", "stopped"))
@@ -604,7 +610,7 @@ def made(asked, programs):
     why, begun, run = [], time.monotonic(), None
     with contextlib.ExitStack() as stack:
         try:
-            pool = LivePool(programs, asked.servers, asked.lost, stack)
+            pool = LivePool(programs, asked.servers, asked.proxies, asked.lost, stack)
             run = Run(pool, asked.seed, asked.clients, asked.lost == "missed")
             run.goes(asked.seconds)
         except (Wrong, *FAILURES) as error:
@@ -662,6 +668,7 @@ def main():
     words.add_argument("--seconds", type=float, default=60)
     words.add_argument("--seed", type=int, default=1)
     words.add_argument("--servers", type=int, default=2)
+    words.add_argument("--proxies", type=int, default=1)
     words.add_argument("--clients", type=int, default=12)
     words.add_argument("--program-folder", type=pathlib.Path)
     words.add_argument("--lost", choices=("told", "missed"), default="told")

@@ -1,7 +1,8 @@
 """Histories on which the search of registers.py is tried: `checks_of_histories` gives each check's name, whether it passed, and why not.
 
 - Faulty histories of a register, as the literature tells of them (Lamport 1986, Herlihy and Wing 1990), written from what they show and not
-  copied from a figure, and right ones beside them; then those of a register that may forget, of numbers and of restarts.
+  copied from a figure, and right ones beside them; then those of a register that may forget, of numbers and of restarts. Lamport's are of his
+  Part II (On interprocess communication, Part II: Algorithms), which tells safe registers from regular ones, and these from atomic ones.
 - Random histories of a few calls, in half of which answers are changed: the search says the same as the definition tried in each order.
 - A history of 200,000 calls on one key by eight clients, with a fault at its end.
 """
@@ -55,8 +56,11 @@ RIGHT = {
 WRONG = {
     "a value is shown before its set is sent": [gets(1, 2, 1), sets(3, 4, 1)],
     "a value that nobody stored is shown": [FIRST, gets(3, 4, 7)],
+    "safe and not regular (Lamport 1986, Part II): a get that overlaps a set shows neither value": [FIRST, sets(3, 8, 1), gets(4, 5, 7)],
     "an older value is shown after a newer one was stored": [FIRST, sets(3, 4, 1), gets(5, 6, 0)],
-    "a newer value is shown, and then the older, within one set": [FIRST, sets(3, 12, 1), gets(4, 5, 1), gets(6, 7, 0)],
+    "regular and not atomic (Lamport 1986, Part II): a newer value is shown, and then the older, within one set": [
+        FIRST, sets(3, 12, 1), gets(4, 5, 1), gets(6, 7, 0),
+    ],
     "two clients see two sets in two orders": [sets(1, 9, 1), sets(2, 10, 2), gets(3, 4, 1), gets(5, 6, 2), gets(7, 8, 1)],
     "after two sets each is shown": [sets(1, 5, 1), sets(2, 6, 2), gets(7, 8, 1), gets(9, 10, 2)],
     "an older set is shown after a newer one was seen and all have ended": [sets(1, 6, 1), sets(2, 3, 2), gets(4, 5, 1), gets(7, 8, 2)],
@@ -75,7 +79,7 @@ WRONG = {
     "a cas of an older number stores": [FIRST, gets(3, 4, 0, 7), sets(5, 6, 1), Call(7, 8, ("cas", 2, 7), STORED)],
     "a cas of the item's number finds another": [FIRST, gets(3, 4, 0, 7), Call(5, 6, ("cas", 1, 7), EXISTS), gets(7, 8, 0)],
     "a cas that found another number finds it": [FIRST, Call(3, 4, ("cas", 1, 7), EXISTS), gets(5, 6, 0, 7)],
-}
+}  # fmt: skip
 
 
 # Random histories.
