@@ -164,7 +164,7 @@ def a_page_is_shown(program):
 
 
 def numbers_grow(program):
-    """What counts since the start: a scrape beside a load."""
+    """What counts since the start, scraped after each of three loads, whose client is still connected."""
     with server(program) as (started, admin):
         for total in (1, 2, 3):
             with loaded(started):
