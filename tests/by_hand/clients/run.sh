@@ -1,6 +1,7 @@
 #!/usr/bin/env bash
-# Tries others' clients on a server, call by call: pymemcache, pylibmc, PHP's Memcached, the programs of libmemcached,
-# nutcracker, a proxy, and curl, which is to be turned away.
+# Tries others' clients on a server, call by call: pymemcache, pylibmc, Django's cache and sessions, PHP's Memcached and
+# sessions, the programs of libmemcached, nutcracker, a proxy, and those that are to be turned away: dalli, which speaks
+# the binary protocol alone in Debian's package, and curl.
 #
 # Usage: run.sh SERVER [--through PROXY] [--beside MEMCACHED]      (SERVER is the built mc_serverd, PROXY mc_proxyd)
 #
@@ -68,6 +69,11 @@ if python=$(python_with pylibmc); then
 else
     skip with_pylibmc.py pylibmc python3-pylibmc
 fi
+if python=$(python_with "django, pymemcache, pylibmc"); then
+    add "$python" "$here/with_django.py" "$@"
+else
+    skip with_django.py "Django, pymemcache and pylibmc" "python3-django, python3-pymemcache, python3-pylibmc"
+fi
 if [ "$(php -r 'echo class_exists("Memcached");' 2> /dev/null)" = 1 ]; then
     add python3 "$here/with_php.py" "$@"
     add python3 "$here/with_php_sessions.py" "$@"
@@ -78,6 +84,11 @@ if command -v memccapable > /dev/null; then
     add python3 "$here/with_tools.py" "$@"
 else
     skip with_tools.py "the programs of libmemcached" libmemcached-tools
+fi
+if ruby -e 'require "dalli"' 2> /dev/null; then
+    add python3 "$here/with_dalli.py" "$@"
+else
+    skip with_dalli.py "Ruby's dalli" "ruby, ruby-dalli"
 fi
 if command -v curl > /dev/null; then
     add python3 "$here/with_curl.py" "$@"

@@ -5,10 +5,26 @@
 // Usage: with_php.php PORT PORT
 
 const LARGE_VALUE = '| A value has at most 1,048,576 bytes';
+const NO_BINARY = 'no binary protocol';
 const NO_STATS = '| `stats`, `verbosity`,';
 const OLDER_STAYS = '| A refused store leaves the older item';
 const PADDING = '| `incr` and `decr` store a number with no padding';
 const VERSION = '| `version` is always';
+
+/** The settings of a session: the text protocol, and the defaults of its locks. */
+const SESSION = [
+    'session.use_cookies' => '0',
+    'session.cache_limiter' => '',
+    'session.save_handler' => 'memcached',
+    'session.gc_maxlifetime' => '1440',
+    'memcached.sess_binary_protocol' => '0',
+    'memcached.sess_prefix' => 'memc.sess.key.',
+    'memcached.sess_locking' => '1',
+    'memcached.sess_lock_retries' => '5',
+    'memcached.sess_lock_wait_min' => '150',
+    'memcached.sess_lock_wait_max' => '150',
+    'memcached.sess_lock_expire' => '0',
+];
 
 function row(string $name, $got, $wanted, string $differs = ''): void
 {
@@ -193,24 +209,88 @@ function tells(Memcached $client, int $port): void
     row('get 4 seconds later', $client->get('a'), false);
 }
 
+/** Starts a session of PHP's own, and says whether it has begun, and after how many milliseconds that was said. */
+function started(string $id, array $settings = []): array
+{
+    foreach ($settings + SESSION as $name => $value) {
+        ini_set($name, $value);
+    }
+    session_id($id);
+    $begun = microtime(true);
+    $is_started = @session_start();
+    return [$is_started, (int) ((microtime(true) - $begun) * 1000)];
+}
+
+/** The same, with the least time in the place of one that is up to half a second longer. */
+function about(array $started, int $least): array
+{
+    [$is_started, $took] = $started;
+    return [$is_started, $took >= $least && $took < $least + 500 ? $least : $took];
+}
+
 /** PHP's own sessions, kept in the server: they are locked by `add`. */
 function sessions(int $port): void
 {
-    ini_set('session.use_cookies', '0');
-    ini_set('session.cache_limiter', '');
-    ini_set('memcached.sess_binary_protocol', '0');
-    ini_set('session.save_handler', 'memcached');
     ini_set('session.save_path', "127.0.0.1:$port");
-    session_id('one');
-    session_start();
+    $is_started = started('one')[0];
     $_SESSION['seen'] = ['x' => 1];
-    row('session: stored', session_write_close(), true);
+    row('session: stored', [$is_started, session_write_close()], [true, true]);
     $_SESSION = [];
-    session_start();
+    row('session: started again', started('one')[0], true);
     row('session: read again', $_SESSION, ['seen' => ['x' => 1]]);
-    row('session: its key is locked', client([$port])->get('memc.sess.key.lock.one') !== false, true);
+    $client = client([$port]);
+    row('session: its key is locked', $client->get('memc.sess.key.lock.one') !== false, true);
+    row('session: its id is another', session_regenerate_id(true), true);
+    $other = session_id();
+    row('session: the key of the older id is gone', $client->get('memc.sess.key.one'), false);
+    row('session: its lock is gone', $client->get('memc.sess.key.lock.one'), false);
+    row('session: stored under the other id', session_write_close(), true);
+    row('session: read by the other id', [started($other)[0], $_SESSION], [true, ['seen' => ['x' => 1]]]);
     row('session: ended', session_destroy(), true);
-    row('session: its key is gone', client([$port])->get('memc.sess.key.one'), false);
+    row('session: its key is gone', $client->get("memc.sess.key.$other"), false);
+    row('session: its lock is gone too', $client->get("memc.sess.key.lock.$other"), false);
+    started('short', ['session.gc_maxlifetime' => '1']);
+    $_SESSION['seen'] = 1;
+    row('session.gc_maxlifetime: stored for a second', session_write_close(), true);
+    usleep(2100000);
+    row('session.gc_maxlifetime: 2 seconds later', [started('short')[0], $_SESSION, session_write_close()], [true, [], true]);
+    started('mine', ['memcached.sess_prefix' => 'site.']);
+    row('memcached.sess_prefix: its lock', $client->get('site.lock.mine') !== false, true);
+    row('memcached.sess_prefix: stored', [session_write_close(), $client->get('site.mine') !== false], [true, true]);
+}
+
+/** The settings of their locks. Another's lock is an item that the client stores, for a second or for good. */
+function locks(int $port): void
+{
+    $client = client([$port]);
+    $lock = 'memc.sess.key.lock.two';
+    $client->set($lock, '1');
+    row('a locked session, by default: five waits of 150 ms', about(started('two'), 750), [false, 750]);
+    $shorter = ['memcached.sess_lock_wait_min' => '50', 'memcached.sess_lock_wait_max' => '100'];
+    row('sess_lock_wait_min 50, _max 100: a wait of 50 ms and four of 100', about(started('two', $shorter), 450), [false, 450]);
+    row('sess_lock_retries 2: two waits', about(started('two', ['memcached.sess_lock_retries' => '2']), 300), [false, 300]);
+    row('sess_lock_retries 0: no wait', about(started('two', ['memcached.sess_lock_retries' => '0']), 0), [false, 0]);
+    row('the lock of the other is there', $client->get($lock), '1');
+    $client->set($lock, '1', 1);
+    [$is_started, $took] = started('two', ['memcached.sess_lock_retries' => '30']);
+    row('sess_lock_retries 30: started once the other lock is gone', [$is_started, $took < 3000], [true, true]);
+    row('it is stored, and its lock is gone', [session_write_close(), $client->get($lock)], [true, false]);
+    $client->set($lock, '1');
+    row('sess_locking 0: started at once', about(started('two', ['memcached.sess_locking' => '0']), 0), [true, 0]);
+    row('sess_locking 0: stored, and the lock of the other is there', [session_write_close(), $client->get($lock)], [true, '1']);
+    $client->delete($lock);
+    started('two', ['memcached.sess_lock_expire' => '2']);
+    row('sess_lock_expire 2: locked', $client->get($lock) !== false, true);
+    usleep(3100000);
+    row('sess_lock_expire 2: 3 seconds later', $client->get($lock), false);
+    row('sess_lock_expire 2: stored', session_write_close(), true);
+}
+
+function protocols(int $port): void
+{
+    row('the protocol is text by default', (new Memcached())->getOption(Memcached::OPT_BINARY_PROTOCOL), 0);
+    $binary = client([$port], [Memcached::OPT_BINARY_PROTOCOL => true, Memcached::OPT_POLL_TIMEOUT => 300]);
+    row('OPT_BINARY_PROTOCOL: set', $binary->set('a', 'x'), false, NO_BINARY);
 }
 
 ob_start();
@@ -230,3 +310,5 @@ values_of_php($first);
 limits(client([$first]));
 tells($client, $first);
 sessions($first);
+locks($first);
+protocols($first);

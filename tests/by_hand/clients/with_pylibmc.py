@@ -14,6 +14,7 @@ import pylibmc
 from trial import Raises, main
 
 # Pieces of lines of docs/PROTOCOL.md.
+LARGE_EXPTIME = "| An exptime has 64 bits"
 LARGE_VALUE = "| A value has at most 1,048,576 bytes"
 NO_BINARY = "no binary protocol"
 NO_STATS = "| `stats`, `verbosity`,"
@@ -55,6 +56,9 @@ def touches(client):
     yield "set until a moment", lambda: client.set("f", b"x", time=int(time.time()) + 3600), True
     yield "touch", lambda: client.set("g", b"x", time=1) and client.touch("g", 3600), True
     yield "touch of a key that is not held", lambda: client.touch("none", 60), False
+    yield "set with a negative time", lambda: client.set("h", b"x", time=-1), True
+    yield "get of it", lambda: client.get("h"), b"x", LARGE_EXPTIME
+    yield "get of it after delete", lambda: (client.delete("h"), client.get("h"))[1], None
     yield "get_multi 2 seconds later", lambda: time.sleep(2.1) or client.get_multi(["e", "f", "g"]), {"f": b"x", "g": b"x"}
 
 

@@ -26,6 +26,7 @@ CONTROL_BYTES = "| A key with a control byte or 127 is refused"
 LARGE_FLAGS = "| Flags above 4,294,967,295 are refused"
 LARGE_VALUE = "| A value has at most 1,048,576 bytes"
 LONG_LINE = "| A line has at most 65,536 bytes"
+NEVER_HIDDEN = "| `noreply` never hides an error line"
 NO_STATS = "| `stats`, `verbosity`,"
 OLDER_STAYS = "| A refused store leaves the older item"
 PADDING = "| `incr` and `decr` store a number with no padding"
@@ -193,6 +194,10 @@ def long_lines(client):
     yield "get_many of 5,000 keys", lambda: client.get_many(keys[:5000]), {"key00000": b"x"}
     yield "get_many of 10,000 keys", lambda: client.get_many(keys), too_long, LONG_LINE
     yield "get after that", lambda: client.get("key00000"), b"x"
+    for size, most in ((20, 3120), (250, 261)):
+        named = [f"{number:0{size}}" for number in range(most + 1)]
+        yield f"get_many of {most} keys of {size} bytes", lambda: client.get_many(named[:most]), {}
+        yield f"get_many of {most + 1} keys of {size} bytes", lambda: client.get_many(named), too_long, LONG_LINE
 
 
 def tells(client):
@@ -247,6 +252,13 @@ def with_options(address):
     yield "noreply by default: set", lambda: silent.set("n", "x"), True
     yield "noreply by default: get", lambda: silent.get("n"), b"x"
     yield "noreply by default: delete, and get", lambda: (silent.delete("n"), silent.get("n")), (True, None)
+    yield "noreply by default: set that is too large", lambda: silent.set("n", b"v" * 2 * MEGABYTE), True
+    yield "noreply by default: the next get, which shows its error", lambda: silent.get("n"), TOO_LARGE, NEVER_HIDDEN
+    ignoring = Client(address, default_noreply=False, ignore_exc=True)
+    yield "ignore_exc: set and get", lambda: (ignoring.set("i", "x"), ignoring.get("i")), (True, b"x")
+    yield "ignore_exc: set that is too large", lambda: ignoring.set("j", b"v" * 2 * MEGABYTE), TOO_LARGE
+    yield "ignore_exc: get_many after that", lambda: ignoring.get_many(["i", "j"]), {"i": b"x"}
+    yield "ignore_exc: stats", lambda: ignoring.stats(), {}, NO_STATS
     again = RetryingClient(Client(address, default_noreply=False), attempts=2)
     yield "RetryingClient: set and get", lambda: (again.set("r", "x"), again.get("r")), (True, b"x")
 
