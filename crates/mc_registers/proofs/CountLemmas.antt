@@ -20,9 +20,10 @@ use Rattle.mc_cache.specs.Settling.{is_dead_at}
 use Rattle.mc_cache.specs.Step.{compared, counted, expiry_by}
 use Rattle.mc_cache_laws.specs.OneMap.{KeyOutcome}
 use Rattle.mc_registers.specs.Registers.{Given, unless, number_as, count_as, register_step, Done, turn, IsRun}
-use Rattle.mc_registers.specs.Guarantees.{AreCounted, AreCountsOrQuiet, AreQuiet, IsCounted, is_done}
+use Rattle.mc_registers.specs.Guarantees.{AreCounted, AreCountsOrQuiet, AreQuiet, IsCounted, ShowsCount, is_done, update_in}
 use Rattle.mc_registers.proofs.LeftLemmas.{IsLeft, IsUndone, compared-undone}
-use Rattle.mc_registers.proofs.GuaranteeLemmas.{counted-small, counters_count, quiet-counted, quiet-run, run-part}
+use Rattle.mc_registers.proofs.GuaranteeLemmas.{quiet-run, run-part}
+use Rattle.mc_registers.proofs.CounterLemmas.{counted-small, counters_count, quiet-counted}
 
 read-small : (value : List ℕ) (number : ℕ) → read_u64 value ≡ Some number → number < 2 ^ 64
 read-small value number is =
@@ -93,7 +94,7 @@ quiet-counts-none front back e last key counting number run quiet counts makes i
 -- the second of two goes on from the first
 counts-last : (between : List Done) (last : Done) (key : List ℕ) (counting : Counting) → AreQuiet between → last.atom ≡ atoms.Update (Count key counting) → counting.create ≡ None
     → AreCountsOrQuiet (between ++ last ∷ [])
-counts-last [] last key counting quiet counts makes = (inr (key, counting, counts, makes), tt)
+counts-last [] last key counting quiet counts makes = (inr (key, counting, ap (λ (a : Atom (List ℕ)). update_in a) counts, makes), tt)
 counts-last (e ∷ between) last key counting quiet counts makes = (inl quiet.0, counts-last between last key counting quiet.1 counts makes)
 
 counted-last : (between : List Done) (last : Done) (number : ℕ) → AreQuiet between → AreCounted number (between ++ last ∷ []) → IsCounted number last.atom last.reply
@@ -108,7 +109,8 @@ pub next-counts : (front between back : List Done) (first last : Done) (start : 
 next-counts front between back first last start held own other counting after number reached run counts answers small quiet goes makes reaches =
     let joined : IsRun start held (front ++ first ∷ ((between ++ last ∷ []) ++ back)) =
     subst (λ (es : List Done). IsRun start held (front ++ first ∷ es)) (sym (append_assoc between (last ∷ []) back)) run in
-    let all = counters_count start held front (between ++ last ∷ []) back first own counting number joined counts answers small (counts-last between last other after quiet goes makes) in
+    let all = counters_count start held front (between ++ last ∷ []) back first own counting number joined (ap (λ (a : Atom (List ℕ)). update_in a) counts)
+    (subst (λ (r : Reply (List ℕ)). ShowsCount r number) (sym answers) refl) small (counts-last between last other after quiet goes makes) in
     let end : IsCounted number last.atom last.reply = counted-last between last number quiet all in
     subst (λ (r : Reply (List ℕ)). IsCounted number (atoms.Update (Count other after)) r) reaches
     (subst (λ (a : Atom (List ℕ)). IsCounted number a last.reply) goes end)

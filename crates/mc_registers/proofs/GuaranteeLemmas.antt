@@ -1,35 +1,29 @@
 -- What an application may rely on, from what each command leaves.
-use Rattle.std.proofs.Common.{◌≡◌, ◌∙◌, ℕ, ◌<◌, ◌≤◌, ◌^◌, ◌||◌, ◌==◌, nat_lt, ℤ, inl, inr, ◌⊎◌, Bool, true, false, cond, List, [], ◌∷◌, ◌++◌, Option, Some, None, Ok, Err, refl, sym, ap, arith, subst}
-use Rattle.std.specs.Fmt.{decimal}
-use Rattle.std.specs.Option.{option_map_or, option_or}
-use Rattle.std.proofs.lemmas.Bool.{eqb-true, false_from_ne_true}
+use Rattle.std.proofs.Common.{◌≡◌, ◌∙◌, ℕ, ◌<◌, ◌≤◌, ◌||◌, ◌==◌, nat_lt, ℤ, inl, inr, ◌⊎◌, Bool, true, false, cond, List, [], ◌∷◌, ◌++◌, Option, Some, None, Ok, Err, refl, sym, ap, arith, subst}
+use Rattle.std.specs.Option.{option_map_or, option_or, is_some}
+use Rattle.std.proofs.lemmas.Bool.{eqb-true, false_from_ne_true, true≢false}
 use Rattle.std.proofs.lemmas.Bool.Decides.{nat_tests}
 use Rattle.mc_text.specs.Numbers.{read_u64}
-use Rattle.mc_text.proofs.DecimalLemmas.{read_u64-decimal}
 use Rattle.mc_item.specs.declared.bodies.Body.{Body}
-use Rattle.mc_item.specs.declared.deadlines.Deadline.{Deadline}
 use Rattle.mc_item.specs.Deadlines.{deadline_of}
 use Rattle.mc_request.specs.declared.faults.Fault.TheVariants.{NonNumeric}
-use Rattle.mc_request.specs.declared.meta.Counting.{Counting}
 use Rattle.mc_request.specs.declared.meta.Creation.{Creation}
 use Rattle.mc_request.specs.declared.meta.MetaCommand.TheVariants as metas
 use Rattle.mc_request.specs.declared.parts.Atom.{Atom}
 use Rattle.mc_request.specs.declared.parts.Atom.TheVariants as atoms
-use Rattle.mc_request.specs.declared.parts.Direction.{Direction}
-use Rattle.mc_request.specs.declared.parts.Direction.TheVariants.{Up, Down}
 use Rattle.mc_request.specs.declared.parts.StoreMode.{StoreMode}
 use Rattle.mc_request.specs.declared.parts.StoreMode.TheVariants.{Set, Add, Replace, Append, Prepend}
 use Rattle.mc_request.specs.declared.parts.Update.{Update}
 use Rattle.mc_request.specs.declared.parts.Update.TheVariants.{Store, Touch, Delete, Count, FlushAll}
 use Rattle.mc_reply.specs.declared.replies.Marks.TheVariants.{Plain}
 use Rattle.mc_reply.specs.declared.replies.Reply.{Reply}
-use Rattle.mc_reply.specs.declared.replies.Reply.TheVariants.{Stored, NotStored, Exists, NotFound, Number, Hit, Fault}
+use Rattle.mc_reply.specs.declared.replies.Reply.TheVariants.{Stored, NotStored, Exists, NotFound, Deleted, Hit, Meta, Fault}
 use Rattle.mc_cache.specs.Settling.{is_dead_at}
 use Rattle.mc_cache.specs.Step.{Content, numbered, compared, unmet, unstored, content_by, touched, expiry_by, counted}
 use Rattle.mc_cache_laws.specs.OneMap.{KeyOutcome}
-use Rattle.mc_registers.specs.Registers.{Given, put_as, unless, store_as, get_as, number_as, count_as, update_as, register_step, Done, turn, may_give, last_by, IsRun}
-use Rattle.mc_registers.specs.Guarantees.{is_done, has_written, may_have_written, HaveNotWritten, AreQuiet, update_in, is_whole, ReadsSeeOwnWrites, IsSteadyRun, AddsExclude, CasLosesNothing, OldNumbersDoNotFit, IsCountOrQuiet, AreCountsOrQuiet, number_by, IsCounted, AreCounted, CountersCount}
-use Rattle.mc_registers.proofs.LeftLemmas.{IsSame, IsKept, IsLeft, kept-left, left-same, left-both, left-found, IsFresh, IsUndone, compared-undone, unstored-undone, told-done, step-leaves}
+use Rattle.mc_registers.specs.Registers.{Given, put_as, unless, store_as, get_as, number_as, update_as, register_step, Done, turn, may_give, last_by, IsRun}
+use Rattle.mc_registers.specs.Guarantees.{is_done, has_written, may_have_written, HaveNotWritten, AreQuiet, update_in, is_whole, ReadsSeeOwnWrites, IsSteadyRun, AddsExclude, number_needed, OldNumbersDoNotFit, CasLosesNothingAcross}
+use Rattle.mc_registers.proofs.LeftLemmas.{IsSame, IsKept, IsLeft, kept-left, left-same, left-both, left-found, IsFresh, IsUndone, compared-undone, unstored-undone, update-leaves, looked-same, told-done, step-leaves}
 
 -- a turn leaves what was held, or none, or what is fresh
 pub turn-leaves : (forgotten : Bool) (given : Given) (held : Option Body) (e : Done) → e.reply ≡ (turn forgotten given held e).1
@@ -50,7 +44,7 @@ run-part (e ∷ front) last held es run =
     run-part front (last_by last (turn run.0 run.1 held e).0) (turn run.0 run.1 held e).0 es run.4
 
 -- a quiet turn, and quiet turns
-quiet-left : (forgotten : Bool) (given : Given) (held : Option Body) (e : Done) → e.reply ≡ (turn forgotten given held e).1 → may_have_written e.atom e.reply ≡ false
+pub quiet-left : (forgotten : Bool) (given : Given) (held : Option Body) (e : Done) → e.reply ≡ (turn forgotten given held e).1 → may_have_written e.atom e.reply ≡ false
     → IsLeft held (turn forgotten given held e).0
 quiet-left forgotten given held e is quiet =
     elim (turn-leaves forgotten given held e is) [
@@ -206,32 +200,65 @@ add-answered compare body is = go (compared compare (Some body)) is
     go None is = cc
     go (Some reply) is = cc
 
-kept-turn : (given : Given) (held : Option Body) (e : Done) → is_dead_at held e.moment ≡ false → e.reply ≡ (turn false given held e).1 → may_have_written e.atom e.reply ≡ false
-    → IsKept held (turn false given held e).0
-kept-turn given held e lives is quiet =
+-- a command that did not write keeps an item that is found
+pub held-kept : (given : Given) (body : Body) (atom : Atom (List ℕ)) (moment : ℕ) → has_written atom (register_step given (Some body) atom moment).1 ≡ false
+    → IsKept (Some body) (register_step given (Some body) atom moment).0
+held-kept given body (atoms.Get key touch with_cas) moment none = record { flags = refl; cas = refl; value = refl; won = λ won. won }
+held-kept given body (atoms.Update update) moment none =
+    elim (update-leaves given (Some body) update moment) [
+      | inl kept ↦ kept.0
+      | inr fresh ↦ absurd (true≢false (sym fresh.1 ∙ none))
+    ]
+held-kept given body (atoms.Meta (metas.Get key get)) moment none = looked-same get moment body
+held-kept given body (atoms.Meta (metas.Update update show)) moment none =
+    let o : KeyOutcome = update_as given (Some body) update moment in
+    elim (update-leaves given (Some body) update moment) [
+      | inl kept ↦ kept.0
+      | inr fresh ↦ absurd (true≢false (sym fresh.1 ∙ sym (told-done show moment Plain o.0 o.1) ∙ none))
+    ]
+
+pub unwritten-turn : (given : Given) (body : Body) (e : Done) → is_dead_at (Some body) e.moment ≡ false → e.reply ≡ (turn false given (Some body) e).1
+    → has_written e.atom e.reply ≡ false → IsKept (Some body) (turn false given (Some body) e).0
+unwritten-turn given body e lives is none =
     let o : Option Body → KeyOutcome = λ found. register_step given found e.atom e.moment in
-    let found : cond (false || is_dead_at held e.moment) None held ≡ held = ap (λ v. cond v None held) lives in
-    let undone : may_have_written e.atom (o held).1 ≡ false = subst (λ (r : Reply (List ℕ)). may_have_written e.atom r ≡ false) (is ∙ ap (λ (h : Option Body). (o h).1) found) quiet in
-    subst (λ (h : Option Body). IsKept held (o h).0) (sym found)
-    (elim (step-leaves given held e.atom e.moment) [ inl kept ↦ kept.0 | inr fresh ↦ absurd (let wrote : may_have_written e.atom (o held).1 ≡ true = fresh.1 in cc) ])
+    let found : cond (false || is_dead_at (Some body) e.moment) None (Some body) ≡ Some body = ap (λ v. cond v None (Some body)) lives in
+    let unwritten : has_written e.atom (o (Some body)).1 ≡ false =
+    subst (λ (r : Reply (List ℕ)). has_written e.atom r ≡ false) (is ∙ ap (λ (h : Option Body). (o h).1) found) none in
+    subst (λ (h : Option Body). IsKept (Some body) (o h).0) (sym found) (held-kept given body e.atom e.moment unwritten)
 
 adds-run : (between : List Done) (last : ℕ) (body : Body) (add : Done) (compare : Option ℕ) (key : List ℕ) (flags : ℕ) (exptime : ℤ) (value : List ℕ)
-    → IsSteadyRun last (Some body) (between ++ add ∷ []) → AreQuiet between → update_in add.atom ≡ Some (Store Add compare key flags exptime value) → is_done add.reply ≡ false
-adds-run [] last body add compare key flags exptime value run quiet adds =
+    → IsSteadyRun last (Some body) (between ++ add ∷ []) → HaveNotWritten between → update_in add.atom ≡ Some (Store Add compare key flags exptime value) → is_done add.reply ≡ false
+adds-run [] last body add compare key flags exptime value run none adds =
     false_from_ne_true (is_done add.reply) (λ done.
     let found : cond (false || is_dead_at (Some body) add.moment) None (Some body) ≡ Some body = ap (λ v. cond v None (Some body)) run.1 in
     let stored = update-stored run.0 (cond (false || is_dead_at (Some body) add.moment) None (Some body)) add.atom add.moment Add compare key flags exptime value adds
     (subst (λ (x : Reply (List ℕ)). is_done x ≡ true) run.2 done) in
     add-answered compare body (subst (λ (h : Option Body). unstored compare Add h ≡ None) found stored.3.unanswered))
-adds-run (e ∷ between) last body add compare key flags exptime value run quiet adds =
-    let kept : IsKept (Some body) (turn false run.0 (Some body) e).0 = kept-turn run.0 (Some body) e run.1 run.2 quiet.0 in
+adds-run (e ∷ between) last body add compare key flags exptime value run none adds =
+    let kept : IsKept (Some body) (turn false run.0 (Some body) e).0 = unwritten-turn run.0 body e run.1 run.2 none.0 in
     (elim (turn false run.0 (Some body) e).0 as (λ (left : Option Body). IsKept (Some body) left → IsSteadyRun (last_by last left) left (between ++ add ∷ []) → is_done add.reply ≡ false) [
       | None ↦ λ kept rest. absurd kept
-      | Some after ↦ λ kept rest. adds-run between after.cas after add compare key flags exptime value rest quiet.1 adds
+      | Some after ↦ λ kept rest. adds-run between after.cas after add compare key flags exptime value rest none.1 adds
     ]) kept run.3
 
-pub adds_exclude : (last : ℕ) (body : Body) → AddsExclude last body
-adds_exclude last body between add compare key flags exptime value run quiet adds = adds-run between last body add compare key flags exptime value run quiet adds
+pub unwritten_excludes : (last : ℕ) (body : Body) → AddsExclude last body
+unwritten_excludes last body between add compare key flags exptime value run none adds = adds-run between last body add compare key flags exptime value run none adds
+
+-- what may not have written has not
+pub quiet-unwritten : (atom : Atom (List ℕ)) (reply : Reply (List ℕ)) → may_have_written atom reply ≡ false → has_written atom reply ≡ false
+quiet-unwritten (atoms.Get key touch with_cas) reply quiet = refl
+quiet-unwritten (atoms.Update update) reply quiet = quiet
+quiet-unwritten (atoms.Meta (metas.Get key get)) reply quiet = refl
+quiet-unwritten (atoms.Meta (metas.Update update show)) reply quiet = quiet
+
+are-unwritten : (es : List Done) → AreQuiet es → HaveNotWritten es
+are-unwritten [] quiet = tt
+are-unwritten (e ∷ es) quiet = (quiet-unwritten e.atom e.reply quiet.0, are-unwritten es quiet.1)
+
+pub adds_exclude : (last : ℕ) (body : Body) (between : List Done) (add : Done) (compare : Option ℕ) (key : List ℕ) (flags : ℕ) (exptime : ℤ) (value : List ℕ)
+    → IsSteadyRun last (Some body) (between ++ add ∷ []) → AreQuiet between → update_in add.atom ≡ Some (Store Add compare key flags exptime value) → is_done add.reply ≡ false
+adds_exclude last body between add compare key flags exptime value run quiet adds =
+    adds-run between last body add compare key flags exptime value run (are-unwritten between quiet) adds
 
 -- a number that was given, and that no item has any more
 abbrev pub IsPast : ℕ → ℕ → Option Body → Type 0
@@ -269,29 +296,93 @@ past-run (e ∷ between) number last held es past run =
     ] in
     past-run between number (last_by last left) left es after run.4
 
--- a command that compares a number stores only where an item has it
-compared-same : (number : ℕ) (mode : StoreMode) (held : Option Body) → unstored (Some number) mode held ≡ None → (body : Body) × (held ≡ Some body) × (body.cas ≡ number)
-compared-same number mode None is = absurd cc
-compared-same number mode (Some body) is =
-    (elim (body.cas == number) as (λ v. (body.cas == number) ≡ v → option_or (cond v None (Some Exists)) (unmet mode (Some body)) ≡ None → (b : Body) × (Some body ≡ Some b) × (b.cas ≡ number)) [
+-- an item has a number
+abbrev pub IsNumbered : ℕ → Option Body → Type 0
+IsNumbered number held = (body : Body) × (held ≡ Some body) × (body.cas ≡ number)
+
+-- what compares a number, and gets no answer by that, finds it
+compared-found : (number : ℕ) (held : Option Body) → compared (Some number) held ≡ None → IsNumbered number held
+compared-found number None is = absurd cc
+compared-found number (Some body) is =
+    (elim (body.cas == number) as (λ v. (body.cas == number) ≡ v → ◌≡◌ {A = Option (Reply (List ℕ))} (cond v None (Some Exists)) None → IsNumbered number (Some body)) [
       | true ↦ λ same none. (body, refl, eqb-true body.cas number same)
       | false ↦ λ differ none. absurd cc
     ]) refl is
+
+needed-found : (number : ℕ) (compare : Option ℕ) (held : Option Body) → compare ≡ Some number → compared compare held ≡ None → IsNumbered number held
+needed-found number compare held needs is =
+    compared-found number held (subst (λ (c : Option ℕ). ◌≡◌ {A = Option (Reply (List ℕ))} (compared c held) None) needs is)
+
+first-none : (first second : Option (Reply (List ℕ))) → option_or first second ≡ None → first ≡ None
+first-none None second is = refl
+first-none (Some reply) second is = absurd cc
+
+done-unanswered : (held : Option Body) (answer : Option (Reply (List ℕ))) (o : KeyOutcome) → IsUndone answer → is_done (unless held answer o).1 ≡ true → answer ≡ None
+done-unanswered held None o undone done = refl
+done-unanswered held (Some reply) o undone done = absurd (true≢false (sym done ∙ undone))
+
+-- a count that needs a number makes no item
+count-needs : (create : Option Creation) (compare : Option ℕ) (number : ℕ) → cond (is_some create) None compare ≡ Some number → (create ≡ None) × (compare ≡ Some number)
+count-needs None compare number is = (refl, is)
+count-needs (Some creation) compare number is = absurd cc
+
+-- an update that needs a number is done only where an item has it
+update-needs : (given : Given) (held : Option Body) (update : Update (List ℕ) (List ℕ)) (moment number : ℕ) → number_needed update ≡ Some number
+    → is_done (update_as given held update moment).1 ≡ true → IsNumbered number held
+update-needs given held (Store mode compare key flags exptime value) moment number needs done =
+    let new : Content = record { flags = flags; expiry = deadline_of exptime moment; won = false; value = value } in
+    let stored = store-stored given held compare mode new done in
+    needed-found number compare held needs (first-none (compared compare held) (unmet mode held) stored.unanswered)
+update-needs given held (Touch key exptime) moment number needs done = absurd cc
+update-needs given None (Delete key compare invalidate) moment number needs done = absurd cc
+update-needs given (Some body) (Delete key compare invalidate) moment number needs done =
+    let o : KeyOutcome = cond invalidate (put_as given (Some body) (record body { stale = true; won = false }) Deleted) (None, Deleted) in
+    needed-found number compare (Some body) needs (done-unanswered (Some body) (compared compare (Some body)) o (compared-undone compare (Some body)) done)
+update-needs given None (Count key counting) moment number needs done =
+    let both = count-needs counting.create counting.compare number needs in
+    absurd (let none : false ≡ true = subst (λ (c : Option Creation).
+    is_done (option_map_or (λ creation. number_as given None 0 (deadline_of creation.exptime moment) creation.initial) c (None, NotFound)).1 ≡ true) both.0 done in cc)
+update-needs given (Some body) (Count key counting) moment number needs done =
+    let both = count-needs counting.create counting.compare number needs in
+    let o : KeyOutcome = option_map_or
+    (λ n. number_as given (Some body) body.flags (expiry_by counting.exptime moment body.expiry) (counted counting.direction counting.delta n))
+    (read_u64 body.value) (Some body, Fault NonNumeric) in
+    needed-found number counting.compare (Some body) both.1
+    (done-unanswered (Some body) (compared counting.compare (Some body)) o (compared-undone counting.compare (Some body)) done)
+update-needs given held (FlushAll delay) moment number needs done = absurd cc
+
+-- the same of each command that has such an update
+step-needs : (given : Given) (held : Option Body) (atom : Atom (List ℕ)) (moment : ℕ) (update : Update (List ℕ) (List ℕ)) (number : ℕ) → update_in atom ≡ Some update
+    → number_needed update ≡ Some number → is_done (register_step given held atom moment).1 ≡ true → IsNumbered number held
+step-needs given held (atoms.Get at touch with_cas) moment update number is needs done = absurd cc
+step-needs given held (atoms.Meta (metas.Get at get)) moment update number is needs done = absurd cc
+step-needs given held (atoms.Update own) moment update number is needs done =
+    let its : own ≡ update = cc in
+    update-needs given held own moment number (ap (λ (u : Update (List ℕ) (List ℕ)). number_needed u) its ∙ needs) done
+step-needs given held (atoms.Meta (metas.Update own show)) moment update number is needs done =
+    let its : own ≡ update = cc in
+    let o : KeyOutcome = update_as given held own moment in
+    update-needs given held own moment number (ap (λ (u : Update (List ℕ) (List ℕ)). number_needed u) its ∙ needs) (sym (told-done show moment Plain o.0 o.1) ∙ done)
 
 past-compares : (number last : ℕ) (held : Option Body) (body : Body) → IsPast number last held → held ≡ Some body → body.cas ≡ number → ⊥
 past-compares number last held body past is same =
     let after : IsPast number last (Some body) = subst (λ (h : Option Body). IsPast number last h) is past in
     omega (arith, after.1, same)
 
-pub cas-past : (between back : List Done) (number last : ℕ) (held : Option Body) (cas : Done) (mode : StoreMode) (key : List ℕ) (flags : ℕ) (exptime : ℤ) (value : List ℕ)
-    → IsPast number last held → IsRun last held (between ++ cas ∷ back) → update_in cas.atom ≡ Some (Store mode (Some number) key flags exptime value) → is_done cas.reply ≡ true → ⊥
-cas-past between back number last held cas mode key flags exptime value past run compares done =
+pub needed-past : (between back : List Done) (number last : ℕ) (held : Option Body) (cas : Done) (update : Update (List ℕ) (List ℕ)) → IsPast number last held
+    → IsRun last held (between ++ cas ∷ back) → update_in cas.atom ≡ Some update → number_needed update ≡ Some number → is_done cas.reply ≡ true → ⊥
+needed-past between back number last held cas update past run updates needs done =
     let rest = past-run between number last held (cas ∷ back) past run in
     let r = rest.3 in
     let gone : Bool = r.0 || is_dead_at rest.1 cas.moment in
-    let stored = update-stored r.1 (cond gone None rest.1) cas.atom cas.moment mode (Some number) key flags exptime value compares (subst (λ (x : Reply (List ℕ)). is_done x ≡ true) r.3 done) in
-    let same = compared-same number mode (cond gone None rest.1) stored.3.unanswered in
-    past-compares number rest.0 rest.1 same.0 rest.2 (found-held gone rest.1 same.0 same.1) same.2
+    let has : IsNumbered number (cond gone None rest.1) = step-needs r.1 (cond gone None rest.1) cas.atom cas.moment update number updates needs
+    (subst (λ (x : Reply (List ℕ)). is_done x ≡ true) r.3 done) in
+    past-compares number rest.0 rest.1 has.0 rest.2 (found-held gone rest.1 has.0 has.1) has.2
+
+pub cas-past : (between back : List Done) (number last : ℕ) (held : Option Body) (cas : Done) (mode : StoreMode) (key : List ℕ) (flags : ℕ) (exptime : ℤ) (value : List ℕ)
+    → IsPast number last held → IsRun last held (between ++ cas ∷ back) → update_in cas.atom ≡ Some (Store mode (Some number) key flags exptime value) → is_done cas.reply ≡ true → ⊥
+cas-past between back number last held cas mode key flags exptime value past run compares done =
+    needed-past between back number last held cas (Store mode (Some number) key flags exptime value) past run compares refl done
 
 -- the item that is held has the number, which is the last that was given
 abbrev pub IsAt : ℕ → ℕ → Option Body → Type 0
@@ -307,20 +398,23 @@ at-left number last held None at left = inr (at-less number last held at)
 at-left number last None (Some after) at left = absurd left
 at-left number last (Some body) (Some after) at left = inl (left.cas ∙ at.0, left.cas ∙ at.0)
 
-cas-run : (between back : List Done) (number last : ℕ) (held : Option Body) (cas : Done) (mode : StoreMode) (key : List ℕ) (flags : ℕ) (exptime : ℤ) (value : List ℕ)
-    → IsAt number last held → IsRun last held (between ++ cas ∷ back) → update_in cas.atom ≡ Some (Store mode (Some number) key flags exptime value) → is_done cas.reply ≡ true
-    → HaveNotWritten between
-cas-run [] back number last held cas mode key flags exptime value at run compares done = tt
-cas-run (e ∷ between) back number last held cas mode key flags exptime value at run compares done =
+pub needed-run : (between back : List Done) (number last : ℕ) (held : Option Body) (cas : Done) (update : Update (List ℕ) (List ℕ)) → IsAt number last held
+    → IsRun last held (between ++ cas ∷ back) → update_in cas.atom ≡ Some update → number_needed update ≡ Some number → is_done cas.reply ≡ true → HaveNotWritten between
+needed-run [] back number last held cas update at run updates needs done = tt
+needed-run (e ∷ between) back number last held cas update at run updates needs done =
     let left : Option Body = (turn run.0 run.1 held e).0 in
-    let past : IsPast number (last_by last left) left → ⊥ = λ p. cas-past between back number (last_by last left) left cas mode key flags exptime value p run.4 compares done in
-    let again : IsAt number (last_by last left) left → HaveNotWritten between = λ a. cas-run between back number (last_by last left) left cas mode key flags exptime value a run.4 compares done in
+    let past : IsPast number (last_by last left) left → ⊥ = λ p. needed-past between back number (last_by last left) left cas update p run.4 updates needs done in
+    let again : IsAt number (last_by last left) left → HaveNotWritten between = λ a. needed-run between back number (last_by last left) left cas update a run.4 updates needs done in
     elim (turn-leaves run.0 run.1 held e run.3) [
       | inl kept ↦ (kept.1, elim (at-left number last held left at kept.0) [ inl a ↦ again a | inr p ↦ absurd (past p) ])
       | inr fresh ↦ absurd (past (past-fresh number last run.1 left (at-less number last held at) run.2 fresh.0))
     ]
 
-pub cas_loses_nothing : (last : ℕ) (held : Option Body) → CasLosesNothing last held
+-- a `cas` with the number of a hit
+pub cas_loses_nothing : (last : ℕ) (held : Option Body) (front between back : List Done) (read cas : Done) (mode : StoreMode) (number : ℕ) (key : List ℕ) (flags : ℕ) (exptime : ℤ) (value : List ℕ)
+    → IsRun last held (front ++ read ∷ (between ++ cas ∷ back)) → (at : List ℕ) (touch : Option ℤ) (with_cas : Bool) → read.atom ≡ atoms.Get at touch with_cas
+    → (shown_flags : ℕ) (shown : List ℕ) → read.reply ≡ Hit shown_flags (Some number) shown
+    → update_in cas.atom ≡ Some (Store mode (Some number) key flags exptime value) → is_done cas.reply ≡ true → HaveNotWritten between
 cas_loses_nothing last held front between back read cas mode number key flags exptime value run at touch with_cas reads shown_flags shown hits compares done =
     let part = run-part front last held (read ∷ (between ++ cas ∷ back)) run in
     let r = part.2 in
@@ -329,130 +423,12 @@ cas_loses_nothing last held front between back read cas mode number key flags ex
     let its : shows.after.cas ≡ number = shows.same ∙ shows.cas_is number refl in
     let starts : IsAt number (last_by part.0 left) left =
     subst (λ (l : Option Body). IsAt number (last_by part.0 l) l) (sym shows.left_is) (its, its) in
-    cas-run between back number (last_by part.0 left) left cas mode key flags exptime value starts r.4 compares done
+    needed-run between back number (last_by part.0 left) left cas (Store mode (Some number) key flags exptime value) starts r.4 compares refl done
 
 pub old_numbers_do_not_fit : (last : ℕ) → OldNumbersDoNotFit last
-old_numbers_do_not_fit last front back cas mode number key flags exptime value run less compares =
-    false_from_ne_true (is_done cas.reply) (λ done. cas-past front back number last None cas mode key flags exptime value less run compares done)
+old_numbers_do_not_fit last front back cas update number run less updates needs =
+    false_from_ne_true (is_done cas.reply) (λ done. needed-past front back number last None cas update less run updates needs done)
 
--- what is held is a number
-abbrev pub IsNumber : ℕ → Option Body → Type 0
-IsNumber number None = Unit {0}
-IsNumber number (Some body) = read_u64 body.value ≡ Some number
-
-number-left : (number : ℕ) (held left : Option Body) → IsNumber number held → IsLeft held left → IsNumber number left
-number-left number held None is left = tt
-number-left number None (Some after) is left = absurd left
-number-left number (Some body) (Some after) is left = ap (λ v. read_u64 v) left.value ∙ is
-
-pub counted-small : (direction : Direction) (delta number : ℕ) → number < 2 ^ 64 → counted direction delta number < 2 ^ 64
-counted-small Up delta number small = omega arith
-counted-small Down delta number small = omega arith
-
-pub quiet-counted : (number : ℕ) (atom : Atom (List ℕ)) (reply : Reply (List ℕ)) → may_have_written atom reply ≡ false → IsCounted number atom reply × (number_by number atom reply ≡ number)
-quiet-counted number (atoms.Get key touch with_cas) reply quiet = (tt, refl)
-quiet-counted number (atoms.Update (Store mode compare key flags exptime value)) reply quiet = (tt, refl)
-quiet-counted number (atoms.Update (Touch key exptime)) reply quiet = (tt, refl)
-quiet-counted number (atoms.Update (Delete key compare invalidate)) reply quiet = (tt, refl)
-quiet-counted number (atoms.Update (Count key counting)) (Number n) quiet = absurd cc
-quiet-counted number (atoms.Update (Count key counting)) reply quiet = (tt, refl)
-quiet-counted number (atoms.Update (FlushAll delay)) reply quiet = (tt, refl)
-quiet-counted number (atoms.Meta command) reply quiet = (tt, refl)
-
--- a count goes on from a number
-pub record GoesOn (number : ℕ) (atom : Atom (List ℕ)) (reply : Reply (List ℕ)) (left : Option Body) : Type 0 where
-  pub counted_is : IsCounted number atom reply
-  pub number_is : IsNumber (number_by number atom reply) left
-  pub small : number_by number atom reply < 2 ^ 64
-
-quiet-goes : (number : ℕ) (atom : Atom (List ℕ)) (reply : Reply (List ℕ)) (left : Option Body) → may_have_written atom reply ≡ false → IsNumber number left → number < 2 ^ 64
-    → GoesOn number atom reply left
-quiet-goes number atom reply left quiet is small =
-    let both = quiet-counted number atom reply quiet in
-    record {
-      counted_is = both.0;
-      number_is = subst (λ n. IsNumber n left) (sym both.1) is;
-      small = subst (λ n. n < 2 ^ 64) (sym both.1) small;
-    }
-
-number-goes : (given : Given) (key : List ℕ) (body : Body) (counting : Counting) (flags : ℕ) (expiry : Deadline) (number : ℕ) → number < 2 ^ 64 → read_u64 body.value ≡ Some number
-    → let o : KeyOutcome = number_as given (Some body) flags expiry (counted counting.direction counting.delta number) in GoesOn number (atoms.Update (Count key counting)) o.1 o.0
-number-goes (Ok n) key body counting flags expiry number small reads =
-    let next : counted counting.direction counting.delta number < 2 ^ 64 = counted-small counting.direction counting.delta number small in
-    record { counted_is = refl; number_is = read_u64-decimal (counted counting.direction counting.delta number) next; small = next }
-number-goes (Err fault) key body counting flags expiry number small reads = record { counted_is = tt; number_is = reads; small = small }
-
-count-goes : (given : Given) (held : Option Body) (key : List ℕ) (counting : Counting) (moment number : ℕ) → number < 2 ^ 64 → IsNumber number held → counting.create ≡ None
-    → GoesOn number (atoms.Update (Count key counting)) (count_as given held counting moment).1 (count_as given held counting moment).0
-count-goes given None key counting moment number small is makes =
-    subst (λ (c : Option Creation).
-    let o : KeyOutcome = option_map_or (λ creation. number_as given None 0 (deadline_of creation.exptime moment) creation.initial) c (None, NotFound) in
-    GoesOn number (atoms.Update (Count key counting)) o.1 o.0) (sym makes) (record { counted_is = tt; number_is = tt; small = small })
-count-goes given (Some body) key counting moment number small is makes =
-    let by : Option ℕ → KeyOutcome = λ read. option_map_or
-    (λ n. number_as given (Some body) body.flags (expiry_by counting.exptime moment body.expiry) (counted counting.direction counting.delta n)) read (Some body, Fault NonNumeric) in
-    (elim (compared counting.compare (Some body)) as (λ (answer : Option (Reply (List ℕ))). IsUndone answer
-    → GoesOn number (atoms.Update (Count key counting)) (unless (Some body) answer (by (read_u64 body.value))).1 (unless (Some body) answer (by (read_u64 body.value))).0) [
-      | Some reply ↦ λ undone. quiet-goes number (atoms.Update (Count key counting)) reply (Some body) undone is small
-      | None ↦ λ undone. subst (λ (read : Option ℕ). GoesOn number (atoms.Update (Count key counting)) (by read).1 (by read).0) (sym is)
-          (number-goes given key body counting body.flags (expiry_by counting.exptime moment body.expiry) number small is)
-    ]) (compared-undone counting.compare (Some body))
-
-number-found : (gone : Bool) (number : ℕ) (held : Option Body) → IsNumber number held → IsNumber number (cond gone None held)
-number-found true number held is = tt
-number-found false number held is = is
-
-turn-goes : (forgotten : Bool) (given : Given) (held : Option Body) (e : Done) (number : ℕ) → number < 2 ^ 64 → IsNumber number held → e.reply ≡ (turn forgotten given held e).1 → IsCountOrQuiet e
-    → GoesOn number e.atom e.reply (turn forgotten given held e).0
-turn-goes forgotten given held e number small is replies (inl quiet) =
-    quiet-goes number e.atom e.reply (turn forgotten given held e).0 quiet (number-left number held (turn forgotten given held e).0 is (quiet-left forgotten given held e replies quiet)) small
-turn-goes forgotten given held e number small is replies (inr counts) =
-    let gone : Bool = forgotten || is_dead_at held e.moment in
-    let found : Option Body = cond gone None held in
-    subst (λ (r : Reply (List ℕ)). GoesOn number e.atom r (turn forgotten given held e).0) (sym replies)
-    (subst (λ (a : Atom (List ℕ)). GoesOn number a (register_step given found a e.moment).1 (register_step given found a e.moment).0) (sym counts.2)
-    (count-goes given found counts.0 counts.1 e.moment number small (number-found gone number held is) counts.3))
-
-count-run : (es back : List Done) (number last : ℕ) (held : Option Body) → number < 2 ^ 64 → IsNumber number held → AreCountsOrQuiet es → IsRun last held (es ++ back) → AreCounted number es
-count-run [] back number last held small is counts run = tt
-count-run (e ∷ es) back number last held small is counts run =
-    let left : Option Body = (turn run.0 run.1 held e).0 in
-    let goes : GoesOn number e.atom e.reply left = turn-goes run.0 run.1 held e number small is run.3 counts.0 in
-    (goes.counted_is, count-run es back (number_by number e.atom e.reply) (last_by last left) left goes.small goes.number_is counts.1 run.4)
-
--- a count that was answered by a number stored it
-number-put : (given : Given) (held : Option Body) (flags : ℕ) (expiry : Deadline) (n number : ℕ) → (number_as given held flags expiry n).1 ≡ Number number → number < 2 ^ 64
-    → IsNumber number (number_as given held flags expiry n).0
-number-put (Err fault) held flags expiry n number is small = absurd cc
-number-put (Ok given) held flags expiry n number is small =
-    let its : n ≡ number = cc in
-    subst (λ k. read_u64 (decimal k) ≡ Some number) (sym its) (read_u64-decimal number small)
-
-count-number : (given : Given) (held : Option Body) (counting : Counting) (moment number : ℕ) → (count_as given held counting moment).1 ≡ Number number → number < 2 ^ 64
-    → IsNumber number (count_as given held counting moment).0
-count-number given None counting moment number is small = go counting.create is
-  where
-    go : (create : Option Creation) → let o : KeyOutcome = option_map_or (λ creation. number_as given None 0 (deadline_of creation.exptime moment) creation.initial) create (None, NotFound) in
-        o.1 ≡ Number number → IsNumber number o.0
-    go None is = absurd cc
-    go (Some creation) is = number-put given None 0 (deadline_of creation.exptime moment) creation.initial number is small
-count-number given (Some body) counting moment number is small = go (compared counting.compare (Some body)) (compared-undone counting.compare (Some body)) (read_u64 body.value) is
-  where
-    go : (answer : Option (Reply (List ℕ))) → IsUndone answer → (read : Option ℕ) → let o : KeyOutcome = unless (Some body) answer (option_map_or
-        (λ n. number_as given (Some body) body.flags (expiry_by counting.exptime moment body.expiry) (counted counting.direction counting.delta n)) read (Some body, Fault NonNumeric)) in
-        o.1 ≡ Number number → IsNumber number o.0
-    go (Some reply) undone read is = absurd (let done : is_done reply ≡ true = ap (λ (r : Reply (List ℕ)). is_done r) is in cc)
-    go None undone None is = absurd cc
-    go None undone (Some n) is =
-        number-put given (Some body) body.flags (expiry_by counting.exptime moment body.expiry) (counted counting.direction counting.delta n) number is small
-
-pub counters_count : (last : ℕ) (held : Option Body) → CountersCount last held
-counters_count last held front es back first key counting number run counts answers small goes =
-    let part = run-part front last held (first ∷ (es ++ back)) run in
-    let r = part.2 in
-    let found : Option Body = cond (r.0 || is_dead_at part.1 first.moment) None part.1 in
-    let left : Option Body = (turn r.0 r.1 part.1 first).0 in
-    let steps : turn r.0 r.1 part.1 first ≡ count_as r.1 found counting first.moment = ap (λ (a : Atom (List ℕ)). register_step r.1 found a first.moment) counts in
-    let told : (count_as r.1 found counting first.moment).1 ≡ Number number = sym (ap (λ (o : KeyOutcome). o.1) steps) ∙ sym r.3 ∙ answers in
-    let is : IsNumber number left = subst (λ (o : KeyOutcome). IsNumber number o.0) (sym steps) (count-number r.1 found counting first.moment number told small) in
-    count-run es back number (last_by part.0 left) left small is goes r.4
+pub cas_loses_nothing_across : (first later : ℕ) → CasLosesNothingAcross first later
+cas_loses_nothing_across first later front back before after read cas update number run shows again less updates needs =
+    old_numbers_do_not_fit later before after cas update number again less updates needs

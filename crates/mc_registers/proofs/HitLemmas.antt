@@ -61,17 +61,17 @@ is_refused NotFound = true
 is_refused (Fault fault) = true
 is_refused reply = false
 
-abbrev IsRefusal : Option (Reply (List ℕ)) → Type 0
+abbrev pub IsRefusal : Option (Reply (List ℕ)) → Type 0
 IsRefusal None = Unit {0}
 IsRefusal (Some reply) = is_refused reply ≡ true
 
-compared-refused : (compare : Option ℕ) (held : Option Body) → IsRefusal (compared compare held)
+pub compared-refused : (compare : Option ℕ) (held : Option Body) → IsRefusal (compared compare held)
 compared-refused None held = tt
 compared-refused (Some number) None = refl
 compared-refused (Some number) (Some body) =
     elim (body.cas == number) as (λ v. IsRefusal (cond v None (Some Exists))) [ true ↦ tt | false ↦ refl ]
 
-unmet-refused : (mode : StoreMode) (held : Option Body) → IsRefusal (unmet mode held)
+pub unmet-refused : (mode : StoreMode) (held : Option Body) → IsRefusal (unmet mode held)
 unmet-refused Set None = tt
 unmet-refused Set (Some body) = tt
 unmet-refused Add None = tt
@@ -83,7 +83,7 @@ unmet-refused Append (Some body) = tt
 unmet-refused Prepend None = refl
 unmet-refused Prepend (Some body) = tt
 
-or-refused : (first second : Option (Reply (List ℕ))) → IsRefusal first → IsRefusal second → IsRefusal (option_or first second)
+pub or-refused : (first second : Option (Reply (List ℕ))) → IsRefusal first → IsRefusal second → IsRefusal (option_or first second)
 or-refused None second a b = b
 or-refused (Some reply) second a b = a
 

@@ -3,6 +3,9 @@ pub mod RunLemmas
 pub mod LeftLemmas
 pub mod GuaranteeLemmas
 pub mod HitLemmas
+pub mod NumberLemmas
+pub mod CounterLemmas
 pub mod CountLemmas
 pub mod RecacheLemmas
 pub mod ToldLemmas
+pub mod RestartLemmas

@@ -16,8 +16,8 @@ use Rattle.mc_cache_laws.specs.OneMap.{KeyOutcome, told_key}
 use Rattle.mc_registers.specs.Registers.{Given, put_as, update_as, register_step, Done, turn, last_by, IsRun}
 use Rattle.mc_registers.specs.Guarantees.{has_written, may_have_written, HaveNotWritten, IsSteadyRun}
 use Rattle.mc_registers.specs.Recache.{is_win, has_won, wins, RecacheHasOneWinner, EachWinIsMarked}
-use Rattle.mc_registers.proofs.LeftLemmas.{IsKept, IsLeft, kept-left, told-done, update-leaves, looked-same}
-use Rattle.mc_registers.proofs.GuaranteeLemmas.{run-part}
+use Rattle.mc_registers.proofs.LeftLemmas.{IsKept, IsLeft, kept-left, told-done, update-leaves}
+use Rattle.mc_registers.proofs.GuaranteeLemmas.{held-kept, run-part}
 
 -- a client was told to fill what is held: it is held, or nothing is
 abbrev pub IsHeldWon : Option Body → Type 0
@@ -76,23 +76,6 @@ won-shows given body (atoms.Get key touch with_cas) moment won = refl
 won-shows given body (atoms.Update update) moment won = refl
 won-shows given body (atoms.Meta (metas.Get key get)) moment won = won-marks body.stale body.won (needs_filling get.recache moment body) won
 won-shows given body (atoms.Meta (metas.Update update show)) moment won = refl
-
--- a command that did not write keeps an item that is found
-held-kept : (given : Given) (body : Body) (atom : Atom (List ℕ)) (moment : ℕ) → has_written atom (register_step given (Some body) atom moment).1 ≡ false
-    → IsKept (Some body) (register_step given (Some body) atom moment).0
-held-kept given body (atoms.Get key touch with_cas) moment none = record { flags = refl; cas = refl; value = refl; won = λ won. won }
-held-kept given body (atoms.Update update) moment none =
-    elim (update-leaves given (Some body) update moment) [
-      | inl kept ↦ kept.0
-      | inr fresh ↦ absurd (true≢false (sym fresh.1 ∙ none))
-    ]
-held-kept given body (atoms.Meta (metas.Get key get)) moment none = looked-same get moment body
-held-kept given body (atoms.Meta (metas.Update update show)) moment none =
-    let o : KeyOutcome = update_as given (Some body) update moment in
-    elim (update-leaves given (Some body) update moment) [
-      | inl kept ↦ kept.0
-      | inr fresh ↦ absurd (true≢false (sym fresh.1 ∙ sym (told-done show moment Plain o.0 o.1) ∙ none))
-    ]
 
 -- once it is won, no client is told so while it stays
 steady-won : (es : List Done) (last : ℕ) (held : Option Body) → IsHeldWon held → IsSteadyRun last held es → HaveNotWritten es → wins es ≡ 0

@@ -20,7 +20,7 @@ use Rattle.mc_cache.specs.Step.{Outcome, flush_step, settled_step, step_of, atom
 use Rattle.mc_cache.proofs.HeldLemmas.{held-without}
 use Rattle.mc_cache_laws.specs.OneMap.{KeyOutcome}
 use Rattle.mc_cache_laws.proofs.OtherKeyLemmas.{leaves_other_keys}
-use Rattle.mc_registers.specs.Registers.{Given, Done, register_step, may_give, last_by, IsRun}
+use Rattle.mc_registers.specs.Registers.{Given, Done, register_step, turn, may_give, last_by, IsRun}
 use Rattle.mc_registers.specs.Laws.{done_by, done_on}
 use Rattle.mc_registers.proofs.TurnLemmas.{Turns, IsGood, settled_step-turns}
 
@@ -47,7 +47,7 @@ emptied-knows s key last held knows = record {
   number = knows.number;
 }
 
-flushed-knows : (s : CacheState) (key : List ℕ) (last : ℕ) (held : Option Body) (moment : ℕ) → Knows s key last held → Knows (flushed s moment) key last held
+pub flushed-knows : (s : CacheState) (key : List ℕ) (last : ℕ) (held : Option Body) (moment : ℕ) → Knows s key last held → Knows (flushed s moment) key last held
 flushed-knows s key last held moment knows =
     cond_both (is_due s.pending moment) (emptied s) s (λ (u : CacheState). Knows u key last held) (λ due. emptied-knows s key last held knows) (λ waits. knows)
 
@@ -58,7 +58,7 @@ flush_step-knows s key last held (pos delay) moment knows =
     (λ now. emptied-knows s key last held knows)
     (λ later. record { within = knows.within; known = knows.known; given = knows.given; number = knows.number })
 
-flush-knows : (s : CacheState) (key : List ℕ) (last : ℕ) (held : Option Body) (atom : Atom (List ℕ)) (moment : ℕ) (refused : Bool) → atom_key atom ≡ None → Knows s key last held
+pub flush-knows : (s : CacheState) (key : List ℕ) (last : ℕ) (held : Option Body) (atom : Atom (List ℕ)) (moment : ℕ) (refused : Bool) → atom_key atom ≡ None → Knows s key last held
     → Knows (step_of s atom moment refused).0 key last held
 flush-knows s key last held (atoms.Get at exptime with_cas) moment refused none knows = absurd cc
 flush-knows s key last held (atoms.Update (Store mode compare at flags exptime block)) moment refused none knows = absurd cc
@@ -79,7 +79,7 @@ flush-knows s key last held (atoms.Meta (metas.Update (FlushAll delay) show)) mo
 abbrev pub alive : CacheState → List ℕ → ℕ → CacheState
 alive s key moment = record s { items = without_dead key moment s.items }
 
-alive-good : (s : CacheState) (key : List ℕ) (moment : ℕ) → IsGood s → IsGood (alive s key moment)
+pub alive-good : (s : CacheState) (key : List ℕ) (moment : ℕ) → IsGood s → IsGood (alive s key moment)
 alive-good s key moment good =
     cond_both (is_dead_at (body_at key s.items) moment) (without key s.items) s.items (λ (items : Items). IsHeldWithin s.budget s.limit items)
     (λ dead. held-without s.budget s.limit s.items (without key s.items) key refl good) (λ lives. good)
@@ -113,10 +113,17 @@ left-number : (left : Option Body) (last most : ℕ) → last ≤ most → last_
 left-number None last most less number = less
 left-number (Some body) last most less number = number
 
--- a command on the key
-own-runs : (s : CacheState) (key : List ℕ) (last : ℕ) (held : Option Body) (command : Command) (es : List Done) → atom_key command.atom ≡ Some key → Knows s key last held
-    → ((next : ℕ) (left : Option Body) → Knows (command_step s command).0 key next left → IsRun next left es) → IsRun last held (done_by s command ∷ es)
-own-runs s key last held command es is knows again =
+-- a command on the key is a turn of its register
+pub record IsTurn (s : CacheState) (key : List ℕ) (last : ℕ) (held : Option Body) (command : Command) : Type 0 where
+  pub forgotten : Bool
+  pub given : Given
+  pub may : may_give last given ≡ true
+  pub reply : (command_step s command).1 ≡ (turn forgotten given held (done_by s command)).1
+  pub after : Knows (command_step s command).0 key (last_by last (turn forgotten given held (done_by s command)).0) (turn forgotten given held (done_by s command)).0
+
+pub own-turn : (s : CacheState) (key : List ℕ) (last : ℕ) (held : Option Body) (command : Command) → atom_key command.atom ≡ Some key → Knows s key last held
+    → IsTurn s key last held command
+own-turn s key last held command is knows =
     let atom : Atom (List ℕ) = command.atom in
     let moment : ℕ = command.moment in
     let u : CacheState = flushed s moment in
@@ -139,13 +146,21 @@ own-runs s key last held command es is knows again =
       known = inl turns.own;
       given = next;
       number = left-number left.0 (last_by last left.0) o.0.counter next (turns.last before);
-    } in (
-      finds.0,
-      turns.given,
-      may-less last t.counter turns.given settles.given turns.may,
-      ap (λ (x : Outcome). x.1) steps ∙ turns.reply,
-      again (last_by last left.0) left.0 (subst (λ (x : Outcome). Knows x.0 key (last_by last left.0) left.0) (sym steps) after),
-    )
+    } in
+    record {
+      forgotten = finds.0;
+      given = turns.given;
+      may = may-less last t.counter turns.given settles.given turns.may;
+      reply = ap (λ (x : Outcome). x.1) steps ∙ turns.reply;
+      after = subst (λ (x : Outcome). Knows x.0 key (last_by last left.0) left.0) (sym steps) after;
+    }
+
+own-runs : (s : CacheState) (key : List ℕ) (last : ℕ) (held : Option Body) (command : Command) (es : List Done) → atom_key command.atom ≡ Some key → Knows s key last held
+    → ((next : ℕ) (left : Option Body) → Knows (command_step s command).0 key next left → IsRun next left es) → IsRun last held (done_by s command ∷ es)
+own-runs s key last held command es is knows again =
+    let t : IsTurn s key last held command = own-turn s key last held command is knows in
+    let left : Option Body = (turn t.forgotten t.given held (done_by s command)).0 in
+    (t.forgotten, t.given, t.may, t.reply, again (last_by last left) left t.after)
 
 -- a command on another key
 known-after : (key : List ℕ) (held : Option Body) (before after : Items) → IsSameOrGone key before after → IsKnown key held before → IsKnown key held after
@@ -153,7 +168,7 @@ known-after key held before after (inr gone) known = inr gone
 known-after key held before after (inl same) (inl was) = inl (same ∙ was)
 known-after key held before after (inl same) (inr gone) = inr (same ∙ gone)
 
-other-knows : (s : CacheState) (own key : List ℕ) (last : ℕ) (held : Option Body) (command : Command) → atom_key command.atom ≡ Some own → bytes_eq own key ≡ false → Knows s key last held
+pub other-knows : (s : CacheState) (own key : List ℕ) (last : ℕ) (held : Option Body) (command : Command) → atom_key command.atom ≡ Some own → bytes_eq own key ≡ false → Knows s key last held
     → Knows (command_step s command).0 key last held
 other-knows s own key last held command is differ knows =
     let atom : Atom (List ℕ) = command.atom in

@@ -43,6 +43,7 @@ pub record Turns (s : CacheState) (key : List ℕ) (expected : Given → KeyOutc
   pub reply : o.1 ≡ (expected given).1
   pub own : body_at key o.0.items ≡ (expected given).0
   pub counter : s.counter ≤ o.0.counter
+  pub next : o.0.counter ≤ s.counter + 1
   pub last : last_by s.counter (body_at key s.items) ≤ s.counter → last_by o.0.counter (expected given).0 ≤ o.0.counter
   pub within : IsHeldWithin o.0.budget o.0.limit o.0.items
 
@@ -62,6 +63,7 @@ same-turns s key expected given reply good may is = record {
   reply = sym (ap (λ (o : KeyOutcome). o.1) is);
   own = sym (ap (λ (o : KeyOutcome). o.0) is);
   counter = omega arith;
+  next = omega arith;
   last = λ before. subst (λ (o : KeyOutcome). last_by s.counter o.0 ≤ s.counter) (sym is) before;
   within = good;
 }
@@ -74,20 +76,22 @@ fronted-turns s key expected reply good is = record {
   reply = sym (ap (λ (o : KeyOutcome). o.1) is);
   own = body_at-brought key key s.items ∙ sym (ap (λ (o : KeyOutcome). o.0) is);
   counter = omega arith;
+  next = omega arith;
   last = λ before. subst (λ (o : KeyOutcome). last_by s.counter o.0 ≤ s.counter) (sym is) before;
   within = held-brought s.budget s.limit s.items (brought key (body_at key s.items) s.items) key refl good;
 }
 
 -- a held body is changed, and its value is no longer
 put-turns : (s : CacheState) (key : List ℕ) (expected : Given → KeyOutcome) (old new : Body) (counter : ℕ) (reply : Reply (List ℕ)) → IsGood s → body_at key s.items ≡ Some old
-    → length new.value ≤ length old.value → s.counter ≤ counter → (old.cas ≤ s.counter → new.cas ≤ counter)
+    → length new.value ≤ length old.value → s.counter ≤ counter → counter ≤ s.counter + 1 → (old.cas ≤ s.counter → new.cas ≤ counter)
     → expected (Ok (s.counter + 1)) ≡ (Some new, reply) → Turns s key expected (record s { items = brought key (Some new) s.items; counter = counter }, reply)
-put-turns s key expected old new counter reply good held shorter more number is = record {
+put-turns s key expected old new counter reply good held shorter more next number is = record {
   given = Ok (s.counter + 1);
   may = next_may s.counter;
   reply = sym (ap (λ (o : KeyOutcome). o.1) is);
   own = body_at-own key (key, new) (without key s.items) (own_key key) ∙ sym (ap (λ (o : KeyOutcome). o.0) is);
   counter = more;
+  next = next;
   last = λ before. subst (λ (o : KeyOutcome). last_by counter o.0 ≤ counter) (sym is)
       (number (subst (λ (h : Option Body). last_by s.counter h ≤ s.counter) held before));
   within = held-changed s.budget s.limit s.items key old new held shorter good;
@@ -101,6 +105,7 @@ taken-turns s key expected reply good is = record {
   reply = sym (ap (λ (o : KeyOutcome). o.1) is);
   own = good.distinct key ∙ sym (ap (λ (o : KeyOutcome). o.0) is);
   counter = omega arith;
+  next = omega arith;
   last = λ before. subst (λ (o : KeyOutcome). last_by s.counter o.0 ≤ s.counter) (sym is) (omega arith);
   within = held-without s.budget s.limit s.items (without key s.items) key refl good;
 }
@@ -117,6 +122,7 @@ content-turns s key content reply good admitted =
       reply = refl;
       own = first_item s key body good.bounds.some_items admitted.small;
       counter = omega arith;
+      next = omega arith;
       last = λ before. omega arith;
       within = held-put s.budget s.limit s.items all (with_content s key content).items key body refl refl good;
     }
@@ -149,14 +155,14 @@ get-turns : (s : CacheState) (key : List ℕ) (held : Option Body) (exptime : Op
 get-turns s key None exptime with_cas moment is good =
     same-turns s key (λ given. (None, Miss)) (Ok (s.counter + 1)) Miss good (next_may s.counter) (ap (λ (h : Option Body). (h, Miss)) (sym is))
 get-turns s key (Some body) exptime with_cas moment is good =
-    put-turns s key (λ given. get_as (Some body) exptime with_cas moment) body (touched exptime moment body) s.counter _ good is (omega arith) (omega arith) (λ before. before) refl
+    put-turns s key (λ given. get_as (Some body) exptime with_cas moment) body (touched exptime moment body) s.counter _ good is (omega arith) (omega arith) (omega arith) (λ before. before) refl
 
 touch-turns : (s : CacheState) (key : List ℕ) (held : Option Body) (exptime : ℤ) (moment : ℕ) → body_at key s.items ≡ held → IsGood s
     → Turns s key (λ given. touch_key held exptime moment) (touch_step s key held exptime moment)
 touch-turns s key None exptime moment is good =
     same-turns s key (λ given. (None, NotFound)) (Ok (s.counter + 1)) NotFound good (next_may s.counter) (ap (λ (h : Option Body). (h, NotFound)) (sym is))
 touch-turns s key (Some body) exptime moment is good =
-    put-turns s key (λ given. touch_key (Some body) exptime moment) body (touched (Some exptime) moment body) s.counter Touched good is (omega arith) (omega arith) (λ before. before) refl
+    put-turns s key (λ given. touch_key (Some body) exptime moment) body (touched (Some exptime) moment body) s.counter Touched good is (omega arith) (omega arith) (omega arith) (λ before. before) refl
 
 delete_by-turns : (s : CacheState) (key : List ℕ) (body : Body) (answer : Option (Reply (List ℕ))) (invalidate : Bool) → body_at key s.items ≡ Some body → IsGood s
     → Turns s key (λ given. unless (Some body) answer (if invalidate then put_as given (Some body) (record body { stale = true; won = false }) Deleted else (None, Deleted)))
@@ -168,7 +174,7 @@ delete_by-turns s key body None true is good =
     let stale : Body = record body { stale = true; won = false; cas = s.counter + 1 } in
     cond_both (nat_le (2 ^ 64) (s.counter + 1)) (s, Fault CasUsedUp) (record s { items = brought key (Some stale) s.items; counter = s.counter + 1 }, Deleted) (Turns s key expected)
     (λ used. same-turns s key expected (Err CasUsedUp) (Fault CasUsedUp) good refl (ap (λ (h : Option Body). (h, Fault CasUsedUp)) (sym is)))
-    (λ fresh. put-turns s key expected body stale (s.counter + 1) Deleted good is (omega arith) (omega arith) (λ before. omega arith) refl)
+    (λ fresh. put-turns s key expected body stale (s.counter + 1) Deleted good is (omega arith) (omega arith) (omega arith) (λ before. omega arith) refl)
 
 delete-turns : (s : CacheState) (key : List ℕ) (held : Option Body) (compare : Option ℕ) (invalidate : Bool) → body_at key s.items ≡ held → IsGood s
     → Turns s key (λ given. delete_as given held compare invalidate) (delete_step s key held compare invalidate)
@@ -244,6 +250,7 @@ told-turns s key show moment marks expected o turns = record {
   reply = ap (λ (h : Option Body). told show moment marks h o.1) turns.own ∙ ap (λ (r : Reply (List ℕ)). told show moment marks (expected turns.given).0 r) turns.reply;
   own = turns.own;
   counter = turns.counter;
+  next = turns.next;
   last = turns.last;
   within = turns.within;
 }
@@ -265,7 +272,7 @@ meta_get-turns : (s : CacheState) (key : List ℕ) (held : Option Body) (get : M
     → Turns s key (λ given. meta_get_as given held get moment) (meta_get_step s key held get moment refused)
 meta_get-turns s key None get moment refused is good = meta_get_none-turns s key get get.create moment refused is good
 meta_get-turns s key (Some body) get moment refused is good =
-    put-turns s key (λ given. meta_get_as given (Some body) get moment) body (looked_at get moment body) s.counter _ good is (omega arith) (omega arith) (λ before. before) refl
+    put-turns s key (λ given. meta_get_as given (Some body) get moment) body (looked_at get moment body) s.counter _ good is (omega arith) (omega arith) (omega arith) (λ before. before) refl
 
 -- a command on a settled cache
 pub settled_step-turns : (s : CacheState) (atom : Atom (List ℕ)) (moment : ℕ) (refused : Bool) (key : List ℕ) → atom_key atom ≡ Some key → IsGood s

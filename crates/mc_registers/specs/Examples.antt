@@ -4,8 +4,9 @@ use Rattle.mc_request.specs.Meanings.{plain_counting}
 use Rattle.mc_request.specs.declared.parts.Atom.{Atom}
 use Rattle.mc_request.specs.declared.parts.Direction.TheVariants.{Up}
 use Rattle.mc_request.specs.declared.parts.StoreMode.{StoreMode}
-use Rattle.mc_request.specs.declared.parts.StoreMode.TheVariants.{Set}
+use Rattle.mc_request.specs.declared.parts.StoreMode.TheVariants.{Set, Add}
 use Rattle.mc_reply.specs.declared.replies.Marks.{Marks}
+use Rattle.mc_reply.specs.declared.replies.Marks.TheVariants.{Won}
 use Rattle.mc_reply.specs.declared.replies.Reply.{Reply}
 use Rattle.mc_reply.specs.declared.replies.Reply.TheVariants.{Hit, Meta, Stored}
 use Rattle.mc_reply.specs.Replies.{nothing_shown}
@@ -47,6 +48,20 @@ abbrev pub making_counter : ℕ → Done
 making_counter initial =
     answered (ma_of (record (plain_counting Up 1) { create = Some (record { exptime = pos 0; initial = initial }) }) the_key (codes "")) (Meta nothing_shown None)
 
+-- and one that compares a number before it counts, if there is an item
+abbrev pub making_counter_comparing : ℕ → Done
+making_counter_comparing number =
+    answered (ma_of (record (plain_counting Up 1) { compare = Some number; create = Some (record { exptime = pos 0; initial = 1 }) }) the_key (codes "")) (Meta nothing_shown None)
+
+-- `ma` with `v` that counts up, and shows this value
+abbrev pub showing_count : ℕ → List ℕ → Done
+showing_count delta value = answered (ma_of (plain_counting Up delta) the_key (codes "v")) (Meta nothing_shown (Some value))
+
+-- `ma` that at a moment makes a counter of 1 which dies 10 seconds later, or counts up by 1, and shows this value
+abbrev pub limiting_at : ℕ → List ℕ → Done
+limiting_at moment value =
+    answered_at moment (ma_of (record (plain_counting Up 1) { create = Some (record { exptime = pos 10; initial = 1 }) }) the_key (codes "v")) (Meta nothing_shown (Some value))
+
 -- `mg` that makes an item which never dies, where there is none; and one that asks, at a moment, to fill an item that ends within 30 seconds.
 -- Each is shown these marks, and nothing else
 abbrev pub making : Marks → Done
@@ -54,6 +69,13 @@ making marks = answered (mg_making the_key (pos 0) []) (Meta (marked marks) None
 
 abbrev pub recaching_at : ℕ → Marks → Done
 recaching_at moment marks = answered_at moment (mg_recaching the_key 30 []) (Meta (marked marks) None)
+
+-- at a moment an item which dies 10 seconds later is made by `mg`, and by `add`
+abbrev pub making_at : ℕ → Done
+making_at moment = answered_at moment (mg_making the_key (pos 10) []) (Meta (marked Won) None)
+
+abbrev pub adding_at : ℕ → List ℕ → Done
+adding_at moment value = answered_at moment (store_of Add (pos 10) the_key value) Stored
 
 -- a value that dies 20 seconds later is stored at a moment; and what is held is called stale
 abbrev pub storing_at : ℕ → Done

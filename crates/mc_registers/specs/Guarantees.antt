@@ -1,5 +1,6 @@
 -- What an application may rely on: runs of one key's register, in a client's words. This project's own.
-use Rattle.std.specs.Prelude.{◌≡◌, ℕ, ◌<◌, ◌≤◌, ◌^◌, ◌&&◌, ◌⊎◌, ℤ, Bool, true, false, List, [], ◌∷◌, ◌++◌, Option, Some, None, is_some}
+use Rattle.std.specs.Prelude.{◌≡◌, ℕ, ◌<◌, ◌≤◌, ◌^◌, ◌&&◌, ◌⊎◌, ℤ, Bool, true, false, List, [], ◌∷◌, ◌++◌, Option, Some, None, is_some, if◌then◌else◌}
+use Rattle.std.specs.Fmt.{decimal}
 use Rattle.mc_item.specs.declared.bodies.Body.{Body}
 use Rattle.mc_request.specs.declared.meta.Counting.{Counting}
 use Rattle.mc_request.specs.declared.meta.MetaCommand.TheVariants as metas
@@ -8,7 +9,7 @@ use Rattle.mc_request.specs.declared.parts.Atom.TheVariants as atoms
 use Rattle.mc_request.specs.declared.parts.StoreMode.{StoreMode}
 use Rattle.mc_request.specs.declared.parts.StoreMode.TheVariants.{Add, Append, Prepend}
 use Rattle.mc_request.specs.declared.parts.Update.{Update}
-use Rattle.mc_request.specs.declared.parts.Update.TheVariants.{Store, Count}
+use Rattle.mc_request.specs.declared.parts.Update.TheVariants.{Store, Touch, Delete, Count, FlushAll}
 use Rattle.mc_reply.specs.declared.replies.Reply.{Reply}
 use Rattle.mc_reply.specs.declared.replies.Reply.TheVariants.{Stored, Deleted, Number, Hit, Meta}
 use Rattle.mc_cache.specs.Settling.{is_dead_at}
@@ -67,22 +68,32 @@ ReadsSeeOwnWrites last held =
     → (at : List ℕ) (touch : Option ℤ) (with_cas : Bool) → read.atom ≡ atoms.Get at touch with_cas
     → (shown_flags : ℕ) (cas : Option ℕ) (shown : List ℕ) → read.reply ≡ Hit shown_flags cas shown → (shown_flags ≡ flags) × (shown ≡ value)
 
--- Counters count. A client was told a number, and since then are only counts that make no item, and what writes nothing: each goes on from
--- the number before.
+-- Counters count, by `incr`, `decr` and `ma`. A client was shown a number, and since then are only counts that make no item, and what writes
+-- nothing: each goes on from the number before.
 abbrev pub IsCountOrQuiet : Done → Type 0
 IsCountOrQuiet e =
-    (may_have_written e.atom e.reply ≡ false) ⊎ ((key : List ℕ) × (counting : Counting) × (e.atom ≡ atoms.Update (Count key counting)) × (counting.create ≡ None))
+    (may_have_written e.atom e.reply ≡ false) ⊎ ((key : List ℕ) × (counting : Counting) × (update_in e.atom ≡ Some (Count key counting)) × (counting.create ≡ None))
 
 abbrev pub AreCountsOrQuiet : List Done → Type 0
 AreCountsOrQuiet [] = Unit {0}
 AreCountsOrQuiet (e ∷ es) = IsCountOrQuiet e × AreCountsOrQuiet es
 
+-- a reply to a count shows this number: that of `incr` and `decr`, and the value of an `ma` with `v`
+abbrev pub ShowsCount : Reply (List ℕ) → ℕ → Type 0
+ShowsCount (Number shown) number = shown ≡ number
+ShowsCount (Meta shown (Some value)) number = value ≡ decimal number
+ShowsCount reply number = ⊥
+
+-- a count that shows a number shows the one that it counts to
 abbrev pub IsCounted : ℕ → Atom (List ℕ) → Reply (List ℕ) → Type 0
 IsCounted before (atoms.Update (Count key counting)) (Number number) = number ≡ counted counting.direction counting.delta before
+IsCounted before (atoms.Meta (metas.Update (Count key counting) show)) (Meta shown (Some value)) = value ≡ decimal (counted counting.direction counting.delta before)
 IsCounted before atom reply = Unit {0}
 
+-- the number after a command
 abbrev pub number_by : ℕ → Atom (List ℕ) → Reply (List ℕ) → ℕ
 number_by before (atoms.Update (Count key counting)) (Number number) = number
+number_by before (atoms.Meta (metas.Update (Count key counting) show)) (Meta shown value) = counted counting.direction counting.delta before
 number_by before atom reply = before
 
 abbrev pub AreCounted : ℕ → List Done → Type 0
@@ -92,9 +103,9 @@ AreCounted before (e ∷ es) = IsCounted before e.atom e.reply × AreCounted (nu
 abbrev pub CountersCount : ℕ → Option Body → Type 0
 CountersCount last held =
     (front es back : List Done) (first : Done) (key : List ℕ) (counting : Counting) (number : ℕ) → IsRun last held (front ++ first ∷ (es ++ back))
-    → first.atom ≡ atoms.Update (Count key counting) → first.reply ≡ Number number → number < 2 ^ 64 → AreCountsOrQuiet es → AreCounted number es
+    → update_in first.atom ≡ Some (Count key counting) → ShowsCount first.reply number → number < 2 ^ 64 → AreCountsOrQuiet es → AreCounted number es
 
--- Adds exclude. Something is held, and is neither forgotten nor dead, and no other command writes: then no `add` stores.
+-- Adds exclude. Something is held, and is neither forgotten nor dead, and no command writes: then no `add` stores.
 abbrev pub IsSteadyRun : ℕ → Option Body → List Done → Type 0
 IsSteadyRun last held [] = Unit {0}
 IsSteadyRun last held (e ∷ es) =
@@ -104,21 +115,56 @@ IsSteadyRun last held (e ∷ es) =
 abbrev pub AddsExclude : ℕ → Body → Type 0
 AddsExclude last body =
     (between : List Done) (add : Done) (compare : Option ℕ) (key : List ℕ) (flags : ℕ) (exptime : ℤ) (value : List ℕ)
-    → IsSteadyRun last (Some body) (between ++ add ∷ []) → AreQuiet between
+    → IsSteadyRun last (Some body) (between ++ add ∷ []) → HaveNotWritten between
     → update_in add.atom ≡ Some (Store Add compare key flags exptime value) → is_done add.reply ≡ false
 
--- A `cas` loses nothing. It compares a number that a hit showed, and stores: then nothing was stored, counted or deleted in between.
+-- Counters count while their item stays. Here a count may ask for an item to be made, as `ma` with `N` does: none is made while one is held.
+abbrev pub IsCountOrUnwritten : Done → Type 0
+IsCountOrUnwritten e = (has_written e.atom e.reply ≡ false) ⊎ ((key : List ℕ) × (counting : Counting) × (update_in e.atom ≡ Some (Count key counting)))
+
+abbrev pub AreCountsOrUnwritten : List Done → Type 0
+AreCountsOrUnwritten [] = Unit {0}
+AreCountsOrUnwritten (e ∷ es) = IsCountOrUnwritten e × AreCountsOrUnwritten es
+
+abbrev pub CountersCountWhileHeld : ℕ → Option Body → Type 0
+CountersCountWhileHeld last held =
+    (es : List Done) (first : Done) (key : List ℕ) (counting : Counting) (number : ℕ) → IsSteadyRun last held (first ∷ es)
+    → update_in first.atom ≡ Some (Count key counting) → ShowsCount first.reply number → number < 2 ^ 64 → AreCountsOrUnwritten es → AreCounted number es
+
+-- the number of its item that a reply shows: that of `gets` and `gats`, and of a meta command with `c`
+abbrev pub number_shown : Reply (List ℕ) → Option ℕ
+number_shown (Hit flags cas value) = cas
+number_shown (Meta shown value) = shown.cas
+number_shown reply = None
+
+-- the number that an item must have if an update of it is done: of `cas`, and of `ms`, `md` and `ma` with `C`. An `ma` that makes an item, by `N`,
+-- compares nothing if there is none
+abbrev pub number_needed : Update (List ℕ) (List ℕ) → Option ℕ
+number_needed (Store mode compare key flags exptime value) = compare
+number_needed (Touch key exptime) = None
+number_needed (Delete key compare invalidate) = compare
+number_needed (Count key counting) = if is_some counting.create then None else counting.compare
+number_needed (FlushAll delay) = None
+
+-- A `cas` loses nothing. A reply showed a number, and an update that needs it is done: then nothing was stored, counted or deleted in between.
 abbrev pub CasLosesNothing : ℕ → Option Body → Type 0
 CasLosesNothing last held =
-    (front between back : List Done) (read cas : Done) (mode : StoreMode) (number : ℕ) (key : List ℕ) (flags : ℕ) (exptime : ℤ) (value : List ℕ)
-    → IsRun last held (front ++ read ∷ (between ++ cas ∷ back))
-    → (at : List ℕ) (touch : Option ℤ) (with_cas : Bool) → read.atom ≡ atoms.Get at touch with_cas
-    → (shown_flags : ℕ) (shown : List ℕ) → read.reply ≡ Hit shown_flags (Some number) shown
-    → update_in cas.atom ≡ Some (Store mode (Some number) key flags exptime value) → is_done cas.reply ≡ true → HaveNotWritten between
+    (front between back : List Done) (read cas : Done) (update : Update (List ℕ) (List ℕ)) (number : ℕ)
+    → IsRun last held (front ++ read ∷ (between ++ cas ∷ back)) → number_shown read.reply ≡ Some number
+    → update_in cas.atom ≡ Some update → number_needed update ≡ Some number → is_done cas.reply ≡ true → HaveNotWritten between
 
--- And across lives. The numbers of a life begin above one of an earlier life: then no command that compares that number stores.
+-- Old numbers do not fit. The numbers of a life begin above this one: then no update that needs it is done.
 abbrev pub OldNumbersDoNotFit : ℕ → Type 0
 OldNumbersDoNotFit last =
-    (front back : List Done) (cas : Done) (mode : StoreMode) (number : ℕ) (key : List ℕ) (flags : ℕ) (exptime : ℤ) (value : List ℕ)
-    → IsRun last None (front ++ cas ∷ back) → number ≤ last → update_in cas.atom ≡ Some (Store mode (Some number) key flags exptime value)
+    (front back : List Done) (cas : Done) (update : Update (List ℕ) (List ℕ)) (number : ℕ)
+    → IsRun last None (front ++ cas ∷ back) → number ≤ last → update_in cas.atom ≡ Some update → number_needed update ≡ Some number
+    → is_done cas.reply ≡ false
+
+-- A `cas` loses nothing across lives. A reply in one life showed a number, and the numbers of a later life begin above it: then no update that
+-- needs it is done in the later life.
+abbrev pub CasLosesNothingAcross : ℕ → ℕ → Type 0
+CasLosesNothingAcross first later =
+    (front back before after : List Done) (read cas : Done) (update : Update (List ℕ) (List ℕ)) (number : ℕ)
+    → IsRun first None (front ++ read ∷ back) → number_shown read.reply ≡ Some number
+    → IsRun later None (before ++ cas ∷ after) → number ≤ later → update_in cas.atom ≡ Some update → number_needed update ≡ Some number
     → is_done cas.reply ≡ false

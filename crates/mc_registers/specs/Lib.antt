@@ -3,4 +3,5 @@ pub mod Examples
 pub mod Laws
 pub mod Guarantees
 pub mod Recache
+pub mod Restarts
 pub mod Told

@@ -7,6 +7,7 @@ ghost use Rattle.mc_history.specs.Histories.{IsLegal};
 ghost use Rattle.mc_history.specs.declared.entries.Entry.{Entry};
 ghost use Rattle.mc_registers.specs.Registers.{Done, IsRun};
 ghost use Rattle.mc_registers.specs.Laws.{done_on};
+ghost use Rattle.mc_registers.specs.Restarts.{CasLosesNothingAcrossRestarts};
 ghost use Rattle.mc_registers.specs.Told.{TellEach, on_key};
 
 /// Whatever commands a cache executes from its opening on, at whatever moments, those on one key are a run of the register. So a hit is
@@ -22,4 +23,12 @@ pub fn histories_are_registers()
     ensures { (order : Order) → (place budget limit counter : ℕ) → IsWithinBounds budget limit → (history : List Entry)
         → IsLegal order place (opening_cache budget limit counter) history
         → (all : List Done) × TellEach order place history all × ((key : List ℕ) → IsRun counter None (on_key key all)) }
+{}
+
+/// A cache executed some commands, on whatever keys. The numbers of a later cache begin above the first one's, by at least one for each command. Then
+/// no number that a reply of the first showed fits an item of the later one: no `cas` with it is done, and no `ms`, `md` or `ma` with `C`. In
+/// `old_numbers_fit_another_cache` both caches begin alike. An `ma` that makes an item by `N` compares nothing (`counters_are_made_anew`).
+pub fn cas_loses_nothing_across_restarts()
+    ensures { (budget limit first : ℕ) → IsWithinBounds budget limit → (room most later : ℕ) → IsWithinBounds room most
+        → CasLosesNothingAcrossRestarts (opening_cache budget limit first) (opening_cache room most later) }
 {}

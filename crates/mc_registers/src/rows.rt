@@ -5,7 +5,7 @@ ghost use Rattle.mc_request.specs.declared.parts.StoreMode.TheVariants.{Set, Add
 ghost use Rattle.mc_reply.specs.declared.replies.Marks.TheVariants.{Plain, Won, WonStale, StaleSent, Sent};
 ghost use Rattle.mc_reply.specs.declared.replies.Reply.TheVariants.{Stored, NotStored, Exists, Deleted, Number, Miss, Fault};
 ghost use Rattle.mc_cache_laws.specs.Examples.{store_of, get_of};
-ghost use Rattle.mc_registers.specs.Examples.{the_key, answered_at, storing, comparing, getting, getting_number, deleting, counting_up, making, recaching_at, storing_at, invalidating_at, a_hit, a_numbered_hit, IsLife};
+ghost use Rattle.mc_registers.specs.Examples.{the_key, answered_at, storing, comparing, getting, getting_number, deleting, counting_up, showing_count, limiting_at, making, recaching_at, storing_at, invalidating_at, a_hit, a_numbered_hit, IsLife};
 
 /// A value that is stored is shown, until another is stored in its place, or joined to it.
 pub fn stored_values_are_shown()
@@ -26,6 +26,16 @@ pub fn items_are_forgotten()
 /// A number is counted from what is held.
 pub fn counters_are_counted()
     ensures { IsLife (storing Set (codes "5") Stored ∷ counting_up 1 (Number 6) ∷ counting_up 2 (Number 8) ∷ getting (a_hit (codes "8")) ∷ []) }
+{}
+
+/// An `ma` with `N` counts from 1 until the item is dead, and then begins anew.
+pub fn limits_are_counted()
+    ensures { IsLife (limiting_at 100 (codes "1") ∷ limiting_at 105 (codes "2") ∷ limiting_at 109 (codes "3") ∷ limiting_at 110 (codes "1") ∷ []) }
+{}
+
+/// An `ma` with `v` shows the number that it counts to.
+pub fn shown_counts_are_counted()
+    ensures { IsLife (storing Set (codes "5") Stored ∷ counting_up 1 (Number 6) ∷ showing_count 2 (codes "8") ∷ counting_up 1 (Number 9) ∷ []) }
 {}
 
 /// A `cas` stores once for a number. Between two numbers of a key are those of others.

@@ -1,5 +1,5 @@
-use Rattle.mc_registers.proofs.GuaranteeLemmas.{adds_exclude}
+use Rattle.mc_registers.proofs.GuaranteeLemmas.{unwritten_excludes}
 use Rattle.mc_registers.proofs.guarantees.adds_exclude.Goals as goal
 
 pub returns : goal.returns
-returns c = adds_exclude
+returns c = unwritten_excludes

@@ -1,5 +1,5 @@
-use Rattle.mc_registers.proofs.GuaranteeLemmas.{cas_loses_nothing}
+use Rattle.mc_registers.proofs.NumberLemmas.{updates_lose_nothing}
 use Rattle.mc_registers.proofs.guarantees.cas_loses_nothing.Goals as goal
 
 pub returns : goal.returns
-returns c = cas_loses_nothing
+returns c = updates_lose_nothing

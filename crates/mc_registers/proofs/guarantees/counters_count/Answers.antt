@@ -1,4 +1,4 @@
-use Rattle.mc_registers.proofs.GuaranteeLemmas.{counters_count}
+use Rattle.mc_registers.proofs.CounterLemmas.{counters_count}
 use Rattle.mc_registers.proofs.guarantees.counters_count.Goals as goal
 
 pub returns : goal.returns

@@ -6,3 +6,6 @@ returns-clause-forgotten c = (false, Ok 1, refl, refl, (true, Ok 2, refl, refl, 
 
 pub returns-clause-deleted : goal.returns-clause-deleted
 returns-clause-deleted c = (false, Ok 1, refl, refl, (false, Ok 2, refl, refl, (false, Ok 2, refl, refl, tt)))
+
+pub returns-clause-dead : goal.returns-clause-dead
+returns-clause-dead c = (false, Ok 1, refl, refl, (false, Ok 2, refl, refl, tt))
