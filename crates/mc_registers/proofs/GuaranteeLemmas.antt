@@ -22,7 +22,7 @@ use Rattle.mc_cache.specs.Settling.{is_dead_at}
 use Rattle.mc_cache.specs.Step.{Content, numbered, compared, unmet, unstored, content_by, touched, expiry_by, counted}
 use Rattle.mc_cache_laws.specs.OneMap.{KeyOutcome}
 use Rattle.mc_registers.specs.Registers.{Given, put_as, unless, store_as, get_as, number_as, update_as, register_step, Done, turn, may_give, last_by, IsRun}
-use Rattle.mc_registers.specs.Guarantees.{is_done, has_written, may_have_written, HaveNotWritten, AreQuiet, update_in, is_whole, ReadsSeeOwnWrites, IsSteadyRun, AddsExclude, number_needed, OldNumbersDoNotFit, CasLosesNothingAcross}
+use Rattle.mc_registers.specs.Guarantees.{is_done, has_written, may_have_written, HaveNotWritten, AreQuiet, update_in, is_whole, IsSteadyRun, AddsExclude, number_needed, OldNumbersDoNotFit, CasLosesNothingAcross}
 use Rattle.mc_registers.proofs.LeftLemmas.{IsSame, IsKept, IsLeft, kept-left, left-same, left-both, left-found, IsFresh, IsUndone, compared-undone, unstored-undone, update-leaves, looked-same, told-done, step-leaves}
 
 -- a turn leaves what was held, or none, or what is fresh
@@ -96,7 +96,7 @@ hit-shows (Some body) touch false moment flags cas value is = record {
 }
 
 -- what is found is held
-found-held : (gone : Bool) (held : Option Body) (body : Body) → cond gone None held ≡ Some body → held ≡ Some body
+pub found-held : (gone : Bool) (held : Option Body) (body : Body) → cond gone None held ≡ Some body → held ≡ Some body
 found-held true held body is = absurd cc
 found-held false held body is = is
 
@@ -139,7 +139,7 @@ store-stored given held compare mode new done = go (unstored compare mode held) 
     go None is (Ok number) done = record { number = number; unanswered = is; left_is = refl }
 
 -- the same of each command that has such an update
-update-stored : (given : Given) (held : Option Body) (atom : Atom (List ℕ)) (moment : ℕ) (mode : StoreMode) (compare : Option ℕ) (key : List ℕ) (flags : ℕ) (exptime : ℤ) (value : List ℕ)
+pub update-stored : (given : Given) (held : Option Body) (atom : Atom (List ℕ)) (moment : ℕ) (mode : StoreMode) (compare : Option ℕ) (key : List ℕ) (flags : ℕ) (exptime : ℤ) (value : List ℕ)
     → update_in atom ≡ Some (Store mode compare key flags exptime value) → is_done (register_step given held atom moment).1 ≡ true
     → (new : Content) × (new.flags ≡ flags) × (new.value ≡ value) × HasStored held compare mode new (register_step given held atom moment).0
 update-stored given held (atoms.Get at touch with_cas) moment mode compare key flags exptime value is done = absurd cc
@@ -161,7 +161,7 @@ update-stored given held (atoms.Meta (metas.Update update show)) moment mode com
     subst (λ (u : Update (List ℕ) (List ℕ)). (new : Content) × (new.flags ≡ flags) × (new.value ≡ value) × HasStored held compare mode new (update_as given held u moment).0) (sym its)
     (new, refl, refl, store-stored given held compare mode new stored)
 
-whole-content : (mode : StoreMode) (held : Option Body) (new : Content) → is_whole mode ≡ true → content_by mode held new ≡ new
+pub whole-content : (mode : StoreMode) (held : Option Body) (new : Content) → is_whole mode ≡ true → content_by mode held new ≡ new
 whole-content Set None new whole = refl
 whole-content Set (Some body) new whole = refl
 whole-content Add None new whole = refl
@@ -172,11 +172,16 @@ whole-content Append held new whole = absurd cc
 whole-content Prepend held new whole = absurd cc
 
 -- what is left of an item that is there
-left-is-same : (before after : Body) (held left : Option Body) → held ≡ Some before → left ≡ Some after → IsLeft held left → IsSame before after
+pub left-is-same : (before after : Body) (held left : Option Body) → held ≡ Some before → left ≡ Some after → IsLeft held left → IsSame before after
 left-is-same before after held left was is kept =
     subst (λ (h : Option Body). IsLeft h (Some after)) was (subst (λ (l : Option Body). IsLeft held l) is kept)
 
-pub reads_see_own_writes : (last : ℕ) (held : Option Body) → ReadsSeeOwnWrites last held
+-- a hit of a retrieval command
+pub reads_see_own_writes : (last : ℕ) (held : Option Body) (front between back : List Done) (write read : Done) (mode : StoreMode) (compare : Option ℕ) (key : List ℕ) (flags : ℕ) (exptime : ℤ)
+    (value : List ℕ) → IsRun last held (front ++ write ∷ (between ++ read ∷ back))
+    → update_in write.atom ≡ Some (Store mode compare key flags exptime value) → is_whole mode ≡ true → is_done write.reply ≡ true → AreQuiet between
+    → (at : List ℕ) (touch : Option ℤ) (with_cas : Bool) → read.atom ≡ atoms.Get at touch with_cas
+    → (shown_flags : ℕ) (cas : Option ℕ) (shown : List ℕ) → read.reply ≡ Hit shown_flags cas shown → (shown_flags ≡ flags) × (shown ≡ value)
 reads_see_own_writes last held front between back write read mode compare key flags exptime value run writes whole done quiet at touch with_cas reads shown_flags cas shown hits =
     let part = run-part front last held (write ∷ (between ++ read ∷ back)) run in
     let r = part.2 in

@@ -4,6 +4,7 @@ pub mod LeftLemmas
 pub mod GuaranteeLemmas
 pub mod HitLemmas
 pub mod NumberLemmas
+pub mod ReadLemmas
 pub mod CounterLemmas
 pub mod CountLemmas
 pub mod RecacheLemmas

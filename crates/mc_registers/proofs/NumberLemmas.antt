@@ -66,7 +66,7 @@ count_held-line given body counting moment (Some n) =
     let next : ℕ = counted counting.direction counting.delta n in
     put-line given (Some body) (number_body body.flags (expiry_by counting.exptime moment body.expiry) next) (Number next) refl
 
-update-line : (given : Given) (held : Option Body) (update : Update (List ℕ) (List ℕ)) (moment : ℕ) → is_line (update_as given held update moment).1 ≡ true
+pub update-line : (given : Given) (held : Option Body) (update : Update (List ℕ) (List ℕ)) (moment : ℕ) → is_line (update_as given held update moment).1 ≡ true
 update-line given held (Store mode compare key flags exptime value) moment =
     let new : Content = record { flags = flags; expiry = deadline_of exptime moment; won = false; value = value } in
     let body : Body = numbered (content_by mode held new) 0 in
@@ -88,13 +88,13 @@ update-line given (Some body) (Count key counting) moment =
 update-line given held (FlushAll delay) moment = refl
 
 -- what is shown of an item is of the one that is left
-asked-number : (asked : Bool) (own number : ℕ) → then_some asked own ≡ Some number → own ≡ number
-asked-number true own number shows = cc
-asked-number false own number shows = absurd cc
+pub asked-same : {X : Type 0} (asked : Bool) (own shown : X) → then_some asked own ≡ Some shown → own ≡ shown
+asked-same true own shown shows = cc
+asked-same false own shown shows = absurd cc
 
 item-shows : (show : Show) (moment : ℕ) (marks : Marks) (held : Option Body) (number : ℕ) → number_shown (item_shown show moment marks held) ≡ Some number → IsNumbered number held
 item-shows show moment marks None number shows = absurd cc
-item-shows show moment marks (Some body) number shows = (body, refl, asked-number show.cas body.cas number shows)
+item-shows show moment marks (Some body) number shows = (body, refl, asked-same show.cas body.cas number shows)
 
 told-shows : (show : Show) (moment : ℕ) (marks : Marks) (held : Option Body) (reply : Reply (List ℕ)) (number : ℕ) → is_line reply ≡ true
     → number_shown (told show moment marks held reply) ≡ Some number → IsNumbered number held

@@ -70,6 +70,10 @@ making marks = answered (mg_making the_key (pos 0) []) (Meta (marked marks) None
 abbrev pub recaching_at : ℕ → Marks → Done
 recaching_at moment marks = answered_at moment (mg_recaching the_key 30 []) (Meta (marked marks) None)
 
+-- `mg` that makes such an item, and shows its value
+abbrev pub making_shown : Done
+making_shown = answered (mg_making the_key (pos 0) (codes "v")) (Meta (marked Won) (Some []))
+
 -- at a moment an item which dies 10 seconds later is made by `mg`, and by `add`
 abbrev pub making_at : ℕ → Done
 making_at moment = answered_at moment (mg_making the_key (pos 10) []) (Meta (marked Won) None)

@@ -59,14 +59,25 @@ is_whole Append = false
 is_whole Prepend = false
 is_whole mode = true
 
--- Reads see own writes. A client's value was stored, and then no other: a hit shows it, with its flags.
+-- the value that a reply shows: that of a hit, and of a meta command with `v`; and the flags, with `f`
+abbrev pub value_shown : Reply (List ℕ) → Option (List ℕ)
+value_shown (Hit flags cas value) = Some value
+value_shown (Meta shown value) = value
+value_shown reply = None
+
+abbrev pub flags_shown : Reply (List ℕ) → Option ℕ
+flags_shown (Hit flags cas value) = Some flags
+flags_shown (Meta shown value) = shown.flags
+flags_shown reply = None
+
+-- Reads see own writes. A client's value was stored, and then no other. A command that wrote none itself shows this one, if any, with its flags.
 abbrev pub ReadsSeeOwnWrites : ℕ → Option Body → Type 0
 ReadsSeeOwnWrites last held =
     (front between back : List Done) (write read : Done) (mode : StoreMode) (compare : Option ℕ) (key : List ℕ) (flags : ℕ) (exptime : ℤ) (value : List ℕ)
     → IsRun last held (front ++ write ∷ (between ++ read ∷ back))
     → update_in write.atom ≡ Some (Store mode compare key flags exptime value) → is_whole mode ≡ true → is_done write.reply ≡ true → AreQuiet between
-    → (at : List ℕ) (touch : Option ℤ) (with_cas : Bool) → read.atom ≡ atoms.Get at touch with_cas
-    → (shown_flags : ℕ) (cas : Option ℕ) (shown : List ℕ) → read.reply ≡ Hit shown_flags cas shown → (shown_flags ≡ flags) × (shown ≡ value)
+    → may_have_written read.atom read.reply ≡ false
+    → ((shown : List ℕ) → value_shown read.reply ≡ Some shown → shown ≡ value) × ((shown : ℕ) → flags_shown read.reply ≡ Some shown → shown ≡ flags)
 
 -- Counters count, by `incr`, `decr` and `ma`. A client was shown a number, and since then are only counts that make no item, and what writes
 -- nothing: each goes on from the number before.

@@ -7,7 +7,7 @@ ghost use Rattle.mc_reply.specs.declared.replies.Reply.TheVariants.{Stored, Exis
 ghost use Rattle.mc_cache.specs.CacheState.{opening_cache};
 ghost use Rattle.mc_cache.specs.Replay.{granted};
 ghost use Rattle.mc_cache_laws.specs.Examples.{cas_of, get_with_number, store_of};
-ghost use Rattle.mc_registers.specs.Examples.{the_key, storing, comparing, getting, getting_number, deleting, counting_up, making_counter, making_counter_comparing, limiting_at, making, recaching_at, making_at, adding_at, storing_at, invalidating_at, a_hit, a_numbered_hit, IsLife};
+ghost use Rattle.mc_registers.specs.Examples.{the_key, storing, comparing, getting, getting_number, deleting, counting_up, making_counter, making_counter_comparing, limiting_at, making, making_shown, recaching_at, making_at, adding_at, storing_at, invalidating_at, a_hit, a_numbered_hit, IsLife};
 ghost use Rattle.mc_registers.specs.Laws.{done_on};
 ghost use Rattle.mc_registers.specs.Registers.{IsRun};
 
@@ -16,11 +16,13 @@ pub fn another_value_is_read()
     ensures { IsLife (storing Set (codes "a") Stored ∷ storing Set (codes "b") Stored ∷ getting (a_hit (codes "b")) ∷ []) }
 {}
 
-/// A value is joined to what is held, or is refused. Or its item is forgotten, and an `mg` with `N` makes another. Then a hit shows another value.
+/// A value is joined to what is held, or is refused. Or its item is forgotten, and an `mg` with `N` makes another, before the read or itself. Then
+/// another value is shown.
 pub fn other_values_are_read()
     ensures joined { IsLife (storing Set (codes "a") Stored ∷ storing Append (codes "b") Stored ∷ getting (a_hit (codes "ab")) ∷ []) }
     ensures refused { IsLife (storing Set (codes "a") Stored ∷ storing Set (codes "b") (Fault OutOfMemory) ∷ getting (a_hit (codes "a")) ∷ []) }
     ensures made { IsLife (storing Set (codes "a") Stored ∷ making Won ∷ getting (a_hit (codes "")) ∷ []) }
+    ensures filled { IsLife (storing Set (codes "a") Stored ∷ making_shown ∷ []) }
 {}
 
 /// Another client stored a number in between, so a count gives a number that was given before.

@@ -10,3 +10,6 @@ returns-clause-refused c = (false, Ok 1, refl, refl, (false, Err OutOfMemory, re
 
 pub returns-clause-made : goal.returns-clause-made
 returns-clause-made c = (false, Ok 1, refl, refl, (true, Ok 2, refl, refl, (false, Ok 3, refl, refl, tt)))
+
+pub returns-clause-filled : goal.returns-clause-filled
+returns-clause-filled c = (false, Ok 1, refl, refl, (true, Ok 2, refl, refl, tt))
