@@ -10,6 +10,8 @@ use Rattle.mc_request.specs.declared.parts.StoreMode.{StoreMode}
 use Rattle.mc_request.specs.declared.parts.StoreMode.TheVariants.{Add, Append, Prepend}
 use Rattle.mc_request.specs.declared.parts.Update.{Update}
 use Rattle.mc_request.specs.declared.parts.Update.TheVariants.{Store, Touch, Delete, Count, FlushAll}
+use Rattle.mc_reply.specs.declared.replies.Marks.{Marks}
+use Rattle.mc_reply.specs.declared.replies.Marks.TheVariants.{Won, WonStale}
 use Rattle.mc_reply.specs.declared.replies.Reply.{Reply}
 use Rattle.mc_reply.specs.declared.replies.Reply.TheVariants.{Stored, Deleted, Number, Hit, Meta}
 use Rattle.mc_cache.specs.Settling.{is_dead_at}
@@ -24,7 +26,17 @@ is_done (Number number) = true
 is_done (Meta shown value) = true
 is_done reply = false
 
--- a command that changed what is stored, as its client knows; and one that may have: an `mg` that makes an item where there is none
+-- whether these marks have W, and whether a reply shows it: the client of an `mg` is the one to fill the item
+abbrev pub is_win : Marks → Bool
+is_win Won = true
+is_win WonStale = true
+is_win marks = false
+
+abbrev pub shows_win : Reply (List ℕ) → Bool
+shows_win (Meta shown value) = is_win shown.marks
+shows_win reply = false
+
+-- a command that changed what is stored, as its client knows; and one that may have: an `mg` with `N` that is shown W
 abbrev pub has_written : Atom (List ℕ) → Reply (List ℕ) → Bool
 has_written (atoms.Get key exptime with_cas) reply = false
 has_written (atoms.Update update) reply = is_done reply
@@ -34,7 +46,7 @@ has_written (atoms.Meta (metas.Update update show)) reply = is_done reply
 abbrev pub may_have_written : Atom (List ℕ) → Reply (List ℕ) → Bool
 may_have_written (atoms.Get key exptime with_cas) reply = false
 may_have_written (atoms.Update update) reply = is_done reply
-may_have_written (atoms.Meta (metas.Get key get)) reply = is_some get.create && is_done reply
+may_have_written (atoms.Meta (metas.Get key get)) reply = is_some get.create && shows_win reply
 may_have_written (atoms.Meta (metas.Update update show)) reply = is_done reply
 
 -- none of these wrote, as their clients know; and none may have written

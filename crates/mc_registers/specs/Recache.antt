@@ -6,19 +6,13 @@ use Rattle.mc_item.specs.declared.bodies.Body.{Body}
 use Rattle.mc_request.specs.declared.meta.MetaCommand.TheVariants as metas
 use Rattle.mc_request.specs.declared.parts.Atom.{Atom}
 use Rattle.mc_request.specs.declared.parts.Atom.TheVariants as atoms
-use Rattle.mc_reply.specs.declared.replies.Marks.{Marks}
-use Rattle.mc_reply.specs.declared.replies.Marks.TheVariants.{Won, WonStale}
 use Rattle.mc_reply.specs.declared.replies.Reply.{Reply}
 use Rattle.mc_reply.specs.declared.replies.Reply.TheVariants.{Meta}
 use Rattle.mc_registers.specs.Registers.{Done, IsRun}
 use Rattle.mc_registers.specs.Guarantees.{HaveNotWritten, IsSteadyRun, may_have_written}
+pub use Rattle.mc_registers.specs.Guarantees.{is_win}
 
--- whether these marks have W, and whether a reply to an `mg` shows it: its client is the one to fill the item
-abbrev pub is_win : Marks → Bool
-is_win Won = true
-is_win WonStale = true
-is_win marks = false
-
+-- whether a reply to an `mg` shows W
 abbrev pub has_won : Atom (List ℕ) → Reply (List ℕ) → Bool
 has_won (atoms.Meta (metas.Get key get)) (Meta shown value) = is_win shown.marks
 has_won atom reply = false

@@ -5,7 +5,7 @@ ghost use Rattle.mc_registers.specs.Guarantees.{ReadsSeeOwnWrites, CountersCount
 ghost use Rattle.mc_registers.specs.Recache.{RecacheHasOneWinner, EachWinIsMarked};
 
 /// A client that was told that its value is stored, and is then shown a value, is shown its own, unless another command was told that it
-/// stored, counted or deleted in between, or an `mg` may have made an item. So it is of a hit, and of an `mg` without `N`. In the run
+/// stored, counted or deleted in between, or an `mg` with `N` was shown W. So it is of a hit, and of each other `mg`. In the run
 /// `another_value_is_read` another command stored. In the runs `other_values_are_read` the value was joined to another or refused, or an `mg`
 /// made an item.
 pub fn reads_see_own_writes()

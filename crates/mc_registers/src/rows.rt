@@ -55,4 +55,5 @@ pub fn marks_are_won()
     ensures ending { IsLife (storing_at 100 ∷ recaching_at 105 Won ∷ recaching_at 106 Sent ∷ []) }
     ensures stale { IsLife (storing_at 100 ∷ recaching_at 105 Won ∷ invalidating_at 106 ∷ recaching_at 107 WonStale ∷ recaching_at 108 StaleSent ∷ []) }
     ensures fresh { IsLife (storing Set (codes "a") Stored ∷ recaching_at 105 Plain ∷ []) }
+    ensures hit { IsLife (storing Set (codes "a") Stored ∷ making Plain ∷ getting (a_hit (codes "a")) ∷ []) }
 {}

@@ -12,3 +12,6 @@ returns-clause-stale c = (false, Ok 1, refl, refl, (false, Ok 2, refl, refl, (fa
 
 pub returns-clause-fresh : goal.returns-clause-fresh
 returns-clause-fresh c = (false, Ok 1, refl, refl, (false, Ok 2, refl, refl, tt))
+
+pub returns-clause-hit : goal.returns-clause-hit
+returns-clause-hit c = (false, Ok 1, refl, refl, (false, Ok 2, refl, refl, (false, Ok 2, refl, refl, tt)))
