@@ -50,7 +50,7 @@ run_says counter order histories log key h x done reply tells answered =
     ap (λ (a : Atom (List ℕ)). spelling_of a done.reply) (sym same) ∙ sym tells.reply ∙ entry_says counter order histories log key h x reply answered
 
 -- a `get` that was answered by a hit is one in its run
-read_hits : (counter : ℕ) (order : Order) (histories : ℕ → List Entry) (log : Log) (key : List ℕ) → IsLinearizable counter order histories log key
+pub read_hits : (counter : ℕ) (order : Order) (histories : ℕ → List Entry) (log : Log) (key : List ℕ) → IsLinearizable counter order histories log key
     → (x : Executed order histories key) (done : Done) (at : List ℕ) (touch : Option ℤ) (with_cas : Bool) (flags : ℕ) (number : Option ℕ) (value : List ℕ)
     → Tells order x.place x.entry done → x.atom ≡ atoms.Get at touch with_cas → WasAnsweredBy order log (tag_in x.entry) (Hit flags number value)
     → key_onto at done.reply end_line ≡ key_onto at (Hit flags number value) end_line

@@ -223,7 +223,7 @@ quiet_or_wrote order histories key place low high (x ∷ xs) (done ∷ run) risi
     ]) refl
 
 -- where none has written, none has in the run
-told_has : (order : Order) (histories : ℕ → List Entry) (key : List ℕ) (x : Executed order histories key) (done : Done) → Tells order x.place x.entry done
+pub told_has : (order : Order) (histories : ℕ → List Entry) (key : List ℕ) (x : Executed order histories key) (done : Done) → Tells order x.place x.entry done
     → has_written done.atom done.reply ≡ true → HasWritten x
 told_has order histories key x done tells wrote =
     let same : done.atom ≡ x.atom = told-atom order histories key x done tells in (

@@ -100,15 +100,18 @@ win_shows key get (Fault TooLarge) = refl
 win_shows key get (Fault CasUsedUp) = refl
 win_shows key get (Fault OutOfMemory) = refl
 
+pub win_same : (key : List ℕ) (get : MetaGet) (own reply : AReply (List ℕ)) → meta_spelling own ≡ meta_spelling reply
+    → has_won (atoms.Meta (metas.Get key get)) own ≡ has_won (atoms.Meta (metas.Get key get)) reply
+win_same key get own reply same = sym (win_shows key get own) ∙ ap (λ (bytes : List ℕ). has_w bytes) same ∙ win_shows key get reply
+
 win_read : (atom : Atom (List ℕ)) (own reply : AReply (List ℕ)) → spelling_of atom own ≡ spelling_of atom reply → has_won atom reply ≡ true → has_won atom own ≡ true
 win_read (atoms.Get key touch with_cas) own reply same won = absurd cc
 win_read (atoms.Update update) own reply same won = absurd cc
 win_read (atoms.Meta (metas.Update update show)) own reply same won = absurd cc
-win_read (atoms.Meta (metas.Get key get)) own reply same won =
-    sym (win_shows key get own) ∙ ap (λ (bytes : List ℕ). has_w bytes) same ∙ win_shows key get reply ∙ won
+win_read (atoms.Meta (metas.Get key get)) own reply same won = win_same key get own reply same ∙ won
 
 -- a client that was shown W is so in its run
-run_wins : (counter : ℕ) (order : Order) (histories : ℕ → List Entry) (log : Log) (key : List ℕ) → IsLinearizable counter order histories log key
+pub run_wins : (counter : ℕ) (order : Order) (histories : ℕ → List Entry) (log : Log) (key : List ℕ) → IsLinearizable counter order histories log key
     → (x : Executed order histories key) (done : Done) → Tells order x.place x.entry done → WasShownWin log x → has_won done.atom done.reply ≡ true
 run_wins counter order histories log key h x done tells wins =
     let same : done.atom ≡ x.atom = told-atom order histories key x done tells in

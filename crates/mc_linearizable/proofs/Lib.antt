@@ -12,3 +12,5 @@ pub mod ClientLemmas
 pub mod CounterLemmas
 pub mod FillLemmas
 pub mod AddLemmas
+pub mod ShownLemmas
+pub mod WinLemmas

@@ -13,6 +13,7 @@ use Rattle.mc_reply.specs.MetaSpelling.{meta_spelling}
 use Rattle.mc_reply.specs.Spelling.{cas_onto, end_line, key_onto, reply_line, spelling_of}
 use Rattle.mc_reply.specs.declared.replies.Reply.{Reply}
 use Rattle.mc_reply.specs.declared.replies.Reply.TheVariants.{Stored, NotStored, Exists, NotFound, Deleted, Touched, Flushed, Number, Miss, Hit, Meta, Fault}
+use Rattle.mc_reply.specs.declared.replies.Shown.{Shown}
 use Rattle.mc_registers.specs.Guarantees.{is_done, update_in}
 use Rattle.mc_registers.proofs.HitLemmas.{is_refused}
 
@@ -235,3 +236,30 @@ number_told (Fault NonNumeric) number same = absurd (count_clash (reply_line (Fa
 number_told (Fault TooLarge) number same = absurd (count_clash (reply_line (Fault TooLarge)) number same refl)
 number_told (Fault CasUsedUp) number same = absurd (count_clash (reply_line (Fault CasUsedUp)) number same refl)
 number_told (Fault OutOfMemory) number same = absurd (count_clash (reply_line (Fault OutOfMemory)) number same refl)
+
+-- what `mg` answers as a value is one
+pub record IsValue (reply : Reply (List ℕ)) : Type 0 where
+  pub shown : Shown
+  pub value : List ℕ
+  pub is : reply ≡ Meta shown (Some value)
+
+no_value : (bytes : List ℕ) (begins : ℕ) (shown : Shown) (value : List ℕ) → first_byte bytes ≡ begins → begins < 86 → bytes ≡ meta_spelling (Meta shown (Some value)) → ⊥
+no_value bytes begins shown value is low same =
+    let h : first_byte bytes ≡ 86 = ap (λ (bs : List ℕ). first_byte bs) same in
+    omega (arith, is, low, h)
+
+pub value_read : (reply : Reply (List ℕ)) (shown : Shown) (value : List ℕ) → meta_spelling reply ≡ meta_spelling (Meta shown (Some value)) → IsValue reply
+value_read (Meta own (Some text)) shown value same = record { shown = own; value = text; is = refl }
+value_read (Meta own None) shown value same = absurd (no_value (meta_spelling (Meta own None)) 72 shown value refl (omega arith) same)
+value_read Stored shown value same = absurd (no_value [] 0 shown value refl (omega arith) same)
+value_read NotStored shown value same = absurd (no_value (meta_spelling NotStored) 78 shown value refl (omega arith) same)
+value_read Exists shown value same = absurd (no_value (meta_spelling Exists) 69 shown value refl (omega arith) same)
+value_read NotFound shown value same = absurd (no_value (meta_spelling NotFound) 78 shown value refl (omega arith) same)
+value_read Deleted shown value same = absurd (no_value [] 0 shown value refl (omega arith) same)
+value_read Touched shown value same = absurd (no_value [] 0 shown value refl (omega arith) same)
+value_read Flushed shown value same = absurd (no_value [] 0 shown value refl (omega arith) same)
+value_read (Number number) shown value same = absurd (no_value [] 0 shown value refl (omega arith) same)
+value_read Miss shown value same = absurd (no_value (meta_spelling Miss) 69 shown value refl (omega arith) same)
+value_read (Hit flags cas text) shown value same = absurd (no_value [] 0 shown value refl (omega arith) same)
+value_read (Fault fault) shown value same =
+    absurd (true≢false (sym (refusal_refuses (Fault fault) refl).1 ∙ ap (λ bytes. refuses bytes) same ∙ (done_accepts (Meta shown (Some value)) refl).1))

@@ -1,9 +1,10 @@
 -- What the clients of a pool may rely on, of one key: this project's own. The laws of a register (mc_registers) are of runs. These are of the
 -- commands on a key that servers executed, in the key's one order, and of the replies that the proxy took. A lost command is in that order too,
 -- if it was executed.
-use Rattle.std.specs.Prelude.{ℕ, suc, ◌≡◌, ◌<◌, ◌≤◌, ◌^◌, ◌⊎◌, ℤ, Bool, true, false, List, [], ◌∷◌, ◌++◌, Option, Some, None}
+use Rattle.std.specs.Prelude.{ℕ, suc, ◌≡◌, ◌<◌, ◌≤◌, ◌^◌, ◌⊎◌, ℤ, Bool, true, false, List, [], ◌∷◌, ◌++◌, Option, Some, None, IfSome}
 use Rattle.mc_item.specs.declared.bodies.Body.{Body}
 use Rattle.mc_request.specs.declared.meta.Counting.{Counting}
+use Rattle.mc_request.specs.declared.meta.MetaCommand.TheVariants as metas
 use Rattle.mc_request.specs.declared.parts.Atom.{Atom}
 use Rattle.mc_request.specs.declared.parts.Atom.TheVariants as atoms
 use Rattle.mc_request.specs.declared.parts.StoreMode.{StoreMode}
@@ -11,7 +12,7 @@ use Rattle.mc_request.specs.declared.parts.StoreMode.TheVariants.{Add}
 use Rattle.mc_request.specs.declared.parts.Update.TheVariants.{Count, Store}
 use Rattle.mc_reply.specs.Spelling.{spelling_of}
 use Rattle.mc_reply.specs.declared.replies.Reply.{Reply as AReply}
-use Rattle.mc_reply.specs.declared.replies.Reply.TheVariants.{Hit, Number}
+use Rattle.mc_reply.specs.declared.replies.Reply.TheVariants.{Hit, Meta, Number}
 use Rattle.mc_route.specs.declared.outcomes.Outcome.TheVariants.{Reply}
 use Rattle.mc_link.specs.declared.turns.Tag.{Tag}
 use Rattle.mc_account.specs.Lookups.{outcome_at}
@@ -20,7 +21,7 @@ use Rattle.mc_history.specs.declared.entries.Entry.{Entry}
 use Rattle.mc_history.specs.Histories.{tag_in}
 use Rattle.mc_cache.specs.Step.{counted}
 use Rattle.mc_registers.specs.Guarantees.{IsSteadyRun, has_written, is_done, is_whole, may_have_written, update_in}
-use Rattle.mc_registers.specs.Recache.{has_won}
+use Rattle.mc_registers.specs.Recache.{has_won, is_win}
 use Rattle.mc_registers.specs.Registers.{Done, IsRun}
 use Rattle.mc_registers.specs.Told.{Tells}
 use Rattle.mc_world.specs.Logs.{Log, taken_before}
@@ -108,6 +109,31 @@ NoneMayHaveWritten {order} {histories} {key} a b = (other : Executed order histo
 abbrev pub NoneHasWritten : {order : Order} {histories : ℕ → List Entry} {key : List ℕ} → Executed order histories key → Executed order histories key → Type 0
 NoneHasWritten {order} {histories} {key} a b = (other : Executed order histories key) → ComesBetween a other b → HasWritten other → ⊥
 
+-- A command hits by a reply: `get`, `gets`, `gat` or `gats` by a hit. So does `mg` by a value, if it did not make the item that it shows: it asks for none
+-- to be made, by `N`, or its client is not shown W.
+abbrev pub HitsBy : Atom (List ℕ) → AReply (List ℕ) → Type 0
+HitsBy (atoms.Get key exptime with_cas) (Hit flags number value) = Unit {0}
+HitsBy (atoms.Meta (metas.Get key get)) (Meta shown (Some value)) = (get.create ≡ None) ⊎ (is_win shown.marks ≡ false)
+HitsBy atom reply = ⊥
+
+-- a reply has this value, and these flags if it has any
+abbrev pub HasContent : AReply (List ℕ) → ℕ → List ℕ → Type 0
+HasContent (Hit own number shown) flags value = (own ≡ flags) × (shown ≡ value)
+HasContent (Meta shown (Some text)) flags value = IfSome shown.flags (λ (own : ℕ). own ≡ flags) × (text ≡ value)
+HasContent reply flags value = ⊥
+
+-- a reply has the bytes of one that has them
+abbrev pub ShowsContent : Atom (List ℕ) → AReply (List ℕ) → ℕ → List ℕ → Type 0
+ShowsContent atom reply flags value = (same : AReply (List ℕ)) × (spelling_of atom reply ≡ spelling_of atom same) × HasContent same flags value
+
+-- A hit shows the last store. A whole value was stored, be it by a lost command, and no command between this store and a hit may have written. The hit
+-- shows the value, and its flags if it shows any.
+abbrev pub AHitShowsTheLastStore : Order → (ℕ → List Entry) → Log → List ℕ → Type 0
+AHitShowsTheLastStore order histories log key =
+    (store read : Executed order histories key) (flags : ℕ) (value : List ℕ) (hit : AReply (List ℕ)) → StoresWhole store.atom flags value → HasWritten store
+    → HitsBy read.atom hit → WasAnsweredBy order log (tag_in read.entry) hit → ComesFirst store read → NoneMayHaveWritten store read
+    → ShowsContent read.atom hit flags value
+
 -- `incr` and `decr`: a count that makes no item
 pub record CountsOn (atom : Atom (List ℕ)) (counting : Counting) : Type 0 where
   pub key : List ℕ
@@ -159,6 +185,15 @@ AnAddExcludes order histories log key =
     → (between : List (Executed order histories key)) → ComeBetween first between add
     → (all : List Done) (last : Done) → AreTold order between all → Tells order add.place add.entry last
     → (number : ℕ) (body : Body) → IsSteadyRun number (Some body) (all ++ last ∷ []) → ⊥
+
+-- One client wins while the item stays. Two clients were shown W, and no command between the two has written. Then the item was forgotten, or was dead: no
+-- register that keeps its item gives the replies from the first win to the second. So it is also if each client asks by `N`.
+abbrev pub OneClientWins : Order → (ℕ → List Entry) → Log → List ℕ → Type 0
+OneClientWins order histories log key =
+    (winner rival : Executed order histories key) → WasShownWin log winner → WasShownWin log rival → NoneHasWritten winner rival
+    → (between : List (Executed order histories key)) → ComeBetween winner between rival
+    → (one two : Done) (all : List Done) → Tells order winner.place winner.entry one → AreTold order between all → Tells order rival.place rival.entry two
+    → (number : ℕ) (held : Option Body) → IsSteadyRun number held (one ∷ (all ++ two ∷ [])) → ⊥
 
 -- commands of a server, in order, with numbers from one up to another
 abbrev pub AreRising : {order : Order} {histories : ℕ → List Entry} {key : List ℕ} → ℕ → ℕ → ℕ → List (Executed order histories key) → Type 0

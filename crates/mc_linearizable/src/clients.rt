@@ -6,7 +6,7 @@ ghost use Rattle.mc_account.specs.Orders.{Order};
 ghost use Rattle.mc_history.specs.declared.entries.Entry.{Entry};
 ghost use Rattle.mc_world.specs.Logs.{Log};
 ghost use Rattle.mc_linearizable.specs.Linearizable.{IsLinearizablePool};
-ghost use Rattle.mc_linearizable.specs.Clients.{AnAddExcludes, ClientsCount, ClientsLoseNoCas, ClientsReadOwnWrites, HasRun, OneClientFills};
+ghost use Rattle.mc_linearizable.specs.Clients.{AHitShowsTheLastStore, AnAddExcludes, ClientsCount, ClientsLoseNoCas, ClientsReadOwnWrites, HasRun, OneClientFills, OneClientWins};
 
 /// All commands on a key that a server executed in one of its lives, in order, are a run of the key's register. So each law of runs
 /// (`mc_registers`) is one of commands that clients sent.
@@ -24,6 +24,14 @@ pub fn clients_read_own_writes()
         → IsLinearizablePool losses counter order texts outs histories log → (key : List ℕ) → ClientsReadOwnWrites order histories log key }
 {}
 
+/// A whole value was stored, also by a lost command, and no command between this store and a hit may have written. The hit shows the value, and its
+/// flags if it shows any. A hit is one of `get`, `gets`, `gat` or `gats`, or a value that `mg` shows of an item which it did not make. In the run
+/// `another_value_is_read` (`mc_registers`) another store comes between.
+pub fn a_hit_shows_the_last_store()
+    ensures { (losses : Losses) (counter : ℕ) (order : Order) (texts outs : ℕ → List ℕ) (histories : ℕ → List Entry) (log : Log)
+        → IsLinearizablePool losses counter order texts outs histories log → (key : List ℕ) → AHitShowsTheLastStore order histories log key }
+{}
+
 /// A hit of `gets` or `gats` showed a number. A `cas` with it, or an `ms` with `C`, was taken after that answer, and stored, in the same life of the
 /// same server. No command between the two has written. In the run `numbers_fit_another_life` (`mc_registers`) the server began anew in between.
 pub fn clients_lose_no_cas()
@@ -39,11 +47,19 @@ pub fn clients_count()
 {}
 
 /// Two clients were shown W by `mg`, and no command between the two has written. Then the second asked for an item to be made, by `N`. It says
-/// nothing of clients that always ask by `N`: of them `recache_has_one_winner` (`mc_registers`) speaks. In two of the runs `marks_are_won_again`
-/// (`mc_registers`) the item is called stale, or stored anew.
+/// nothing of clients that always ask by `N`: of them `one_client_wins` speaks. In two of the runs `marks_are_won_again` (`mc_registers`) the item is
+/// called stale, or stored anew.
 pub fn one_client_fills()
     ensures { (losses : Losses) (counter : ℕ) (order : Order) (texts outs : ℕ → List ℕ) (histories : ℕ → List Entry) (log : Log)
         → IsLinearizablePool losses counter order texts outs histories log → (key : List ℕ) → OneClientFills order histories log key }
+{}
+
+/// Two clients were shown W by `mg`, and no command between the two has written. Then the item was forgotten or dead in between, also if each client asks
+/// by `N`. So one client fills an item while it stays. In the run `marks_are_won_again` (`mc_registers`) the item is forgotten, or another command
+/// writes.
+pub fn one_client_wins()
+    ensures { (losses : Losses) (counter : ℕ) (order : Order) (texts outs : ℕ → List ℕ) (histories : ℕ → List Entry) (log : Log)
+        → IsLinearizablePool losses counter order texts outs histories log → (key : List ℕ) → OneClientWins order histories log key }
 {}
 
 /// An `add` stored, and no command between an earlier one and it may have written. If an item was held after the earlier one, it was forgotten, or

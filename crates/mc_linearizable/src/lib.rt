@@ -11,8 +11,8 @@ mod losses;
 mod worlds;
 
 pub use clients::{
-    an_add_excludes, clients_count, clients_lose_no_cas, clients_read_own_writes,
-    commands_are_in_their_run, one_client_fills,
+    a_hit_shows_the_last_store, an_add_excludes, clients_count, clients_lose_no_cas,
+    clients_read_own_writes, commands_are_in_their_run, one_client_fills, one_client_wins,
 };
 pub use laws::{
     every_run_is_linearizable, pipelined_commands_keep_their_order, pools_are_linearizable,
