@@ -14,3 +14,8 @@ pub mod FillLemmas
 pub mod AddLemmas
 pub mod ShownLemmas
 pub mod WinLemmas
+pub mod SmallAccounts
+pub mod EarlyGet
+pub mod LostSecond
+pub mod JoinRing
+pub mod JoinExample

@@ -18,7 +18,8 @@ pub fn commands_are_in_their_run()
 
 /// A client stored a whole value, and was answered so. A `get` that was taken after that answer, and hits, shows it, or another command that may
 /// have written comes between the two. So it is whichever servers joined or restarted. In the run `another_value_is_read` (`mc_registers`) the
-/// other command is another store, and in the account `lost_commands_may_come_late` it is a lost one.
+/// other command is another store, and in the account `lost_commands_may_come_late` it is a lost one. In the account `early_gets_show_older_values`
+/// the get was taken before that answer.
 pub fn clients_read_own_writes()
     ensures { (losses : Losses) (counter : ℕ) (order : Order) (texts outs : ℕ → List ℕ) (histories : ℕ → List Entry) (log : Log)
         → IsLinearizablePool losses counter order texts outs histories log → (key : List ℕ) → ClientsReadOwnWrites order histories log key }
@@ -33,7 +34,8 @@ pub fn a_hit_shows_the_last_store()
 {}
 
 /// A hit of `gets` or `gats` showed a number. A `cas` with it, or an `ms` with `C`, was taken after that answer, and stored, in the same life of the
-/// same server. No command between the two has written. In the run `numbers_fit_another_life` (`mc_registers`) the server began anew in between.
+/// same server. No command between the two has written. In the run `numbers_fit_another_life` (`mc_registers`) the server began anew in between, and
+/// in the account `numbers_fit_another_server` another server joined.
 pub fn clients_lose_no_cas()
     ensures { (losses : Losses) (counter : ℕ) (order : Order) (texts outs : ℕ → List ℕ) (histories : ℕ → List Entry) (log : Log)
         → IsLinearizablePool losses counter order texts outs histories log → (key : List ℕ) → ClientsLoseNoCas order histories log key }

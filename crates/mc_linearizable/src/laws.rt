@@ -34,7 +34,8 @@ pub fn every_run_is_linearizable()
 {}
 
 /// Of two commands of one client on a key, whose replies the proxy took, the one that the client sent first comes first. So it is also if the
-/// client did not wait for the first answer. In the account `lost_commands_may_come_late` the first one was lost.
+/// client did not wait for the first answer. In the account `lost_commands_may_come_late` the first one was lost, and in
+/// `lost_commands_may_come_early` the second.
 pub fn pipelined_commands_keep_their_order()
     ensures { (losses : Losses) (ring : RingState) (opening : CacheState) (order : Order) (texts outs : ℕ → List ℕ) (histories : ℕ → List Entry) (log : Log)
         → IsRing ring → Accounts losses ring opening order texts outs histories log → (key : List ℕ) (a b : Executed order histories key)

@@ -8,6 +8,8 @@
 mod clients;
 mod laws;
 mod losses;
+mod needs;
+mod rows;
 mod worlds;
 
 pub use clients::{
@@ -20,4 +22,8 @@ pub use laws::{
 pub use losses::{
     lost_commands_happen_at_most_once, lost_commands_may_come_late, lost_commands_may_never_happen,
 };
+pub use needs::{
+    early_gets_show_older_values, lost_commands_may_come_early, numbers_fit_another_server,
+};
+pub use rows::a_restart_and_a_join_are_linearizable;
 pub use worlds::worlds_are_linearizable;
