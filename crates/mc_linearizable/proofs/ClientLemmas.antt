@@ -76,7 +76,7 @@ store_done counter order histories log key h x front back done reply mode compar
     )
 
 -- a command has a life, since a history has an entry for each turn of its server
-lived : (losses : Losses) (counter : ℕ) (order : Order) (texts outs : ℕ → List ℕ) (histories : ℕ → List Entry) (log : Log)
+pub lived : (losses : Losses) (counter : ℕ) (order : Order) (texts outs : ℕ → List ℕ) (histories : ℕ → List Entry) (log : Log)
     → IsLinearizablePool losses counter order texts outs histories log → (key : List ℕ) (x : Executed order histories key) → IsOfLife x.place x.number log
 lived losses counter order texts outs histories log h key x =
     let many : length (histories x.place) ≡ number_of (serves x.place) log =

@@ -1,5 +1,5 @@
--- An account of key `k`, two servers and a restart. A client sets `a`, and gets it with its number. The server restarts, and the client misses the key.
--- Another server joins, and owns the key from then on. The client sets `b` there, under the same number, and a `cas` with that number stores `c`.
+-- An account of key `k`, two servers and a restart. A client sets `a`, and gets it with its number. The server restarts, and the client misses the
+-- key. Another server joins, and owns the key from then on. The client sets `b` there, under the same number, and a `cas` with that number stores `c`.
 use Rattle.std.proofs.Common.{◌≡◌, ℕ, zero, suc, ◌<◌, ◌==◌, inl, inr, Bool, true, false, if◌then◌else◌, List, [], ◌∷◌, ◌++◌, map, take, drop, None, Some, refl, sym, ap, ap₂, subst, arith}
 use Rattle.std.specs.Prelude.{codes, pos}
 use Rattle.std.specs.Fmt.{digits}

@@ -1,5 +1,5 @@
 -- What a hit shows of the last store.
-use Rattle.std.proofs.Common.{◌≡◌, ◌∙◌, ℕ, suc, ◌||◌, ◌⊎◌, inl, inr, ℤ, Bool, true, false, cond, List, [], ◌∷◌, ◌++◌, append_assoc, Option, None, Some, IfSome, Ok, Err, refl, sym, ap, subst}
+use Rattle.std.proofs.Common.{◌≡◌, ◌∙◌, ℕ, suc, ◌<◌, ◌≤◌, ◌||◌, ◌⊎◌, inl, inr, ℤ, Bool, true, false, cond, List, [], ◌∷◌, ◌++◌, append_assoc, Option, None, Some, IfSome, Ok, Err, refl, sym, ap, subst, arith}
 use Rattle.std.specs.Bool.{then_some}
 use Rattle.std.specs.Option.{option_map_or}
 use Rattle.std.proofs.lemmas.Bool.{true≢false}
@@ -31,13 +31,13 @@ use Rattle.mc_registers.specs.Registers.{Done, Given, IsRun, get_as, last_by, me
 use Rattle.mc_registers.specs.Told.{Tells}
 use Rattle.mc_registers.proofs.GuaranteeLemmas.{reads_see_own_writes}
 use Rattle.mc_registers.proofs.HitLemmas.{quiet-misses, run-told}
-use Rattle.mc_world.specs.Logs.{Log}
+use Rattle.mc_world.specs.Logs.{Log, taken_before}
 use Rattle.mc_linearizable.specs.Linearizable.{Executed, IsLinearizable, IsLinearizablePool}
-use Rattle.mc_linearizable.specs.Clients.{AHitShowsTheLastStore, HasContent, HasWritten, HitsBy, StoresWhole, WasAnsweredBy}
+use Rattle.mc_linearizable.specs.Clients.{AHitHasAStore, AHitShowsTheLastStore, HasContent, HasWritten, HitsBy, StoresWhole, WasAnsweredBy}
 use Rattle.mc_linearizable.proofs.SpelledLemmas.{IsHit, IsValue, hit_read, refused_apart, value_read}
-use Rattle.mc_linearizable.proofs.LifeRuns.{told-atom}
-use Rattle.mc_linearizable.proofs.CutLemmas.{quiet_or_wrote}
-use Rattle.mc_linearizable.proofs.ClientLemmas.{one_life, read_hits, run_says, writer_between}
+use Rattle.mc_linearizable.proofs.LifeRuns.{life_run, told-atom}
+use Rattle.mc_linearizable.proofs.CutLemmas.{cut, quiet_or_wrote}
+use Rattle.mc_linearizable.proofs.ClientLemmas.{lived, one_life, read_hits, run_says, writer_between}
 use Rattle.mc_linearizable.proofs.FillLemmas.{win_same}
 
 -- what a command leaves, and its reply
@@ -299,4 +299,30 @@ hit_shows losses counter order texts outs histories log pool key store read flag
           ] in
           let s = seen counter order histories log key h read c.front c.back c.done hit c.tells c.run by answered in
           absurd (quiet-misses c.front s.back s.read counter s.key s.touch s.with_cas s.flags s.number s.value s.run quiet s.reads s.hits))
+    ]
+
+-- nothing is held when a life begins, so before a hit a command may have written
+pub hit_has_store : (losses : Losses) (counter : ℕ) (order : Order) (texts outs : ℕ → List ℕ) (histories : ℕ → List Entry) (log : Log)
+    → IsLinearizablePool losses counter order texts outs histories log → (key : List ℕ) → AHitHasAStore order histories log key
+hit_has_store losses counter order texts outs histories log pool key read hit by answered =
+    let h = pool.keys key in
+    let of = lived losses counter order texts outs histories log pool key read in
+    let from = of.from in
+    let to = of.to in
+    let low : ℕ = taken_before read.place of.life log in
+    let c = cut counter order histories log key of.life read (life_run counter order histories log key h read.place of.life) (from, to) in
+    let s = seen counter order histories log key h read c.front c.back c.done hit c.tells c.run by answered in
+    elim (quiet_or_wrote order histories key read.place low read.number c.commands c.front c.rising c.told) [
+      | inl quiet ↦ absurd (quiet-misses c.front s.back s.read counter s.key s.touch s.with_cas s.flags s.number s.value s.run quiet s.reads s.hits)
+      | inr w ↦ (let after = w.from in
+          let before = w.to in
+          let inside : (taken_before read.place of.life log ≤ w.x.number) × (w.x.number < taken_before read.place (suc of.life) log) = (after, omega (arith, before, to)) in (
+            w.x,
+            of.life,
+            w.at,
+            subst (λ (p : ℕ). (taken_before p of.life log ≤ w.x.number) × (w.x.number < taken_before p (suc of.life) log)) (sym w.at) inside,
+            (from, to),
+            inr (w.at, w.to),
+            w.wrote,
+          ))
     ]

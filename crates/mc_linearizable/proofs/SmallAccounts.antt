@@ -1,5 +1,5 @@
--- Small accounts: of one client, whose requests are of one command each, and of two servers at most. What is to be shown of each request and each entry
--- is told in sequence.
+-- Small accounts: of one client, whose requests are of one command each, and of two servers at most. What is to be shown of each request and each
+-- entry is told in sequence.
 use Rattle.std.proofs.Common.{◌≡◌, ◌∙◌, ℕ, zero, suc, ◌+◌, ◌<◌, ◌≤◌, ◌==◌, ◌⊎◌, inl, inr, Bool, true, false, if◌then◌else◌, List, [], ◌∷◌, ◌++◌, length, map, take, drop, append-nil, All, None, Some, slice_get, refl, sym, ap, ap₂, subst, arith}
 use Rattle.std.specs.Prelude.{codes, pos}
 use Rattle.std.specs.List.{AllByRecursion, list_all}

@@ -109,8 +109,8 @@ NoneMayHaveWritten {order} {histories} {key} a b = (other : Executed order histo
 abbrev pub NoneHasWritten : {order : Order} {histories : ℕ → List Entry} {key : List ℕ} → Executed order histories key → Executed order histories key → Type 0
 NoneHasWritten {order} {histories} {key} a b = (other : Executed order histories key) → ComesBetween a other b → HasWritten other → ⊥
 
--- A command hits by a reply: `get`, `gets`, `gat` or `gats` by a hit. So does `mg` by a value, if it did not make the item that it shows: it asks for none
--- to be made, by `N`, or its client is not shown W.
+-- A command hits by a reply. `get`, `gets`, `gat` and `gats` show an item. `mg` shows a value, and did not make the item: it does not ask for that, by
+-- `N`, or its client is not shown W.
 abbrev pub HitsBy : Atom (List ℕ) → AReply (List ℕ) → Type 0
 HitsBy (atoms.Get key exptime with_cas) (Hit flags number value) = Unit {0}
 HitsBy (atoms.Meta (metas.Get key get)) (Meta shown (Some value)) = (get.create ≡ None) ⊎ (is_win shown.marks ≡ false)
@@ -126,13 +126,20 @@ HasContent reply flags value = ⊥
 abbrev pub ShowsContent : Atom (List ℕ) → AReply (List ℕ) → ℕ → List ℕ → Type 0
 ShowsContent atom reply flags value = (same : AReply (List ℕ)) × (spelling_of atom reply ≡ spelling_of atom same) × HasContent same flags value
 
--- A hit shows the last store. A whole value was stored, be it by a lost command, and no command between this store and a hit may have written. The hit
--- shows the value, and its flags if it shows any.
+-- A hit shows the last store. A whole value was stored, be it by a lost command. A hit comes after it, and no command between the two may have written.
+-- The hit shows the value, and its flags if it shows any.
 abbrev pub AHitShowsTheLastStore : Order → (ℕ → List Entry) → Log → List ℕ → Type 0
 AHitShowsTheLastStore order histories log key =
     (store read : Executed order histories key) (flags : ℕ) (value : List ℕ) (hit : AReply (List ℕ)) → StoresWhole store.atom flags value → HasWritten store
     → HitsBy read.atom hit → WasAnsweredBy order log (tag_in read.entry) hit → ComesFirst store read → NoneMayHaveWritten store read
     → ShowsContent read.atom hit flags value
+
+-- A hit has a store: before it, in the same life of the same server, a command may have written.
+abbrev pub AHitHasAStore : Order → (ℕ → List Entry) → Log → List ℕ → Type 0
+AHitHasAStore order histories log key =
+    (read : Executed order histories key) (hit : AReply (List ℕ)) → HitsBy read.atom hit → WasAnsweredBy order log (tag_in read.entry) hit
+    → (store : Executed order histories key) × (life : ℕ) × (store.place ≡ read.place) × IsInLife life log store × IsInLife life log read
+    × ComesFirst store read × MayHaveWritten store
 
 -- `incr` and `decr`: a count that makes no item
 pub record CountsOn (atom : Atom (List ℕ)) (counting : Counting) : Type 0 where
@@ -186,8 +193,8 @@ AnAddExcludes order histories log key =
     → (all : List Done) (last : Done) → AreTold order between all → Tells order add.place add.entry last
     → (number : ℕ) (body : Body) → IsSteadyRun number (Some body) (all ++ last ∷ []) → ⊥
 
--- One client wins while the item stays. Two clients were shown W, and no command between the two has written. Then the item was forgotten, or was dead: no
--- register that keeps its item gives the replies from the first win to the second. So it is also if each client asks by `N`.
+-- One client wins while the item stays. Two clients were shown W, and no command between the two has written. Then the item was forgotten, or was dead:
+-- no register that keeps its item gives the replies from the first win to the second. So it is also if each client asks by `N`.
 abbrev pub OneClientWins : Order → (ℕ → List Entry) → Log → List ℕ → Type 0
 OneClientWins order histories log key =
     (winner rival : Executed order histories key) → WasShownWin log winner → WasShownWin log rival → NoneHasWritten winner rival

@@ -6,7 +6,7 @@ ghost use Rattle.mc_account.specs.Orders.{Order};
 ghost use Rattle.mc_history.specs.declared.entries.Entry.{Entry};
 ghost use Rattle.mc_world.specs.Logs.{Log};
 ghost use Rattle.mc_linearizable.specs.Linearizable.{IsLinearizablePool};
-ghost use Rattle.mc_linearizable.specs.Clients.{AHitShowsTheLastStore, AnAddExcludes, ClientsCount, ClientsLoseNoCas, ClientsReadOwnWrites, HasRun, OneClientFills, OneClientWins};
+ghost use Rattle.mc_linearizable.specs.Clients.{AHitHasAStore, AHitShowsTheLastStore, AnAddExcludes, ClientsCount, ClientsLoseNoCas, ClientsReadOwnWrites, HasRun, OneClientFills, OneClientWins};
 
 /// All commands on a key that a server executed in one of its lives, in order, are a run of the key's register. So each law of runs
 /// (`mc_registers`) is one of commands that clients sent.
@@ -25,12 +25,19 @@ pub fn clients_read_own_writes()
         → IsLinearizablePool losses counter order texts outs histories log → (key : List ℕ) → ClientsReadOwnWrites order histories log key }
 {}
 
-/// A whole value was stored, also by a lost command, and no command between this store and a hit may have written. The hit shows the value, and its
-/// flags if it shows any. A hit is one of `get`, `gets`, `gat` or `gats`, or a value that `mg` shows of an item which it did not make. In the run
+/// A whole value was stored, also by a lost command. A hit comes after it, and no command between the two may have written. The hit shows the value, and
+/// its flags if it shows any. A hit is one of `get`, `gets`, `gat` or `gats`, or a value that `mg` shows of an item which it did not make. In the run
 /// `another_value_is_read` (`mc_registers`) another store comes between.
 pub fn a_hit_shows_the_last_store()
     ensures { (losses : Losses) (counter : ℕ) (order : Order) (texts outs : ℕ → List ℕ) (histories : ℕ → List Entry) (log : Log)
         → IsLinearizablePool losses counter order texts outs histories log → (key : List ℕ) → AHitShowsTheLastStore order histories log key }
+{}
+
+/// A hit has a store: before it, in the same life of the same server, a command may have written. So no hit shows what a server held before it
+/// restarted.
+pub fn a_hit_has_a_store()
+    ensures { (losses : Losses) (counter : ℕ) (order : Order) (texts outs : ℕ → List ℕ) (histories : ℕ → List Entry) (log : Log)
+        → IsLinearizablePool losses counter order texts outs histories log → (key : List ℕ) → AHitHasAStore order histories log key }
 {}
 
 /// A hit of `gets` or `gats` showed a number. A `cas` with it, or an `ms` with `C`, was taken after that answer, and stored, in the same life of the
@@ -56,9 +63,9 @@ pub fn one_client_fills()
         → IsLinearizablePool losses counter order texts outs histories log → (key : List ℕ) → OneClientFills order histories log key }
 {}
 
-/// Two clients were shown W by `mg`, and no command between the two has written. Then the item was forgotten or dead in between, also if each client asks
-/// by `N`. So one client fills an item while it stays. In the run `marks_are_won_again` (`mc_registers`) the item is forgotten, or another command
-/// writes.
+/// Two clients were shown W by `mg`, and no command between the two has written. Then the item was forgotten or dead in between. So it is also if each
+/// client asks by `N`: one client fills an item while it stays. In the run `marks_are_won_again` (`mc_registers`) the item is forgotten, or another
+/// command writes.
 pub fn one_client_wins()
     ensures { (losses : Losses) (counter : ℕ) (order : Order) (texts outs : ℕ → List ℕ) (histories : ℕ → List Entry) (log : Log)
         → IsLinearizablePool losses counter order texts outs histories log → (key : List ℕ) → OneClientWins order histories log key }

@@ -13,8 +13,8 @@ ghost use Rattle.mc_world.specs.Logs.{Log};
 ghost use Rattle.mc_linearizable.specs.Clients.{Compares, ComesBetween, HasWritten, IsGet, IsInLife, ShowsValue, StoresWhole, WasAnsweredBy, WasDone};
 ghost use Rattle.mc_linearizable.specs.Linearizable.{ComesFirst, Executed, IsEarlier, WasReplied};
 
-/// An account in which a client sets `a`, gets it, and sets `b`. The get was taken before the second set was answered. It does not show `b`, and no command
-/// comes between the two: the get comes first.
+/// An account in which a client sets `a`, gets it, and sets `b`. The get was taken before the second set was answered. It does not show `b`, and no
+/// command comes between the two: the get comes first.
 pub fn early_gets_show_older_values()
     ensures { (ring : RingState) × (order : Order) × (outs : ℕ → List ℕ) × (histories : ℕ → List Entry) × (log : Log) × IsRing ring
         × Accounts Told ring (opening_cache 1000 10 0) order
@@ -25,8 +25,8 @@ pub fn early_gets_show_older_values()
         × (ShowsValue read.atom (Hit 0 None (codes "a")) 0 (codes "b") → ⊥) × ((other : Executed order histories (codes "k")) → ComesBetween write other read → ⊥) }
 {}
 
-/// An account in which a number fits an item of another server. A client is shown a number by `gets`. A server joins, and owns the key from then on. The
-/// client sets the key there, under the same number, and a `cas` with it stores. So the set between the two is lost.
+/// An account in which a number fits an item of another server. A client is shown a number by `gets`. A server joins, and owns the key from then on.
+/// The client sets the key there, under the same number, and a `cas` with it stores. So the set between the two is lost.
 pub fn numbers_fit_another_server()
     ensures { (ring : RingState) × (order : Order) × (outs : ℕ → List ℕ) × (histories : ℕ → List Entry) × (log : Log) × IsRing ring
         × Accounts Told ring (opening_cache 1000 10 0) order
@@ -36,8 +36,8 @@ pub fn numbers_fit_another_server()
         × IsEarlier (tag_in read.entry) (tag_in cas.entry) log × IsInLife 0 log read × IsInLife 0 log cas × ComesBetween read other cas × HasWritten other }
 {}
 
-/// An account in which a client sets `a` and `b`, and does not wait for the first answer. The second command was lost, and comes first. No clause of an
-/// account forbids it.
+/// An account in which a client sets `a` and `b`, and does not wait for the first answer. The second command was lost, and comes first. No clause of
+/// an account forbids it.
 pub fn lost_commands_may_come_early()
     ensures { (ring : RingState) × (order : Order) × (outs : ℕ → List ℕ) × (histories : ℕ → List Entry) × (log : Log) × IsRing ring
         × Accounts Told ring (opening_cache 1000 10 0) order (λ client. if 0 == client then codes "set k 0 0 1\r\na\r\nset k 0 0 1\r\nb\r\n" else []) outs histories log

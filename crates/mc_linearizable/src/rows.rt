@@ -9,8 +9,8 @@ ghost use Rattle.mc_world.specs.Accounts.{Accounts};
 ghost use Rattle.mc_world.specs.Logs.{Log, number_of, restarts};
 ghost use Rattle.mc_linearizable.specs.Linearizable.{IsLinearizablePool};
 
-/// One key, two servers and a restart. A client sets `a`, and gets it. Its server restarts, and the client misses the key. Another server joins, and owns
-/// the key from then on: there the client sets `b`, and compares and stores `c`. The account is linearizable.
+/// One key, two servers and a restart. A client sets `a`, and gets it. Its server restarts, and the client misses the key. Another server joins, and
+/// owns the key from then on: there the client sets `b`, and compares and stores `c`. The account is linearizable.
 pub fn a_restart_and_a_join_are_linearizable()
     ensures { (ring : RingState) × (order : Order) × (outs : ℕ → List ℕ) × (histories : ℕ → List Entry) × (log : Log) × IsRing ring
         × Accounts Told ring (opening_cache 1000 10 0) order
