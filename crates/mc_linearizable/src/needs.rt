@@ -1,4 +1,4 @@
-//! What the premises of the laws of clients are for: accounts in which one fails, and so does what the law promises.
+//! What premises of the laws are for: accounts in which one fails, and so does what the law promises.
 ghost use Rattle.std.specs.Prelude.{ℕ, ◌≡◌, ◌==◌, List, [], None, Some, codes, if◌then◌else◌};
 ghost use Rattle.mc_reply.specs.declared.replies.Reply.TheVariants.{Hit};
 ghost use Rattle.mc_ring.specs.Rings.{IsRing, RingState};
