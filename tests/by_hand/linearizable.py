@@ -675,6 +675,8 @@ def main():
     words.add_argument("--self-test", action="store_true")
     words.add_argument("--verbose", action="store_true", help="with --self-test: print each check")
     asked = words.parse_args()
+    if min(asked.servers, asked.proxies, asked.clients) < 1:
+        words.error("a pool has a server, a proxy and a client, or more of each")
     if asked.self_test:
         return self_test(asked.seed, asked.verbose)
     signal.signal(signal.SIGTERM, signal.default_int_handler)

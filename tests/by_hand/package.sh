@@ -138,7 +138,7 @@ starts() {
 # Whether a server at the port of another one says so, as the journal has it, and ends. Words: PORT UNIT INSTANCE.
 says_that_it_is_in_use() {
     local said
-    said=$(JOURNAL_STREAM=8:1 run_unit "${@:2}" 2>&1)
+    said=$(within='timeout 10' JOURNAL_STREAM=8:1 run_unit "${@:2}" 2>&1)
     is_same "3
 mc_serverd: cannot listen
 mc_serverd: 127.0.0.1:$1: address in use" "$?
@@ -175,7 +175,7 @@ ends_without_memory() {
         is_started "$process" "${@:2}" || return 1
         for number in $(seq 600); do
             kill -0 "$process" || break
-            printf 'set f%d 0 0 1000000\r\n%1000000s\r\nquit\r\n' "$number" '' > "/dev/tcp/127.0.0.1/$1"
+            timeout 5 bash -c 'printf "set f%d 0 0 1000000\r\n%1000000s\r\nquit\r\n" "$2" "" > "/dev/tcp/127.0.0.1/$1"' - "$1" "$number"
             sleep 0.02
         done 2> /dev/null
         ! kill -0 "$process" 2> /dev/null || return 1
@@ -410,7 +410,7 @@ files() {
 }
 
 linted() {
-    lintian --fail-on error "$package" > "$root/../linted" 2>&1 || { tail -n 20 "$root/../linted"; return 1; }
+    lintian --fail-on error,warning "$package" > "$root/../linted" 2>&1 || { tail -n 20 "$root/../linted"; return 1; }
 }
 
 # Whether these paths are there, or are not.

@@ -216,10 +216,10 @@ def a_server_that_was_away_is_used_soon():
 
 
 class Closing(Pool):
-    """A pool whose servers close a client that has sent nothing for a second, and so a link."""
+    """A pool whose servers close a client that has sent nothing for three seconds, and so a link."""
 
     def new_server(self, port=None):
-        return Server(self.programs[1], port=port, words=["--idle", "1"])
+        return Server(self.programs[1], port=port, words=["--idle", "3"])
 
 
 def a_link_that_nobody_needs_is_ended_and_nothing_is_lost():
@@ -235,7 +235,7 @@ def a_link_that_nobody_needs_is_ended_and_nothing_is_lost():
             want_at_most(time.monotonic() - begun, PATIENCE)
             asked(client, ask_busy, b"END\r\n")
             time.sleep(QUIET)
-        want(time.monotonic() - begun > 1, True)
+        want(time.monotonic() - begun > 3, True)
         is_said(pool, f"{quiet} lost: connection ended")
         asked(client, get, shown)
         want([figure(port, quiet, name) for name in ("losses", "lost")], [1, 0])

@@ -292,12 +292,15 @@ the_cas = record {
 less_one : 0 < 1
 less_one = omega arith
 
+other_places : ◌≡◌ {A = ℕ} 0 1 → ⊥
+other_places same = omega (arith, same)
+
 pub number_fits : (ring : RingState) × (order : Order) × (outs : ℕ → List ℕ) × (histories : ℕ → List Entry) × (log : Log) × IsRing ring
     × Accounts Told ring (opening_cache 1000 10 0) order
     (λ client. if 0 == client then codes "set k 0 0 1\r\na\r\ngets k\r\nget k\r\nset k 0 0 1\r\nb\r\ncas k 0 0 1 1\r\nc\r\n" else []) outs histories log
     × (read : Executed order histories (codes "k")) × (cas : Executed order histories (codes "k")) × (other : Executed order histories (codes "k"))
     × IsGet read.atom × WasAnsweredBy order log (tag_in read.entry) (Hit 0 (Some 1) (codes "a")) × Compares cas.atom 1 × WasDone order log (tag_in cas.entry)
-    × IsEarlier (tag_in read.entry) (tag_in cas.entry) log × IsInLife 0 log read × IsInLife 0 log cas × ComesBetween read other cas × HasWritten other
+    × IsEarlier (tag_in read.entry) (tag_in cas.entry) log × IsInLife 0 log read × IsInLife 0 log cas × (read.place ≡ cas.place → ⊥) × ComesBetween read other cas × HasWritten other
 number_fits = (
   one_server,
   join_order,
@@ -316,6 +319,7 @@ number_fits = (
   omega arith,
   (omega arith, omega arith),
   (omega arith, omega arith),
+  other_places,
   (inl less_one, inr (refl, less_one)),
   (Stored, refl, refl),
 )

@@ -33,7 +33,7 @@ use Rattle.mc_registers.proofs.GuaranteeLemmas.{reads_see_own_writes}
 use Rattle.mc_registers.proofs.HitLemmas.{quiet-misses, run-told}
 use Rattle.mc_world.specs.Logs.{Log, taken_before}
 use Rattle.mc_linearizable.specs.Linearizable.{Executed, IsLinearizable, IsLinearizablePool}
-use Rattle.mc_linearizable.specs.Clients.{AHitHasAStore, AHitShowsTheLastStore, HasContent, HasWritten, HitsBy, StoresWhole, WasAnsweredBy}
+use Rattle.mc_linearizable.specs.Clients.{AHitHasAWriter, AHitShowsTheLastStore, HasContent, HasWritten, HitsBy, StoresWhole, WasAnsweredBy}
 use Rattle.mc_linearizable.proofs.SpelledLemmas.{IsHit, IsValue, hit_read, refused_apart, value_read}
 use Rattle.mc_linearizable.proofs.LifeRuns.{life_run, told-atom}
 use Rattle.mc_linearizable.proofs.CutLemmas.{cut, quiet_or_wrote}
@@ -303,7 +303,7 @@ hit_shows losses counter order texts outs histories log pool key store read flag
 
 -- nothing is held when a life begins, so before a hit a command may have written
 pub hit_has_store : (losses : Losses) (counter : ℕ) (order : Order) (texts outs : ℕ → List ℕ) (histories : ℕ → List Entry) (log : Log)
-    → IsLinearizablePool losses counter order texts outs histories log → (key : List ℕ) → AHitHasAStore order histories log key
+    → IsLinearizablePool losses counter order texts outs histories log → (key : List ℕ) → AHitHasAWriter order histories log key
 hit_has_store losses counter order texts outs histories log pool key read hit by answered =
     let h = pool.keys key in
     let of = lived losses counter order texts outs histories log pool key read in

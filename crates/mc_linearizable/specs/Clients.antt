@@ -134,9 +134,9 @@ AHitShowsTheLastStore order histories log key =
     → HitsBy read.atom hit → WasAnsweredBy order log (tag_in read.entry) hit → ComesFirst store read → NoneMayHaveWritten store read
     → ShowsContent read.atom hit flags value
 
--- A hit has a store: before it, in the same life of the same server, a command may have written.
-abbrev pub AHitHasAStore : Order → (ℕ → List Entry) → Log → List ℕ → Type 0
-AHitHasAStore order histories log key =
+-- A hit has a writer: before it, in the same life of the same server, a command may have written.
+abbrev pub AHitHasAWriter : Order → (ℕ → List Entry) → Log → List ℕ → Type 0
+AHitHasAWriter order histories log key =
     (read : Executed order histories key) (hit : AReply (List ℕ)) → HitsBy read.atom hit → WasAnsweredBy order log (tag_in read.entry) hit
     → (store : Executed order histories key) × (life : ℕ) × (store.place ≡ read.place) × IsInLife life log store × IsInLife life log read
     × ComesFirst store read × MayHaveWritten store
@@ -193,8 +193,8 @@ AnAddExcludes order histories log key =
     → (all : List Done) (last : Done) → AreTold order between all → Tells order add.place add.entry last
     → (number : ℕ) (body : Body) → IsSteadyRun number (Some body) (all ++ last ∷ []) → ⊥
 
--- One client wins while the item stays. Two clients were shown W, and no command between the two has written. Then the item was forgotten, or was dead:
--- no register that keeps its item gives the replies from the first win to the second. So it is also if each client asks by `N`.
+-- One client wins while the item stays. Two clients were shown W, and no command between the two has written. Then no register that keeps its item gives
+-- the replies from the first win to the second. So it is also if each client asks by `N`.
 abbrev pub OneClientWins : Order → (ℕ → List Entry) → Log → List ℕ → Type 0
 OneClientWins order histories log key =
     (winner rival : Executed order histories key) → WasShownWin log winner → WasShownWin log rival → NoneHasWritten winner rival

@@ -6,7 +6,7 @@ ghost use Rattle.mc_account.specs.Orders.{Order};
 ghost use Rattle.mc_history.specs.declared.entries.Entry.{Entry};
 ghost use Rattle.mc_world.specs.Logs.{Log};
 ghost use Rattle.mc_linearizable.specs.Linearizable.{IsLinearizablePool};
-ghost use Rattle.mc_linearizable.specs.Clients.{AHitHasAStore, AHitShowsTheLastStore, AnAddExcludes, ClientsCount, ClientsLoseNoCas, ClientsReadOwnWrites, HasRun, OneClientFills, OneClientWins};
+ghost use Rattle.mc_linearizable.specs.Clients.{AHitHasAWriter, AHitShowsTheLastStore, AnAddExcludes, ClientsCount, ClientsLoseNoCas, ClientsReadOwnWrites, HasRun, OneClientFills, OneClientWins};
 
 /// All commands on a key that a server executed in one of its lives, in order, are a run of the key's register. So each law of runs
 /// (`mc_registers`) is one of commands that clients sent.
@@ -33,11 +33,11 @@ pub fn a_hit_shows_the_last_store()
         → IsLinearizablePool losses counter order texts outs histories log → (key : List ℕ) → AHitShowsTheLastStore order histories log key }
 {}
 
-/// A hit has a store: before it, in the same life of the same server, a command may have written. So no hit shows what a server held before it
-/// restarted.
-pub fn a_hit_has_a_store()
+/// Before a hit, in the same life of the same server, a command has stored, counted or deleted, or an `mg` with `N` was shown W. That no hit shows
+/// what a server held before it restarted is `commands_are_in_their_run`.
+pub fn a_hit_has_a_writer()
     ensures { (losses : Losses) (counter : ℕ) (order : Order) (texts outs : ℕ → List ℕ) (histories : ℕ → List Entry) (log : Log)
-        → IsLinearizablePool losses counter order texts outs histories log → (key : List ℕ) → AHitHasAStore order histories log key }
+        → IsLinearizablePool losses counter order texts outs histories log → (key : List ℕ) → AHitHasAWriter order histories log key }
 {}
 
 /// A hit of `gets` or `gats` showed a number. A `cas` with it, or an `ms` with `C`, was taken after that answer, and stored, in the same life of the
@@ -63,9 +63,9 @@ pub fn one_client_fills()
         → IsLinearizablePool losses counter order texts outs histories log → (key : List ℕ) → OneClientFills order histories log key }
 {}
 
-/// Two clients were shown W by `mg`, and no command between the two has written. Then the item was forgotten or dead in between. So it is also if each
-/// client asks by `N`: one client fills an item while it stays. In the run `marks_are_won_again` (`mc_registers`) the item is forgotten, or another
-/// command writes.
+/// Two clients were shown W by `mg`, and no command between the two has written. Then the item was forgotten or dead in between, or the key's server
+/// joined or began anew. So it is also if each client asks by `N`: one client fills an item while it stays. In the runs `marks_are_won_again`
+/// (`mc_registers`) the item is forgotten or dead, or another command writes.
 pub fn one_client_wins()
     ensures { (losses : Losses) (counter : ℕ) (order : Order) (texts outs : ℕ → List ℕ) (histories : ℕ → List Entry) (log : Log)
         → IsLinearizablePool losses counter order texts outs histories log → (key : List ℕ) → OneClientWins order histories log key }

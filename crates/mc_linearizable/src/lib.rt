@@ -13,7 +13,7 @@ mod rows;
 mod worlds;
 
 pub use clients::{
-    a_hit_has_a_store, a_hit_shows_the_last_store, an_add_excludes, clients_count,
+    a_hit_has_a_writer, a_hit_shows_the_last_store, an_add_excludes, clients_count,
     clients_lose_no_cas, clients_read_own_writes, commands_are_in_their_run, one_client_fills,
     one_client_wins,
 };

@@ -33,7 +33,7 @@ pub fn numbers_fit_another_server()
         (λ client. if 0 == client then codes "set k 0 0 1\r\na\r\ngets k\r\nget k\r\nset k 0 0 1\r\nb\r\ncas k 0 0 1 1\r\nc\r\n" else []) outs histories log
         × (read : Executed order histories (codes "k")) × (cas : Executed order histories (codes "k")) × (other : Executed order histories (codes "k"))
         × IsGet read.atom × WasAnsweredBy order log (tag_in read.entry) (Hit 0 (Some 1) (codes "a")) × Compares cas.atom 1 × WasDone order log (tag_in cas.entry)
-        × IsEarlier (tag_in read.entry) (tag_in cas.entry) log × IsInLife 0 log read × IsInLife 0 log cas × ComesBetween read other cas × HasWritten other }
+        × IsEarlier (tag_in read.entry) (tag_in cas.entry) log × IsInLife 0 log read × IsInLife 0 log cas × (read.place ≡ cas.place → ⊥) × ComesBetween read other cas × HasWritten other }
 {}
 
 /// An account in which a client sets `a` and `b`, and does not wait for the first answer. The second command was lost, and comes first. No clause of

@@ -82,7 +82,7 @@ flags_shown (Hit flags cas value) = Some flags
 flags_shown (Meta shown value) = shown.flags
 flags_shown reply = None
 
--- Reads see own writes. A client's value was stored, and then no other. A command that wrote none itself shows this one, if any, with its flags.
+-- Reads see own writes. A client's whole value was stored, and then no other. A command that wrote none itself shows this one, if any, with its flags.
 abbrev pub ReadsSeeOwnWrites : ℕ → Option Body → Type 0
 ReadsSeeOwnWrites last held =
     (front between back : List Done) (write read : Done) (mode : StoreMode) (compare : Option ℕ) (key : List ℕ) (flags : ℕ) (exptime : ℤ) (value : List ℕ)
@@ -91,8 +91,8 @@ ReadsSeeOwnWrites last held =
     → may_have_written read.atom read.reply ≡ false
     → ((shown : List ℕ) → value_shown read.reply ≡ Some shown → shown ≡ value) × ((shown : ℕ) → flags_shown read.reply ≡ Some shown → shown ≡ flags)
 
--- Counters count, by `incr`, `decr` and `ma`. A client was shown a number, and since then are only counts that make no item, and what writes
--- nothing: each goes on from the number before.
+-- Counters count, by `incr`, `decr` and `ma`. A client was shown a number, and since then are only counts that ask for no item to be made,
+-- and what writes nothing: each goes on from the number before.
 abbrev pub IsCountOrQuiet : Done → Type 0
 IsCountOrQuiet e =
     (may_have_written e.atom e.reply ≡ false) ⊎ ((key : List ℕ) × (counting : Counting) × (update_in e.atom ≡ Some (Count key counting)) × (counting.create ≡ None))

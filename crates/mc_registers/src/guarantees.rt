@@ -4,17 +4,16 @@ ghost use Rattle.mc_item.specs.declared.bodies.Body.{Body};
 ghost use Rattle.mc_registers.specs.Guarantees.{ReadsSeeOwnWrites, CountersCount, CountersCountWhileHeld, AddsExclude, CasLosesNothing, OldNumbersDoNotFit, CasLosesNothingAcross};
 ghost use Rattle.mc_registers.specs.Recache.{RecacheHasOneWinner, EachWinIsMarked};
 
-/// A client that was told that its value is stored, and is then shown a value, is shown its own, unless another command was told that it
-/// stored, counted or deleted in between, or an `mg` with `N` was shown W. So it is of a hit, and of each other `mg`. In the run
-/// `another_value_is_read` another command stored. In the runs `other_values_are_read` the value was joined to another or refused, or an `mg`
-/// made an item.
+/// A client was told that its whole value is stored. No other command was told that it stored, counted or deleted since, and no `mg` with `N` was
+/// shown W. Then what a client is shown is that value: by a hit, or by any other `mg`. In the run `another_value_is_read` another command stored. In
+/// the runs `other_values_are_read` the value was joined to another or refused, or an `mg` made an item.
 pub fn reads_see_own_writes()
     ensures { (last : ℕ) → (held : Option Body) → ReadsSeeOwnWrites last held }
 {}
 
-/// After a count that showed a number, each count gives the next one, once and in order, until another command writes, if no count makes an
-/// item of its own. `incr` and `decr` show their number, and `ma` with `v` its value. In the run `another_number_is_counted` another command
-/// writes, and in `forgotten_counters_begin_anew` a count makes an item.
+/// After a count that showed a number, each count gives the next one, once and in order, until another command writes. No count may ask for an item to
+/// be made, by `N`. `incr` and `decr` show their number, and `ma` with `v` its value. In the run `another_number_is_counted` another command writes,
+/// and in `forgotten_counters_begin_anew` a count makes an item.
 pub fn counters_count()
     ensures { (last : ℕ) → (held : Option Body) → CountersCount last held }
 {}
@@ -47,8 +46,8 @@ pub fn old_numbers_do_not_fit()
 {}
 
 /// A reply showed a number in one life, and the numbers of a later life begin above it. Then no update that needs it is done in the later life. So a
-/// `cas`, or an `ms`, `md` or `ma` with `C`, loses nothing across the two. In the runs `numbers_fit_another_life` both lives begin alike. This is a
-/// law of registers alone: in a `World` each life begins at one number.
+/// `cas`, or an `ms`, `md` or `ma` with `C`, loses nothing across the two. It is `old_numbers_do_not_fit` for a number that a reply showed. In the runs
+/// `numbers_fit_another_life` both lives begin alike. This is a law of registers alone: in a `World` each life begins at one number.
 pub fn cas_loses_nothing_across_lives()
     ensures { (first : ℕ) → (later : ℕ) → CasLosesNothingAcross first later }
 {}

@@ -26,8 +26,8 @@ pub fn histories_are_registers()
 {}
 
 /// A cache executed some commands, on whatever keys. The numbers of a later cache begin above the first one's, by at least one for each command. Then
-/// no number that a reply of the first showed fits an item of the later one: no `cas` with it is done, and no `ms`, `md` or `ma` with `C`. In
-/// `old_numbers_fit_another_cache` both caches begin alike. An `ma` that makes an item by `N` compares nothing (`counters_are_made_anew`).
+/// no number that a reply of the first showed of a key fits that key's item in the later one. No `cas` with it is done there, and no `ms`, `md` or `ma`
+/// with `C`. In `old_numbers_fit_another_cache` both caches begin alike. An `ma` that makes an item by `N` compares nothing (`counters_are_made_anew`).
 pub fn cas_loses_nothing_across_restarts()
     ensures { (budget limit first : ℕ) → IsWithinBounds budget limit → (room most later : ℕ) → IsWithinBounds room most
         → CasLosesNothingAcrossRestarts (opening_cache budget limit first) (opening_cache room most later) }

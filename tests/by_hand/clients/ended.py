@@ -1,6 +1,6 @@
 #!/usr/bin/env python3
-"""Sees what others' clients show for keys of a server that has ended or is stopped, and that clients which choose servers themselves agree with
-the proxy.
+"""Sees what others' clients show for keys of a server that has ended or is stopped. It also sees that clients which choose servers themselves agree
+with the proxy.
 
 Usage: ended.py SERVER PROXY      (SERVER is the built mc_serverd, PROXY mc_proxyd)
 
@@ -311,7 +311,7 @@ def with_timeouts(site, finds):
 
 
 def passes(name, row):
-    """Makes a call, and prints a line where it gives something else."""
+    """Makes a call, and prints a line if it gives something else."""
     call = Call(f"{name}: {row[0]}", *row[1:])
     got = call.outcome()
     if is_right(got, call.wanted):
