@@ -5,7 +5,7 @@
 #        rebuilt.sh --built CLONE RELEASE [REPOSITORY]
 #
 # It checks the sums of RELEASE, clones the repository into a temporary folder, takes the commit that PROVED names, and proves and builds the
-# programs there: 74 minutes of processor time. The toolchain has to be the one that PROVED names. Then it makes the release of them
+# programs there: some 80 minutes of processor time. The toolchain has to be the one that PROVED names. Then it makes the release of them
 # (install/release.sh), with the gate's line of PROVED, and compares each file. Debian's tools (dpkg-dev, binutils, tar, gzip, xz) have to be
 # of the same versions. With --built nothing is proved: the programs are those that CLONE has built, as for a quick look at the packing.
 # A line says what each check saw. The last line is 'N passed, M failed'.
