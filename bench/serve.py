@@ -56,7 +56,7 @@ KEY_SIZE = 20
 WARM_UP = 0.3
 FLUSHES = 3
 SECONDS_TO_REST = 2.5
-WANTED_BYTES_AN_ITEM = 235
+WANTED_BYTES_AN_ITEM = 190
 
 
 class Data(NamedTuple):
@@ -97,15 +97,15 @@ CASES = [
 OTHERS = ["memory", "flush"]
 CASES_OF_PROXIES = [
     Case("get1", "get, one at a time", None),
-    Case("get32", "get, 32 at a time", None, words="pipeline=32"),
+    Case("get32", "get, 32 at a time", 0.25, words="pipeline=32"),
     Case("set1", "set, one at a time", None, words="get=0 set=100"),
-    Case("set32", "set, 32 at a time", None, words="get=0 set=100 pipeline=32"),
-    Case("keys24", "get of 24 keys", None, words="many=24"),
-    Case("get500", "get of 500 connections", None, words="connections=500"),
-    Case("get10k", "get of 10,240 bytes, 10,000 keys", None, LARGE),
-    Case("set10k", "set of 10,240 bytes, 10,000 keys", None, LARGE, "get=0 set=100"),
-    Case("get100k", "get of 102,400 bytes, 1,000 keys", None, PAGES),
-    Case("set100k", "set of 102,400 bytes, 1,000 keys", None, PAGES, "get=0 set=100"),
+    Case("set32", "set, 32 at a time", 0.25, words="get=0 set=100 pipeline=32"),
+    Case("keys24", "get of 24 keys", 0.45, words="many=24"),
+    Case("get500", "get of 500 connections", 0.50, words="connections=500"),
+    Case("get10k", "get of 10,240 bytes, 10,000 keys", 0.80, LARGE),
+    Case("set10k", "set of 10,240 bytes, 10,000 keys", 0.80, LARGE, "get=0 set=100"),
+    Case("get100k", "get of 102,400 bytes, 1,000 keys", 0.80, PAGES),
+    Case("set100k", "set of 102,400 bytes, 1,000 keys", 0.80, PAGES, "get=0 set=100"),
 ]
 OTHERS_OF_PROXIES = ["memory"]
 MANY_CLIENTS = 500
@@ -330,10 +330,11 @@ def servers_told(rounds):
     return f"{statistics.median(each.cost_of_servers() for each in rounds):,.0f}"
 
 
-def row_of(case, rounds):
+def row_of(case, rounds, is_of_proxies):
     low, ratio, high = statistics.quantiles((ours.cost() / theirs.cost() for ours, theirs in zip(*rounds)), n=4)
     told = [case.told, cost_told(rounds[0]), cost_told(rounds[1]), f"{ratio:.2f} ({low:.2f} to {high:.2f})"]
-    told.append(" | ".join(map(servers_told, rounds)) if case.wanted is None else f"{case.wanted:.2f}")
+    told.append("" if case.wanted is None else f"{case.wanted:.2f}")
+    told += map(servers_told, rounds) if is_of_proxies else []
     return f"| {' | '.join(told)} |"
 
 
@@ -425,12 +426,10 @@ def versions(bench):
 
 def heads_told(bench, names):
     first, second = names
+    heads = ["Case", f"{first}, ns (its code + kernel)", "busy", f"{second}, ns", "busy", "Ratio", "Wanted"]
     if bench.is_of_proxies:
-        print(f"| Case | {first}, ns (its code + kernel) | busy | {second}, ns | busy | Ratio | servers behind {first}, ns", end="")
-        print(f" | behind {second}, ns |")
-    else:
-        print(f"| Case | {first}, ns (its code + kernel) | busy | {second}, ns | busy | Ratio | Wanted |")
-    print("|---" * (8 if bench.is_of_proxies else 7) + "|")
+        heads += [f"servers behind {first}, ns", f"behind {second}, ns"]
+    print(f"| {' | '.join(heads)} |\n" + "|---" * len(heads) + "|")
 
 
 def others_told(others, is_of_proxies):
@@ -461,7 +460,7 @@ def run(bench, all_cases, wanted):
             if "memory" in asked:
                 others["memory"] = list(rows["memory"](pair, names))
             for case in cases:
-                print(row_of(case, pair.measure(case)), flush=True)
+                print(row_of(case, pair.measure(case), bench.is_of_proxies), flush=True)
             if "flush" in asked:
                 others["flush"] = list(rows["flush"](pair, names))
     others_told(others, bench.is_of_proxies)
