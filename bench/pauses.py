@@ -57,9 +57,13 @@ BUDGET_BEHIND_PROXIES = 256 * 2**20
 COST_OF_A_SMALL_ITEM = COST_OF_AN_ITEM + 7 + 1
 
 
+def rounded(number):
+    return f"{number:,.1f}" if 0 < number < 100 else f"{number:,.0f}"
+
+
 def row(program, other, items, load, waits):
     rate = load.requests / load.seconds
-    cells = [pathlib.Path(program).name, other, f"{items:,}", f"{load.seconds:,.0f}", f"{rate:,.0f}", *waits.cells()]
+    cells = [pathlib.Path(program).name, other, f"{items:,}", rounded(load.seconds), rounded(rate), *waits.cells()]
     print("| " + " | ".join(cells) + " |", flush=True)
 
 
