@@ -69,6 +69,14 @@ def connected(port, timeout=10):
     return connection
 
 
+def statistics(port):
+    """The numbers and words that a port answers to `stats`, by their names: that of --admin, or memcached's own."""
+    with connected(port) as asking:
+        asking.sendall(b"stats\r\nquit\r\n")
+        lines = b"".join(iter(lambda: asking.recv(65_536), b"")).decode().splitlines()
+    return dict(line.split(" ", 2)[1:] for line in lines if line.startswith("STAT "))
+
+
 def address_on(on, port):
     """The address of a port of a host, or of this machine."""
     return f"{on.address if on else HOST}:{port}"
@@ -82,19 +90,24 @@ def limit(limits):
 class Listener:
     """A program that was started with these words, and listens at a port.
 
-    `limits` are kinds of resources with the most of each. Where its standard output is no pipe nobody waits for it to start.
-    `on` is the host that it runs on, where that is not this machine.
+    `limits` are kinds of resources with the most of each, `environment` what it finds beside this process's own environment. Where its
+    standard output is no pipe nobody waits for it to start. `on` is the host that it runs on, where that is not this machine.
     """
 
     says_where = True  # whether it prints where it listens; else it is tried
 
-    def __init__(self, program, words, port, limits=(), stdout=subprocess.PIPE, stderr=None, on=None):
+    def __init__(self, program, words, port, limits=(), stdout=subprocess.PIPE, stderr=None, on=None, environment=None):
         self.program, self.port, self.on = str(program), port, on
         self.address = address_on(on, port)
         limiting = (lambda: limit(limits)) if limits else None
         before, files = (on.entering(), [on.namespace]) if on else ([], [])
         self.process = subprocess.Popen(
-            [*before, self.program, *words], stdout=stdout, stderr=stderr, preexec_fn=limiting, pass_fds=files
+            [*before, self.program, *words],
+            stdout=stdout,
+            stderr=stderr,
+            preexec_fn=limiting,
+            pass_fds=files,
+            env={**os.environ, **(environment or {})},
         )
         try:
             self.await_start()
@@ -181,18 +194,22 @@ class Listener:
 
 
 class Server(Listener):
-    """A server, with a budget of bytes and a limit of items (memcached has its own ways with both), and further words."""
+    """A server, with a budget of bytes and a limit of items, and further words.
 
-    def __init__(self, program, budget=67108864, items=65536, port=None, words=(), on=None, **streams):
+    memcached has its own ways with both: it gets 64 MiB and twice the budget, so that it evicts nothing, or `megabytes`.
+    """
+
+    def __init__(self, program, budget=67108864, items=65536, port=None, words=(), on=None, megabytes=None, environment=None, **streams):
         port = port or free_port()
         self.says_where = not is_memcached(program)
         if self.says_where:
             words = [*f"--listen {address_on(on, port)} --budget {budget} --items {items}".split(), *words]
-            super().__init__(program, words, port, on=on, **streams)
+            super().__init__(program, words, port, on=on, environment=environment, **streams)
         else:
-            megabytes = 64 + 2 * budget // 2**20
+            megabytes = megabytes or 64 + 2 * budget // 2**20
             words = f"-l {HOST} -p {port} -U 0 -t 1 -u nobody -m {megabytes} -c 2000".split()
-            super().__init__(program, words, port, stderr=subprocess.DEVNULL)  # It tells of each connection that broke.
+            # It tells of each connection that broke.
+            super().__init__(program, words, port, stderr=subprocess.DEVNULL, environment=environment)
 
     def version(self):
         """What it answers to `version`, with the version of its own that memcached has there."""
