@@ -16,6 +16,7 @@
  *
  *     fill             sets each key once
  *     run SECONDS      sends requests for so long
+ *     count REQUESTS   the same until so many were answered
  *     wait SECONDS     the same, with one request in a batch, and tells how long each waited for its reply
  *
  * The answer is the number of requests and the seconds, and after `wait` the microseconds within which half of the replies came, 99 and
@@ -23,8 +24,8 @@
  * reply is the right one: each has to have the right key and size, and ends where it should. Anything else, or no answer
  * within ten seconds, ends the program with status 1 and says what came.
  *
- * It is one thread and never sleeps while replies are awaited. After `run` all replies that have come are read and looked at before
- * the next batches are sent, all at once: so the server finds as many connections ready as it would with a fast client. After `wait`
+ * It is one thread and never sleeps while replies are awaited. After `run` and `count` all replies that have come are read and looked
+ * at before the next batches are sent, all at once: so the server finds as many connections ready as it would with a fast client. After `wait`
  * each request is sent at once.
  */
 
@@ -32,6 +33,7 @@
 #include <arpa/inet.h>
 #include <errno.h>
 #include <fcntl.h>
+#include <limits.h>
 #include <math.h>
 #include <netinet/tcp.h>
 #include <stdbool.h>
@@ -298,8 +300,9 @@ static bool receive_batch(struct peer *peer)
     return true;
 }
 
-/* Sends batches until the time is up or all keys are set, and awaits all replies. Gives the number of requests. */
-static long serve_until(double end)
+/* Sends batches until the time is up, as many requests were answered or all keys are set, and awaits all replies. Gives the number of
+ * requests. */
+static long serve_until(double end, long most)
 {
     static struct epoll_event events[1024];
     struct peer **ready = room(sizeof *ready * connections);
@@ -332,7 +335,7 @@ static long serve_until(double end)
             if ((events[at].events & ~EPOLLOUT) && receive_batch(peer)) {
                 done += peer->requests;
                 open--;
-                if (filling || time < end)
+                if (filling || (time < end && done < most))
                     ready[sends++] = peer;
             }
         }
@@ -444,6 +447,29 @@ static void read_word(const char *word)
         fail("a word is NAME=NUMBER, of the names that are at the top of load.c");
 }
 
+/* Does what a line says, and answers it. */
+static void do_line(const char *line)
+{
+    bool waiting = strncmp(line, "wait ", 5) == 0, counting = strncmp(line, "count ", 6) == 0;
+    filling = strcmp(line, "fill\n") == 0;
+    if (!filling && !waiting && !counting && strncmp(line, "run ", 4) != 0)
+        fail("a line is `fill`, `run SECONDS`, `count REQUESTS` or `wait SECONDS`");
+    if (waiting && pipeline > 1)
+        fail("a batch has one request where waits are told");
+    next_to_fill = waited = 0;
+    double start = now();
+    if (waiting && waits == NULL)
+        waits = room(sizeof *waits * WAITS);
+    long most = counting ? atol(line + 6) : LONG_MAX;
+    double end = counting ? INFINITY : start + atof(line + (waiting ? 5 : 4));
+    long done = waiting ? wait_until(end) : serve_until(end, most);
+    printf("%ld %.6f", done, now() - start);
+    if (waiting)
+        printf(" %.1f %.1f %.1f %.1f", wait_within(0.5), wait_within(0.99), wait_within(0.999), wait_within(1));
+    printf("\n");
+    fflush(stdout);
+}
+
 int main(int count, char **words)
 {
     char line[100];
@@ -462,23 +488,7 @@ int main(int count, char **words)
     peers = room(sizeof *peers * connections);
     for (long at = 0; at < connections; at++)
         connect_peer(&peers[at], atoi(words[1]));
-    while (fgets(line, sizeof line, stdin) != NULL) {
-        bool waiting = strncmp(line, "wait ", 5) == 0;
-        filling = strcmp(line, "fill\n") == 0;
-        if (!filling && !waiting && strncmp(line, "run ", 4) != 0)
-            fail("a line is `fill`, `run SECONDS` or `wait SECONDS`");
-        if (waiting && pipeline > 1)
-            fail("a batch has one request where waits are told");
-        next_to_fill = waited = 0;
-        double start = now();
-        if (waiting && waits == NULL)
-            waits = room(sizeof *waits * WAITS);
-        long done = waiting ? wait_until(start + atof(line + 5)) : serve_until(filling ? 0 : start + atof(line + 4));
-        printf("%ld %.6f", done, now() - start);
-        if (waiting)
-            printf(" %.1f %.1f %.1f %.1f", wait_within(0.5), wait_within(0.99), wait_within(0.999), wait_within(1));
-        printf("\n");
-        fflush(stdout);
-    }
+    while (fgets(line, sizeof line, stdin) != NULL)
+        do_line(line);
     return 0;
 }
