@@ -15,6 +15,7 @@ import multiprocessing
 import os
 import pathlib
 import resource
+import string
 import time
 from typing import NamedTuple
 
@@ -26,7 +27,8 @@ PIPELINE = 50
 STEPS = (1, 2, 5, 10, 50)  # milliseconds
 SECONDS_BETWEEN_FLUSHES = 10
 GETS = [b"get key-%016d\r\n" % key for key in range(100)]
-MOST_KEYS = 32_000
+MOST_KEYS = 32_000  # of one byte: their line has 64,005 bytes, and mc_proxyd takes one of 65,536
+LETTERS = [b"%c" % letter for letter in string.ascii_letters.encode()]
 BLOCK_SIZE, BLOCKS, SECONDS_BETWEEN_BLOCKS = 1_000_000, 50, 0.02
 LIMITS = [(resource.RLIMIT_AS, 4 * 2**30)]
 
@@ -218,13 +220,18 @@ def wait(port, seconds):
     return Load(0, seconds, "alone")
 
 
+def store_letters(connection):
+    connection.sendall(b"".join(store(letter, VALUE_SIZE) for letter in LETTERS))
+    lines(connection, len(LETTERS))
+
+
 def request_of_keys(keys):
-    return b"get" + b"".join(b" key-%016d" % key for key in range(keys)) + b"\r\n"
+    return b"get " + b" ".join(LETTERS[key % len(LETTERS)] for key in range(keys)) + b"\r\n"
 
 
 def is_answered(port, keys):
     """Whether a get of this many keys is answered, with the value of each, within ten seconds."""
-    missing = keys * len(b"VALUE key-%016d 0 100\r\n%b\r\n" % (0, b"v" * VALUE_SIZE)) + len(b"END\r\n")
+    missing = keys * len(b"VALUE a 0 100\r\n%b\r\n" % (b"v" * VALUE_SIZE)) + len(b"END\r\n")
     with contextlib.suppress(OSError), connected(port, timeout=10) as connection:
         connection.sendall(request_of_keys(keys))
         while missing > 0:
@@ -244,7 +251,7 @@ def get_many_keys(port, seconds):
             size_up_to(connection, b"END\r\n")
             gets += 1
     refused = f" ({2 * keys:,} refused)" if keys < MOST_KEYS else ""
-    return Load(gets, time.monotonic() - start, f"gets of {keys:,} keys{refused}")
+    return Load(gets, time.monotonic() - start, f"gets of {keys:,} keys of one byte{refused}")
 
 
 def store_blocks(port, seconds):

@@ -19,7 +19,7 @@ With --through, PROXY is the built mc_proxyd in front of two SERVERs, beside Deb
 after --beside has SERVERs too). They have 100,000 items of 20 and 100 bytes, and the other client loads the proxy for S seconds (10):
 
     alone    there is no other client
-    keys     gets of 32,000 keys, or of as many as the proxy answers: 16,000, 8,000 and so on
+    keys     gets of 32,000 keys of one byte, or of as many as the proxy answers: 16,000, 8,000 and so on. They repeat 52 stored keys
     blocks   stores of 1,000,000 bytes
     unread   pipelines of gets, but it reads no answer. When the proxy takes nothing for half a second, it closes its connection and opens
              another. In this mix a proxy may take 4 GB of addresses
@@ -107,6 +107,7 @@ def started_proxy(stack, program, server, words, limits):
     keep(proxy.process.pid, "proxy")
     with connected(proxy.port, timeout=60) as connection:
         pause_loads.Pipelines("new", ITEMS_BEHIND_PROXIES).fill(connection)
+        pause_loads.store_letters(connection)
     return proxy
 
 
