@@ -1,3 +1,4 @@
 pub mod StepLemmas
 pub mod ReaderLemmas
 pub mod CountLemmas
+pub mod ApartLemmas

@@ -69,7 +69,7 @@ pub stores_waits : (u : List ℕ) (line : ℕ) (s : Storing) (len : ℕ) → Sta
 stores_waits u line s len h short =
     ap next_request (sym (append-nil u)) ∙ stores_short u line s len h [] (rw append-nil short)
 
-come_by : (o : Option (Taken × ℕ)) (n size : ℕ) → (n < size → o ≡ None) → (size ≤ n → is_some o ≡ true) → nat_le size n ≡ is_some o
+pub come_by : (o : Option (Taken × ℕ)) (n size : ℕ) → (n < size → o ≡ None) → (size ≤ n → is_some o ≡ true) → nat_le size n ≡ is_some o
 come_by o n size short whole = grind (arith, nat_le, cases_lt)
 
 -- whether a block has come whole, refused or not

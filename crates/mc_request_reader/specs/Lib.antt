@@ -2,3 +2,5 @@ pub mod Reader
 pub mod Peeks
 pub mod Steps
 pub mod UnreadFields
+pub mod ApartFields
+pub mod ApartReaderFields

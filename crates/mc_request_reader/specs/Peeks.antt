@@ -4,10 +4,13 @@ use Rattle.std.specs.Option.{option_map}
 use Rattle.mc_request.specs.declared.faults.Fault.{Fault}
 use Rattle.mc_request.specs.declared.parts.Taken.{Taken}
 use Rattle.mc_request.specs.declared.parts.Taken.TheVariants.{Whole, Faulty}
-use Rattle.mc_request.specs.declared.parts.Request.TheVariants.{Get}
+use Rattle.mc_request.specs.declared.parts.Request.TheVariants.{Get, Update}
+use Rattle.mc_request.specs.declared.parts.StoreMode.TheVariants.{Set}
+use Rattle.mc_request.specs.declared.parts.Update.TheVariants.{Store}
 use Rattle.mc_request_reader.specs.declared.peeks.Front.{Front}
 use Rattle.mc_request_reader.specs.declared.peeks.LentGet.{LentGet}
 use Rattle.mc_request_reader.specs.declared.peeks.LentLine.{LentLine}
+use Rattle.mc_request_reader.specs.declared.peeks.TakenSet.{TakenSet}
 use Rattle.mc_request_reader.specs.declared.peeks.Peek.{Peek}
 use Rattle.mc_request_reader.specs.declared.peeks.Peek.TheVariants as peeks
 use Rattle.mc_request_reader.specs.declared.reader.Next.{Next}
@@ -73,6 +76,10 @@ Gives old nexts.Closed new = (old.closed ≡ true) × (new ≡ old)
 -- the request that a look at a retrieval shows
 abbrev pub get_of : LentGet → Taken
 get_of get = Whole (Get get.keys None get.with_cas)
+
+-- the request that a `set` is
+abbrev pub set_of : TakenSet → Taken
+set_of set = Whole (Update (Store Set None set.key set.flags set.exptime set.block) set.noreply)
 
 -- a line asks for this, and no data block follows it
 abbrev pub IsAlone : LentLine → Taken → Type 0

@@ -1,6 +1,6 @@
 //! What is first in a reader, and where it ends.
 use mc_request::Asked;
-use mc_text::WordIter;
+use mc_text::{Block, Key, WordIter};
 
 /// The most bytes that a request or fault takes: a line, a data block and the line end after it.
 pub const REQUEST_LIMIT: usize = 1_114_114;
@@ -43,4 +43,19 @@ pub struct LentGet<'a> {
     pub with_cas: bool,
     /// Where it ends.
     pub front: Front,
+}
+
+/// A `set` that was first in a reader, and is taken: its key and its block are its own.
+#[derive(Drop)]
+pub struct TakenSet {
+    /// The key.
+    pub key: Key,
+    /// The client flags.
+    pub flags: u32,
+    /// When its item is dead, as the command says it.
+    pub exptime: i64,
+    /// The data block.
+    pub block: Block,
+    /// Whether its reply line is hidden.
+    pub noreply: bool,
 }

@@ -1,5 +1,5 @@
 //! A reader of requests, fed in pieces.
-ghost use Rattle.std.specs.Prelude.{◌≡◌, ◌<◌, ◌≤◌, ◌+◌, ◌↔◌, ℕ, List, [], ◌++◌, length, true, Some, IsTrue, IfOk, IfSome, OnOk, OnErr};
+ghost use Rattle.std.specs.Prelude.{◌≡◌, ◌<◌, ◌≤◌, ◌+◌, ◌↔◌, ℕ, List, [], ◌++◌, length, drop, vec_len, true, false, Some, IsTrue, IfOk, IfSome, OnOk, OnErr};
 
 use crate::peeks::{Front, LentGet, LentLine, Peek};
 use crate::unread::Unread;
@@ -47,6 +47,7 @@ impl Model for Reader {
 }
 
 impl Reader {
+    ghost use Rattle.mc_request.specs.Requests.{requests_of};
     ghost use Rattle.mc_request_reader.specs.Reader.{fresh_reader, rest_of, kept_of, KeepsRest, KeepsLittle};
     ghost use Rattle.mc_request.specs.WellFormed.{is_well_formed};
     ghost use Rattle.mc_request.specs.declared.parts.Taken.{Taken};
@@ -60,6 +61,25 @@ impl Reader {
             alloc,
             unread: Unread::new(alloc),
         }
+    }
+
+    /// A reader to which these bytes have come, of which so many were taken. It takes no memory.
+    pub(crate) fn of_buffer(alloc: Global, buffer: Vec<u8>, taken: usize) -> Self
+        requires { taken ≤ vec_len buffer }
+        ensures rest { (text : List ℕ) → rest_of result text ≡ requests_of (drop taken buffer.items ++ text) }
+        ensures closed { result.closed ≡ false }
+        ensures little { KeepsLittle result }
+    {
+        let mut unread = Unread::of_buffer(buffer, taken);
+        unread.advance();
+        Reader { alloc, unread }
+    }
+
+    /// Whether nothing has come to it that is not taken. Memory may be reserved.
+    pub(crate) fn is_fresh(&self) -> bool
+        ensures { result ≡ true → self.now ≡ fresh_reader }
+    {
+        self.unread.is_fresh()
     }
 
     /// Takes the next piece of the text. After `quit` or a line too long it is dropped, and of a block that is refused what

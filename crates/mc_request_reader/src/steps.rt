@@ -1,22 +1,26 @@
 //! What the bytes that have come allow.
-ghost use Rattle.std.specs.Prelude.{◌≡◌, ◌≤◌, ◌<◌, ◌+◌, ◌-◌, ◌^◌, true, None, Some, is_some, IfSome};
+ghost use Rattle.std.specs.Prelude.{◌≡◌, ◌≤◌, ◌<◌, ◌+◌, ◌-◌, ◌^◌, ◌++◌, ℕ, List, length, take, drop, true, None, Some, is_some, IfSome};
 ghost use Rattle.mc_text.specs.Lines.{line_end};
 ghost use Rattle.mc_text.specs.Words.{words};
 ghost use Rattle.mc_request.specs.Meanings.{meaning, Alone};
-ghost use Rattle.mc_request.specs.Requests.{with_block, next_request};
+ghost use Rattle.mc_request.specs.Requests.{with_block, stored, taken_by, next_request};
+ghost use Rattle.mc_request.specs.declared.parts.Taken.TheVariants.{Whole};
 ghost use Rattle.mc_request.specs.LinesSeen.{meaning_of, storing_of, asked_of};
 ghost use Rattle.mc_request_reader.specs.Steps.{IsSearched, ArrivalIs, StartsBy, lent_seen};
-ghost use Rattle.mc_request.specs.WellFormed.{is_good_meaning};
+ghost use Rattle.mc_request.specs.WellFormed.{is_good_meaning, is_good_storing};
+ghost use Rattle.mc_request_reader.specs.ApartFields.{IsLine, Announces, set_with};
 
-use crate::peeks::LentLine;
+use crate::peeks::{LentLine, TakenSet};
 use crate::searched::Searched;
 use mc_request::{
-    Asked, CommandLine, Fault, Request, Storing, Taken, announced_in, command_line, plain_get,
+    Asked, CommandLine, Fault, Request, StoreMode, Storing, Taken, Update, announced_in,
+    command_line, plain_get,
 };
-use mc_text::{LINE_LIMIT, Line, WordIter, without_spaces};
+use mc_text::{Block, Key, LINE_LIMIT, Line, WordIter, content_to, without_spaces};
+use std::alloc::Global;
 
 /// What is after a data block.
-const LINE_END: &[u8] = b"\r\n";
+pub const LINE_END: &[u8] = b"\r\n";
 
 /// What is at the front of the bytes that have come.
 pub enum Arrival {
@@ -162,7 +166,127 @@ fn asked_after<'a>(
     }
 }
 
+/// What a line asks for, of which no byte is left out, not even its end.
+fn line_by_itself(line: &[u8]) -> CommandLine<'_>
+    requires { IsLine line.now }
+    ensures starts { StartsBy line.now (meaning_of result) (length line.now) }
+    ensures good { is_good_meaning (meaning_of result) ≡ true }
+{
+    command_line(content_to(line, line.len() - 1))
+}
+
+/// The first request or fault of bytes that are kept in two parts, a line and what has come after it, where it is whole, and how many
+/// bytes it takes. Nothing is copied.
+pub fn asked_beside<'a>(line: &'a [u8], after: &'a [u8]) -> Option<(Asked<'a>, usize)>
+    requires { IsLine line.now }
+    ensures { lent_seen result ≡ next_request (line.now ++ after.now) }
+{
+    asked_by(line_by_itself(line), line.len(), after)
+}
+
+/// The same by what the line asks for, and how many bytes it takes.
+fn asked_by<'a>(line: CommandLine<'a>, taken: usize, after: &'a [u8]) -> Option<(Asked<'a>, usize)>
+    requires { taken < 2 ^ 63 }
+    ensures { lent_seen result ≡ taken_by (meaning_of line.entry) taken after.now }
+{
+    match line {
+        CommandLine::Alone(asked) => Some((asked, taken)),
+        CommandLine::Refuses(fault, len) => {
+            if after.len() < size_with_block(0, len) {
+                None
+            } else {
+                Some((Asked::Faulty(fault), size_with_block(taken, len)))
+            }
+        }
+        CommandLine::Stores(storing, len) => {
+            if after.len() < size_with_block(0, len) {
+                return None;
+            }
+            let (block, rest) = after.split_at(len as usize);
+            let (end, _) = rest.split_at(LINE_END.len());
+            Some((with_block(storing, block, end), size_with_block(taken, len)))
+        }
+    }
+}
+
+/// How many bytes are wanted after a line that announces a data block of at least so many bytes, with the line end after it.
+pub fn block_after(line: &[u8], least: usize) -> Option<usize>
+    requires { IsLine line.now }
+    ensures { IfSome result (λ wanted. Announces line.now wanted) }
+{
+    match line_by_itself(line) {
+        CommandLine::Stores(_, len) if len as usize >= least => Some(size_with_block(0, len)),
+        _ => None,
+    }
+}
+
+/// The plain `set` of a line, if its block and the line end after it are all that has come after the line, and there is memory for its
+/// key. Its block is left out.
+pub fn set_beside(alloc: Global, line: &[u8], after: &[u8]) -> Option<TakenSet>
+    requires { IsLine line.now }
+    ensures long { IfSome result (λ set. 2 ≤ length after.now) }
+    ensures set { IfSome result (λ set. next_request (line.now ++ after.now)
+        ≡ Some (set_with set (take (length after.now - 2) after.now), length (line.now ++ after.now))) }
+{
+    match line_by_itself(line) {
+        CommandLine::Stores(storing, len) => set_by(alloc, storing, len, after),
+        CommandLine::Alone(_) | CommandLine::Refuses(_, _) => None,
+    }
+}
+
+/// The same by what the line asks for.
+fn set_by(alloc: Global, storing: Storing<'_>, len: u32, after: &[u8]) -> Option<TakenSet>
+    requires { is_good_storing (storing_of storing) ≡ true }
+    ensures long { IfSome result (λ set. length after.now ≡ len + 2) }
+    ensures set { IfSome result (λ set.
+        with_block (storing_of storing.entry) (take len after.now) (take 2 (drop len after.now))
+        ≡ set_with set (take len after.now)) }
+{
+    if after.len() != size_with_block(0, len) {
+        return None;
+    }
+    let (_, rest) = after.split_at(len as usize);
+    let (end, _) = rest.split_at(LINE_END.len());
+    if end != LINE_END {
+        return None;
+    }
+    plain_set(alloc, storing)
+}
+
+/// A storage command, if it is a plain `set` and there is memory for its key. It has no block.
+fn plain_set(alloc: Global, storing: Storing<'_>) -> Option<TakenSet>
+    requires { is_good_storing (storing_of storing) ≡ true }
+    ensures { IfSome result (λ set. (block : List ℕ) → Whole (stored (storing_of storing.entry) block) ≡ set_with set block) }
+{
+    let Storing::Classic { update, noreply } = storing else {
+        return None;
+    };
+    match update {
+        Update::Store {
+            mode: StoreMode::Set,
+            compare: None,
+            key,
+            flags,
+            exptime,
+            ..
+        } => {
+            let Ok(key) = Key::of_bytes(alloc, key) else {
+                return None;
+            };
+            Some(TakenSet {
+                key,
+                flags,
+                exptime,
+                block: Block::new(alloc),
+                noreply,
+            })
+        }
+        _ => None,
+    }
+}
+
 /// A storage command and its data block that has come, by the two bytes after it.
+#[inline(always)]
 fn with_block<'a>(storing: Storing<'a>, block: &'a [u8], end: &[u8]) -> Asked<'a>
     ensures { asked_of result ≡ with_block (storing_of storing.entry) block.now end.now }
 {

@@ -1,5 +1,5 @@
 //! The bytes that have come and are not taken.
-ghost use Rattle.std.specs.Prelude.{◌≡◌, ◌<◌, ◌≤◌, ◌+◌, ◌↔◌, ℕ, List, [], ◌++◌, length, true, false, None, Some, is_some, IsTrue, IfSome, OnOk, OnErr};
+ghost use Rattle.std.specs.Prelude.{◌≡◌, ◌<◌, ◌≤◌, ◌+◌, ◌↔◌, ℕ, List, [], ◌++◌, length, drop, vec_len, true, false, None, Some, is_some, IsTrue, IfSome, OnOk, OnErr};
 
 use crate::peeks::{Front, LentGet, LentLine, Peek, REQUEST_LIMIT};
 use crate::searched::Searched;
@@ -61,6 +61,32 @@ impl Unread {
             dropping: None,
             closed: false,
         }
+    }
+
+    /// Bytes of which so many were taken. It takes no memory.
+    pub fn of_buffer(mut buffer: Vec<u8>, taken: usize) -> Self
+        requires { taken ≤ vec_len buffer }
+        ensures unread { result.unread ≡ drop taken buffer.items }
+        ensures dropping { result.dropping ≡ None }
+        ensures closed { result.closed ≡ false }
+    {
+        let start = let_go(&mut buffer, taken);
+        Unread {
+            buffer,
+            start,
+            searched: Searched::Without(0),
+            wanted: 0,
+            sure: false,
+            dropping: None,
+            closed: false,
+        }
+    }
+
+    /// Whether it is as it was at first. Memory may be reserved.
+    pub fn is_fresh(&self) -> bool
+        ensures { result ≡ true → self.now ≡ fresh_reader }
+    {
+        !self.closed && self.dropping.is_none() && self.buffer.is_empty()
     }
 
     /// Puts a piece after what has come, without what is dropped of it.

@@ -1,0 +1,211 @@
+//! A line and its data block, kept apart from the other bytes, so that the block is copied once.
+ghost use Rattle.std.specs.Prelude.{◌≡◌, ◌<◌, ◌≤◌, ◌+◌, ◌↔◌, ℕ, List, [], ◌++◌, length, true, false, None, Some, IsTrue, IfOk, IfSome, IfNone, OnOk, OnErr};
+ghost use Rattle.mc_request_reader.specs.ApartFields.{Announces};
+
+use crate::peeks::{Front, Peek, TakenSet};
+use crate::reader::Reader;
+use crate::steps::{LINE_END, asked_beside, block_after, set_beside};
+use mc_request::ReadError;
+use mc_text::{Block, Line, next_line};
+use std::alloc::Global;
+use std::marker::Model;
+use std::mem;
+
+/// The fewest bytes of a piece whose front may be kept apart. A client that sends less at a time gets one buffer, so that nothing is
+/// reserved beside that for a few bytes.
+pub const LEAST_PIECE: usize = 1_024;
+
+/// The fewest bytes of a data block that is kept apart: to copy fewer costs less than to reserve memory for them.
+pub const LEAST_BLOCK: usize = 4_096;
+
+/// Memory is reserved for so many times the bytes that have come, and for no more than are wanted. So it stays in proportion to what was
+/// sent, whatever a line announces, and what has come is moved seldom.
+const ROOM_FOR: usize = 8;
+
+/// A whole line that announces a data block, and what has come after it. Contracts see the bytes of both, one after the other.
+///
+/// All bytes that come after the line lie in one list, those after the block too.
+#[derive(Drop)]
+pub struct Apart {
+    /// The line with its end.
+    line: Vec<u8>,
+    /// What has come after it.
+    block: Vec<u8>,
+    /// How many bytes the block and the line end after it have.
+    wanted: usize,
+}
+
+impl Model for Apart {
+    ghost use Rattle.mc_request_reader.specs.Reader.{ReaderState};
+    ghost use Rattle.mc_request_reader.specs.ApartFields.{joined, Announces};
+
+    ghost Value = { ReaderState };
+
+    ghost view = { λ r. joined r.line.items r.block.items };
+
+    ghost invariant = { λ r. Announces r.line.items r.wanted };
+}
+
+impl Apart {
+    ghost use Rattle.mc_request_reader.specs.Reader.{fresh_reader, rest_of, kept_of, KeepsRest, KeepsLittle};
+    ghost use Rattle.mc_request_reader.specs.ApartFields.{begun_by};
+    ghost use Rattle.mc_request_reader.specs.Peeks.{Peeks, HasNone, IsFirst, IsWellFormedPeek, front_of, past, set_of};
+
+    /// A piece, kept apart, if it begins with a whole `set` line whose data block is large, and has no more than that block. None too where
+    /// there is no memory to keep it so: it is kept like any other then.
+    pub fn begin(alloc: Global, piece: &[u8]) -> Option<Apart>
+        ensures begun { IfSome result (λ apart. apart ≡ begun_by piece.now) }
+        ensures little { IfSome result (λ apart. KeepsLittle apart) }
+    {
+        let (line, rest, wanted) = cut(piece)?;
+        if rest.len() > wanted {
+            return None;
+        }
+        let Ok(line) = Vec::from_slice(alloc, line) else {
+            return None;
+        };
+        let Ok(mut block) = Vec::with_capacity(alloc, room_for(rest.len(), wanted)) else {
+            return None;
+        };
+        block.extend_from_slice(rest).unwrap();
+        Some(Apart {
+            line,
+            block,
+            wanted,
+        })
+    }
+
+    /// Puts a piece after what has come.
+    ///
+    /// At `Memory` no byte is taken.
+    #[inline(never)]
+    pub fn append(&mut self, piece: &[u8]) -> Result<(), ReadError>
+        ensures fed { OnOk result ((text : List ℕ) → rest_of self.new text ≡ rest_of self.old (piece.now ++ text)) }
+        ensures closed { self.new.closed ≡ self.old.closed }
+        ensures after_end { self.old.closed ≡ true → self.new ≡ self.old }
+        ensures kept { OnOk result (self.new.held ≡ self.old.held + kept_of self.old (length piece.now)) }
+        ensures cause { OnErr result (0 < kept_of self.old (length piece.now)) }
+        ensures little { KeepsLittle self.new }
+        ensures err { OnErr result (self.new ≡ self.old) }
+    {
+        make_room(&mut self.block, piece.len(), self.wanted);
+        self.block.extend_from_slice(piece)?;
+        Ok(())
+    }
+
+    /// The first request or fault, if it has come whole. It is lent, and its line is read once more.
+    pub fn peek(&self) -> Peek<'_>
+        ensures seen { Peeks self.now result }
+        ensures well_formed { IsWellFormedPeek result }
+    {
+        if self.is_short() {
+            return Peek::More;
+        }
+        match asked_beside(self.line.as_slice(), self.block.as_slice()) {
+            Some((asked, size)) => {
+                let closes = asked.ends();
+                Peek::First(asked, Front { size, closes })
+            }
+            None => Peek::More,
+        }
+    }
+
+    /// The `set`, if it has come whole, nothing after it has, and there is memory for its key: its block is handed out, and not copied.
+    /// What is left of it here is of no use.
+    pub fn take_set(&mut self, alloc: Global) -> Option<TakenSet>
+        ensures first { IfSome result (λ set. IsFirst self.old (set_of set) fresh_reader) }
+        ensures none { IfNone result (self.new ≡ self.old) }
+    {
+        if !self.is_alone() {
+            return None;
+        }
+        let mut set = set_beside(alloc, self.line.as_slice(), self.block.as_slice())?;
+        let mut bytes = mem::replace(&mut self.block, Vec::new(alloc));
+        bytes.truncate(bytes.len() - LINE_END.len());
+        bytes.shrink_to_fit();
+        set.block = Block::from(bytes);
+        Some(set)
+    }
+
+    /// Takes what a look showed, and gives what has come after it to a reader to which nothing has come. It takes no memory.
+    pub fn go_on(&mut self, front: Front, alloc: Global, others: &mut Reader)
+        requires shown { front_of self.old ≡ Some front }
+        requires idle { others.old ≡ fresh_reader }
+        ensures rest { KeepsRest (past front self.old) others.new }
+        ensures little { KeepsLittle others.new }
+    {
+        if self.block.len() > self.wanted {
+            let bytes = mem::replace(&mut self.block, Vec::new(alloc));
+            *others = Reader::of_buffer(alloc, bytes, self.wanted);
+        }
+    }
+
+    /// Whether it is known that nothing is whole until more bytes come. No byte is looked at.
+    pub fn is_short(&self) -> bool
+        ensures { result ≡ true → HasNone self.now self.now }
+    {
+        self.block.len() < self.wanted
+    }
+
+    /// Whether a whole request or fault has come. No byte is looked at.
+    pub fn ready(&self) -> bool
+        ensures { IsTrue result ↔ (0 < length (rest_of self.now [])) }
+    {
+        self.block.len() >= self.wanted
+    }
+
+    /// Whether a whole request or fault has come, and nothing after it. No byte is looked at.
+    pub fn is_alone(&self) -> bool
+        ensures { result ≡ true → 0 < length (rest_of self.now []) }
+    {
+        self.block.len() == self.wanted
+    }
+}
+
+/// For how many bytes memory is reserved, if so many have come and so many are wanted.
+fn room_for(come: usize, wanted: usize) -> usize
+    ensures { come ≤ result }
+{
+    wanted.min(come.saturating_mul(ROOM_FOR)).max(come)
+}
+
+/// Makes room in a block, of which so many bytes are wanted, for so many more, if it wants them. Where there is not so much memory, it has
+/// the room that it had.
+fn make_room(block: &mut Vec<u8>, more: usize, wanted: usize)
+    ensures { block.new.items ≡ block.old.items }
+{
+    let come = block.len().saturating_add(more);
+    if come > block.capacity() && come <= wanted {
+        let _ = block.reserve_exact(room_for(come, wanted).saturating_sub(block.len()));
+    }
+}
+
+/// A piece that begins with a whole `set` line whose data block is large: the line with its end, what is after it, and how many bytes
+/// are wanted there.
+fn cut(piece: &[u8]) -> Option<(&[u8], &[u8], usize)>
+    ensures joins { IfSome result (λ cut. piece.now ≡ cut.0.now ++ cut.1.now) }
+    ensures announces { IfSome result (λ cut. Announces cut.0.now cut.2) }
+    ensures some { IfSome result (λ cut. 0 < length piece.now) }
+{
+    if !matches!(piece, [b's', b'e', b't', b' ', ..]) {
+        return None;
+    }
+    match next_line(piece) {
+        Line::Whole { content, taken } if may_be_large(content) => {
+            let (line, rest) = piece.split_at(taken);
+            let wanted = block_after(line, LEAST_BLOCK)?;
+            Some((line, rest, wanted))
+        }
+        Line::Whole { .. } | Line::Partial | Line::TooLong => None,
+    }
+}
+
+/// Whether a `set` line may announce a large block: it ends with four digits, or with a word. A wrong answer costs time, and nothing else.
+fn may_be_large(content: &[u8]) -> bool {
+    match content {
+        [.., first, second, third, last] if last.is_ascii_digit() => {
+            first.is_ascii_digit() && second.is_ascii_digit() && third.is_ascii_digit()
+        }
+        _ => true,
+    }
+}

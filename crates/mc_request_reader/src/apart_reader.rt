@@ -1,0 +1,229 @@
+//! A reader for who keeps large data blocks: it hands them out.
+ghost use Rattle.std.specs.Prelude.{◌≡◌, ◌<◌, ◌≤◌, ◌+◌, ◌↔◌, ℕ, List, [], ◌++◌, length, true, None, Some, IsTrue, IfSome, IfNone, OnOk, OnErr};
+ghost use Rattle.mc_request_reader.specs.Reader.{fresh_reader, KeepsRest, KeepsLittle};
+ghost use Rattle.mc_request_reader.specs.ApartFields.{begun_by};
+ghost use Rattle.mc_request_reader.specs.Peeks.{front_of, past};
+
+use crate::apart::{Apart, LEAST_PIECE};
+use crate::peeks::{Front, LentGet, LentLine, Peek, TakenSet};
+use crate::reader::Reader;
+use mc_request::ReadError;
+use std::alloc::Global;
+use std::marker::Model;
+
+/// A [`Reader`] for who keeps the data blocks of large `set`s. Contracts see the same of it, and each call that a reader has promises
+/// the same.
+///
+/// Where nothing is kept, and a piece of at least 1,024 bytes begins with a `set` line that announces a data block of at least 4,096, the
+/// line and what comes after it are kept apart. So the bytes of the block are copied once, when they come, into memory of its own, and
+/// [`ApartReader::take_set`] hands that out. If something has come after the block, or the block has no line end, it is lent by
+/// [`ApartReader::peek`] like any other.
+#[derive(Drop)]
+pub struct ApartReader {
+    alloc: Global,
+    /// What has come, but for what is kept apart.
+    reader: Reader,
+    /// A line and its data block. While there is one, nothing else is kept.
+    apart: Option<Apart>,
+}
+
+impl Model for ApartReader {
+    ghost use Rattle.mc_request_reader.specs.Reader.{ReaderState};
+
+    ghost Value = { ReaderState };
+
+    ghost use Rattle.mc_request_reader.specs.ApartReaderFields.{state_of, IsApartReader};
+
+    ghost view = { state_of };
+
+    ghost invariant = { IsApartReader };
+}
+
+impl ApartReader {
+    ghost use Rattle.mc_request.specs.Requests.{ends};
+    ghost use Rattle.mc_request.specs.WellFormed.{is_well_formed};
+    ghost use Rattle.mc_request.specs.declared.parts.Taken.{Taken};
+    ghost use Rattle.mc_request_reader.specs.Reader.{rest_of, kept_of};
+    ghost use Rattle.mc_request_reader.specs.Peeks.{Peeks, Shows, HasNone, IsAlone, IsFirst, IsWellFormedPeek, front_by, get_of, set_of};
+
+    /// A reader to which nothing has come. It takes no memory.
+    pub fn new(alloc: Global) -> Self
+        ensures { result ≡ fresh_reader }
+    {
+        ApartReader {
+            alloc,
+            reader: Reader::new(alloc),
+            apart: None,
+        }
+    }
+
+    /// Takes the next piece of the text, as [`Reader::feed`] does.
+    pub fn feed(&mut self, piece: &[u8]) -> Result<(), ReadError>
+        ensures fed { OnOk result ((text : List ℕ) → rest_of self.new text ≡ rest_of self.old (piece.now ++ text)) }
+        ensures closed { self.new.closed ≡ self.old.closed }
+        ensures after_end { self.old.closed ≡ true → self.new ≡ self.old }
+        ensures kept { OnOk result (self.new.held ≤ self.old.held + kept_of self.old (length piece.now)) }
+        ensures cause { OnErr result (0 < kept_of self.old (length piece.now)) }
+        ensures little { KeepsLittle self.new }
+        ensures err { OnErr result (self.new ≡ self.old) }
+    {
+        if let Some(apart) = &mut self.apart {
+            return apart.append(piece);
+        }
+        if piece.len() >= LEAST_PIECE {
+            if let Some(apart) = begun(self.alloc, &self.reader, piece) {
+                self.apart = Some(apart);
+                return Ok(());
+            }
+        }
+        self.reader.feed(piece)
+    }
+
+    /// The `set` that is first, if it has come whole, is kept apart, and nothing has come after it: it is taken, and its data block is not
+    /// copied. None says nothing of what is first, and then nothing has changed; so too if there is no memory for its key.
+    pub fn take_set(&mut self) -> Option<TakenSet>
+        ensures first { IfSome result (λ set. IsFirst self.old (set_of set) self.new) }
+        ensures closed { IfSome result (λ set. self.new.closed ≡ ends (set_of set)) }
+        ensures little { KeepsLittle self.new }
+        ensures none { IfNone result (self.new ≡ self.old) }
+    {
+        let Some(apart) = &mut self.apart else {
+            return None;
+        };
+        let set = apart.take_set(self.alloc)?;
+        self.apart = None;
+        Some(set)
+    }
+
+    /// Whether [`ApartReader::take_set`] may give one. No byte is looked at. If so, a whole request or fault has come.
+    #[inline(always)]
+    pub fn has_set(&self) -> bool
+        ensures { result ≡ true → 0 < length (rest_of self.now []) }
+    {
+        match &self.apart {
+            None => false,
+            Some(apart) => apart.is_alone(),
+        }
+    }
+
+    /// The first request or fault that has come whole, as [`Reader::peek`] lends it.
+    pub fn peek(&self) -> Peek<'_>
+        ensures seen { Peeks self.now result }
+        ensures well_formed { IsWellFormedPeek result }
+        ensures little { KeepsLittle self.now }
+    {
+        match &self.apart {
+            None => self.reader.peek(),
+            Some(apart) => apart.peek(),
+        }
+    }
+
+    /// The first request that has come whole, if it is a good `get` or `gets` without a space in front, as [`Reader::peek_get`] lends it.
+    #[inline(always)]
+    pub fn peek_get(&self) -> Option<LentGet<'_>>
+        ensures seen { IfSome result (λ get. Shows self.now (get_of get) get.front) }
+        ensures well_formed { IfSome result (λ get. is_well_formed (get_of get) ≡ true) }
+        ensures little { KeepsLittle self.now }
+    {
+        self.reader.peek_get()
+    }
+
+    /// The first line, if its end is known and it begins like no storage command, as [`Reader::peek_lone`] lends it.
+    #[inline(always)]
+    pub fn peek_lone(&self) -> Option<LentLine<'_>>
+        ensures seen { IfSome result (λ line. (what : Taken) → IsAlone line what → Shows self.now what (front_by line what)) }
+        ensures well_formed { IfSome result (λ line. (what : Taken) → IsAlone line what → is_well_formed what ≡ true) }
+        ensures little { KeepsLittle self.now }
+    {
+        self.reader.peek_lone()
+    }
+
+    /// The bytes that have come and are not taken. While a block is kept apart there are none of these. No byte is looked at.
+    #[inline(always)]
+    pub fn unread(&self) -> &[u8]
+        ensures { 0 < length result.now → result.now ≡ self.now.unread }
+    {
+        self.reader.unread()
+    }
+
+    /// Whether it is known that nothing is whole until more bytes come. No byte is looked at. False says nothing.
+    #[inline(always)]
+    pub fn is_short(&self) -> bool
+        ensures short { result ≡ true → HasNone self.now self.now }
+        ensures little { KeepsLittle self.now }
+    {
+        if !self.reader.is_short() {
+            return false;
+        }
+        match &self.apart {
+            None => true,
+            Some(apart) => apart.is_short(),
+        }
+    }
+
+    /// Whether a whole request or fault has come, as [`Reader::ready`] says it.
+    pub fn ready(&self) -> bool
+        ensures ready { IsTrue result ↔ (0 < length (rest_of self.now [])) }
+        ensures little { KeepsLittle self.now }
+    {
+        match &self.apart {
+            None => self.reader.ready(),
+            Some(apart) => apart.ready(),
+        }
+    }
+
+    /// Whether nothing is read any more, after `quit` or a line too long.
+    pub fn is_closed(&self) -> bool
+        ensures { result ≡ self.now.closed }
+    {
+        self.reader.is_closed()
+    }
+
+    /// Takes what a look showed, as [`Reader::consume`] does. It takes no memory.
+    #[inline(always)]
+    pub fn consume(&mut self, front: Front)
+        requires { front_of self.old ≡ Some front }
+        ensures taken { KeepsRest (past front self.old) self.new }
+        ensures little { KeepsLittle self.new }
+    {
+        match &self.apart {
+            None => self.reader.consume(front),
+            Some(_) => go_on(&mut self.apart, front, self.alloc, &mut self.reader),
+        }
+    }
+
+    /// Gives back the memory that is reserved, as [`Reader::give_back`] does.
+    pub fn give_back(&mut self, kept: usize)
+        ensures same { self.new ≡ self.old }
+        ensures little { KeepsLittle self.new }
+    {
+        self.reader.give_back(kept);
+    }
+}
+
+/// A piece, kept apart, if it comes to a reader to which nothing has come, and begins with a large `set`.
+#[inline(never)]
+fn begun(alloc: Global, others: &Reader, piece: &[u8]) -> Option<Apart>
+    ensures begun { IfSome result (λ apart. apart ≡ begun_by piece.now) }
+    ensures little { IfSome result (λ apart. KeepsLittle apart) }
+    ensures idle { IfSome result (λ apart. others.now ≡ fresh_reader) }
+{
+    if !others.is_fresh() {
+        return None;
+    }
+    Apart::begin(alloc, piece)
+}
+
+/// Takes what a look showed of what is kept apart, and gives what has come after it to a reader to which nothing has come.
+#[inline(never)]
+fn go_on(apart: &mut Option<Apart>, front: Front, alloc: Global, others: &mut Reader)
+    requires shown { IfSome apart.old (λ apart. front_of apart ≡ Some front) }
+    requires idle { IfSome apart.old (λ apart. others.old ≡ fresh_reader) }
+    ensures none { apart.new ≡ None }
+    ensures rest { IfSome apart.old (λ apart. KeepsRest (past front apart) others.new) }
+    ensures little { IfSome apart.old (λ apart. KeepsLittle others.new) }
+{
+    if let Some(mut kept) = apart.take() {
+        kept.go_on(front, alloc, others);
+    }
+}
