@@ -1,5 +1,5 @@
 //! Cache: the items, their numbers and their bounds.
-ghost use Rattle.std.specs.Prelude.{◌≡◌, ◌↔◌, ◌<◌, ◌≤◌, ◌^◌, ℕ, List, [], length, IsTrue, true, false, IfOk, OnErr};
+ghost use Rattle.std.specs.Prelude.{◌≡◌, ◌↔◌, ◌<◌, ◌≤◌, ◌^◌, ℕ, List, [], length, None, IsTrue, true, false, IfOk, OnErr};
 ghost use Rattle.std.specs.Option.{option_copied};
 ghost use Rattle.mc_cache.specs.CacheState.{IsWithinBounds, HasRoom};
 
@@ -10,14 +10,14 @@ mod retrieving;
 mod settling;
 mod storing;
 
-use mc_item::{Body, CasCounter, Deadline};
+use mc_item::{CasCounter, Deadline};
 use mc_reply::Reply;
 use mc_request::{Atom, MetaCommand, MetaGet, Show, Update};
 use mc_store::Store;
 use mc_text::{Block, Key};
 use std::alloc::{AllocError, Global};
 use std::marker::Model;
-use storing::Lent;
+use storing::{Lent, own_body};
 
 /// The most bytes that a cache's budget has.
 pub const MAX_BUDGET: u64 = 1_099_511_627_776;
@@ -62,6 +62,8 @@ impl<S: Store + Drop> Model for Cache<S> {
 impl<S: Store + Drop> Cache<S> {
     ghost use Rattle.mc_text.specs.Keys.{is_key};
     ghost use Rattle.mc_request.specs.declared.parts.Atom.TheVariants.{Get, Update as AnUpdate, Meta as AMeta};
+    ghost use Rattle.mc_request.specs.declared.parts.Update.TheVariants.{Store as AStore};
+    ghost use Rattle.mc_request.specs.declared.parts.StoreMode.TheVariants.{Set};
     ghost use Rattle.mc_request.specs.declared.meta.MetaCommand.TheVariants.{Get as AMetaGet, Update as AMetaUpdate};
     ghost use Rattle.mc_request.specs.Parts.{update_seen};
     ghost use Rattle.mc_reply.specs.Replies.{filled};
@@ -253,6 +255,30 @@ impl<S: Store + Drop> Cache<S> {
         }
     }
 
+    /// The command `set`, whose key and block are its own: no byte of the block is copied. Its reply shows no value.
+    ///
+    /// It takes memory only where the key is not held. Where there is none the reply is `Fault::OutOfMemory`, and nothing changes but what
+    /// the moment brings.
+    pub fn set(
+        &mut self,
+        key: Key,
+        flags: u32,
+        exptime: i64,
+        block: Block,
+        moment: u64,
+    ) -> Reply<()>
+        requires { moment < 2 ^ 63 }
+        ensures step { (value : List ℕ)
+            → step_of self.old (AnUpdate (AStore Set None key flags exptime block)) moment (is_refusal result)
+            ≡ (self.new, filled result value) }
+        ensures refusal { is_refusal result ≡ true
+            → may_refuse self.old (AnUpdate (AStore Set None key flags exptime block)) moment ≡ true }
+    {
+        let body = own_body(flags, exptime, block, moment);
+        let found = self.settle(key.as_bytes(), 0, moment);
+        self.set_own(key, body, found)
+    }
+
     /// The meta command `Get`, which is `mg`, with the key lent. No value gets longer.
     ///
     /// It takes memory only where the key is not held and an item is made: where there is none the reply is
@@ -380,14 +406,7 @@ impl<S: Store + Drop> Cache<S> {
                 exptime,
                 block,
             } => {
-                let body = Body {
-                    flags,
-                    expiry: Deadline::of(exptime, moment),
-                    cas: 0,
-                    stale: false,
-                    won: false,
-                    value: block,
-                };
+                let body = own_body(flags, exptime, block, moment);
                 let found = self.settle(key.as_bytes(), 0, moment);
                 self.store_own(mode, compare, key, body, found)
             }

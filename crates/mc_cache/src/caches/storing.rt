@@ -1,8 +1,10 @@
 //! Storing: what a storage command does on a settled cache.
-ghost use Rattle.std.specs.Prelude.{◌≡◌, ◌<◌, ℕ, Bool, List, length, Some, None, true, IfOk, OnErr, IfSome, IfNone, false};
+ghost use Rattle.std.specs.Prelude.{◌≡◌, ◌<◌, ◌^◌, ℕ, Bool, List, length, Some, None, true, IfOk, OnErr, IfSome, IfNone, false};
 ghost use Rattle.std.specs.Option.{option_map};
 ghost use Rattle.mc_text.specs.Keys.{is_key};
+ghost use Rattle.mc_item.specs.Deadlines.{deadline_of};
 ghost use Rattle.mc_item.specs.declared.deadlines.Deadline.{Deadline as ADeadline};
+ghost use Rattle.mc_request.specs.declared.parts.StoreMode.TheVariants.{Set};
 ghost use Rattle.mc_reply.specs.declared.replies.Reply.{Reply as AReply};
 ghost use Rattle.mc_reply.specs.Replies.{filled};
 ghost use Rattle.mc_store.specs.Items.{body_at};
@@ -98,6 +100,18 @@ impl<S: Store + Drop> Cache<S> {
         }
     }
 
+    /// The command `set` on a settled cache, where this was found under its key. The body's number is not read.
+    pub(super) fn set_own(&mut self, key: Key, body: Body, found: Option<Found>) -> Reply<()>
+        requires found { body_at key self.old.items ≡ found_body found (value_at key self.old.items) }
+        ensures step { (value : List ℕ)
+            → store_step self.old None Set key (body_at key self.old.items) (content_of body) (is_refusal result)
+            ≡ (self.new, filled result value) }
+        ensures refusal { is_refusal result ≡ true
+            → store_may_refuse None Set (body_at key self.old.items) body.value ≡ true }
+    {
+        stored_or_fault(self.put_own(key, guess_of(found), body, found.is_some()))
+    }
+
     /// A storage command with the key and the block lent.
     ///
     /// `Err` where a whole value is stored under a held key, and there is no memory for its block: nothing has changed.
@@ -188,6 +202,21 @@ impl<S: Store + Drop> Cache<S> {
             }
             Err(_) => Err(Fault::OutOfMemory),
         }
+    }
+}
+
+/// The body of what is stored at a moment, with a block of its own. It has no number yet.
+pub(super) fn own_body(flags: u32, exptime: i64, block: Block, moment: u64) -> Body
+    requires { moment < 2 ^ 63 }
+    ensures { result ≡ record { flags = flags; expiry = deadline_of exptime moment; cas = 0; stale = false; won = false; value = block } }
+{
+    Body {
+        flags,
+        expiry: Deadline::of(exptime, moment),
+        cas: 0,
+        stale: false,
+        won: false,
+        value: block,
     }
 }
 
