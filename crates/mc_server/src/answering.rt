@@ -9,6 +9,8 @@ ghost use Rattle.mc_request.specs.WellFormed.{is_well_formed, is_good_request, i
 ghost use Rattle.mc_request.specs.declared.parts.Atom.TheVariants.{Get as GetOne, Meta as MetaAtom};
 ghost use Rattle.mc_request.specs.declared.parts.Request.TheVariants.{Get, Meta, Update as AnUpdate};
 ghost use Rattle.mc_request.specs.declared.parts.Taken.TheVariants.{Whole};
+ghost use Rattle.mc_request.specs.declared.parts.Update.{Update as AnyUpdate};
+ghost use Rattle.mc_request_reader.specs.Peeks.{set_of};
 ghost use Rattle.mc_reply.specs.Replies.{filled};
 ghost use Rattle.mc_reply.specs.Seen.{value_len};
 ghost use Rattle.mc_reply.specs.Spelling.{key_part};
@@ -28,6 +30,7 @@ use mc_reply::{
     write_meta, write_noop, write_version,
 };
 use mc_request::{Asked, Hides, MetaCommand, MetaForm, Update, key_bytes};
+use mc_request_reader::TakenSet;
 use mc_store::Store;
 use mc_text::{CODED_ROOM, VALUE_LIMIT, WordIter};
 use std::alloc::AllocError;
@@ -268,6 +271,43 @@ fn serve_update<S: Store + Drop>(
         write_line(&reply.with(b"".as_slice()), output).unwrap();
     }
     Ok(())
+}
+
+/// Serves a `set` whose key and block are its own: no byte of the block is copied. There is room for its line, so it cannot fail: where the
+/// cache is refused memory, it is answered so.
+pub fn serve_set<S: Store + Drop>(
+    set: TakenSet,
+    cache: &mut Cache<S>,
+    moment: u64,
+    output: &mut Vec<u8>,
+)
+    requires moment { moment < 2 ^ 63 }
+    requires room { vec_len output.old + LINE_ROOM ≤ vec_capacity output.old }
+    ensures served { (number : ℕ) → IsServed number cache.old (set_of set) moment cache.new output.old.items output.new.items }
+    ensures len { vec_len output.new ≤ vec_len output.old + LINE_ROOM }
+{
+    let TakenSet {
+        key,
+        flags,
+        exptime,
+        block,
+        noreply,
+    } = set;
+    let reply = cache.set(key, flags, exptime, block, moment);
+    if !reply.is_hidden(hides_by(noreply)) {
+        write_line(&reply.with(b"".as_slice()), output).unwrap();
+    }
+}
+
+/// What an update hides of its answer.
+fn hides_by(noreply: bool) -> Hides
+    ensures { (update : AnyUpdate (List ℕ) (List ℕ)) → hides_of (AnUpdate update noreply) ≡ result }
+{
+    if noreply {
+        Hides::ReplyLine
+    } else {
+        Hides::Nothing
+    }
 }
 
 /// Serves a meta command by the word of its key, given a guess of its item. The value that it shows is read from the front of the cache.

@@ -1,13 +1,16 @@
 //! A connection: its reader, and its answers.
-ghost use Rattle.std.specs.Prelude.{◌≡◌, ◌+◌, ◌-◌, ◌≤◌, ◌<◌, ◌^◌, ◌↔◌, ℕ, [], drop, length, min, Ok, IsTrue, IfOk, IsOkUnless, OnOk, OnErr};
+ghost use Rattle.std.specs.Prelude.{◌≡◌, ◌+◌, ◌-◌, ◌≤◌, ◌<◌, ◌^◌, ◌↔◌, ℕ, [], drop, length, min, Ok, IsTrue, IfOk, IfSome, IfNone, IsOkUnless, OnOk, OnErr, OnSome};
 
 use crate::ahead::{Ahead, Looked};
-use crate::answering::{bound_for, room_for_get, serve_keys, serve_within};
+use crate::answering::{
+    COMMAND_BOUND, bound_for, room_for_get, serve_keys, serve_set, serve_within,
+};
 use crate::limits::AnswerLimit;
 use crate::turns::{Limited, ServerError, Turn};
 use mc_cache::Cache;
+use mc_reply::LINE_ROOM;
 use mc_request::{CommandLine, command_line};
-use mc_request_reader::{Front, LentGet, Peek, Reader};
+use mc_request_reader::{ApartReader, Front, LentGet, Peek};
 use mc_store::Store;
 use mc_text::{give_back, let_go};
 use std::alloc::Global;
@@ -16,7 +19,7 @@ use std::marker::Model;
 /// A connection of a server.
 #[derive(Drop)]
 pub struct Connection {
-    reader: Reader,
+    reader: ApartReader,
     output: Vec<u8>,
     /// How many bytes of the output were taken out.
     sent: usize,
@@ -47,7 +50,7 @@ impl Connection {
         ensures { result ≡ fresh_connection }
     {
         Connection {
-            reader: Reader::new(alloc),
+            reader: ApartReader::new(alloc),
             output: Vec::new(alloc),
             sent: 0,
             looked: Looked::never(),
@@ -118,7 +121,7 @@ impl Connection {
     /// Takes the first request or fault that has come whole, and serves it at a moment, where its answer is within a limit.
     ///
     /// What it may need of memory is taken before anything is: room for the answer, and the block of a value that is
-    /// stored under a held key. Where none waits it needs none.
+    /// stored under a held key, unless the reader hands that out. Where none waits it needs none.
     pub fn turn_within<S: Store + Drop>(
         &mut self,
         cache: &mut Cache<S>,
@@ -188,7 +191,14 @@ impl Connection {
         ensures cache_kept { OnErr result (cache.new ≡ cache.old) }
     {
         match self.reader.peek_lone() {
-            None => self.turn_peeked(cache, moment, limit, ahead),
+            None => {
+                if self.reader.has_set()
+                    && let Some(turn) = self.turn_set(cache, moment, limit)
+                {
+                    return Ok(Limited::Turned(turn));
+                }
+                self.turn_peeked(cache, moment, limit, ahead)
+            }
             Some(line) => match &command_line(line.content) {
                 CommandLine::Stores(_, _) | CommandLine::Refuses(_, _) => {
                     self.turn_peeked(cache, moment, limit, ahead)
@@ -209,6 +219,36 @@ impl Connection {
                 }
             },
         }
+    }
+
+    /// The same of a large `set` that the reader hands out: no byte of its data block is copied. None where it hands out none, where there is
+    /// no room for an answer, or where the limit is low: then nothing has changed.
+    #[inline(never)]
+    fn turn_set<S: Store + Drop>(
+        &mut self,
+        cache: &mut Cache<S>,
+        moment: u64,
+        limit: AnswerLimit,
+    ) -> Option<Turn>
+        requires { moment < 2 ^ 63 }
+        ensures turn { IfSome result (λ turn. (number : ℕ)
+            → IsTurn number moment turn cache.old cache.new self.old self.new) }
+        ensures bounded { OnSome result (length self.new.output
+            ≤ length self.old.output + bound_of (rest_of self.old.reader []) cache.old) }
+        ensures little { OnSome result (KeepsLittle self.new.reader) }
+        ensures within { OnSome result (bound_of (rest_of self.old.reader []) cache.old ≤ limit.bytes) }
+        ensures unchanged { IfNone result (self.new ≡ self.old) }
+        ensures cache_unchanged { IfNone result (cache.new ≡ cache.old) }
+    {
+        if limit.bytes < COMMAND_BOUND {
+            return None;
+        }
+        let Ok(()) = self.output.reserve(LINE_ROOM) else {
+            return None;
+        };
+        let set = self.reader.take_set()?;
+        serve_set(set, cache, moment, &mut self.output);
+        Some(Turn::Took)
     }
 
     /// The same, by a look at what is first.
