@@ -113,6 +113,20 @@ fn is_stored(alloc: Global, cache: &mut Cache<ListStore>) -> Result<bool, AllocE
     )
 }
 
+/// A `set` of a key and a block of its own, in place of a value and then under a new key.
+#[test]
+fn own_sets_are_stored(rt: HostRuntime) -> Result<(), Fail> {
+    let alloc = rt.alloc();
+    let store = ListStore::new(alloc);
+    let mut cache = Cache::new(alloc, store, 1_000, 10, CasCounter::starting_at(0));
+    for (key, value) in [(b"a", b"xyz"), (b"a", b"uvw"), (b"b", b"rst")] {
+        let own = Key::of_bytes(alloc, key)?;
+        let reply = cache.set(own, 5, 0, Block::from_slice(alloc, value)?, 0);
+        assert!(rt; matches!(reply, Reply::Stored) && cache.value(key) == Some(value.as_slice()));
+    }
+    Ok(())
+}
+
 #[test]
 fn own_values_are_stored(rt: HostRuntime) -> Result<(), Fail> {
     let alloc = rt.alloc();
