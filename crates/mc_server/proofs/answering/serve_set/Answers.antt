@@ -20,7 +20,7 @@ returns-then-not-is_hidden-clause-served g c number =
     let written = rw c.unwrap.ensures at c.write_line.ensures.ok in
     let shown = sym c.is_hidden.ensures ∙ c.if-not-is_hidden.true in
     update_served number c.args.moment c.args.cache.now c.set-reply.new.self update given.noreply c.hides_by.result c.set-reply.result c.args.output.now.items c.write_line.new.out.items
-    (rw same at c.set-reply.ensures.step) (rw same at c.set-reply.ensures.refusal) (c.hides_by.ensures update)
+    (rw same at c.set-reply.ensures.step) c.set-reply.ensures.refusal (c.hides_by.ensures update)
     (written ∙ ap (λ (bytes : List ℕ). c.args.output.now.items ++ bytes) (ap (λ (r : Reply (List ℕ)). reply_line r) seen ∙ sym (line_shown c.hides_by.result c.set-reply.result shown)))
 
 -- nothing is written
@@ -31,5 +31,5 @@ returns-else-not-is_hidden-clause-served g c number =
     let update : Update (List ℕ) (List ℕ) = Store Set None given.key given.flags given.exptime given.block in
     let hidden = sym c.is_hidden.ensures ∙ c.if-not-is_hidden.false in
     update_served number c.args.moment c.args.cache.now c.set-reply.new.self update given.noreply c.hides_by.result c.set-reply.result c.args.output.now.items c.args.output.now.items
-    (rw same at c.set-reply.ensures.step) (rw same at c.set-reply.ensures.refusal) (c.hides_by.ensures update)
+    (rw same at c.set-reply.ensures.step) c.set-reply.ensures.refusal (c.hides_by.ensures update)
     (sym (append-nil c.args.output.now.items) ∙ ap (λ (bytes : List ℕ). c.args.output.now.items ++ bytes) (sym (line_hidden c.hides_by.result c.set-reply.result hidden)))
