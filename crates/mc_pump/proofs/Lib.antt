@@ -3,3 +3,4 @@ pub mod PumpLemmas
 pub mod RoundLemmas
 pub mod LawLemmas
 pub mod CountLemmas
+pub mod ReadLemmas

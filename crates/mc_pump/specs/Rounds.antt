@@ -1,5 +1,5 @@
 -- What the parts of a round do.
-use Rattle.std.specs.Prelude.{◌≡◌, ℕ, ◌<◌, ◌≤◌, Bool, true, false, not, List, [], length, Option, Result}
+use Rattle.std.specs.Prelude.{◌≡◌, ℕ, ◌<◌, ◌≤◌, ◌||◌, nat_lt, Bool, true, false, not, List, [], length, Option, Result, Ok, Err}
 use Rattle.mc_server.specs.ServerState.{ConnectionState, ServerState, connection_at, output_of}
 use Rattle.mc_server.specs.Turns.{waiting_of, is_closed_at}
 use Rattle.mc_stream.specs.Sides.{HowItCame, HowItWent}
@@ -31,6 +31,11 @@ ends_by Marked ended = false
 abbrev pub reads_by : Stop → (ended : Bool) → Bool
 reads_by Idle ended = not ended
 reads_by other ended = false
+
+-- whether a read moved anything: bytes came, or the end
+abbrev pub moved_of : Result ℕ Pumped → (ended : Bool) → Result Bool Pumped
+moved_of (Ok count) ended = Ok (nat_lt 0 count || ended)
+moved_of (Err pump) ended = Err pump
 
 -- a connection of which some was sent: all else of it is as it was
 pub record IsSentOf (old new : Option ConnectionState) : Type 0 where

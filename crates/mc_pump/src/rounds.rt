@@ -1,16 +1,16 @@
 //! A round: turns, a write, a read.
-ghost use Rattle.std.specs.Prelude.{◌≡◌, ◌<◌, ◌^◌, ◌==◌, ◌&&◌, ℕ, List, [], Option, false, length, IfOk, IsSome};
+ghost use Rattle.std.specs.Prelude.{◌≡◌, ◌<◌, ◌^◌, ◌==◌, ◌&&◌, ℕ, List, [], Option, false, length, IfNone, IfOk, IfSome, IsSome};
 ghost use Rattle.mc_server.specs.ServerState.{connection_at, output_of};
 ghost use Rattle.mc_server.specs.Turns.{is_closed_at, waiting_of};
 ghost use Rattle.mc_stream.specs.Sides.{pump_of};
 ghost use Rattle.mc_pump.specs.Pumps.{Pumps};
-ghost use Rattle.mc_pump.specs.Rounds.{Receives, Sends, StopsAt, TakesTurns, ends_by, reads_by};
+ghost use Rattle.mc_pump.specs.Rounds.{Receives, Sends, StopsAt, TakesTurns, ends_by, moved_of, reads_by};
 
 use crate::limits::UNSENT_MARK;
 use crate::watches::Watch;
 use mc_server::{Limited, Server, Turn};
 use mc_store::Store;
-use mc_stream::{Pumped, read_once, write_once};
+use mc_stream::{Pumped, read_once, told, write_once};
 use std::io::{Read, Write};
 
 /// Why the turns of a round stopped.
@@ -179,6 +179,60 @@ fn receive<S: Store + Drop, R: Read>(
     ensures { (moment : ℕ) → Receives number moment result server.old server.new (R.remaining reader.old) (R.remaining reader.new) ended.new
         watch.old.no_memory watch.new.no_memory }
 {
+    match receive_apart(server, number, ended, reader, watch) {
+        Some(moved) => moved,
+        None => receive_piece(server, number, ended, reader, piece, watch),
+    }
+}
+
+/// The same by a read straight into a data block that the server keeps apart. None says that nothing was read, and nothing has changed.
+fn receive_apart<S: Store + Drop, R: Read>(
+    server: &mut Server<S>,
+    number: u64,
+    ended: &mut bool,
+    reader: &mut R,
+    watch: &mut Watch,
+) -> Option<Result<bool, Pumped>>
+    requires is_open { IsSome (connection_at server.old number) }
+    requires below { length (output_of (connection_at server.old number)) < UNSENT_MARK }
+    requires goes_on { ended.old ≡ false }
+    ensures receives { IfSome result (λ side. (moment : ℕ) → Receives number moment side server.old server.new
+        (R.remaining reader.old) (R.remaining reader.new) ended.new watch.old.no_memory watch.new.no_memory) }
+    ensures none { IfNone result (server.new ≡ server.old) }
+    ensures unread { IfNone result (reader.new ≡ reader.old) }
+    ensures going_on { IfNone result (ended.new ≡ ended.old) }
+    ensures unwatched { IfNone result (watch.new ≡ watch.old) }
+{
+    let read = server.read_from(number, reader)?;
+    let side = told(read, ended);
+    watch.tally.came(count_of(&side));
+    Some(moved_by(side, *ended))
+}
+
+/// How many bytes a read brought: none where it stops the pump.
+fn count_of(side: &Result<usize, Pumped>) -> usize {
+    match side {
+        Ok(count) => *count,
+        Err(_) => 0,
+    }
+}
+
+/// The same by a piece.
+fn receive_piece<S: Store + Drop, R: Read>(
+    server: &mut Server<S>,
+    number: u64,
+    ended: &mut bool,
+    reader: &mut R,
+    piece: &mut [u8],
+    watch: &mut Watch,
+) -> Result<bool, Pumped>
+    requires is_open { IsSome (connection_at server.old number) }
+    requires below { length (output_of (connection_at server.old number)) < UNSENT_MARK }
+    requires goes_on { ended.old ≡ false }
+    requires piece { 0 < length piece.old }
+    ensures { (moment : ℕ) → Receives number moment result server.old server.new (R.remaining reader.old) (R.remaining reader.new) ended.new
+        watch.old.no_memory watch.new.no_memory }
+{
     let count = read_once(reader, piece, ended)?;
     if count == 0 {
         return Ok(*ended);
@@ -188,5 +242,15 @@ fn receive<S: Store + Drop, R: Read>(
     match server.feed(number, came) {
         Ok(()) => Ok(true),
         Err(_) => Err(Pumped::Failed),
+    }
+}
+
+/// Whether a read moved anything: bytes came, or the end.
+fn moved_by(side: Result<usize, Pumped>, ended: bool) -> Result<bool, Pumped>
+    ensures { result ≡ moved_of side ended }
+{
+    match side {
+        Ok(count) => Ok(count > 0 || ended),
+        Err(pump) => Err(pump),
     }
 }

@@ -2,3 +2,4 @@ pub mod StepLemmas
 pub mod ReaderLemmas
 pub mod CountLemmas
 pub mod ApartLemmas
+pub mod ReadLemmas

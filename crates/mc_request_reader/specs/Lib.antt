@@ -4,3 +4,4 @@ pub mod Steps
 pub mod UnreadFields
 pub mod ApartFields
 pub mod ApartReaderFields
+pub mod Reads

@@ -1,15 +1,18 @@
 //! A line and its data block, kept apart from the other bytes, so that the block is copied once.
 ghost use Rattle.std.specs.Prelude.{◌≡◌, ◌<◌, ◌≤◌, ◌+◌, ◌↔◌, ℕ, List, [], ◌++◌, length, true, false, None, Some, IsTrue, IfOk, IfSome, IfNone, OnOk, OnErr};
 ghost use Rattle.mc_request_reader.specs.ApartFields.{Announces};
+ghost use Rattle.mc_request_reader.specs.Reads.{Comes, ReadsBy};
 
+use crate::incoming::Incoming;
 use crate::peeks::{Front, Peek, TakenSet};
 use crate::reader::Reader;
 use crate::steps::{LINE_END, asked_beside, block_after, set_beside};
 use mc_request::ReadError;
 use mc_text::{Block, Line, next_line};
 use std::alloc::Global;
+use std::io;
+use std::io::Read;
 use std::marker::Model;
-use std::mem;
 
 /// The fewest bytes of a piece whose front may be kept apart. A client that sends less at a time gets one buffer, so that nothing is
 /// reserved beside that for a few bytes.
@@ -17,10 +20,6 @@ pub const LEAST_PIECE: usize = 1_024;
 
 /// The fewest bytes of a data block that is kept apart: to copy fewer costs less than to reserve memory for them.
 pub const LEAST_BLOCK: usize = 4_096;
-
-/// Memory is reserved for so many times the bytes that have come, and for no more than are wanted. So it stays in proportion to what was
-/// sent, whatever a line announces, and what has come is moved seldom.
-const ROOM_FOR: usize = 8;
 
 /// A whole line that announces a data block, and what has come after it. Contracts see the bytes of both, one after the other.
 ///
@@ -30,7 +29,7 @@ pub struct Apart {
     /// The line with its end.
     line: Vec<u8>,
     /// What has come after it.
-    block: Vec<u8>,
+    block: Incoming,
     /// How many bytes the block and the line end after it have.
     wanted: usize,
 }
@@ -41,7 +40,7 @@ impl Model for Apart {
 
     ghost Value = { ReaderState };
 
-    ghost view = { λ r. joined r.line.items r.block.items };
+    ghost view = { λ r. joined r.line.items r.block };
 
     ghost invariant = { λ r. Announces r.line.items r.wanted };
 }
@@ -64,10 +63,7 @@ impl Apart {
         let Ok(line) = Vec::from_slice(alloc, line) else {
             return None;
         };
-        let Ok(mut block) = Vec::with_capacity(alloc, room_for(rest.len(), wanted)) else {
-            return None;
-        };
-        block.extend_from_slice(rest).unwrap();
+        let block = Incoming::begin(alloc, rest, wanted)?;
         Some(Apart {
             line,
             block,
@@ -88,9 +84,22 @@ impl Apart {
         ensures little { KeepsLittle self.new }
         ensures err { OnErr result (self.new ≡ self.old) }
     {
-        make_room(&mut self.block, piece.len(), self.wanted);
-        self.block.extend_from_slice(piece)?;
+        self.block.append(piece, self.wanted)?;
         Ok(())
+    }
+
+    /// Reads once, straight into the data block, if many of its bytes are to come. None if few are, or if there is no memory for them: then
+    /// nothing was read.
+    #[inline(never)]
+    pub fn read_from<R: Read>(&mut self, reader: &mut R) -> Option<io::Result<usize>>
+        ensures read { IfSome result (λ read. ReadsBy read (R.remaining reader.old) (R.remaining reader.new) (Comes self.old self.new)
+            (self.new ≡ self.old)) }
+        ensures closed { self.new.closed ≡ self.old.closed }
+        ensures little { KeepsLittle self.new }
+        ensures none { IfNone result (self.new ≡ self.old) }
+        ensures unread { IfNone result (reader.new ≡ reader.old) }
+    {
+        self.block.read_from(reader, self.wanted)
     }
 
     /// The first request or fault, if it has come whole. It is lent, and its line is read once more.
@@ -120,7 +129,7 @@ impl Apart {
             return None;
         }
         let mut set = set_beside(alloc, self.line.as_slice(), self.block.as_slice())?;
-        let mut bytes = mem::replace(&mut self.block, Vec::new(alloc));
+        let mut bytes = self.block.take(alloc);
         bytes.truncate(bytes.len() - LINE_END.len());
         bytes.shrink_to_fit();
         set.block = Block::from(bytes);
@@ -135,8 +144,7 @@ impl Apart {
         ensures little { KeepsLittle others.new }
     {
         if self.block.len() > self.wanted {
-            let bytes = mem::replace(&mut self.block, Vec::new(alloc));
-            *others = Reader::of_buffer(alloc, bytes, self.wanted);
+            *others = Reader::of_buffer(alloc, self.block.take(alloc), self.wanted);
         }
     }
 
@@ -159,24 +167,6 @@ impl Apart {
         ensures { result ≡ true → 0 < length (rest_of self.now []) }
     {
         self.block.len() == self.wanted
-    }
-}
-
-/// For how many bytes memory is reserved, if so many have come and so many are wanted.
-fn room_for(come: usize, wanted: usize) -> usize
-    ensures { come ≤ result }
-{
-    wanted.min(come.saturating_mul(ROOM_FOR)).max(come)
-}
-
-/// Makes room in a block, of which so many bytes are wanted, for so many more, if it wants them. Where there is not so much memory, it has
-/// the room that it had.
-fn make_room(block: &mut Vec<u8>, more: usize, wanted: usize)
-    ensures { block.new.items ≡ block.old.items }
-{
-    let come = block.len().saturating_add(more);
-    if come > block.capacity() && come <= wanted {
-        let _ = block.reserve_exact(room_for(come, wanted).saturating_sub(block.len()));
     }
 }
 

@@ -3,12 +3,15 @@ ghost use Rattle.std.specs.Prelude.{◌≡◌, ◌<◌, ◌≤◌, ◌+◌, ◌�
 ghost use Rattle.mc_request_reader.specs.Reader.{fresh_reader, KeepsRest, KeepsLittle};
 ghost use Rattle.mc_request_reader.specs.ApartFields.{begun_by};
 ghost use Rattle.mc_request_reader.specs.Peeks.{front_of, past};
+ghost use Rattle.mc_request_reader.specs.Reads.{Comes, ReadsBy};
 
 use crate::apart::{Apart, LEAST_PIECE};
 use crate::peeks::{Front, LentGet, LentLine, Peek, TakenSet};
 use crate::reader::Reader;
 use mc_request::ReadError;
 use std::alloc::Global;
+use std::io;
+use std::io::Read;
 use std::marker::Model;
 
 /// A [`Reader`] for who keeps the data blocks of large `set`s. Contracts see the same of it, and each call that a reader has promises
@@ -77,6 +80,22 @@ impl ApartReader {
             }
         }
         self.reader.feed(piece)
+    }
+
+    /// Reads once, straight into a data block that is kept apart, if many of its bytes are to come: what came is fed, and not copied. None says
+    /// that nothing was read. What the read says is given, its error too, and then nothing has changed.
+    #[inline(always)]
+    pub fn read_from<R: Read>(&mut self, reader: &mut R) -> Option<io::Result<usize>>
+        ensures read { IfSome result (λ read. ReadsBy read (R.remaining reader.old) (R.remaining reader.new) (Comes self.old self.new)
+            (self.new ≡ self.old)) }
+        ensures little { KeepsLittle self.new }
+        ensures none { IfNone result (self.new ≡ self.old) }
+        ensures unread { IfNone result (reader.new ≡ reader.old) }
+    {
+        match &mut self.apart {
+            None => None,
+            Some(apart) => apart.read_from(reader),
+        }
     }
 
     /// The `set` that is first, if it has come whole, is kept apart, and nothing has come after it: it is taken, and its data block is not

@@ -19,6 +19,7 @@
 
 mod apart;
 mod apart_reader;
+mod incoming;
 mod laws;
 mod peeks;
 mod reader;

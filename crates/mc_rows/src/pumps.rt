@@ -1,6 +1,6 @@
 //! A pump between a server and streams in memory, which move few bytes a call, block, are interrupted and fail.
 
-use mc_fixtures::Call::{Blocks, Fails, Moves};
+use mc_fixtures::Call::{Blocks, Fails, Interrupts, Moves};
 use mc_fixtures::{
     Call, Calls, MANY, MOMENT, MeagreStore, SCRIPTS, Sides, Sink, Stream, WIDE, new_server,
     with_value,
@@ -38,7 +38,7 @@ const KEPT: Exchange = Exchange {
     answers: b"VALUE older 5 5\r\nfirst\r\nEND\r\n",
 };
 
-/// Pumps a connection once.
+/// Pumps a connection once, by pieces of 16 bytes.
 fn pump_once(
     server: &mut Server<MeagreStore>,
     number: u64,
@@ -53,17 +53,46 @@ fn pump_once(
     )
 }
 
-/// Pumps a connection until it is done or failed, and says which.
-fn pumped(server: &mut Server<MeagreStore>, number: u64, stream: &mut Stream) -> Pumped {
+/// The same, by pieces of 2,048 bytes.
+fn pump_wide(
+    server: &mut Server<MeagreStore>,
+    number: u64,
+    ended: &mut bool,
+    stream: &mut Stream,
+    watch: &mut Watch,
+) -> Pumped {
+    let mut piece = [0u8; 2_048];
+    let Stream { source, sink } = stream;
+    pump(
+        server, number, ended, source, sink, &mut piece, MOMENT, watch,
+    )
+}
+
+/// Pumps a connection until it is done or failed, by pieces of 2,048 bytes if it is wide, else of 16, and says which.
+fn pumped_by(
+    server: &mut Server<MeagreStore>,
+    number: u64,
+    stream: &mut Stream,
+    is_wide: bool,
+) -> Pumped {
     let mut ended = false;
     let mut watch = Watch::new(AnswerLimit::none());
     for _ in 0..MANY {
-        let last = pump_once(server, number, &mut ended, stream, &mut watch);
+        let last = if is_wide {
+            pump_wide(server, number, &mut ended, stream, &mut watch)
+        } else {
+            pump_once(server, number, &mut ended, stream, &mut watch)
+        };
         if last == Pumped::Done || last == Pumped::Failed {
             return last;
         }
     }
     Pumped::Again
+}
+
+/// Pumps a connection by pieces of 16 bytes until it is done or failed, and says which.
+fn pumped(server: &mut Server<MeagreStore>, number: u64, stream: &mut Stream) -> Pumped {
+    pumped_by(server, number, stream, false)
 }
 
 /// Plays a text on a connection of its own, which is then closed. It gives the last pump, the calls that were made, and
@@ -225,5 +254,45 @@ fn larger_answers_fail_a_pump(rt: HostRuntime) -> Result<(), Fail> {
     let is_refused = last == Pumped::Failed && server.bound(number)? == 501_024;
     let is_one = watch.tally.requests == 1 && server.output(number) == b"END\r\n".as_slice();
     assert!(rt; is_refused && is_one);
+    Ok(())
+}
+
+/// How the reads of a large `set` and of a `get` after it go, and how many there are with the one that gives the end.
+struct WideReads {
+    reads: &'static [Call],
+    made: usize,
+}
+
+const WIDE_READS: [WideReads; 3] = [
+    WideReads {
+        reads: ALL,
+        made: 16,
+    },
+    WideReads {
+        reads: &[Moves(20_000), Blocks, Moves(17_000), Interrupts, Moves(1)],
+        made: 90,
+    },
+    WideReads {
+        reads: &[Moves(1_500)],
+        made: 335,
+    },
+];
+
+/// Nine pieces of 2,048 bytes begin a block of 500,000, and then a read asks for as much as has come: five more are enough. However they are
+/// cut, the value is stored, and what follows is answered.
+#[test]
+fn a_large_block_is_read_where_it_is_kept(rt: HostRuntime) -> Result<(), Fail> {
+    let alloc = rt.alloc();
+    let sent = with_value(alloc, b"set a 0 0 500000\r\n", SIXTEENS, b"\r\nget a\r\n")?;
+    let head = b"STORED\r\nVALUE a 0 500000\r\n";
+    let answers = with_value(alloc, head, SIXTEENS, b"\r\nEND\r\n")?;
+    for case in &WIDE_READS {
+        let mut server = new_server(alloc, WIDE)?;
+        let number = server.admit()?;
+        let mut stream = Stream::new(alloc, sent.as_slice(), Sides::new((case.reads, ALL)))?;
+        let last = pumped_by(&mut server, number, &mut stream, true);
+        let is_answered = stream.sink.taken.as_slice() == answers.as_slice();
+        assert!(rt; last == Pumped::Done && is_answered && stream.source.calls.made == case.made);
+    }
     Ok(())
 }

@@ -14,6 +14,8 @@ use mc_request_reader::{ApartReader, Front, LentGet, Peek};
 use mc_store::Store;
 use mc_text::{give_back, let_go};
 use std::alloc::Global;
+use std::io;
+use std::io::Read;
 use std::marker::Model;
 
 /// A connection of a server.
@@ -40,6 +42,7 @@ impl Model for Connection {
 
 impl Connection {
     ghost use Rattle.mc_request_reader.specs.Reader.{rest_of, kept_of, KeepsLittle};
+    ghost use Rattle.mc_request_reader.specs.Reads.{ReadsBy};
     ghost use Rattle.mc_server.specs.Rooms.{bound_of};
     ghost use Rattle.mc_server.specs.ServerState.{fresh_connection};
     ghost use Rattle.mc_server.specs.Turns.{IsFed, IsLimitedTurn, IsTurn};
@@ -67,6 +70,18 @@ impl Connection {
     {
         self.reader.feed(piece)?;
         Ok(())
+    }
+
+    /// Reads once, straight into the data block of a large `set`, if many of its bytes are to come. None says that nothing was read.
+    #[inline(always)]
+    pub fn read_from<R: Read>(&mut self, reader: &mut R) -> Option<io::Result<usize>>
+        ensures read { IfSome result (λ read. ReadsBy read (R.remaining reader.old) (R.remaining reader.new)
+            (λ came. IsFed self.old came self.new) (self.new ≡ self.old)) }
+        ensures little { KeepsLittle self.new.reader }
+        ensures none { IfNone result (self.new ≡ self.old) }
+        ensures unread { IfNone result (reader.new ≡ reader.old) }
+    {
+        self.reader.read_from(reader)
     }
 
     /// Whether a whole request or fault has come.

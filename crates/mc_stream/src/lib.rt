@@ -1,4 +1,4 @@
-//! One call of a side of a stream that does not wait: [`write_once`], [`read_once`].
+//! One call of a side of a stream that does not wait: [`write_once`], [`read_once`]. [`told`] is for a read that someone else made.
 //!
 //! A body that carries bytes between a stream and what is after it, a pump, is made of these two, at most [`MAX_ROUNDS`]
 //! of each a call, and says by [`Pumped`] how it left the stream. The stream is any reader and any writer: no socket is known
@@ -11,4 +11,4 @@ mod sides;
 
 pub use limits::MAX_ROUNDS;
 pub use outcomes::Pumped;
-pub use sides::{read_once, write_once};
+pub use sides::{read_once, told, write_once};

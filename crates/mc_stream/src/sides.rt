@@ -1,5 +1,7 @@
 //! The two sides of a stream that does not wait: one write, one read. Nothing here knows what is after the stream.
-ghost use Rattle.std.specs.Prelude.{◌≡◌, ◌≢◌, ◌<◌, ◌==◌, false, length, Ok, Err, IfOk, IfErr};
+ghost use Rattle.std.specs.Prelude.{◌≡◌, ◌≢◌, ◌<◌, ◌==◌, ℕ, List, Option, false, length, Ok, Err, IfOk, IfErr};
+ghost use Rattle.std.specs.Io.{ReadsAtMost};
+ghost use Rattle.std.specs.Io.KnownBytes.{ReadConsumes};
 ghost use Rattle.std.specs.IoError.{error_kind};
 ghost use Rattle.mc_stream.specs.Sides.{MovesNothing, Reads, Writes};
 
@@ -40,11 +42,14 @@ pub fn read_once<R: Read>(
     told(reader.read(piece), ended)
 }
 
-/// What a read into a piece says: how many bytes came, where 0 is the end, which `ended` then says; or what its error says.
-fn told(read: Result<usize, Error>, ended: &mut bool) -> Result<usize, Pumped>
+/// What a read by someone else says, as [`read_once`] says it of its own: how many bytes came, which are the first of its piece,
+/// where 0 is the end, which `ended` then says; or what its error says.
+pub fn told(read: Result<usize, Error>, ended: &mut bool) -> Result<usize, Pumped>
     requires goes_on { ended.old ≡ false }
     ensures came { IfOk read (λ count. (result ≡ Ok count) × (ended.new ≡ (count == 0))) }
     ensures error { IfErr read (λ error. MovesNothing result × (ended.new ≡ false)) }
+    ensures reads { (piece : List ℕ) (unread unread' : Option (List ℕ)) → 0 < length piece → ReadsAtMost read piece
+        → ReadConsumes unread unread' read piece → Reads result piece ended.new unread unread' }
 {
     match read {
         Ok(count) => {

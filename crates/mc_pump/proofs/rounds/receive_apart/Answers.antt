@@ -1,0 +1,10 @@
+use Rattle.mc_pump.proofs.ReadLemmas.{receives_read}
+use Rattle.mc_pump.proofs.rounds.receive_apart.Goals as goal
+
+-- what was read is fed
+pub returns-clause-receives : goal.returns-clause-receives
+returns-clause-receives g c = λ moment.
+    let h = c.in_ok-read.ensures.read in
+    let told = c.told-side.ensures in
+    rw c.moved_by.ensures (receives_read c.args.number moment c.args.watch.now.no_memory c.in_ok-read.read c.told-side.result c.args.server.now c.read_from.new.self
+    _ _ c.told-side.new.ended c.requires.is_open c.requires.below h (told.reads h.piece _ _ h.some h.within h.given) told.came told.error)

@@ -1,0 +1,186 @@
+//! Bytes that come, read straight behind those that have come.
+ghost use Rattle.std.specs.Prelude.{◌≡◌, ◌<◌, ◌≤◌, ◌+◌, ◌-◌, ◌++◌, true, length, take, drop, vec_len, IfNone, IfOk, IfSome, OnErr, OnOk};
+ghost use Rattle.std.specs.Io.{ReadsAtMost};
+ghost use Rattle.std.specs.Io.KnownBytes.{ReadConsumes};
+ghost use Rattle.mc_request_reader.specs.Reads.{ReadsBy};
+
+use std::alloc::{AllocError, Global};
+use std::io::Read;
+use std::marker::Model;
+use std::{io, mem};
+
+/// Memory is reserved for so many times the bytes that have come, and for no more than are wanted. So it stays in proportion to what was
+/// sent, whatever a line announces, and what has come is moved seldom.
+const ROOM_FOR: usize = 8;
+
+/// Room to read into is made up to so many times the bytes that have come. It is filled with zeros, once.
+const ROOM_TO_READ: usize = 2;
+
+/// The fewest bytes that a read asks for: to copy fewer costs less than a read of their own.
+const LEAST_READ: usize = 16_384;
+
+/// Bytes that have come, and room behind them to read more into. Contracts see the bytes that have come.
+#[derive(Drop)]
+pub struct Incoming {
+    /// The bytes that have come, and zeros, or what was read there in vain.
+    bytes: Vec<u8>,
+    /// How many have come.
+    come: usize,
+}
+
+impl Model for Incoming {
+    ghost use Rattle.std.specs.Prelude.{◌≤◌, ℕ, List, take, vec_len};
+
+    ghost Value = { List ℕ };
+
+    ghost view = { λ i. take i.come i.bytes.items };
+
+    ghost invariant = { λ i. i.come ≤ vec_len i.bytes };
+}
+
+impl Incoming {
+    /// The first bytes, where so many are wanted. None where there is no memory.
+    pub fn begin(alloc: Global, first: &[u8], wanted: usize) -> Option<Incoming>
+        ensures { IfSome result (λ incoming. incoming ≡ first.now) }
+    {
+        let Ok(mut bytes) = Vec::with_capacity(alloc, room_for(first.len(), wanted)) else {
+            return None;
+        };
+        bytes.extend_from_slice(first).unwrap();
+        Some(Incoming {
+            come: bytes.len(),
+            bytes,
+        })
+    }
+
+    /// How many have come.
+    pub fn len(&self) -> usize
+        ensures { result ≡ length self.now }
+    {
+        self.come
+    }
+
+    /// The bytes that have come.
+    pub fn as_slice(&self) -> &[u8]
+        ensures { result.now ≡ self.now }
+    {
+        let (come, _) = self.bytes.split_at(self.come);
+        come
+    }
+
+    /// Puts a piece behind them. At an error nothing has changed.
+    pub fn append(&mut self, piece: &[u8], wanted: usize) -> Result<(), AllocError>
+        ensures ok { OnOk result (self.new ≡ self.old ++ piece.now) }
+        ensures some { OnErr result (0 < length piece.now) }
+        ensures err { OnErr result (self.new ≡ self.old) }
+    {
+        self.bytes.truncate(self.come);
+        make_room(&mut self.bytes, piece.len(), wanted);
+        self.bytes.extend_from_slice(piece)?;
+        self.come = self.bytes.len();
+        Ok(())
+    }
+
+    /// Reads once, straight behind them, if many of those that are wanted are to come. None if few are, or if there is no memory for them:
+    /// then nothing was read.
+    pub fn read_from<R: Read>(&mut self, reader: &mut R, wanted: usize) -> Option<io::Result<usize>>
+        ensures read { IfSome result (λ read. ReadsBy read (R.remaining reader.old) (R.remaining reader.new)
+            (λ came. self.new ≡ self.old ++ came) (self.new ≡ self.old)) }
+        ensures none { IfNone result (self.new ≡ self.old) }
+        ensures unread { IfNone result (reader.new ≡ reader.old) }
+    {
+        let room = room_to_read(self.come, wanted);
+        if room < LEAST_READ {
+            return None;
+        }
+        if !widen(&mut self.bytes, self.come, room, wanted) {
+            return None;
+        }
+        let read = read_behind(reader, self.bytes.as_mut_slice(), self.come, room);
+        self.come += count_of(&read);
+        Some(read)
+    }
+
+    /// Gives the bytes, and is left with none.
+    pub fn take(&mut self, alloc: Global) -> Vec<u8>
+        ensures { result.items ≡ self.old }
+    {
+        let mut bytes = mem::replace(&mut self.bytes, Vec::new(alloc));
+        bytes.truncate(self.come);
+        self.come = 0;
+        bytes
+    }
+}
+
+/// For how many bytes memory is reserved, if so many have come and so many are wanted.
+fn room_for(come: usize, wanted: usize) -> usize
+    ensures { come ≤ result }
+{
+    wanted.min(come.saturating_mul(ROOM_FOR)).max(come)
+}
+
+/// Makes room behind bytes, of which so many are wanted, for so many more, if it wants them. Where there is not so much memory, it has
+/// the room that it had.
+fn make_room(bytes: &mut Vec<u8>, more: usize, wanted: usize)
+    ensures { bytes.new.items ≡ bytes.old.items }
+{
+    let come = bytes.len().saturating_add(more);
+    if come > bytes.capacity() && come <= wanted {
+        let _ = bytes.reserve_exact(room_for(come, wanted).saturating_sub(bytes.len()));
+    }
+}
+
+/// How many bytes a read asks for, if so many have come and so many are wanted.
+fn room_to_read(come: usize, wanted: usize) -> usize
+    ensures { result ≤ wanted - come }
+{
+    wanted
+        .min(come.saturating_mul(ROOM_TO_READ))
+        .saturating_sub(come)
+}
+
+/// Fills bytes with zeros, so that behind the first so many there are so many more, and says whether there are. False says that there is no
+/// memory for them.
+fn widen(bytes: &mut Vec<u8>, come: usize, room: usize, wanted: usize) -> bool
+    requires { come ≤ vec_len bytes.old }
+    ensures kept { take come bytes.new.items ≡ take come bytes.old.items }
+    ensures longer { vec_len bytes.old ≤ vec_len bytes.new }
+    ensures enough { result ≡ true → come + room ≤ vec_len bytes.new }
+{
+    let Some(end) = come.checked_add(room) else {
+        return false;
+    };
+    if end <= bytes.len() {
+        return true;
+    }
+    make_room(bytes, end - bytes.len(), wanted);
+    bytes.resize(end, 0).is_ok()
+}
+
+/// Reads once, behind the first so many bytes, as many as there is room for.
+fn read_behind<R: Read>(
+    reader: &mut R,
+    bytes: &mut [u8],
+    at: usize,
+    room: usize,
+) -> io::Result<usize>
+    requires some { 0 < room }
+    requires inside { at + room ≤ length bytes.old }
+    ensures front { take at bytes.new ≡ take at bytes.old }
+    ensures same { length bytes.new ≡ length bytes.old }
+    ensures within { ReadsAtMost result (take room (drop at bytes.new)) }
+    ensures given { ReadConsumes (R.remaining reader.old) (R.remaining reader.new) result (take room (drop at bytes.new)) }
+{
+    reader.read(&mut bytes[at..at + room])
+}
+
+/// How many bytes a read gave: none at an error.
+fn count_of(read: &io::Result<usize>) -> usize
+    ensures some { IfOk read.now (λ count. result ≡ count) }
+    ensures none { OnErr read.now (result ≡ 0) }
+{
+    match read {
+        Ok(count) => *count,
+        Err(_) => 0,
+    }
+}
