@@ -8,7 +8,7 @@ use mc_text::{Block, Key};
 /// The bytes that an item costs beyond those of its key and its value.
 pub const OVERHEAD: u64 = 64;
 
-/// What is held under a key. The fields are in the order that leaves the least room between them: 56 bytes.
+/// What is held under a key. The fields are in the order that leaves the least room between them: 48 bytes.
 #[derive(Clone, Debug, Drop)]
 pub struct Body {
     /// When it is dead.

@@ -43,7 +43,7 @@ deleting reply = answered (delete_of the_key) reply
 abbrev pub counting_up : ℕ → Reply (List ℕ) → Done
 counting_up delta reply = answered (incr_of the_key delta) reply
 
--- `ma` that makes a counter of this number where there is none, and else counts up by 1
+-- `ma` that makes a counter of this number if there is none, and else counts up by 1
 abbrev pub making_counter : ℕ → Done
 making_counter initial =
     answered (ma_of (record (plain_counting Up 1) { create = Some (record { exptime = pos 0; initial = initial }) }) the_key (codes "")) (Meta nothing_shown None)
@@ -62,7 +62,7 @@ abbrev pub limiting_at : ℕ → List ℕ → Done
 limiting_at moment value =
     answered_at moment (ma_of (record (plain_counting Up 1) { create = Some (record { exptime = pos 10; initial = 1 }) }) the_key (codes "v")) (Meta nothing_shown (Some value))
 
--- `mg` that makes an item which never dies, where there is none; and one that asks, at a moment, to fill an item that ends within 30 seconds.
+-- `mg` that makes an item which never dies, if there is none; and one that asks, at a moment, to fill an item that ends within 30 seconds.
 -- Each is shown these marks, and nothing else
 abbrev pub making : Marks → Done
 making marks = answered (mg_making the_key (pos 0) []) (Meta (marked marks) None)
