@@ -5,14 +5,14 @@ ghost use Rattle.mc_request.specs.Atoms.{atoms_of};
 ghost use Rattle.mc_request.specs.Faults.{fault_line};
 ghost use Rattle.mc_request.specs.Parts.{key_bytes};
 ghost use Rattle.mc_text.specs.Keys.{is_key};
-ghost use Rattle.mc_reply.specs.Spelling.{is_shown, reply_line, key_part, end_line, version_line, noop_line, meta_key, answer_of};
+ghost use Rattle.mc_reply.specs.Spelling.{is_shown, reply_line, head_line, key_part, end_line, version_line, noop_line, meta_key, answer_of};
 ghost use Rattle.mc_reply.specs.MetaSpelling.{key_word, meta_by, meta_line};
 ghost use Rattle.mc_reply.specs.MetaRooms.{flags_room, part_room};
 ghost use Rattle.mc_reply.specs.Parts.{part_of};
 ghost use Rattle.mc_reply.specs.Seen.{reply_seen, bytes_seen, value_len, shown_len};
 
 pub use crate::appends::LINE_ROOM;
-use crate::appends::{append_key_part, append_reply_line, short_line};
+use crate::appends::{append_head, append_key_part, append_reply_line, short_line};
 use crate::flag_appends::flags_room;
 use crate::meta_appends::{BESIDE_FLAGS_ROOM, append_meta};
 use crate::replies::Reply;
@@ -79,6 +79,28 @@ pub fn write_key(key: &[u8], reply: &Reply<&[u8]>, out: &mut Vec<u8>) -> Result<
 {
     out.reserve(value_len(reply) + KEY_ROOM)?;
     append_key_part(out, key, reply);
+    Ok(())
+}
+
+/// Appends what is in front of the value of a found item, by how many bytes that has: [`write_key`] without the value and the line
+/// end after it. It is for who sends the value from where it is.
+#[inline(never)]
+pub fn write_head(
+    key: &[u8],
+    flags: u32,
+    bytes: usize,
+    cas: Option<u64>,
+    out: &mut Vec<u8>,
+) -> Result<(), ReplyError>
+    requires { length key.now ≤ KEY_LIMIT }
+    ensures ok { OnOk result (out.new.items ≡ out.old.items ++ head_line key.now flags bytes cas) }
+    ensures len { vec_len out.new ≤ vec_len out.old + KEY_ROOM }
+    ensures succeeds { vec_len out.old + KEY_ROOM ≤ vec_capacity out.old → IsOk result }
+    ensures err { OnErr result (out.new.items ≡ out.old.items) }
+    ensures room { vec_capacity out.old ≤ vec_capacity out.new }
+{
+    out.reserve(KEY_ROOM)?;
+    append_head(out, key, flags, bytes, cas);
     Ok(())
 }
 

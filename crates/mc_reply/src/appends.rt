@@ -2,7 +2,7 @@
 ghost use Rattle.std.specs.Prelude.{◌≡◌, ◌+◌, ◌≤◌, ◌++◌, length, drop, vec_len, vec_capacity, codes};
 ghost use Rattle.std.specs.Fmt.{decimal};
 ghost use Rattle.mc_request.specs.Faults.{fault_line};
-ghost use Rattle.mc_reply.specs.Spelling.{number_onto, cas_onto, key_part, reply_line};
+ghost use Rattle.mc_reply.specs.Spelling.{number_onto, cas_onto, head_line, key_part, reply_line};
 ghost use Rattle.mc_reply.specs.Seen.{bytes_seen, value_len};
 
 use crate::replies::Reply;
@@ -15,6 +15,9 @@ pub const LINE_ROOM: usize = 64;
 
 /// The most bytes that a found item adds beside its key and its value. It adds 73 at most.
 pub const BLOCK_ROOM: usize = 80;
+
+/// The most bytes that the line of a found item has beside its key. It has 71 at most.
+const HEAD_ROOM: usize = 72;
 
 /// The most bytes of a space and a number.
 const NUMBER_LEN: usize = 21;
@@ -74,16 +77,28 @@ pub fn append_key_part(out: &mut Vec<u8>, key: &[u8], reply: &Reply<&[u8]>)
     let Reply::Hit { flags, cas, value } = reply else {
         return;
     };
-    let mut numbers = [0; NUMBERS_LEN];
-    let start = put_numbers(&mut numbers, *flags, value.len(), *cas);
-    append(out, b"VALUE ");
-    append(out, key);
-    append(out, &numbers[start..]);
+    append_head(out, key, *flags, value.len(), *cas);
     append(out, value);
     append(out, b"\r\n");
 }
 
+/// Appends the line of a found item, which is in front of its value, by how many bytes that has.
+#[inline(always)]
+pub fn append_head(out: &mut Vec<u8>, key: &[u8], flags: u32, bytes: usize, cas: Option<u64>)
+    requires { vec_len out.old + length key.now + HEAD_ROOM ≤ vec_capacity out.old }
+    ensures items { out.new.items ≡ out.old.items ++ head_line key.now flags bytes cas }
+    ensures len { vec_len out.new ≤ vec_len out.old + length key.now + HEAD_ROOM }
+    ensures room { vec_capacity out.old ≤ vec_capacity out.new }
+{
+    let mut numbers = [0; NUMBERS_LEN];
+    let start = put_numbers(&mut numbers, flags, bytes, cas);
+    append(out, b"VALUE ");
+    append(out, key);
+    append(out, &numbers[start..]);
+}
+
 /// Puts the numbers of a value line, and its end, at the end of the bytes, and gives where they start.
+#[inline(always)]
 fn put_numbers(numbers: &mut [u8; NUMBERS_LEN], flags: u32, bytes: usize, cas: Option<u64>) -> usize
     ensures put { drop result numbers.new
         ≡ number_onto flags (number_onto bytes (cas_onto cas (codes "\r\n"))) }
@@ -96,6 +111,7 @@ fn put_numbers(numbers: &mut [u8; NUMBERS_LEN], flags: u32, bytes: usize, cas: O
 }
 
 /// Puts a line end at the end of the bytes, and gives where it starts.
+#[inline(always)]
 fn put_line_end(numbers: &mut [u8; NUMBERS_LEN]) -> usize
     ensures put { drop result numbers.new ≡ codes "\r\n" }
     ensures start { result + 2 ≡ NUMBERS_LEN }
@@ -106,6 +122,7 @@ fn put_line_end(numbers: &mut [u8; NUMBERS_LEN]) -> usize
 }
 
 /// Puts an item's number, where it was asked for, before what is from `end` on, and gives where it starts.
+#[inline(always)]
 fn put_cas(numbers: &mut [u8; NUMBERS_LEN], cas: Option<u64>, end: usize) -> usize
     requires { (NUMBER_LEN ≤ end) × (end ≤ NUMBERS_LEN) }
     ensures put { drop result numbers.new ≡ cas_onto cas (drop end numbers.old) }

@@ -1,7 +1,7 @@
 //! Replies, and what a client is answered.
 //!
-//! A cache answers each command by a [`Reply`]. A retrieval command is answered by what its keys add ([`write_key`]) and
-//! by the end ([`write_end`]); an update by the line of its reply ([`write_line`]), where that is not hidden
+//! A cache answers each command by a [`Reply`]. A retrieval command is answered by what its keys add ([`write_key`]; [`write_head`] is
+//! that without the value) and by the end ([`write_end`]); an update by the line of its reply ([`write_line`]), where that is not hidden
 //! ([`Reply::is_hidden`], by what the request hides; [`shown`] says it of a whole request); a meta command by what its
 //! flag words ask to be given back ([`write_meta`]), where that is not hidden; `mn` and `version` by lines of their own
 //! ([`write_noop`], [`write_version`]); and what is no request by the line of its fault ([`write_fault`]). Who keeps the
@@ -25,8 +25,8 @@ mod rows;
 
 pub use answers::{
     FLAGS_ROOM, KEY_ROOM, LINE_ROOM, META_ROOM, PART_ROOM, ReplyError, key_of, part_room, shown,
-    value_len, write_end, write_fault, write_key, write_line, write_meta, write_noop, write_part,
-    write_version,
+    value_len, write_end, write_fault, write_head, write_key, write_line, write_meta, write_noop,
+    write_part, write_version,
 };
 pub use laws::{faults_are_shown, flags_of_requests_fit, one_reply_is_spelled, parts_in_order};
 pub use meta_rows::{
