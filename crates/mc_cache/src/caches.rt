@@ -1,5 +1,5 @@
 //! Cache: the items, their numbers and their bounds.
-ghost use Rattle.std.specs.Prelude.{◌≡◌, ◌↔◌, ◌<◌, ◌≤◌, ◌^◌, ℕ, List, [], length, None, IsTrue, true, false, IfOk, OnErr};
+ghost use Rattle.std.specs.Prelude.{◌≡◌, ◌↔◌, ◌<◌, ◌≤◌, ◌^◌, ℕ, List, [], length, None, IsTrue, true, false, IfOk, IfSome, IfNone, OnErr, OnSome};
 ghost use Rattle.std.specs.Option.{option_copied};
 ghost use Rattle.mc_cache.specs.CacheState.{IsWithinBounds, HasRoom};
 
@@ -67,6 +67,7 @@ impl<S: Store + Drop> Cache<S> {
     ghost use Rattle.mc_request.specs.declared.meta.MetaCommand.TheVariants.{Get as AMetaGet, Update as AMetaUpdate};
     ghost use Rattle.mc_request.specs.Parts.{update_seen};
     ghost use Rattle.mc_reply.specs.Replies.{filled};
+    ghost use Rattle.mc_reply.specs.declared.replies.Reply.TheVariants.{Hit, Miss};
     ghost use Rattle.mc_cache.specs.CacheState.{opening_cache, held_value, value_at, front_value};
     ghost use Rattle.mc_store.specs.Items.{longest_of};
     ghost use Rattle.mc_cache.specs.Step.{step_of};
@@ -166,6 +167,31 @@ impl<S: Store + Drop> Cache<S> {
             cas: with_cas.then_some(found.cas),
             value: (),
         }
+    }
+
+    /// The command `Get` without an exptime, given a guess of the key's item: what a hit shows beside its value, which are the client
+    /// flags, and the number if it is asked for. None is a miss. [`Cache::get_by`] does the same.
+    ///
+    /// It is for values that are shown from where they are: the item that a hit shows is first, and [`Cache::front_value`] is its value.
+    pub fn get_head(
+        &mut self,
+        key: &[u8],
+        guess: u32,
+        with_cas: bool,
+        moment: u64,
+    ) -> Option<(u32, Option<u64>)>
+        requires { moment < 2 ^ 63 }
+        ensures hit { IfSome result (λ head. step_of self.old (Get key.now None with_cas) moment false
+            ≡ (self.new, Hit head.0 head.1 (front_value self.new.items))) }
+        ensures miss { IfNone result (step_of self.old (Get key.now None with_cas) moment false ≡ (self.new, Miss)) }
+        ensures fits { OnSome result (length (front_value self.new.items) ≤ length (value_at key.now self.old.items)) }
+    {
+        let Some(found) = self.settle_in_front(key, guess, moment) else {
+            self.store.retrieved(false);
+            return None;
+        };
+        self.store.retrieved(true);
+        Some((found.flags, with_cas.then_some(found.cas)))
     }
 
     /// Whether [`Cache::guess_all`] guesses: several items are found sooner together than each by itself.
