@@ -1,5 +1,5 @@
 -- A retrieval command, key by key.
-use Rattle.std.proofs.Common.{◌≡◌, ◌∙◌, ℕ, ℤ, Bool, true, false, ◌&&◌, List, [], ◌∷◌, ◌++◌, map, Option, Some, None, refl, sym, ap, append_assoc}
+use Rattle.std.proofs.Common.{◌≡◌, ◌∙◌, ℕ, ℤ, Bool, true, false, ◌&&◌, List, [], ◌∷◌, ◌++◌, map, length, codes, Option, Some, None, refl, sym, ap, append_assoc}
 use Rattle.std.specs.Borrow.{Bor}
 use Rattle.std.specs.List.{list_all}
 use Rattle.mc_text.specs.Keys.{is_plain_key}
@@ -12,11 +12,12 @@ use Rattle.mc_reply.specs.declared.replies.Reply.{Reply}
 use Rattle.mc_reply.specs.declared.replies.Reply.TheVariants.{Stored, NotStored, Exists, NotFound, Deleted, Touched, Flushed, Number, Miss, Hit, Meta, Fault}
 use Rattle.mc_reply.specs.Replies.{filled}
 use Rattle.mc_reply.specs.Seen.{bytes_seen}
-use Rattle.mc_reply.specs.Spelling.{key_part, blocks_of, end_line}
+use Rattle.mc_reply.specs.Spelling.{head_line, key_part, blocks_of, end_line}
+use Rattle.mc_reply.proofs.SpellingLemmas.{key_part-hit}
 use Rattle.mc_cache.specs.CacheState.{CacheState}
 use Rattle.mc_cache.specs.Replay.{Command, replay, replies, IsLegal}
-use Rattle.mc_cache.specs.Step.{step_of}
-use Rattle.mc_server.specs.Served.{Serves}
+use Rattle.mc_cache.specs.Step.{step_of, Outcome}
+use Rattle.mc_server.specs.Served.{IsServed, Serves}
 use Rattle.mc_server.proofs.RefusalLemmas.{gets_tell_none}
 
 -- the bytes of a reply that is filled with a lent value
@@ -89,6 +90,36 @@ serving_all number keys exptime with_cas moment s now before output whole h whol
       cache = h.cache;
       answered = whole_is ∙ ap (λ (bytes : List ℕ). bytes ++ end_line) served ∙ append_assoc before (blocks_of keys all) end_line;
     }
+
+-- the one key of a retrieval is served
+pub lone_served : (number : ℕ) (key : List ℕ) (with_cas : Bool) (moment : ℕ) (s t : CacheState) (reply : Reply (List ℕ)) (before whole : List ℕ)
+    → step_of s (atoms.Get key None with_cas) moment false ≡ (t, reply) → whole ≡ before ++ (key_part key reply ++ end_line)
+    → IsServed number s (Whole (Get (key ∷ []) None with_cas)) moment t before whole
+lone_served number key with_cas moment s t reply before whole step whole_is =
+    let part : List ℕ = key_part key (step_of s (atoms.Get key None with_cas) moment false).1 in
+    let made : t ≡ (step_of s (atoms.Get key None with_cas) moment false).0 = sym (ap (λ (o : Outcome). o.0) step) in
+    let told : reply ≡ (step_of s (atoms.Get key None with_cas) moment false).1 = sym (ap (λ (o : Outcome). o.1) step) in
+    let all : IsServing (key ∷ []) [] None with_cas moment s t before (before ++ part) =
+    serving_more (key ∷ []) [] key None with_cas moment s s t before before (before ++ part) made refl (serving_none (key ∷ []) None with_cas moment s before) in
+    let ends : whole ≡ (before ++ part) ++ end_line =
+    whole_is ∙ ap (λ (r : Reply (List ℕ)). before ++ (key_part key r ++ end_line)) told ∙ sym (append_assoc before part end_line) in
+    (false, serving_all number (key ∷ []) None with_cas moment s t before (before ++ part) whole all ends)
+
+-- a line, a value and two texts behind it, in order
+in_order : (before head value next last : List ℕ) → (before ++ head) ++ (value ++ (next ++ last)) ≡ before ++ ((head ++ (value ++ next)) ++ last)
+in_order before head value next last =
+    append_assoc before head (value ++ (next ++ last))
+    ∙ ap (λ (bytes : List ℕ). before ++ bytes) (sym (append_assoc head (value ++ next) last ∙ ap (λ (bytes : List ℕ). head ++ bytes) (append_assoc value next last)))
+
+-- it is found: its line was written, and its value and the end are to come
+pub lone_hit : (number : ℕ) (key : List ℕ) (with_cas : Bool) (moment : ℕ) (s t : CacheState) (flags : ℕ) (cas : Option ℕ) (value before output : List ℕ)
+    → step_of s (atoms.Get key None with_cas) moment false ≡ (t, Hit flags cas value) → output ≡ before ++ head_line key flags (length value) cas
+    → IsServed number s (Whole (Get (key ∷ []) None with_cas)) moment t before (output ++ (value ++ codes "\r\nEND\r\n"))
+lone_hit number key with_cas moment s t flags cas value before output step output_is =
+    lone_served number key with_cas moment s t (Hit flags cas value) before (output ++ (value ++ codes "\r\nEND\r\n")) step
+    (ap (λ (bytes : List ℕ). bytes ++ (value ++ codes "\r\nEND\r\n")) output_is
+    ∙ in_order before (head_line key flags (length value) cas) value (codes "\r\n") end_line
+    ∙ ap (λ (bytes : List ℕ). before ++ (bytes ++ end_line)) (sym (key_part-hit key flags cas value)))
 
 -- what the code's reply shows of the value that it was filled with
 pub filled_is_seen : {V : Type 0} (reply : Reply V) (value : Bor (List ℕ)) (held : List ℕ) (whole : Reply (Bor (List ℕ)))

@@ -2,9 +2,8 @@
 ghost use Rattle.std.specs.Prelude.{◌≡◌, ◌+◌, ◌-◌, ◌≤◌, ◌<◌, ◌^◌, ◌↔◌, ℕ, [], drop, length, min, Ok, IsTrue, IfOk, IfSome, IfNone, IsOkUnless, OnOk, OnErr, OnSome};
 
 use crate::ahead::{Ahead, Looked};
-use crate::answering::{
-    COMMAND_BOUND, bound_for, room_for_get, serve_keys, serve_set, serve_within,
-};
+use crate::answering::{COMMAND_BOUND, bound_for, room_for_get, serve_set, serve_within};
+use crate::gathering::serve_get;
 use crate::limits::AnswerLimit;
 use crate::turns::{Limited, ServerError, Turn};
 use mc_cache::Cache;
@@ -12,6 +11,7 @@ use mc_reply::LINE_ROOM;
 use mc_request::{CommandLine, command_line};
 use mc_request_reader::{ApartReader, Front, LentGet, Peek};
 use mc_store::Store;
+use mc_stream::{Gather, NoWriter};
 use mc_text::{give_back, let_go};
 use std::alloc::Global;
 use std::io;
@@ -43,6 +43,7 @@ impl Model for Connection {
 impl Connection {
     ghost use Rattle.mc_request_reader.specs.Reader.{rest_of, kept_of, KeepsLittle};
     ghost use Rattle.mc_request_reader.specs.Reads.{ReadsBy};
+    ghost use Rattle.mc_server.specs.Gathers.{IsGatheredTurn};
     ghost use Rattle.mc_server.specs.Rooms.{bound_of};
     ghost use Rattle.mc_server.specs.ServerState.{fresh_connection};
     ghost use Rattle.mc_server.specs.Turns.{IsFed, IsLimitedTurn, IsTurn};
@@ -159,6 +160,39 @@ impl Connection {
         ensures err { OnErr result (self.new ≡ self.old) }
         ensures cache_kept { OnErr result (cache.new ≡ cache.old) }
     {
+        let mut went = 0;
+        self.turn_gathering(cache, moment, limit, ahead, &mut NoWriter, &mut went)
+    }
+
+    /// The same, where the answer may be written at once: if it shows one large value, the writer is given what is unsent, the answer
+    /// and the value where it is, in one call. It says how many bytes the writer took; the others stay in the output.
+    pub fn turn_gathering<S: Store + Drop, W: Gather>(
+        &mut self,
+        cache: &mut Cache<S>,
+        moment: u64,
+        limit: AnswerLimit,
+        ahead: &mut Ahead,
+        writer: &mut W,
+        went: &mut usize,
+    ) -> Result<Limited, ServerError>
+        requires { moment < 2 ^ 63 }
+        ensures turn { (number : ℕ)
+            → IfOk result (λ limited. IsGatheredTurn number moment limited went.new (W.contents writer.old) (W.contents writer.new)
+            cache.old cache.new self.old self.new) }
+        ensures bounded { OnOk result (length self.new.output
+            ≤ length self.old.output + bound_of (rest_of self.old.reader []) cache.old) }
+        ensures little { OnOk result (KeepsLittle self.new.reader) }
+        ensures refused { (result ≡ Ok Refused)
+            ↔ (limit.bytes < min (bound_of (rest_of self.old.reader []) cache.old) (2 ^ 64 - 1)) }
+        ensures unchanged { result ≡ Ok Refused → self.new ≡ self.old }
+        ensures cache_unchanged { result ≡ Ok Refused → cache.new ≡ cache.old }
+        ensures only_memory { IsOkUnless result ServerError.Memory }
+        ensures cause { OnErr result (0 < length (rest_of self.old.reader [])) }
+        ensures err { OnErr result (self.new ≡ self.old) }
+        ensures cache_kept { OnErr result (cache.new ≡ cache.old) }
+        ensures writer_kept { OnErr result (writer.new ≡ writer.old) }
+    {
+        *went = 0;
         if self.reader.is_short() {
             return Ok(Limited::Turned(Turn::Idle));
         }
@@ -174,7 +208,20 @@ impl Connection {
                 return Ok(Limited::Refused);
             }
             self.output.reserve(room)?;
-            serve_keys(keys, None, with_cas, cache, moment, ahead, &mut self.output);
+            let sent = self.sent;
+            let put = serve_get(
+                keys,
+                room,
+                with_cas,
+                cache,
+                moment,
+                ahead,
+                sent,
+                &mut self.output,
+                writer,
+            );
+            self.sent = put.sent;
+            *went = put.went;
             self.looked = ahead.past(self.looked, front.size);
             self.reader.consume(front);
             return Ok(Limited::Turned(Turn::Took));
