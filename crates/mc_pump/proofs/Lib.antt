@@ -4,3 +4,4 @@ pub mod RoundLemmas
 pub mod LawLemmas
 pub mod CountLemmas
 pub mod ReadLemmas
+pub mod GatherLemmas

@@ -2,3 +2,4 @@ pub mod Stretches
 pub mod Counts
 pub mod Pumps
 pub mod Rounds
+pub mod Gathers

@@ -45,6 +45,27 @@ pub fn round<S: Store + Drop, R: Read, W: Write>(
     let Ok(stop) = take_turns(server, number, moment, watch) else {
         return Err(Pumped::Failed);
     };
+    carry(server, number, ended, reader, writer, piece, stop, watch)
+}
+
+/// What a round does once its turns have stopped so: one write, one read. The error is how the pump stops.
+pub fn carry<S: Store + Drop, R: Read, W: Write>(
+    server: &mut Server<S>,
+    number: u64,
+    ended: &mut bool,
+    reader: &mut R,
+    writer: &mut W,
+    piece: &mut [u8],
+    stop: Stop,
+    watch: &mut Watch,
+) -> Result<(), Pumped>
+    requires is_open { IsSome (connection_at server.old number) }
+    requires stop { StopsAt stop (connection_at server.old number) }
+    requires piece { 0 < length piece.old }
+    ensures { (moment : ℕ) → Pumps number moment (pump_of result) server.old server.new (R.remaining reader.old)
+        (R.remaining reader.new) (W.contents writer.old) (W.contents writer.new) ended.old ended.new
+        watch.old.no_memory watch.new.no_memory }
+{
     let moved = send(server, number, writer, watch)?;
     if is_over(server, number, stop, *ended) {
         return Err(Pumped::Done);

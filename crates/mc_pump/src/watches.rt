@@ -40,6 +40,14 @@ impl Watch {
         self.tally.took();
         self.no_memory = self.no_memory.wrapping_add(refusal_in(answer));
     }
+
+    /// Counts a request that was taken, by whose answer, which shows an item, so many bytes were written.
+    pub(crate) fn showed(&mut self, count: usize)
+        ensures { self.new.no_memory ≡ self.old.no_memory }
+    {
+        self.tally.took();
+        self.tally.went(count);
+    }
 }
 
 /// How many stores an answer refuses for want of memory: one, or none.

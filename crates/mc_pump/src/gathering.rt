@@ -1,0 +1,113 @@
+//! The body of a connection whose large answers are written from where they are.
+ghost use Rattle.std.specs.Prelude.{◌≡◌, ◌<◌, ◌^◌, None, length, IfOk, IsSome};
+ghost use Rattle.mc_server.specs.ServerState.{connection_at};
+ghost use Rattle.mc_stream.specs.Sides.{pump_of};
+ghost use Rattle.mc_pump.specs.Pumps.{Pumps};
+ghost use Rattle.mc_pump.specs.Gathers.{GathersTurns};
+ghost use Rattle.mc_pump.specs.Rounds.{StopsAt};
+
+use crate::limits::UNSENT_MARK;
+use crate::rounds::{Stop, carry};
+use crate::watches::Watch;
+use mc_server::{Limited, Server, Turn};
+use mc_store::Store;
+use mc_stream::{Gather, MAX_ROUNDS, Pumped};
+use std::io::Read;
+
+/// Carries a connection's bytes and serves what comes whole, as [`pump`](crate::pump) does, to a writer that takes the parts of an
+/// answer together.
+///
+/// A turn whose answer shows one large value gives the writer all that is unsent, the answer and the value where it is, in one call
+/// ([`Server::turn_gathering`]). So there is a write for each such turn, beside the one of each round.
+pub fn pump_gathering<S: Store + Drop, R: Read, W: Gather>(
+    server: &mut Server<S>,
+    number: u64,
+    ended: &mut bool,
+    reader: &mut R,
+    writer: &mut W,
+    piece: &mut [u8],
+    moment: u64,
+    watch: &mut Watch,
+) -> Pumped
+    requires piece { 0 < length piece.old }
+    requires moment { moment < 2 ^ 63 }
+    ensures pumps { IsSome (connection_at server.old number) → Pumps number moment result server.old server.new
+        (R.remaining reader.old) (R.remaining reader.new) (W.contents writer.old) (W.contents writer.new) ended.old ended.new
+        watch.old.no_memory watch.new.no_memory }
+    ensures not_open { connection_at server.old number ≡ None → (result ≡ Pumped.Failed) × (server.new ≡ server.old) }
+    ensures not_counted { connection_at server.old number ≡ None → watch.new ≡ watch.old }
+{
+    let Ok(_) = server.is_closed(number) else {
+        return Pumped::Failed;
+    };
+    for _ in 0..MAX_ROUNDS {
+        if let Err(pump) = round(server, number, ended, reader, writer, piece, moment, watch) {
+            return pump;
+        }
+    }
+    Pumped::Again
+}
+
+/// One round: turns until none waits or too much is unsent, whose large answers are written; one write, one read. The error is how
+/// the pump stops.
+fn round<S: Store + Drop, R: Read, W: Gather>(
+    server: &mut Server<S>,
+    number: u64,
+    ended: &mut bool,
+    reader: &mut R,
+    writer: &mut W,
+    piece: &mut [u8],
+    moment: u64,
+    watch: &mut Watch,
+) -> Result<(), Pumped>
+    requires is_open { IsSome (connection_at server.old number) }
+    requires piece { 0 < length piece.old }
+    requires moment { moment < 2 ^ 63 }
+    ensures { Pumps number moment (pump_of result) server.old server.new (R.remaining reader.old)
+        (R.remaining reader.new) (W.contents writer.old) (W.contents writer.new) ended.old ended.new
+        watch.old.no_memory watch.new.no_memory }
+{
+    let Ok(stop) = gather_turns(server, number, moment, writer, watch) else {
+        return Err(Pumped::Failed);
+    };
+    carry(server, number, ended, reader, writer, piece, stop, watch)
+}
+
+/// Takes turns of a connection until none waits, or until as much is unsent as the mark, and gives the writer their large answers. The
+/// error is how the pump stops: a turn was refused memory, or its answer may have more bytes than the watch allows.
+fn gather_turns<S: Store + Drop, W: Gather>(
+    server: &mut Server<S>,
+    number: u64,
+    moment: u64,
+    writer: &mut W,
+    watch: &mut Watch,
+) -> Result<Stop, Pumped>
+    requires is_open { IsSome (connection_at server.old number) }
+    requires moment { moment < 2 ^ 63 }
+    ensures turns { GathersTurns number moment server.old server.new (W.contents writer.old) (W.contents writer.new)
+        watch.old.no_memory watch.new.no_memory }
+    ensures stop { IfOk result (λ stop. StopsAt stop (connection_at server.new number)) }
+{
+    while server.output(number).len() < UNSENT_MARK {
+        let unsent = server.output(number).len();
+        let mut went = 0;
+        match server.turn_gathering(number, moment, watch.limit, writer, &mut went) {
+            Ok(Limited::Turned(Turn::Took)) => {
+                if went > 0 {
+                    watch.showed(went);
+                    continue;
+                }
+                let (_, answer) = server.output(number).split_at(unsent);
+                watch.took(answer);
+            }
+            Ok(Limited::Turned(Turn::Idle)) => return Ok(Stop::Idle),
+            Ok(Limited::Turned(Turn::Closing)) => return Ok(Stop::Closing),
+            Ok(Limited::Refused) => {
+                watch.refused = true;
+                return Err(Pumped::Failed);
+            }
+            Err(_) => return Err(Pumped::Failed),
+        }
+    }
+    Ok(Stop::Marked)
+}
