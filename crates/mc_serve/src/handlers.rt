@@ -8,7 +8,7 @@ use crate::options::PROGRAM;
 use crate::sides::{Received, Sent};
 use mc_clients::{Client, Guard, Handler};
 use mc_program::EprintSeldom;
-use mc_pump::{Pumped, Watch, pump};
+use mc_pump::{Pumped, Watch, pump_gathering};
 use mc_server::{AnswerLimit, Server, ServerError};
 use mc_socket::{Input, PIECE_LEN, Step, step_after};
 use mc_store::Store;
@@ -157,7 +157,7 @@ fn pump_client<S: Store + Drop>(
         stream: &client.stream,
         failed: false,
     };
-    let pumped = pump(
+    let pumped = pump_gathering(
         server,
         client.number,
         &mut client.ended,

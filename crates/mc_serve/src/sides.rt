@@ -5,8 +5,10 @@ ghost use Rattle.std.specs.Io.KnownBytes.{Keeps, ReadConsumes, WriteAppends};
 ghost use Rattle.std.specs.IoError.{error_kind};
 ghost use Rattle.mc_serve.specs.Sides.{fails_by};
 
+use mc_stream::Gather;
+use mio::net::TcpStream;
 use std::io;
-use std::io::{ErrorKind, Read, Write};
+use std::io::{ErrorKind, IoSlice, Read, Write};
 
 /// The input of a client, and whether it has failed.
 #[derive(Drop)]
@@ -63,6 +65,21 @@ impl<W: Write> Write for Sent<W> {
         ensures bytes { Keeps (W.contents self.old.stream) (W.contents self.new.stream) }
     {
         self.stream.flush()
+    }
+}
+
+impl Gather for Sent<&TcpStream> {
+    /// One call of the system, on parts that are not copied. If it fails, the next write says so, and is noted.
+    fn gather(&mut self, first: &[u8], middle: &[u8], last: &[u8]) -> usize {
+        let parts = [
+            IoSlice::new(first),
+            IoSlice::new(middle),
+            IoSlice::new(last),
+        ];
+        match TcpStream::write_vectored(self.stream, &parts) {
+            Ok(count) => count,
+            Err(_) => 0,
+        }
     }
 }
 
