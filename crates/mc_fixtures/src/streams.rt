@@ -1,6 +1,8 @@
 //! The two sides of a stream in memory, which move few bytes a call, block, are interrupted and fail.
+ghost use Rattle.std.specs.Prelude.{◌≤◌, length};
 
 use crate::streams::Call::{Blocks, Fails, Interrupts, Moves};
+use mc_stream::Gather;
 use std::alloc::{AllocError, Global};
 use std::io;
 use std::io::{ErrorKind, Read, Write};
@@ -117,6 +119,38 @@ impl Write for Sink {
     fn flush(&mut self) -> io::Result<()> {
         Ok(())
     }
+}
+
+impl Gather for Sink {
+    /// One call, which moves as many bytes of all parts as it may.
+    fn gather(&mut self, first: &[u8], middle: &[u8], last: &[u8]) -> usize {
+        let Ok(most) = self.calls.make() else {
+            return 0;
+        };
+        let first = front(first, most);
+        let most = most.saturating_sub(first.len());
+        let middle = front(middle, most);
+        let last = front(last, most.saturating_sub(middle.len()));
+        let count = first
+            .len()
+            .saturating_add(middle.len())
+            .saturating_add(last.len());
+        let Ok(()) = self.taken.reserve(count) else {
+            return 0;
+        };
+        for part in [first, middle, last] {
+            let _ = self.taken.extend_from_slice(part);
+        }
+        count
+    }
+}
+
+/// The first bytes of a part, at most so many.
+fn front(part: &[u8], most: usize) -> &[u8]
+    ensures { length result.now ≤ length part.now }
+{
+    let (front, _) = part.split_at(part.len().min(most));
+    front
 }
 
 /// How the calls of the two sides of a stream go.

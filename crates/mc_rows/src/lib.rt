@@ -10,6 +10,8 @@ mod bounds;
 #[cfg(test)]
 mod caches;
 #[cfg(test)]
+mod gathers;
+#[cfg(test)]
 mod hashers;
 #[cfg(test)]
 mod limits;

@@ -172,13 +172,13 @@ fn pump_never_works(rt: HostRuntime) -> Result<(), Fail> {
 }
 
 /// Calls that move all there is.
-const ALL: &[Call] = &[Moves(usize::MAX)];
+pub const ALL: &[Call] = &[Moves(usize::MAX)];
 
 /// 500,000 bytes.
-const SIXTEENS: usize = 31_250;
+pub const SIXTEENS: usize = 31_250;
 
 /// A server that holds a value of 500,000 bytes.
-fn server_with_value(alloc: Global) -> Result<Server<MeagreStore>, Fail> {
+pub fn server_with_value(alloc: Global) -> Result<Server<MeagreStore>, Fail> {
     let mut server = new_server(alloc, WIDE)?;
     let stored = with_value(alloc, b"set a 0 0 500000\r\n", SIXTEENS, b"\r\n")?;
     play(

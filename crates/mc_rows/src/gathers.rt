@@ -1,0 +1,118 @@
+//! A pump whose large values go to a stream in memory from where they are.
+
+use crate::pumps::{ALL, SIXTEENS, server_with_value};
+use mc_fixtures::Call::{Blocks, Fails, Interrupts, Moves};
+use mc_fixtures::{Call, MANY, MOMENT, MeagreStore, Sides, Stream, WIDE, new_server, with_value};
+use mc_pump::{Pumped, Watch, pump_gathering};
+use mc_server::{AnswerLimit, Server};
+use std::alloc::Global;
+use std::test::Fail;
+
+/// Pumps a connection until it is done or failed. It says which, and what the watch noted.
+fn pumped(server: &mut Server<MeagreStore>, number: u64, stream: &mut Stream) -> (Pumped, Watch) {
+    let mut ended = false;
+    let mut watch = Watch::new(AnswerLimit::none());
+    let mut piece = [0u8; 64];
+    let Stream { source, sink } = stream;
+    for _ in 0..MANY {
+        let last = pump_gathering(
+            server, number, &mut ended, source, sink, &mut piece, MOMENT, &mut watch,
+        );
+        if last == Pumped::Done || last == Pumped::Failed {
+            return (last, watch);
+        }
+    }
+    (Pumped::Again, watch)
+}
+
+/// How the writes go, over and over, of a client who is shown a value of 500,000 bytes, with 18 bytes in front of it and 7 behind it:
+/// all is taken, a part of the line, the line, a part of the value, all but the end, a part of the end, nothing.
+const WRITES: [&[Call]; 11] = [
+    ALL,
+    &[Moves(10), Moves(usize::MAX)],
+    &[Moves(3), Moves(2), Moves(18), Moves(usize::MAX)],
+    &[Moves(5), Moves(300_000)],
+    &[Moves(300_000)],
+    &[Moves(500_023), Moves(usize::MAX)],
+    &[Moves(500_027), Moves(usize::MAX)],
+    &[Moves(0), Moves(usize::MAX)],
+    &[Blocks, Moves(usize::MAX)],
+    &[Interrupts, Moves(100_000), Blocks],
+    &[Blocks, Blocks, Moves(7), Interrupts, Moves(usize::MAX)],
+];
+
+/// A miss, and three hits, of which one is of two keys.
+const ASKED: &[u8] = b"get b\r\nget a\r\nget a b\r\nget a\r\n";
+
+/// Whether a client whose writes go so is answered this.
+fn is_answered(alloc: Global, writes: &'static [Call], answers: &[u8]) -> Result<bool, Fail> {
+    let mut server = server_with_value(alloc)?;
+    let number = server.admit()?;
+    let mut stream = Stream::new(alloc, ASKED, Sides::new((ALL, writes)))?;
+    let (last, watch) = pumped(&mut server, number, &mut stream);
+    let is_counted = watch.tally.requests == 4 && watch.tally.written == answers.len() as u64;
+    Ok(last == Pumped::Done && is_counted && stream.sink.taken.as_slice() == answers)
+}
+
+/// However much of it a call takes, a client is answered whole.
+#[test]
+fn large_values_are_shown_whole(rt: HostRuntime) -> Result<(), Fail> {
+    let alloc = rt.alloc();
+    let shown = with_value(alloc, b"VALUE a 0 500000\r\n", SIXTEENS, b"\r\nEND\r\n")?;
+    let mut answers = b"END\r\n".to_vec(alloc)?;
+    answers.extend_from_slice(&shown.repeat(alloc, 3)?)?;
+    for writes in WRITES {
+        assert!(rt; is_answered(alloc, writes, answers.as_slice())?);
+    }
+    Ok(())
+}
+
+/// How a value is set, how many times 16 bytes it then has, and how many writes show it twice: of 65,535 bytes it is copied, and both
+/// answers go by one; of 65,536 each goes by a write of its own.
+const SIZES: [(&[u8], usize, usize); 2] = [
+    (b"set a 0 0 65535\r\nfedcba987654321", 4_095, 1),
+    (b"set a 0 0 65536\r\n", 4_096, 2),
+];
+
+/// How many writes show a value twice that is set so.
+fn writes_of(alloc: Global, set: &[u8], sixteens: usize) -> Result<usize, Fail> {
+    let mut server = new_server(alloc, WIDE)?;
+    let number = server.admit()?;
+    let stored = with_value(alloc, set, sixteens, b"\r\n")?;
+    server.feed(number, stored.as_slice())?;
+    let _ = server.turn(number, MOMENT)?;
+    let count = server.output(number).len();
+    server.taken_out(number, count);
+    let mut stream = Stream::new(alloc, b"get a\r\nget a\r\n", Sides::new((ALL, ALL)))?;
+    let (last, _) = pumped(&mut server, number, &mut stream);
+    let made = stream.sink.calls.made;
+    Ok(if last == Pumped::Done { made } else { 0 })
+}
+
+/// A value of 64 KiB is large, and no smaller one is.
+#[test]
+fn values_are_large_from_a_size_on(rt: HostRuntime) -> Result<(), Fail> {
+    for (set, sixteens, writes) in SIZES {
+        assert!(rt; writes_of(rt.alloc(), set, sixteens)? == writes);
+    }
+    Ok(())
+}
+
+/// If the stream of a client fails while it is shown a large value, that ends its connection alone, and what it had asked for before is done.
+#[test]
+fn a_failing_stream_ends_one_connection(rt: HostRuntime) -> Result<(), Fail> {
+    let alloc = rt.alloc();
+    let mut server = server_with_value(alloc)?;
+    let number = server.admit()?;
+    let asked = b"get a\r\nset b 0 0 1\r\nx\r\n";
+    let mut stream = Stream::new(alloc, asked, Sides::new((ALL, &[Fails])))?;
+    let (failed, _) = pumped(&mut server, number, &mut stream);
+    server.close(number)?;
+    let next = server.admit()?;
+    let mut later = Stream::new(alloc, b"get b\r\n", Sides::new((ALL, ALL)))?;
+    let (done, _) = pumped(&mut server, next, &mut later);
+    let is_over = failed == Pumped::Failed && stream.sink.taken.is_empty();
+    let answer = b"VALUE b 0 1\r\nx\r\nEND\r\n".as_slice();
+    assert!(rt; is_over && done == Pumped::Done && later.sink.taken.as_slice() == answer);
+    Ok(())
+}
