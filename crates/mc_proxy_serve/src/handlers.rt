@@ -1,6 +1,7 @@
 //! What serves the clients of a proxy.
 ghost use Rattle.std.specs.Prelude.{◌≡◌, ◌<◌, vec_len};
 
+use crate::limits::CLIENT_ROOM;
 use mc_clients::{Client, Guard, Handler};
 use mc_program::ServeError;
 use mc_proxy::{Losses, MAX_SESSIONS, Proxy};
@@ -136,7 +137,7 @@ impl Handler<Held> for ProxyHandler {
     }
 
     fn give_back(&mut self, number: u64, room: usize) {
-        self.proxy.give_back(number, room);
+        self.proxy.give_back(number, room.min(CLIENT_ROOM));
     }
 
     fn owes(&self, number: u64) -> bool {

@@ -20,6 +20,10 @@ pub const MAX_CHANGES: usize = 2 * SERVER_LIMIT;
 /// How often a round carries what came for clients and for servers, before it looks at its sockets again.
 pub const MAX_PASSES: u32 = 4;
 
+/// As many bytes may stay reserved for a buffer of a client that waits for something to happen: 16 KiB. A larger one is given back, so that the
+/// next client gets the same memory, which the processor has at hand still.
+pub const CLIENT_ROOM: usize = 16_384;
+
 /// By this token a poll is reported that a look-up has ended. It is after those of clients and of servers.
 pub const LOOKED_UP: Token = Token(MAX_SESSIONS + SERVER_LIMIT);
 
