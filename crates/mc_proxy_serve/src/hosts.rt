@@ -382,9 +382,8 @@ impl<'a, R: Net + Clock + Files + Print + EprintSeldom> Rounds<R, Stopwatch> for
         }
         self.rested = self.second;
         self.clients.rest(&mut self.handler, self.second);
-        if !self.clients.is_busy() {
-            self.pool.rest(&mut self.handler.proxy);
-        }
+        let is_used = self.clients.is_busy();
+        self.pool.rest(&mut self.handler.proxy, is_used);
         if self.pace.comes(self.second) {
             self.report(rt, accepted);
         }

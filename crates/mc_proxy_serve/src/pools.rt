@@ -191,8 +191,7 @@ impl Pool {
                 upstream.note_waiting(proxy, place, now);
             }
             match step_after(pumped) {
-                Step::GoOn => {}
-                Step::Wait => proxy.link_give_back(place, KEPT_ROOM),
+                Step::GoOn | Step::Wait => {}
                 Step::Close => {
                     upstream.lose(proxy, place);
                     others = true;
@@ -205,10 +204,12 @@ impl Pool {
         others
     }
 
-    /// Gives back the memory that the links have reserved and that holds nothing.
-    pub fn rest(&self, proxy: &mut Proxy) {
+    /// Gives back the memory that the links have reserved and that holds nothing: all of it, or while they are used what is more than
+    /// [`KEPT_ROOM`] bytes. Once a second is enough: a link that many large commands or replies cross reserves anew only then.
+    pub fn rest(&self, proxy: &mut Proxy, is_used: bool) {
+        let kept = if is_used { KEPT_ROOM } else { 0 };
         for place in 0..self.upstreams.len() {
-            proxy.link_give_back(place, 0);
+            proxy.link_give_back(place, kept);
         }
     }
 }
