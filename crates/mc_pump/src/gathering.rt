@@ -1,5 +1,5 @@
 //! The body of a connection whose large answers are written from where they are.
-ghost use Rattle.std.specs.Prelude.{◌≡◌, ◌<◌, ◌^◌, None, length, IfOk, IsSome};
+ghost use Rattle.std.specs.Prelude.{◌≡◌, ◌<◌, ◌^◌, None, length, IfErr, IfOk, IfSome, IsSome};
 ghost use Rattle.mc_server.specs.ServerState.{connection_at};
 ghost use Rattle.mc_stream.specs.Sides.{pump_of};
 ghost use Rattle.mc_pump.specs.Pumps.{Pumps};
@@ -18,7 +18,8 @@ use std::io::Read;
 /// answer together.
 ///
 /// A turn whose answer shows one large value gives the writer all that is unsent, the answer and the value where it is, in one call
-/// ([`Server::turn_gathering`]). So there is a write for each such turn, beside the one of each round.
+/// ([`Server::turn_gathering`]). If the writer takes some of it, the round ends: so there is a write for each such turn, and others wait for no
+/// more than [`MAX_ROUNDS`] of them.
 pub fn pump_gathering<S: Store + Drop, R: Read, W: Gather>(
     server: &mut Server<S>,
     number: u64,
@@ -48,8 +49,8 @@ pub fn pump_gathering<S: Store + Drop, R: Read, W: Gather>(
     Pumped::Again
 }
 
-/// One round: turns until none waits or too much is unsent, whose large answers are written; one write, one read. The error is how
-/// the pump stops.
+/// One round: turns until a large answer is written; or until none waits or too much is unsent, and then one write, one read. The error is
+/// how the pump stops.
 fn round<S: Store + Drop, R: Read, W: Gather>(
     server: &mut Server<S>,
     number: u64,
@@ -67,26 +68,29 @@ fn round<S: Store + Drop, R: Read, W: Gather>(
         (R.remaining reader.new) (W.contents writer.old) (W.contents writer.new) ended.old ended.new
         watch.old.no_memory watch.new.no_memory }
 {
-    let Ok(stop) = gather_turns(server, number, moment, writer, watch) else {
-        return Err(Pumped::Failed);
-    };
-    carry(server, number, ended, reader, writer, piece, stop, watch)
+    match gather_turns(server, number, moment, writer, watch) {
+        Ok(Some(stop)) => carry(server, number, ended, reader, writer, piece, stop, watch),
+        Ok(None) => Ok(()),
+        Err(pump) => Err(pump),
+    }
 }
 
-/// Takes turns of a connection until none waits, or until as much is unsent as the mark, and gives the writer their large answers. The
-/// error is how the pump stops: a turn was refused memory, or its answer may have more bytes than the watch allows.
+/// Takes turns of a connection until none waits, or until as much is unsent as the mark, and gives the writer their large answers. None says
+/// that the writer took some of one, after which no turn is taken. The error is [`Pumped::Failed`]: a turn was refused memory, or its answer
+/// may have more bytes than the watch allows.
 fn gather_turns<S: Store + Drop, W: Gather>(
     server: &mut Server<S>,
     number: u64,
     moment: u64,
     writer: &mut W,
     watch: &mut Watch,
-) -> Result<Stop, Pumped>
+) -> Result<Option<Stop>, Pumped>
     requires is_open { IsSome (connection_at server.old number) }
     requires moment { moment < 2 ^ 63 }
     ensures turns { GathersTurns number moment server.old server.new (W.contents writer.old) (W.contents writer.new)
         watch.old.no_memory watch.new.no_memory }
-    ensures stop { IfOk result (λ stop. StopsAt stop (connection_at server.new number)) }
+    ensures stop { IfOk result (λ stopped. IfSome stopped (λ stop. StopsAt stop (connection_at server.new number))) }
+    ensures failed { IfErr result (λ pump. pump ≡ Pumped.Failed) }
 {
     while server.output(number).len() < UNSENT_MARK {
         let unsent = server.output(number).len();
@@ -95,13 +99,13 @@ fn gather_turns<S: Store + Drop, W: Gather>(
             Ok(Limited::Turned(Turn::Took)) => {
                 if went > 0 {
                     watch.showed(went);
-                    continue;
+                    return Ok(None);
                 }
                 let (_, answer) = server.output(number).split_at(unsent);
                 watch.took(answer);
             }
-            Ok(Limited::Turned(Turn::Idle)) => return Ok(Stop::Idle),
-            Ok(Limited::Turned(Turn::Closing)) => return Ok(Stop::Closing),
+            Ok(Limited::Turned(Turn::Idle)) => return Ok(Some(Stop::Idle)),
+            Ok(Limited::Turned(Turn::Closing)) => return Ok(Some(Stop::Closing)),
             Ok(Limited::Refused) => {
                 watch.refused = true;
                 return Err(Pumped::Failed);
@@ -109,5 +113,5 @@ fn gather_turns<S: Store + Drop, W: Gather>(
             Err(_) => return Err(Pumped::Failed),
         }
     }
-    Ok(Stop::Marked)
+    Ok(Some(Stop::Marked))
 }
