@@ -17,8 +17,8 @@ use Rattle.mc_server.specs.declared.turns.Limited.TheVariants.{Turned, Refused}
 
 -- no key is left
 pub none_left : (keys : List (List ℕ)) (more : Bool) → more ≡ nat_lt 0 (length keys) → more ≡ false → keys ≡ []
-none_left [] more is no = refl
-none_left (key ∷ keys) more is no = let none : nat_lt 0 (length (key ∷ keys)) ≡ false = sym is ∙ no in absurd (grind (arith, nat_tests, none))
+none_left [] more is ended = refl
+none_left (key ∷ keys) more is ended = let none : nat_lt 0 (length (key ∷ keys)) ≡ false = sym is ∙ ended in absurd (grind (arith, nat_tests, none))
 
 -- what is left of two texts, one after the other
 drop-both : (count : ℕ) (xs ys : List ℕ) → drop count (xs ++ ys) ≡ drop count xs ++ drop (count - length xs) ys

@@ -6,7 +6,7 @@ use Rattle.mc_server.proofs.gathering.serve_head.Goals as goal
 -- the line is written
 pub returns-clause-hit : goal.returns-clause-hit
 returns-clause-hit g c = λ _ number.
-    let written = rw c.unwrap.ensures at c.write_head.ensures.ok in
+    let written = rw c.front_value.ensures at (rw c.unwrap-2.ensures at c.write_head.ensures.ok) in
     lone_hit number c.args.key.now c.args.with_cas c.args.moment c.args.cache.now c.get_head.new.self c.in-Some.head.0 c.in-Some.head.1 _
     c.args.output.now.items c.write_head.new.out.items c.in-Some.ensures.hit written
 

@@ -15,7 +15,7 @@ returns-then-is_short-clause-turn g c number =
 
 -- the answer may be too large
 pub returns-then-is_passed_by_get-clause-turn : goal.returns-then-is_passed_by_get-clause-turn
-returns-then-is_passed_by_get-clause-turn g c number = (refl, keeps_same _, refl, c.self.view_is)
+returns-then-is_passed_by_get-clause-turn g c number = (refl, keeps_same _, (refl, c.self.view_is))
 
 -- the answer goes after what was sent, or to the writer
 pub returns-in-Some-clause-turn : goal.returns-in-Some-clause-turn
@@ -25,7 +25,7 @@ returns-in-Some-clause-turn g c number =
       what = get_of c.in-Some.get;
       first = rw (← c.self.view_is) (shown_is_first _ _ _ _ seen c.consume.ensures.taken);
       closed = shown_closes _ _ _ _ seen c.consume.ensures.taken;
-      put = rw (← c.self.view_is) (rw c.reserve.ensures.items at (c.serve_get.ensures.put number));
+      put = rw (← c.self.view_is) (rw c.reserve.ensures.items at (c.serve_get-put.ensures.put number));
     }
 
 pub returns-in-Some-clause-bounded : goal.returns-in-Some-clause-bounded
@@ -33,7 +33,7 @@ returns-in-Some-clause-bounded g c =
     let seen = c.in-Some.ensures.seen in
     let good = c.in-Some.ensures.well_formed in
     let within = room_within (get_of c.in-Some.get) c.args.cache.now good in
-    let len = c.serve_get.ensures.len in
+    let len = c.serve_get-put.ensures.len in
     let waits = shown_waits _ _ _ seen in
     let bound : bound_of _ c.args.cache.now ≡ taken_bound (get_of c.in-Some.get) c.args.cache.now = ap (λ (ts : List Taken). bound_of ts c.args.cache.now) waits in
     let size = ap (λ (bytes : List ℕ). length (drop c.self.inside.sent bytes)) c.reserve.ensures.items in
