@@ -356,7 +356,7 @@ checks_of_a_server() {
     echo 'OPTIONS=--budget 1G --items auto' > "$settings"
     check 'a budget in letters is taken' \
         settings_reach mc_serverd@.service 11224 'listen 127.0.0.1:11224 budget 1073741824 items 8947848 accept 0'
-    echo 'OPTIONS=--budget 1G --items 1000000 --memory-exit 2' > "$settings"
+    echo 'OPTIONS=--budget 1G --items 1000000 --memory-exit 2 --reserve 0' > "$settings"
     check 'a server that is refused memory ends by --memory-exit' ends_without_memory 11224 mc_serverd@.service 11224
     rm "$settings"
 }

@@ -118,7 +118,7 @@ def statistics_are_shown(program):
 
 
 def settings_are_shown(program):
-    words = "--store lru --idle 7 --report 3600 --answer 2048 --cas-from now --memory-exit 9".split()
+    words = "--store lru --idle 7 --report 3600 --answer 2048 --cas-from now --memory-exit 9 --reserve 128K".split()
     with server(program, *words) as (_, admin):
         want(masked(admin.told(b"stats settings\r\nquit\r\n")), (HERE / "serverd.settings").read_text())
     for words, last in (([], b"0"), (["--cas-from", "18"], b"18")):

@@ -85,6 +85,8 @@ SETTINGS = {
         "listen 127.0.0.1:11211 budget 67108864 items 65536 accept 0 report 4 admin 127.0.0.1:9150 admin-name Watch",
     ),
     "no_memory_for_a_while": ("--memory-exit 10", "listen 127.0.0.1:11211 budget 67108864 items 65536 accept 0 memory-exit 10"),
+    "no_reserve": ("--reserve 0 --memory-exit 1", "listen 127.0.0.1:11211 budget 67108864 items 65536 accept 0 memory-exit 1 reserve 0"),
+    "the_usual_reserve": ("--reserve 4M", "listen 127.0.0.1:11211 budget 67108864 items 65536 accept 0"),
     "in_another_order": (
         "--report 4 --accept 3 --items 2",
         "listen 127.0.0.1:11211 budget 67108864 items 2 accept 3 report 4",
@@ -493,9 +495,9 @@ LITTLE = 8_000_000  # bytes that a server may take beside those of its start
 REFUSED_LINE = re.compile(r"mc_serverd: out of memory: ([0-9]+) refused")
 
 
-def start_with_little(words):
-    """A server that may take little memory more than it has at its start."""
-    server = start(f"--items 100000 --budget 1G {words}")
+def start_with_little(words, reserve=0):
+    """A server that may take little memory more than it has at its start, and keeps so much in reserve."""
+    server = start(f"--items 100000 --budget 1G --reserve {reserve} {words}")
     pages = pathlib.Path(f"/proc/{server.process.pid}/statm").read_text().split()[0]
     most = int(pages) * resource.getpagesize() + LITTLE
     resource.prlimit(server.process.pid, resource.RLIMIT_AS, (most, most))
@@ -508,6 +510,7 @@ class Filler:
     def __init__(self, server):
         self.server, self.client, self.number = server, None, 0
         self.refused = 0  # how often memory was refused: stores, and closed connections
+        self.closed = 0  # how often its connection was closed
 
     def store(self, size, last=b""):
         """A line and a value of so many bytes under a new key."""
@@ -528,6 +531,7 @@ class Filler:
                 answer += piece
         except OSError:
             self.refused += 1
+            self.closed += 1
             self.close()
         self.refused += answer.count(NO_MEMORY)
         return answer
@@ -648,6 +652,34 @@ def a_store_ends_the_row_of_refusals():
         want(server.process.poll(), None)
 
 
+def without_memory_what_is_held_is_served(size):
+    """A server that keeps a reserve and whose memory is used up serves gets and sets of the keys that it holds, on connections that were idle
+    and on new ones, however often keys that it does not hold are refused between. Nobody is closed. After deletes it stores anew."""
+    value = b"w" * size
+    stored, shown = b"set k 0 0 %d\r\n%s\r\n" % (size, value), b"VALUE k 0 %d\r\n%s\r\nEND\r\n" % (size, value)
+    with start_with_little("--memory-exit 3", "4M") as server, Filler(server) as filler:
+        idle = [server.connected() for _ in range(5)]
+        for client in idle:
+            asked(client, stored, b"STORED\r\n")
+        first = filler.number + 1
+        filler.fill(size)
+        time.sleep(3.2)
+        for turn in range(40):
+            for client in idle:
+                asked(client, b"get k\r\n", shown)
+                asked(client, stored, b"STORED\r\n")
+            with server.connected() as new:
+                asked(new, b"get k\r\n", shown)
+                asked(new, filler.store(size), NO_MEMORY)
+            want(filler.is_refused(size), True)
+        for number in range(first, first + 10):
+            asked(idle[0], b"delete f%d\r\n" % number, b"DELETED\r\n")
+        want(any(not filler.is_refused(size) for _ in range(10)), True)
+        for client in idle:
+            client.close()
+        want((server.process.poll(), filler.closed), (None, 0))
+
+
 def checks():
     """Each check by its name."""
     yield from checks_of_words(PROGRAM, SETTINGS, REFUSED, HELP)
@@ -677,6 +709,8 @@ def checks():
         yield f"no memory ends who is asked to, {name} bytes", no_memory_ends_who_is_asked_to, (sizes,)
     for size in (5_000, 10_000):
         yield f"refused stores are counted, {size} bytes", refused_stores_are_counted, (size,)
+    for size in (10, 1_000, 100_000):
+        yield f"without memory what is held is served, {size} bytes", without_memory_what_is_held_is_served, (size,)
     for at, (name, before) in enumerate(BEFORE.items()):
         yield f"each command is counted, {name}", each_command_is_counted, (at, before)
         yield f"commands are counted among many items, {name}", commands_are_counted_among_many_items, (at, before)

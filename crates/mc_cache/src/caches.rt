@@ -41,6 +41,8 @@ pub struct Cache<S: Store + Drop> {
     pending: Option<u64>,
     budget: u64,
     limit: usize,
+    /// Whether keys that are not held are refused memory.
+    is_short: bool,
 }
 
 impl<S: Store + Drop> Model for Cache<S> {
@@ -91,7 +93,16 @@ impl<S: Store + Drop> Cache<S> {
             pending: None,
             budget,
             limit,
+            is_short: false,
         }
+    }
+
+    /// Says whether memory is short. If it is, a key that is not held is refused memory, even if there is some: what is left of it serves the
+    /// keys that are held.
+    pub fn set_short(&mut self, is_short: bool)
+        ensures { self.new ≡ self.old }
+    {
+        self.is_short = is_short;
     }
 
     /// One command at a moment, in seconds since 1970. Its key and its block are its own.

@@ -60,13 +60,14 @@ fn try_show<R: Files>(
 
 /// The settings, by memcached's names where it has them.
 #[tactic(auto, unfolding(crate::specs::Settings::settings_shown))]
-fn settings_of(settings: &Settings) -> [Setting<'static>; 13]
+fn settings_of(settings: &Settings) -> [Setting<'static>; 14]
     ensures { map shown result ≡ settings_shown settings.now }
 {
     let Service {
         terms,
         answer,
         memory_exit,
+        reserve,
     } = settings.service;
     [
         number(b"maxbytes", settings.budget),
@@ -82,6 +83,7 @@ fn settings_of(settings: &Settings) -> [Setting<'static>; 13]
         number(b"answer", answer as u64),
         number(b"report", terms.report),
         number(b"memory_exit", memory_exit),
+        number(b"reserve", reserve as u64),
     ]
 }
 

@@ -29,16 +29,20 @@ pub struct ServerHandler<S: Store + Drop> {
     watch: Watch,
     /// What is to be said of a request whose answer may be too large: how many bytes it might have.
     too_large: Seldom<u64>,
+    /// How many bytes of memory are kept for when the system gives none.
+    reserve: usize,
     ghost reads: { 0 < vec_len piece },
 }
 
 impl<S: Store + Drop> ServerHandler<S> {
-    /// The handler of the clients of a server whose store counts what it does. Their answers may have so many bytes.
+    /// The handler of the clients of a server whose store counts what it does. Their answers may have so many bytes, and so many bytes of
+    /// memory are kept in reserve.
     pub fn new(
         alloc: Global,
         server: Server<S>,
         counts: Rc<Counts>,
         answer: usize,
+        reserve: usize,
     ) -> Result<Self, AllocError> {
         Ok(ServerHandler {
             server,
@@ -46,7 +50,13 @@ impl<S: Store + Drop> ServerHandler<S> {
             piece: Vec::from_elem(alloc, 0, PIECE_LEN)?,
             watch: Watch::new(AnswerLimit { bytes: answer }),
             too_large: Seldom::new(),
+            reserve,
         })
+    }
+
+    /// Takes the memory in reserve that was let go, as far as the system gives it.
+    pub fn keep_reserve(&mut self) {
+        let _ = self.server.keep_reserve(self.reserve);
     }
 
     /// Notes why a client is closed whose pump failed: its socket has failed, its answer may be too large, or a call was refused memory.
@@ -112,6 +122,10 @@ impl<S: Store + Drop> Handler<()> for ServerHandler<S> {
             self.note_failed(failed);
         }
         self.note_refused_stores();
+        if self.reserve > 0 && !self.server.has_reserve() {
+            self.server.give_back(client.number, 0);
+            self.keep_reserve();
+        }
         step_after(pumped)
     }
 

@@ -90,7 +90,13 @@ impl<'a, S: Store + Drop> Host<'a, S> {
         Ok(Host {
             alloc,
             listen,
-            handler: ServerHandler::new(alloc, server, counts.clone()?, service.answer)?,
+            handler: ServerHandler::new(
+                alloc,
+                server,
+                counts.clone()?,
+                service.answer,
+                service.reserve,
+            )?,
             clients: Clients::new(alloc, MAX_CONNECTIONS, service.terms.idle)?,
             operators,
             counts,
@@ -259,6 +265,7 @@ impl<R: Print + EprintSeldom + Files, C: Seconds, S: Store + Drop> Rounds<R, C> 
         }
         self.rested = self.moment;
         self.clients.rest(&mut self.handler, self.moment);
+        self.handler.keep_reserve();
         self.advise(rt);
         self.tell_refused(rt);
         if self.pace.comes(self.moment) {

@@ -3,7 +3,7 @@
 use crate::cas_from::{CasFrom, cas_from_named};
 use crate::items::{items_for, items_named};
 use crate::kinds::{KINDS, StoreKind, kind_named};
-use crate::settings::{Service, Settings, USUAL_ANSWER};
+use crate::settings::{Service, Settings, USUAL_ANSWER, USUAL_RESERVE};
 use clap::builder::ValueParser;
 use clap::{Arg, ArgMatches, Command};
 use mc_cache::MAX_BUDGET;
@@ -33,6 +33,10 @@ const BAD_CAS_FROM: &str =
 const BAD_ANSWER: &str =
     "invalid value for '--answer <bytes>': neither in 1024..=1099511627776 nor a number of K, M or G up to 1024G";
 
+/// Why a word of `--reserve` is refused.
+const BAD_RESERVE: &str =
+    "invalid value for '--reserve <bytes>': neither in 0..=1099511627776 nor a number of K, M or G up to 1024G";
+
 /// The program's name.
 pub const PROGRAM: &str = "mc_serverd";
 
@@ -53,18 +57,20 @@ pub struct Options<'a> {
 
 impl<'a> Options<'a> {
     /// What matches of [`command`] ask for. An error says which word is refused, and why: of `--budget`, `--items`, `--cas-from`,
-    /// `--answer` or `--admin-name`. The command refuses the others.
+    /// `--answer`, `--reserve` or `--admin-name`. The command refuses the others.
     pub fn of(matches: &ArgMatches<'a>) -> Result<Options<'a>, &'static str> {
         let budget = size_of(matches, "budget", 1).ok_or(BAD_BUDGET)?;
         let items = items_named(word_of(matches, "items")).ok_or(BAD_ITEMS)?;
         let cas_from = word_of(matches, "cas-from");
         let cas_from = cas_from_named(cas_from).ok_or(BAD_CAS_FROM)?;
         let answer = size_of(matches, "answer", LEAST_ANSWER).ok_or(BAD_ANSWER)?;
+        let reserve = size_of(matches, "reserve", 0).ok_or(BAD_RESERVE)?;
         let kind = kind_named(word_of(matches, "store"));
         let service = Service {
             terms: Terms::of(matches),
             answer: answer as usize,
             memory_exit: matches.get_one::<u64>("memory-exit").unwrap_or(0),
+            reserve: reserve as usize,
         };
         let settings = Settings::new(budget, items_for(items, budget), kind, cas_from, service);
         let admin = AdminTerms::of(matches);
@@ -128,6 +134,9 @@ impl Display for Options<'_> {
         if service.memory_exit > 0 {
             write!(f, " memory-exit {}", service.memory_exit)?;
         }
+        if service.reserve != USUAL_RESERVE {
+            write!(f, " reserve {}", service.reserve)?;
+        }
         write!(f, "{}{}", self.log, self.admin)
     }
 }
@@ -146,6 +155,7 @@ pub fn command<'a>(alloc: Global) -> Result<Command<'a>, AllocError> {
         .arg(idle(alloc))?
         .arg(report(alloc))?
         .arg(memory_exit(alloc))?
+        .arg(reserve(alloc))?
         .arg(admin(alloc))?
         .arg(admin_name(alloc))?
         .arg(accept(
@@ -218,5 +228,14 @@ fn answer<'a>(alloc: Global) -> Arg<'a> {
         "answer",
         "268435456",
         "The most bytes of an answer: a request whose answer may have more closes its connection; 1024 to 1099511627776, or with K, M or G",
+    )
+}
+
+fn reserve<'a>(alloc: Global) -> Arg<'a> {
+    size(
+        alloc,
+        "reserve",
+        "4194304",
+        "Memory that is kept to serve clients with when the system gives none: 0 to 1099511627776 bytes, or with K, M or G",
     )
 }

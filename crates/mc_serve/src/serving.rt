@@ -59,7 +59,7 @@ pub fn serve<R: Net + RandomSource + Wait + Files + Print + EprintSeldom, C: Sec
 }
 
 /// A server without a connection that starts in a second, over an empty cache whose hashes are keyed by random numbers, and whose store
-/// counts what it does.
+/// counts what it does. Its reserve is taken.
 fn new_server<R: RandomSource>(
     rt: &R,
     alloc: Global,
@@ -75,7 +75,11 @@ fn new_server<R: RandomSource>(
     let counter = CasCounter::starting_at(last_number(settings.cas_from, second));
     let store = Counted::new(store, counts);
     let cache = Cache::new(alloc, store, settings.budget, settings.items, counter);
-    Ok(Server::new(alloc, cache))
+    let mut server = Server::new(alloc, cache);
+    server
+        .keep_reserve(settings.service.reserve)
+        .map_err(|_| ServeError::Memory)?;
+    Ok(server)
 }
 
 /// A store of this kind with no item, and room for so many and one more.

@@ -10,6 +10,9 @@ use mc_program::Terms;
 /// The most bytes that an answer may have, where nobody says otherwise: 256 MiB.
 pub const USUAL_ANSWER: usize = 268_435_456;
 
+/// How many bytes of memory are kept for when the system gives none, where nobody says otherwise: 4 MiB.
+pub const USUAL_RESERVE: usize = 4_194_304;
+
 /// How clients are served.
 #[derive(Clone, Copy, Debug)]
 pub struct Service {
@@ -19,6 +22,8 @@ pub struct Service {
     pub answer: usize,
     /// A server that for that many seconds closes clients for want of memory, and stores nothing, ends; 0 for never.
     pub memory_exit: u64,
+    /// How many bytes of memory are kept, from which clients are served when the system gives none; 0 for none.
+    pub reserve: usize,
 }
 
 impl Service {
@@ -32,6 +37,7 @@ impl Service {
             },
             answer: USUAL_ANSWER,
             memory_exit: 0,
+            reserve: USUAL_RESERVE,
         }
     }
 }

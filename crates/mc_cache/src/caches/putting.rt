@@ -147,6 +147,9 @@ impl<S: Store + Drop> Cache<S> {
         ensures err { OnErr result (self.new ≡ self.old) }
         ensures cause { IfErr result (λ fault. fault ≡ OutOfMemory) }
     {
+        if self.is_short {
+            return Err(Fault::OutOfMemory);
+        }
         let cas = body.cas;
         let Ok(()) = self.store.put_front(key, body) else {
             return Err(Fault::OutOfMemory);
