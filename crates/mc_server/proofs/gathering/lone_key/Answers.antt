@@ -6,4 +6,4 @@ use Rattle.mc_server.proofs.gathering.lone_key.Goals as goal
 pub returns : goal.returns
 returns c =
     let none = none_left c.next.new.self c.has_next.result c.has_next.ensures c.if-has_next.false in
-    sym c.again-keys.ensures ∙ c.in_some-key.ensures.steps ∙ ap (λ (keys : List (List ℕ)). c.in_some-key.key.now ∷ keys) none
+    sym c.again-keys.ensures ∙ c.in_ok-key.ensures.steps ∙ ap (λ (keys : List (List ℕ)). c.in_ok-key.key.now ∷ keys) none
