@@ -1,29 +1,41 @@
 use Rattle.std.proofs.Common.{refl, sym}
 use Rattle.std.proofs.lemmas.Result.{IfOk-weaker}
 use Rattle.mc_server.proofs.ConnectionLemmas.{updated_own}
+use Rattle.mc_server.proofs.GatherLemmas.{gathered_none}
 use Rattle.mc_server.proofs.servers.Server.turn_gathering.Goals as goal
 
 -- what is under the number takes a turn
-pub returns-in-Some-clause-within : goal.returns-in-Some-clause-within
-returns-in-Some-clause-within g c =
-    rw (← c.self.view_is)
-    (IfOk-weaker c.turn_gathering.result _ _ (λ turn h. record {
+pub returns-in-Ok-clause-within : goal.returns-in-Ok-clause-within
+returns-in-Ok-clause-within g c =
+    rw (← c.self.view_is) record {
       before = c.in-Some.connection.now;
       after = c.turn_gathering.new.self;
       was = sym c.in-Some.ensures.value;
       is = refl;
       admitted = refl;
-      step = h;
-    }) (c.turn_gathering.ensures.turn c.args.number))
+      step = c.in-Ok.ensures.turn c.args.number;
+    }
 
 -- its output is that of the number
-pub returns-in-Some-clause-bounded : goal.returns-in-Some-clause-bounded
-returns-in-Some-clause-bounded g c =
+pub returns-in-Ok-clause-bounded : goal.returns-in-Ok-clause-bounded
+returns-in-Ok-clause-bounded g c =
     let was = sym c.in-Some.ensures.value in
-    rw (← c.self.view_is) (rw (was, updated_own c.args.number _ c.turn_gathering.new.self _ was) c.turn_gathering.ensures.bounded)
+    rw (← c.self.view_is) (rw (was, updated_own c.args.number _ c.turn_gathering.new.self _ was) c.in-Ok.ensures.bounded)
 
 -- its reader keeps little
-pub returns-in-Some-clause-little : goal.returns-in-Some-clause-little
-returns-in-Some-clause-little g c =
+pub returns-in-Ok-clause-little : goal.returns-in-Ok-clause-little
+returns-in-Ok-clause-little g c =
     let was = sym c.in-Some.ensures.value in
-    rw (updated_own c.args.number _ c.turn_gathering.new.self _ was) c.turn_gathering.ensures.little
+    rw (updated_own c.args.number _ c.turn_gathering.new.self _ was) c.in-Ok.ensures.little
+
+-- it takes one while memory is short: nothing was written
+pub returns-in-Err-clause-within : goal.returns-in-Err-clause-within
+returns-in-Err-clause-within g c =
+    IfOk-weaker c.turn_short.result _ _ (λ limited h. record {
+      before = h.before;
+      after = h.after;
+      was = h.was;
+      is = h.is;
+      admitted = h.admitted;
+      step = gathered_none c.args.number c.args.moment limited _ _ _ _ _ h.step;
+    }) c.turn_short.ensures.within
