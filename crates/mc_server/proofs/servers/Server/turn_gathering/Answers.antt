@@ -29,8 +29,8 @@ returns-in-Ok-clause-little g c =
     rw (updated_own c.args.number _ c.turn_gathering.new.self _ was) c.in-Ok.ensures.little
 
 -- it takes one while memory is short: nothing was written
-pub returns-in-Err-clause-within : goal.returns-in-Err-clause-within
-returns-in-Err-clause-within g c =
+pub returns-else-not-let_go-clause-within : goal.returns-else-not-let_go-clause-within
+returns-else-not-let_go-clause-within g c =
     IfOk-weaker c.turn_short.result _ _ (λ limited h. record {
       before = h.before;
       after = h.after;
