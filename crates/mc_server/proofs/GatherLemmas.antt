@@ -8,8 +8,8 @@ use Rattle.mc_request.specs.declared.parts.Taken.{Taken}
 use Rattle.mc_stream.specs.Sides.{Writes}
 use Rattle.mc_cache.specs.CacheState.{CacheState}
 use Rattle.mc_server.specs.Served.{IsServed}
-use Rattle.mc_server.specs.ServerState.{ConnectionState}
-use Rattle.mc_server.specs.Turns.{IsLimitedTurn}
+use Rattle.mc_server.specs.ServerState.{ConnectionState, ServerState}
+use Rattle.mc_server.specs.Turns.{IsLimitedTurn, Steps}
 use Rattle.mc_server.specs.Gathers.{PutsOut, IsGatheredTurn}
 use Rattle.mc_server.specs.declared.turns.Turn.TheVariants.{Took, Idle, Closing}
 use Rattle.mc_server.specs.declared.turns.Limited.{Limited}
@@ -105,6 +105,18 @@ gathered_none number moment (Turned Took) written s t old new h = record {
 gathered_none number moment (Turned Idle) written s t old new h = (refl, keeps_same written, h)
 gathered_none number moment (Turned Closing) written s t old new h = (refl, keeps_same written, h)
 gathered_none number moment Refused written s t old new h = (refl, keeps_same written, h)
+
+-- the same of a server
+pub gathered_short : (number moment : ℕ) (limited : Limited) (written : Option (List ℕ)) (old new : ServerState)
+    → Steps number old new (IsLimitedTurn number moment limited) → Steps number old new (IsGatheredTurn number moment limited 0 written written)
+gathered_short number moment limited written old new steps = record {
+  before = steps.before;
+  after = steps.after;
+  was = steps.was;
+  is = steps.is;
+  admitted = steps.admitted;
+  step = gathered_none number moment limited written old.cache new.cache steps.before steps.after steps.step;
+}
 
 -- and where the writer can take nothing, nothing was
 pub ungathered : (number moment went : ℕ) (limited : Limited) (s t : CacheState) (old new : ConnectionState)

@@ -1,7 +1,8 @@
 use Rattle.std.proofs.Common.{refl, sym}
 use Rattle.std.proofs.lemmas.Result.{IfOk-weaker}
+use Rattle.mc_numbered.proofs.EntryLemmas.{updated_same}
 use Rattle.mc_server.proofs.ConnectionLemmas.{updated_own}
-use Rattle.mc_server.proofs.GatherLemmas.{gathered_none}
+use Rattle.mc_server.proofs.GatherLemmas.{gathered_short}
 use Rattle.mc_server.proofs.servers.Server.turn_gathering.Goals as goal
 
 -- what is under the number takes a turn
@@ -31,11 +32,6 @@ returns-in-Ok-clause-little g c =
 -- it takes one while memory is short: nothing was written
 pub returns-else-not-let_go-clause-within : goal.returns-else-not-let_go-clause-within
 returns-else-not-let_go-clause-within g c =
-    IfOk-weaker c.turn_short.result _ _ (λ limited h. record {
-      before = h.before;
-      after = h.after;
-      was = h.was;
-      is = h.is;
-      admitted = h.admitted;
-      step = gathered_none c.args.number c.args.moment limited _ _ _ _ _ h.step;
-    }) c.turn_short.ensures.within
+    let was = sym c.in-Some.ensures.value in
+    let within = rw (c.in-Err.ensures.cache_kept, c.in-Err.ensures.err, updated_same c.args.number _ _ was, c.self.view_is) at c.turn_short.ensures.within in
+    rw c.in-Err.ensures.writer_kept (IfOk-weaker c.turn_short.result _ _ (λ limited h. gathered_short c.args.number c.args.moment limited _ _ _ h) within)
