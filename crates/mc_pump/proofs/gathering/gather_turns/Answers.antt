@@ -16,14 +16,8 @@ pub loop-server-init : goal.loop-server-init
 loop-server-init g c = gathers_none c.args.number c.args.moment c.args.watch.now.no_memory c.args.server.now (g.W.Write.contents c.args.writer.now) c.requires.is_open
 
 -- a value was shown, of which the writer took some
-pub loop-server-smaller-then-went-gt0 : goal.loop-server-smaller-then-went-gt0
-loop-server-smaller-then-went-gt0 g c =
-    let steps : Steps c.args.number c.loop-server.server c.turn_gathering.new.self (TakesOut c.args.number c.args.moment c.turn_gathering.new.went (g.W.Write.contents c.loop-server.writer) (g.W.Write.contents c.turn_gathering.new.writer)) =
-    rw c.in-Ok-Turned-Took.field-0-0-is at (rw c.in-Ok-Turned-Took.field-0-is at c.in-Ok-Turned-Took.ensures.within) in
-    gathered_one c.args.number c.args.moment c.turn_gathering.new.went c.loop-server.server c.turn_gathering.new.self _ _ steps
-
-pub loop-server-preserved-then-went-gt0 : goal.loop-server-preserved-then-went-gt0
-loop-server-preserved-then-went-gt0 g c =
+pub returns-then-went-gt0-clause-turns : goal.returns-then-went-gt0-clause-turns
+returns-then-went-gt0-clause-turns g c =
     let steps : Steps c.args.number c.loop-server.server c.turn_gathering.new.self (TakesOut c.args.number c.args.moment c.turn_gathering.new.went (g.W.Write.contents c.loop-server.writer) (g.W.Write.contents c.turn_gathering.new.writer)) =
     rw c.in-Ok-Turned-Took.field-0-0-is at (rw c.in-Ok-Turned-Took.field-0-is at c.in-Ok-Turned-Took.ensures.within) in
     let below : length (output_of (connection_at c.loop-server.server c.args.number)) < UNSENT_MARK = rw (← c.output.ensures) c.loop-server-test.true in
