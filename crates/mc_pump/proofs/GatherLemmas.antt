@@ -162,6 +162,7 @@ count_stays m a n none = let same : a ≡ a + (n + 0) = omega (arith, none) in a
 -- a turn took something, of whose answer the writer took some
 gathers_out : (number moment went count : ℕ) (old new : ServerState) (written written' : Option (List ℕ)) → Steps number old new (TakesOut number moment went written written') → 0 < went
     → length (output_of (connection_at old number)) < UNSENT_MARK → GathersTurns number moment old new written written' count count
+unfolding first_took
 gathers_out number moment went count old new written written' steps some below =
     let put = steps.step.put in
     let whole = whole_of number moment went old new written written' steps in
