@@ -4,8 +4,8 @@ ghost use Rattle.std.specs.Bool.{OnFalse};
 
 use crate::turns::{LinkError, LinkTurn, LostLink, Tag};
 use mc_reply_reader::{NextReply, ReplyReader};
-use mc_request::{Atom, Head};
-use mc_spelling::write_atom;
+use mc_request::{Atom, Head, Update};
+use mc_spelling::{LentStore, write_atom, write_store};
 use mc_text::{Block, drop_front, give_back, let_go};
 use std::alloc::Global;
 use std::collections::VecDeque;
@@ -41,6 +41,7 @@ impl Model for Link {
 
 impl Link {
     ghost use Rattle.mc_request.specs.Atoms.{head_of};
+    ghost use Rattle.mc_spelling.specs.LentStores.{atom_of};
     ghost use Rattle.mc_spelling.specs.Spellings.{spelling_of_atom};
     ghost use Rattle.mc_link.specs.LinkState.{LinkState, KeepsRoom, down_link, up_link, sent, can_come_back};
     ghost use Rattle.mc_link.specs.Turns.{HasReply, IsLinkTurn};
@@ -152,6 +153,57 @@ impl Link {
         write_atom(&atom, &mut self.output)?;
         self.wait_for(atom, tag);
         Ok(())
+    }
+
+    /// Sends a storage command whose data block is lent, as [`Link::send`] sends one that has its own: the block is copied once, to the
+    /// output.
+    ///
+    /// At an error the command is dropped.
+    pub fn send_store(&mut self, store: LentStore<'_>, tag: Tag) -> Result<(), LinkError>
+        ensures sent { OnOk result (self.new.state ≡ sent (atom_of store.entry) tag self.old.state) }
+        ensures state { IsErrOf result LinkError.State ↔ (self.old.state.up ≡ false) }
+        ensures enough { self.old.state.up ≡ true → length (spelling_of_atom (atom_of store.entry)) ≤ self.old.bytes
+            → 0 < self.old.heads → IsOk result }
+        ensures err { OnErr result (self.new.state ≡ self.old.state) }
+        ensures bytes { self.old.bytes ≤ self.new.bytes + length (spelling_of_atom (atom_of store.entry)) }
+        ensures heads { self.old.heads ≤ self.new.heads + 1 }
+        ensures room { OnErr result (KeepsRoom self.old self.new) }
+    {
+        self.needs_up()?;
+        self.make_room(0, 1)?;
+        write_store(&store, &mut self.output)?;
+        self.wait_for_store(store, tag);
+        Ok(())
+    }
+
+    /// Puts the head of a storage command after those that wait.
+    fn wait_for_store(&mut self, store: LentStore<'_>, tag: Tag)
+        requires up { self.old.state.up ≡ true }
+        requires room { 0 < self.old.heads }
+        ensures waits { self.new.state
+            ≡ record self.old.state { waiting = self.old.state.waiting ++ (head_of (atom_of store.entry), tag) ∷ [] } }
+        ensures bytes { self.new.bytes ≡ self.old.bytes }
+        ensures heads { self.new.heads + 1 ≡ self.old.heads }
+    {
+        let LentStore {
+            mode,
+            compare,
+            key,
+            flags,
+            exptime,
+            block: _,
+        } = store;
+        self.waiting.push_back_reserved((
+            Atom::Update(Update::Store {
+                mode,
+                compare,
+                key,
+                flags,
+                exptime,
+                block: (),
+            }),
+            tag,
+        ));
     }
 
     /// Puts the head of a command after those that wait. That of a retrieval, which is asked for most, is made where it is to

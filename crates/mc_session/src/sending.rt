@@ -99,7 +99,7 @@ fn at_once(alloc: Global, links: &[Link], commands: &[Routed]) -> Result<Vec<Out
 }
 
 /// What becomes of a command at once: it is lost where its link is down.
-fn outcome_at_once(links: &[Link], place: usize) -> Outcome
+pub fn outcome_at_once(links: &[Link], place: usize) -> Outcome
     ensures { result ≡ outcome_by (link_at (states links.now) place) }
 {
     if is_up_at(links, place) {
@@ -110,7 +110,7 @@ fn outcome_at_once(links: &[Link], place: usize) -> Outcome
 }
 
 /// Whether the link of a place is up. None is up where there is none.
-fn is_up_at(links: &[Link], place: usize) -> bool
+pub fn is_up_at(links: &[Link], place: usize) -> bool
     ensures up { result ≡ (link_at (states links.now) place).up }
     ensures inside { result ≡ true → place < length links.now }
 {
@@ -143,7 +143,7 @@ fn spelled_len(commands: &[Routed]) -> Option<usize>
 }
 
 /// Makes room on the link of a place, where that is up.
-fn make_room_on(
+pub fn make_room_on(
     links: &mut [Link],
     place: usize,
     bytes: usize,

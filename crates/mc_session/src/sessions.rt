@@ -1,11 +1,12 @@
 //! A session: what a client sends, and what it is answered.
 ghost use Rattle.std.specs.Prelude.{◌≡◌, ◌≢◌, ◌≤◌, ◌<◌, ◌+◌, ◌&&◌, ◌==◌, ◌↔◌, ◌∷◌, ◌++◌, [], None, Some, true, false, drop, length, map};
-ghost use Rattle.std.specs.Prelude.{IsTrue, IfOk, IsOkUnless, OnOk, OnErr};
+ghost use Rattle.std.specs.Prelude.{IsTrue, IfOk, IfSome, IfNone, IsOkUnless, OnOk, OnErr};
 ghost use Rattle.mc_session.specs.SessionState.{states};
 
 use crate::errors::SessionError;
 use crate::limits::{MAX_UNANSWERED, UNSENT_MARK};
 use crate::sending::{is_any_marked, prepare, send_all, start_at_front};
+use crate::stores::{may_store, send_store};
 use crate::turns::{Emit, Turn};
 use crate::unanswered::Unanswered;
 use mc_link::{Link, Tag};
@@ -114,7 +115,7 @@ impl Session {
             return Ok(Turn::Idle);
         }
         let Some(get) = self.reader.peek_get() else {
-            return self.turn_other(alloc, number, ring, losses, links, queue);
+            return self.turn_lent(alloc, number, ring, losses, links, queue);
         };
         let (kept, front) = {
             let LentGet {
@@ -137,8 +138,82 @@ impl Session {
         Ok(Turn::Took)
     }
 
-    /// The same by [`Reader::peek`], whatever is first. A turn comes here where it did not see at once that nothing is whole, or a good
-    /// `get` or `gets`.
+    /// The same by [`Reader::peek`]. A turn comes here where it did not see at once that nothing is whole, or a good `get` or `gets`.
+    fn turn_lent(
+        &mut self,
+        alloc: Global,
+        number: u64,
+        ring: &Ring,
+        losses: Losses,
+        links: &mut [Link],
+        queue: &mut VecDeque<Routed>,
+    ) -> Result<Turn, SessionError>
+        requires { queue.old.items ≡ [] }
+        ensures turn { IfOk result (λ turn. IsTurn number turn ring.now losses (states links.old) (states links.new) self.old self.new) }
+        ensures cause { OnErr result (IsReady ring.now (states links.old) self.old) }
+        ensures only_memory { IsOkUnless result SessionError.Memory }
+        ensures err { OnErr result (self.new ≡ self.old) }
+        ensures links_kept { OnErr result (states links.new ≡ states links.old) }
+        ensures emptied { queue.new.items ≡ [] }
+    {
+        if !may_store(self.reader.unread()) {
+            return self.turn_other(alloc, number, ring, losses, links, queue);
+        }
+        match self.turn_store(alloc, number, ring, losses, links)? {
+            Some(turn) => Ok(turn),
+            None => self.turn_other(alloc, number, ring, losses, links, queue),
+        }
+    }
+
+    /// The same of `set`, `add`, `replace`, `append`, `prepend` and `cas`: the data block goes from the reader to the link, and is not copied
+    /// before. None where none of them is first: then nothing has changed.
+    #[inline(never)]
+    fn turn_store(
+        &mut self,
+        alloc: Global,
+        number: u64,
+        ring: &Ring,
+        losses: Losses,
+        links: &mut [Link],
+    ) -> Result<Option<Turn>, SessionError>
+        ensures turn { IfOk result (λ turn. IfSome turn (λ turn. IsTurn number turn ring.now losses (states links.old) (states links.new) self.old self.new)) }
+        ensures none { IfOk result (λ turn. IfNone turn ((states links.new ≡ states links.old) × (self.new ≡ self.old))) }
+        ensures cause { OnErr result (IsReady ring.now (states links.old) self.old) }
+        ensures only_memory { IsOkUnless result SessionError.Memory }
+        ensures err { OnErr result (self.new ≡ self.old) }
+        ensures links_kept { OnErr result (states links.new ≡ states links.old) }
+    {
+        let (one, front) = match &self.reader.peek() {
+            Peek::Closed => return Ok(None),
+            Peek::More => return Ok(None),
+            Peek::First(asked, _) if self.must_wait(links, asked, ring) => {
+                return Ok(Some(Turn::Waiting));
+            }
+            Peek::First(asked, front) => {
+                let taken = self.taken;
+                let Some(one) = send_store(
+                    alloc,
+                    asked,
+                    number,
+                    taken,
+                    ring,
+                    losses,
+                    links,
+                    &mut self.unanswered,
+                )?
+                else {
+                    return Ok(None);
+                };
+                (one, *front)
+            }
+        };
+        self.reader.consume(front);
+        self.unanswered.push_back_reserved(one);
+        self.taken += 1;
+        Ok(Some(Turn::Took))
+    }
+
+    /// The same whatever is first.
     #[inline(never)]
     fn turn_other(
         &mut self,

@@ -1,6 +1,7 @@
 //! The canonical spelling of a command: the one text that a proxy sends to a server for it.
 //!
-//! [`write_atom`] appends it, and [`spelled_len`] says how many bytes it has. It is a command's line, in words with a space
+//! [`write_atom`] appends it, and [`spelled_len`] says how many bytes it has; [`write_store`] and [`store_len`] do so for a storage
+//! command whose data block is lent ([`LentStore`]). It is a command's line, in words with a space
 //! between any two, and the data block after it; a meta command's key is sent in base64, and neither its key nor an opaque
 //! is asked back.
 //!
@@ -12,10 +13,11 @@
 //! ([`canonical_answers`]). Which replies a command can have, and how they are spelled, its head alone tells
 //! ([`heads_tell_of_replies`]).
 //!
-//! `write_atom` takes memory where there is not room enough, and appends nothing where it gives up.
+//! `write_atom` and `write_store` take memory where there is not room enough, and append nothing where they give up.
 #![tactic(auto)]
 
 mod laws;
+mod lent_stores;
 mod spelled_lines;
 mod spelled_metas;
 mod spelled_words;
@@ -26,4 +28,5 @@ pub use laws::{
     quit_after_commands_is_read, spelled_command_is_one, spelled_commands_are_read,
     spellings_are_apart,
 };
+pub use lent_stores::{LentStore, store_len, write_store};
 pub use spellings::{spelled_len, write_atom};

@@ -12,7 +12,7 @@ use mc_request::{Direction, StoreMode, Update};
 use mc_text::{Block, Key, append};
 
 /// The name of a storage command.
-fn store_name(mode: StoreMode, compare: Option<u64>) -> &'static [u8]
+pub fn store_name(mode: StoreMode, compare: Option<u64>) -> &'static [u8]
     ensures name { result.now ≡ store_name mode compare }
     ensures short { length result.now ≤ 7 }
 {
@@ -104,7 +104,10 @@ pub fn update_len(update: &Update<Key, Block>) -> usize
             flags,
             exptime,
             block,
-        } => store_name(*mode, *compare).len() + stored_len(key, *flags, *exptime, block, *compare),
+        } => {
+            let block = block.as_slice();
+            store_name(*mode, *compare).len() + stored_len(key, *flags, *exptime, block, *compare)
+        }
         Update::Touch { key, exptime } => 7 + key.as_bytes().len() + signed_len(*exptime),
         Update::Delete { key, .. } => 7 + key.as_bytes().len(),
         Update::Count { key, counting } => 6 + key.as_bytes().len() + digits_len(counting.delta),
@@ -113,7 +116,7 @@ pub fn update_len(update: &Update<Key, Block>) -> usize
 }
 
 /// How many bytes the words after the name of a storage command have.
-fn stored_len(key: &Key, flags: u32, exptime: i64, block: &Block, compare: Option<u64>) -> usize
+pub fn stored_len(key: &Key, flags: u32, exptime: i64, block: &[u8], compare: Option<u64>) -> usize
     ensures len { result ≡ length (after_spaces (key.now ∷ decimal flags ∷ signed_decimal exptime ∷ decimal (length block.now) ∷ number_if [] compare [])) }
     ensures bound { result ≤ 400 }
 {
@@ -141,7 +144,7 @@ pub fn append_update(out: &mut Vec<u8>, update: &Update<Key, Block>)
             block,
         } => {
             append(out, store_name(*mode, *compare));
-            append_stored(out, key, *flags, *exptime, block, *compare);
+            append_stored(out, key, *flags, *exptime, block.as_slice(), *compare);
         }
         Update::Touch { key, exptime } => {
             append_named(out, b"touch ", key.as_bytes());
@@ -158,12 +161,12 @@ pub fn append_update(out: &mut Vec<u8>, update: &Update<Key, Block>)
 }
 
 /// Appends the words after the name of a storage command.
-fn append_stored(
+pub fn append_stored(
     out: &mut Vec<u8>,
     key: &Key,
     flags: u32,
     exptime: i64,
-    block: &Block,
+    block: &[u8],
     compare: Option<u64>,
 )
     requires { vec_len out.old + length (after_spaces (key.now ∷ decimal flags ∷ signed_decimal exptime ∷ decimal (length block.now) ∷ number_if [] compare [])) ≤ vec_capacity out.old }

@@ -1,0 +1,134 @@
+//! A storage command of a classic line, from the reader that lends it to its link.
+ghost use Rattle.std.specs.Prelude.{◌≡◌, ◌<◌, ◌∷◌, [], length, map, IfOk, IfSome, IfNone, OnOk, OnErr, OnSome};
+ghost use Rattle.std.specs.VecDeque.{deque_len, deque_capacity};
+ghost use Rattle.mc_request.specs.LinesSeen.{asked_of};
+ghost use Rattle.mc_request.specs.WellFormed.{is_well_formed};
+ghost use Rattle.mc_route.specs.Kept.{kept_of};
+ghost use Rattle.mc_route.specs.Routes.{route_of_taken};
+ghost use Rattle.mc_spelling.specs.LentStores.{atom_of};
+ghost use Rattle.mc_spelling.specs.Spellings.{spelling_of_atom};
+ghost use Rattle.mc_session.specs.SessionState.{link_at, states, with_link};
+ghost use Rattle.mc_session.specs.Sending.{at_once, handed, handed_to, outcome_by, roomy_at, IsRoomy};
+
+use crate::errors::SessionError;
+use crate::sending::{is_up_at, make_room_on, outcome_at_once};
+use crate::unanswered::Unanswered;
+use mc_link::{Link, Tag};
+use mc_request::{Asked, Request, Taken, Update};
+use mc_ring::Ring;
+use mc_route::{Losses, Outcome};
+use mc_spelling::{LentStore, store_len};
+use mc_text::{Block, Key};
+use std::alloc::Global;
+use std::collections::VecDeque;
+
+/// Whether a text may begin with a storage command of a classic line, by its first byte. A wrong answer costs time, and nothing else.
+#[inline(always)]
+pub fn may_store(unread: &[u8]) -> bool {
+    matches!(unread, [b's' | b'c' | b'a' | b'r' | b'p', ..])
+}
+
+/// Sends what is lent to the link of its key's owner, if it is a storage command of a classic line, and gives what waits for its answer, for
+/// which there is room then. None of anything else. Its tag has the number of the session and that of the request.
+///
+/// Its key is copied once for the command and once for the answer, its data block once, to the link. What it may need of memory is
+/// taken before it is sent.
+pub fn send_store(
+    alloc: Global,
+    asked: &Asked<'_>,
+    session: u64,
+    request: u64,
+    ring: &Ring,
+    losses: Losses,
+    links: &mut [Link],
+    unanswered: &mut VecDeque<Unanswered>,
+) -> Result<Option<Unanswered>, SessionError>
+    requires { is_well_formed (asked_of asked.now) ≡ true }
+    ensures one { IfOk result (λ sent. IfSome sent (λ one. one ≡ record {
+      what = kept_of (asked_of asked.now);
+      losses = losses;
+      outcomes = map (at_once (states links.old)) (route_of_taken ring.now (asked_of asked.now));
+    })) }
+    ensures sent { IfOk result (λ sent. OnSome sent (states links.new
+        ≡ handed session request 0 (route_of_taken ring.now (asked_of asked.now)) (states links.old))) }
+    ensures place { IfOk result (λ sent. OnSome sent (deque_len unanswered.new < deque_capacity unanswered.new)) }
+    ensures none { IfOk result (λ sent. IfNone sent (states links.new ≡ states links.old)) }
+    ensures err { OnErr result (states links.new ≡ states links.old) }
+    ensures unanswered_kept { unanswered.new.items ≡ unanswered.old.items }
+{
+    let Asked::Update { update, noreply } = asked else {
+        return Ok(None);
+    };
+    let Update::Store {
+        mode,
+        compare,
+        key,
+        flags,
+        exptime,
+        block,
+    } = update
+    else {
+        return Ok(None);
+    };
+    let kept = Taken::Whole(Request::Update {
+        update: Update::Store {
+            mode: *mode,
+            compare: *compare,
+            key: Key::of_bytes(alloc, key)?,
+            flags: *flags,
+            exptime: *exptime,
+            block: Block::new(alloc),
+        },
+        noreply: *noreply,
+    });
+    let store = LentStore {
+        mode: *mode,
+        compare: *compare,
+        key: Key::of_bytes(alloc, key)?,
+        flags: *flags,
+        exptime: *exptime,
+        block: *block,
+    };
+    let place = ring.owner_of_bytes(key);
+    let outcomes = prepare_store(alloc, unanswered, links, place, &store)?;
+    let tag = Tag {
+        session,
+        request,
+        atom: 0,
+    };
+    hand_over_store(links, place, store, tag);
+    Ok(Some(Unanswered::new(kept, losses, outcomes)))
+}
+
+/// Takes what memory a storage command needs: for what becomes of it at once, which is given, for its place among those that are not
+/// answered, and for its spelling on the link of a place.
+fn prepare_store(
+    alloc: Global,
+    unanswered: &mut VecDeque<Unanswered>,
+    links: &mut [Link],
+    place: usize,
+    store: &LentStore<'_>,
+) -> Result<Vec<Outcome>, SessionError>
+    ensures outcomes { IfOk result (λ outcomes. outcomes.items ≡ outcome_by (link_at (states links.old) place) ∷ []) }
+    ensures place { OnOk result (deque_len unanswered.new < deque_capacity unanswered.new) }
+    ensures roomy { OnOk result (IsRoomy (length (spelling_of_atom (atom_of store.now))) 1 (roomy_at links.new place)) }
+    ensures unchanged { states links.new ≡ states links.old }
+    ensures unanswered_kept { unanswered.new.items ≡ unanswered.old.items }
+{
+    let mut outcomes = Vec::with_capacity(alloc, 1)?;
+    outcomes.push(outcome_at_once(links, place))?;
+    unanswered.reserve(1)?;
+    make_room_on(links, place, store_len(store), 1)?;
+    Ok(outcomes)
+}
+
+/// Hands a storage command to the link of a place, where that is up. It takes no memory.
+fn hand_over_store(links: &mut [Link], place: usize, store: LentStore<'_>, tag: Tag)
+    requires { IsRoomy (length (spelling_of_atom (atom_of store))) 1 (roomy_at links.old place) }
+    ensures { states links.new
+        ≡ with_link place (handed_to tag (atom_of store.entry) (link_at (states links.old) place)) (states links.old) }
+{
+    if is_up_at(links, place) {
+        links[place].send_store(store, tag).unwrap();
+    }
+}
