@@ -1,5 +1,5 @@
 //! The canonical spelling of a storage command whose data block is lent: no copy of the block is made for it.
-ghost use Rattle.std.specs.Prelude.{◌≡◌, ◌+◌, ◌≤◌, ◌++◌, length, vec_len, vec_capacity, codes, IsOk, OnOk, OnErr};
+ghost use Rattle.std.specs.Prelude.{◌≡◌, ◌+◌, ◌^◌, ◌<◌, ◌≤◌, ◌++◌, length, vec_len, vec_capacity, codes, IsOk, OnOk, OnErr};
 ghost use Rattle.mc_spelling.specs.LentStores.{atom_of};
 ghost use Rattle.mc_spelling.specs.Spellings.{line_words, spaced, spelling_of_atom};
 
@@ -49,7 +49,7 @@ fn line_len(store: &LentStore<'_>) -> usize
 /// How many bytes a data block and its end have.
 fn block_len(block: &[u8]) -> usize
     ensures len { result ≡ length (block.now ++ codes "\r\n") }
-    ensures bound { result ≤ 2 ^ 63 + 2 }
+    ensures bound { result < 2 ^ 63 + 2 }
 {
     block.len() + 2
 }
@@ -83,7 +83,7 @@ fn append_block(out: &mut Vec<u8>, block: &[u8])
     append(out, b"\r\n");
 }
 
-/// Appends the canonical spelling of a storage command, or nothing where there is no memory. It takes no memory where a vector has
+/// Appends the canonical spelling of a storage command, or nothing if there is no memory. It takes no memory if a vector has
 /// room for as many bytes as the spelling has ([`store_len`]).
 pub fn write_store(store: &LentStore<'_>, out: &mut Vec<u8>) -> Result<(), ReadError>
     ensures ok { OnOk result (out.new.items ≡ out.old.items ++ spelling_of_atom (atom_of store.now)) }

@@ -1,9 +1,8 @@
 //! The canonical spelling of a command: the one text that a proxy sends to a server for it.
 //!
-//! [`write_atom`] appends it, and [`spelled_len`] says how many bytes it has; [`write_store`] and [`store_len`] do so for a storage
-//! command whose data block is lent ([`LentStore`]). It is a command's line, in words with a space
-//! between any two, and the data block after it; a meta command's key is sent in base64, and neither its key nor an opaque
-//! is asked back.
+//! [`write_atom`] appends it, and [`spelled_len`] says how many bytes it has; [`write_store`] and [`store_len`] do so for a
+//! storage command whose data block is lent ([`LentStore`]). It is a command's line, in words with a space between any two,
+//! and the data block after it; a meta command's key is sent in base64, and neither its key nor an opaque is asked back.
 //!
 //! `specs/Spellings.antt` says which text it is (`spelling_of_atom`), which request a server reads it as (`request_of`), and
 //! which commands can be said so (`is_good_atom`): each that a client's request stands for
@@ -13,7 +12,7 @@
 //! ([`canonical_answers`]). Which replies a command can have, and how they are spelled, its head alone tells
 //! ([`heads_tell_of_replies`]).
 //!
-//! `write_atom` and `write_store` take memory where there is not room enough, and append nothing where they give up.
+//! `write_atom` and `write_store` take memory if there is not room enough, and append nothing if they give up.
 #![tactic(auto)]
 
 mod laws;
