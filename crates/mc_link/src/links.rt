@@ -155,8 +155,8 @@ impl Link {
         Ok(())
     }
 
-    /// Sends a storage command whose data block is lent, as [`Link::send`] sends one that has its own: the block is copied once, to the
-    /// output.
+    /// Sends a storage command whose data block is lent, as [`Link::send`] sends one that has its own. The block is copied
+    /// once, to the output.
     ///
     /// At an error the command is dropped.
     pub fn send_store(&mut self, store: LentStore<'_>, tag: Tag) -> Result<(), LinkError>
