@@ -1,5 +1,5 @@
 -- What a turn does, by what its steps did.
-use Rattle.std.proofs.Common.{◌≡◌, ◌∙◌, ℕ, zero, suc, ◌+◌, ◌<◌, ◌≤◌, ◌==◌, inl, inr, Bool, true, false, not, ◌&&◌, ◌||◌, List, [], ◌∷◌, length, Result, Ok, Err, OnErr, refl, sym, subst, arith}
+use Rattle.std.proofs.Common.{◌≡◌, ◌∙◌, ℕ, zero, suc, ◌+◌, ◌<◌, ◌≤◌, ◌==◌, inl, inr, Bool, true, false, not, ◌&&◌, ◌||◌, List, [], ◌∷◌, length, Result, Ok, Err, OnErr, refl, sym, ap, subst, arith}
 use Rattle.std.specs.List.{list_any}
 use Rattle.std.specs.Prelude.{◌↔◌, IsTrue}
 use Rattle.std.proofs.lemmas.Bool.{cases_lt}
@@ -94,6 +94,11 @@ none_marked links (command ∷ commands) none =
     let others : any_marked links commands ≡ false = none_marked links commands
     (λ p below. not_others (is_link_marked (link_at links p)) (command.server == p) (goes_to p commands) (none p below)) in
     rw (here, others) refl
+
+-- a request has to wait for a mark of its session's own, or for that of a link that it needs
+pub marked_by_parts : (ring : RingState) (links : List LinkState) (session : SessionState) (what : Taken) (own result : Bool) → own ≡ is_session_marked session
+    → result ≡ (own || any_marked links (route_of_taken ring what)) → result ≡ is_marked session links (route_of_taken ring what)
+marked_by_parts ring links session what own result own_is is = is ∙ ap (λ (b : Bool). b || any_marked links (route_of_taken ring what)) own_is
 
 -- a mark is reached
 pub held : (ring : RingState) (links : List LinkState) (session : SessionState) (what : Taken) (front : Front) → Shows session.reader what front

@@ -2,7 +2,7 @@
 //!
 //! A [`Session`] is fed the bytes that its client sends in whatever pieces they come ([`Session::feed`]), and takes a request
 //! a turn ([`Session::turn`]): each of the request's commands goes to the link of its key's owner, under a tag that says whose
-//! it is, or is lost at once where that link is down. They pass through a queue that the caller keeps, empty between turns; a storage
+//! it is, or is lost at once if that link is down. They pass through a queue that the caller keeps, empty between turns; a storage
 //! command of a classic line does not, and its data block goes to its link at once. What became of a command is noted under its tag
 //! ([`Session::note`]). Once it is known of each command of the oldest unanswered request, its answer is put out ([`Session::emit`]), by the
 //! choice for lost commands that its turn was given ([`mc_route::Losses`]), and the caller takes it out ([`Session::output`],

@@ -1,5 +1,5 @@
 //! The commands of a request, to their links.
-ghost use Rattle.std.specs.Prelude.{◌≡◌, ◌+◌, ◌-◌, ◌<◌, ◌≤◌, ◌^◌, ◌&&◌, ℕ, [], true, length, map, IfOk, IfSome, OnOk};
+ghost use Rattle.std.specs.Prelude.{◌≡◌, ◌+◌, ◌-◌, ◌<◌, ◌≤◌, ◌^◌, ◌&&◌, ◌||◌, ℕ, [], true, length, map, IfOk, IfSome, OnOk};
 ghost use Rattle.std.specs.List.{list_any};
 ghost use Rattle.std.specs.VecDeque.{deque_len, deque_capacity};
 ghost use Rattle.mc_request.specs.LinesSeen.{asked_of};
@@ -46,6 +46,15 @@ pub fn is_any_marked(links: &[Link], asked: &Asked<'_>, ring: &Ring) -> bool
         }
     }
     false
+}
+
+/// Whether what is asked has to wait: its session has reached a mark of its own, or a link that it needs has. It takes no memory.
+pub fn is_held_up(marked: bool, links: &[Link], asked: &Asked<'_>, ring: &Ring) -> bool
+    requires { is_well_formed (asked_of asked.now) ≡ true }
+    ensures { result ≡ (marked
+        || list_any (λ command. is_link_marked (link_at (states links.now) command.server)) (route_of_taken ring.now (asked_of asked.now))) }
+{
+    marked || is_any_marked(links, asked, ring)
 }
 
 /// Whether the link of a place has as much unsent as its mark, and what is asked needs it.

@@ -5,7 +5,7 @@ ghost use Rattle.mc_session.specs.SessionState.{states};
 
 use crate::errors::SessionError;
 use crate::limits::{MAX_UNANSWERED, UNSENT_MARK};
-use crate::sending::{is_any_marked, prepare, send_all, start_at_front};
+use crate::sending::{is_any_marked, is_held_up, prepare, send_all, start_at_front};
 use crate::stores::{may_store, send_store};
 use crate::turns::{Emit, Turn};
 use crate::unanswered::Unanswered;
@@ -166,7 +166,7 @@ impl Session {
     }
 
     /// The same of `set`, `add`, `replace`, `append`, `prepend` and `cas`: the data block goes from the reader to the link, and is not copied
-    /// before. None where none of them is first: then nothing has changed.
+    /// before. None if something else is first: then nothing has changed.
     #[inline(never)]
     fn turn_store(
         &mut self,
@@ -183,32 +183,23 @@ impl Session {
         ensures err { OnErr result (self.new ≡ self.old) }
         ensures links_kept { OnErr result (states links.new ≡ states links.old) }
     {
-        let (one, front) = match &self.reader.peek() {
-            Peek::Closed => return Ok(None),
-            Peek::More => return Ok(None),
-            Peek::First(asked, _) if self.must_wait(links, asked, ring) => {
+        let marked = self.is_marked();
+        let taken = self.taken;
+        let front = match &self.reader.peek() {
+            Peek::Closed => return Ok(Some(Turn::Closing)),
+            Peek::More => return Ok(Some(Turn::Idle)),
+            Peek::First(asked, _) if is_held_up(marked, links, asked, ring) => {
                 return Ok(Some(Turn::Waiting));
             }
             Peek::First(asked, front) => {
-                let taken = self.taken;
-                let Some(one) = send_store(
-                    alloc,
-                    asked,
-                    number,
-                    taken,
-                    ring,
-                    losses,
-                    links,
-                    &mut self.unanswered,
-                )?
-                else {
+                let unanswered = &mut self.unanswered;
+                if !send_store(alloc, asked, number, taken, ring, losses, links, unanswered)? {
                     return Ok(None);
-                };
-                (one, *front)
+                }
+                *front
             }
         };
         self.reader.consume(front);
-        self.unanswered.push_back_reserved(one);
         self.taken += 1;
         Ok(Some(Turn::Took))
     }

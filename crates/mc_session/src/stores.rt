@@ -1,6 +1,8 @@
 //! A storage command of a classic line, from the reader that lends it to its link.
-ghost use Rattle.std.specs.Prelude.{◌≡◌, ◌<◌, ◌∷◌, [], length, map, IfOk, IfSome, IfNone, OnOk, OnErr, OnSome};
+ghost use Rattle.std.specs.Prelude.{◌≡◌, ◌<◌, ◌∷◌, ◌++◌, [], true, length, map, IfOk, OnOk, OnErr};
+ghost use Rattle.std.specs.Bool.{OnFalse, OnTrue};
 ghost use Rattle.std.specs.VecDeque.{deque_len, deque_capacity};
+ghost use Rattle.mc_text.specs.Keys.{is_key};
 ghost use Rattle.mc_request.specs.LinesSeen.{asked_of};
 ghost use Rattle.mc_request.specs.WellFormed.{is_well_formed};
 ghost use Rattle.mc_route.specs.Kept.{kept_of};
@@ -14,7 +16,7 @@ use crate::errors::SessionError;
 use crate::sending::{is_up_at, make_room_on, outcome_at_once};
 use crate::unanswered::Unanswered;
 use mc_link::{Link, Tag};
-use mc_request::{Asked, Request, Taken, Update};
+use mc_request::{Asked, Request, StoreMode, Taken, Update};
 use mc_ring::Ring;
 use mc_route::{Losses, Outcome};
 use mc_spelling::{LentStore, store_len};
@@ -28,8 +30,8 @@ pub fn may_store(unread: &[u8]) -> bool {
     matches!(unread, [b's' | b'c' | b'a' | b'r' | b'p', ..])
 }
 
-/// Sends what is lent to the link of its key's owner, if it is a storage command of a classic line, and gives what waits for its answer, for
-/// which there is room then. None of anything else. Its tag has the number of the session and that of the request.
+/// Sends what is lent to the link of its key's owner, if it is a storage command of a classic line, and puts it last among those that
+/// are not answered. False of anything else. Its tag has the number of the session and that of the request.
 ///
 /// Its key is copied once for the command and once for the answer, its data block once, to the link. What it may need of memory is
 /// taken before it is sent.
@@ -42,22 +44,22 @@ pub fn send_store(
     losses: Losses,
     links: &mut [Link],
     unanswered: &mut VecDeque<Unanswered>,
-) -> Result<Option<Unanswered>, SessionError>
+) -> Result<bool, SessionError>
     requires { is_well_formed (asked_of asked.now) ≡ true }
-    ensures one { IfOk result (λ sent. IfSome sent (λ one. one ≡ record {
+    ensures sent { IfOk result (λ sent. OnTrue sent (states links.new
+        ≡ handed session request 0 (route_of_taken ring.now (asked_of asked.now)) (states links.old))) }
+    ensures waits { IfOk result (λ sent. OnTrue sent (unanswered.new.items ≡ unanswered.old.items ++ record {
       what = kept_of (asked_of asked.now);
       losses = losses;
       outcomes = map (at_once (states links.old)) (route_of_taken ring.now (asked_of asked.now));
-    })) }
-    ensures sent { IfOk result (λ sent. OnSome sent (states links.new
-        ≡ handed session request 0 (route_of_taken ring.now (asked_of asked.now)) (states links.old))) }
-    ensures place { IfOk result (λ sent. OnSome sent (deque_len unanswered.new < deque_capacity unanswered.new)) }
-    ensures none { IfOk result (λ sent. IfNone sent (states links.new ≡ states links.old)) }
-    ensures err { OnErr result (states links.new ≡ states links.old) }
-    ensures unanswered_kept { unanswered.new.items ≡ unanswered.old.items }
+    } ∷ [])) }
+    ensures links_same { IfOk result (λ sent. OnFalse sent (states links.new ≡ states links.old)) }
+    ensures unanswered_same { IfOk result (λ sent. OnFalse sent (unanswered.new.items ≡ unanswered.old.items)) }
+    ensures links_kept { OnErr result (states links.new ≡ states links.old) }
+    ensures unanswered_kept { OnErr result (unanswered.new.items ≡ unanswered.old.items) }
 {
     let Asked::Update { update, noreply } = asked else {
-        return Ok(None);
+        return Ok(false);
     };
     let Update::Store {
         mode,
@@ -68,19 +70,9 @@ pub fn send_store(
         block,
     } = update
     else {
-        return Ok(None);
+        return Ok(false);
     };
-    let kept = Taken::Whole(Request::Update {
-        update: Update::Store {
-            mode: *mode,
-            compare: *compare,
-            key: Key::of_bytes(alloc, key)?,
-            flags: *flags,
-            exptime: *exptime,
-            block: Block::new(alloc),
-        },
-        noreply: *noreply,
-    });
+    let kept = kept_store(alloc, *mode, *compare, key, *flags, *exptime, *noreply)?;
     let store = LentStore {
         mode: *mode,
         compare: *compare,
@@ -97,7 +89,32 @@ pub fn send_store(
         atom: 0,
     };
     hand_over_store(links, place, store, tag);
-    Ok(Some(Unanswered::new(kept, losses, outcomes)))
+    unanswered.push_back_reserved(Unanswered::new(kept, losses, outcomes));
+    Ok(true)
+}
+
+/// What stays of a storage command for its answer: all but its data block.
+fn kept_store(
+    alloc: Global,
+    mode: StoreMode,
+    compare: Option<u64>,
+    key: &[u8],
+    flags: u32,
+    exptime: i64,
+    noreply: bool,
+) -> Result<Taken, SessionError>
+    requires { is_key key.now ≡ true }
+    ensures { IfOk result (λ kept. kept ≡ Taken.Whole (Request.Update (Update.Store mode compare key.now flags exptime []) noreply)) }
+{
+    let update = Update::Store {
+        mode,
+        compare,
+        key: Key::of_bytes(alloc, key)?,
+        flags,
+        exptime,
+        block: Block::new(alloc),
+    };
+    Ok(Taken::Whole(Request::Update { update, noreply }))
 }
 
 /// Takes what memory a storage command needs: for what becomes of it at once, which is given, for its place among those that are not
@@ -122,7 +139,7 @@ fn prepare_store(
     Ok(outcomes)
 }
 
-/// Hands a storage command to the link of a place, where that is up. It takes no memory.
+/// Hands a storage command to the link of a place, if that is up. It takes no memory.
 fn hand_over_store(links: &mut [Link], place: usize, store: LentStore<'_>, tag: Tag)
     requires { IsRoomy (length (spelling_of_atom (atom_of store))) 1 (roomy_at links.old place) }
     ensures { states links.new
