@@ -54,9 +54,11 @@ impl<S: Store + Drop> ServerHandler<S> {
         })
     }
 
-    /// Takes the memory in reserve that was let go, as far as the system gives it.
+    /// Takes the memory in reserve that was released, as far as the system gives it, and has keys that are not held stored again.
     pub fn keep_reserve(&mut self) {
-        let _ = self.server.keep_reserve(self.reserve);
+        if self.server.keep_reserve(self.reserve).is_err() {
+            self.server.end_short();
+        }
     }
 
     /// Notes why a client is closed whose pump failed: its socket has failed, its answer may be too large, or a call was refused memory.
@@ -122,9 +124,9 @@ impl<S: Store + Drop> Handler<()> for ServerHandler<S> {
             self.note_failed(failed);
         }
         self.note_refused_stores();
-        if self.reserve > 0 && !self.server.has_reserve() {
+        if !self.server.holds_reserve(self.reserve) {
             self.server.give_back(client.number, 0);
-            self.keep_reserve();
+            let _ = self.server.keep_reserve(self.reserve);
         }
         step_after(pumped)
     }

@@ -33,9 +33,12 @@ const BAD_CAS_FROM: &str =
 const BAD_ANSWER: &str =
     "invalid value for '--answer <bytes>': neither in 1024..=1099511627776 nor a number of K, M or G up to 1024G";
 
+/// The most bytes that may be kept in reserve.
+const MAX_RESERVE: u64 = 1_073_741_824;
+
 /// Why a word of `--reserve` is refused.
 const BAD_RESERVE: &str =
-    "invalid value for '--reserve <bytes>': neither in 0..=1099511627776 nor a number of K, M or G up to 1024G";
+    "invalid value for '--reserve <bytes>': neither in 0..=1073741824 nor a number of K, M or G up to 1G";
 
 /// The program's name.
 pub const PROGRAM: &str = "mc_serverd";
@@ -64,7 +67,7 @@ impl<'a> Options<'a> {
         let cas_from = word_of(matches, "cas-from");
         let cas_from = cas_from_named(cas_from).ok_or(BAD_CAS_FROM)?;
         let answer = size_of(matches, "answer", LEAST_ANSWER).ok_or(BAD_ANSWER)?;
-        let reserve = size_of(matches, "reserve", 0).ok_or(BAD_RESERVE)?;
+        let reserve = size_within(word_of(matches, "reserve"), 0, MAX_RESERVE).ok_or(BAD_RESERVE)?;
         let kind = kind_named(word_of(matches, "store"));
         let service = Service {
             terms: Terms::of(matches),
@@ -236,6 +239,6 @@ fn reserve<'a>(alloc: Global) -> Arg<'a> {
         alloc,
         "reserve",
         "4194304",
-        "Memory that is kept to serve clients with when the system gives none: 0 to 1099511627776 bytes, or with K, M or G",
+        "Memory that is kept to serve clients with when the system gives none: 0 to 1073741824 bytes, or with K, M or G",
     )
 }

@@ -34,15 +34,15 @@ impl Reserve {
         Ok(())
     }
 
-    /// Whether it has no memory.
-    pub fn is_empty(&self) -> bool {
-        self.parts.is_empty()
+    /// Whether there are so many bytes of it, in whole parts.
+    pub fn holds(&self, bytes: usize) -> bool {
+        self.parts.len() >= bytes / PART
     }
 
     /// Gives its memory back, and says whether there was some.
     #[inline(never)]
-    pub fn let_go(&mut self) -> bool {
-        let had_some = !self.is_empty();
+    pub fn release(&mut self) -> bool {
+        let had_some = !self.parts.is_empty();
         self.parts.clear();
         had_some
     }

@@ -30,8 +30,8 @@ returns-in-Ok-clause-little g c =
     rw (updated_own c.args.number _ c.turn_gathering.new.self _ was) c.in-Ok.ensures.little
 
 -- it takes one while memory is short: nothing was written
-pub returns-else-not-let_go-clause-within : goal.returns-else-not-let_go-clause-within
-returns-else-not-let_go-clause-within g c =
+pub returns-else-not-release-clause-within : goal.returns-else-not-release-clause-within
+returns-else-not-release-clause-within g c =
     let was = sym c.in-Some.ensures.value in
     let within = rw (c.in-Err.ensures.cache_kept, c.in-Err.ensures.err, updated_same c.args.number _ _ was, c.self.view_is) at c.turn_short.ensures.within in
     rw c.in-Err.ensures.writer_kept (IfOk-weaker c.turn_short.result _ _ (λ limited h. gathered_short c.args.number c.args.moment limited _ _ _ h) within)
