@@ -97,8 +97,7 @@ impl<S: Store + Drop> Cache<S> {
         }
     }
 
-    /// Says whether memory is short. If it is, a key that is not held is refused memory, even if there is some: what is left of it serves the
-    /// keys that are held.
+    /// Says whether memory is short. If it is, a key that is not held is refused memory, even if there is some.
     pub fn set_short(&mut self, is_short: bool)
         ensures { self.new ≡ self.old }
     {
@@ -294,7 +293,7 @@ impl<S: Store + Drop> Cache<S> {
 
     /// The command `set`, whose key and block are its own: no byte of the block is copied. Its reply shows no value.
     ///
-    /// It takes memory only where the key is not held. Where there is none the reply is `Fault::OutOfMemory`, and nothing changes but what
+    /// It takes memory only if the key is not held. If there is none the reply is `Fault::OutOfMemory`, and nothing changes but what
     /// the moment brings.
     pub fn set(
         &mut self,

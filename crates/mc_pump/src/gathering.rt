@@ -17,9 +17,9 @@ use std::io::Read;
 /// Carries a connection's bytes and serves what comes whole, as [`pump`](crate::pump) does, to a writer that takes the parts of an
 /// answer together.
 ///
-/// A turn whose answer shows one large value gives the writer all that is unsent, the answer and the value where it is, in one call
-/// ([`Server::turn_gathering`]). If the writer takes some of it, the round ends: so there is a write for each such turn, and others wait for no
-/// more than [`MAX_ROUNDS`] of them.
+/// A turn whose answer shows one large value gives the writer in one call all that is unsent, the answer, and the value from where it is
+/// ([`Server::turn_gathering`]). If the writer takes some of it, the round ends: each such turn has a write of its own, and a pump has at
+/// most [`MAX_ROUNDS`] of these.
 pub fn pump_gathering<S: Store + Drop, R: Read, W: Gather>(
     server: &mut Server<S>,
     number: u64,

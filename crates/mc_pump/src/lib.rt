@@ -3,7 +3,7 @@
 //! [`pump`] is called again and again, as long as it says [`Pumped::Again`], or [`Pumped::Blocked`] and the stream then moves.
 //! Its contract is the law of one connection, from the bytes that a reader gave to the bytes that a writer took.
 //! [`MAX_ROUNDS`] and [`UNSENT_MARK`] are its limits. The stream is any reader and any writer: no socket is known here.
-//! [`pump_gathering`] does the same to a writer that takes the parts of an answer together, by which a large value is copied nowhere.
+//! [`pump_gathering`] does the same to a writer that takes the parts of an answer together: it copies of a large value only what the writer leaves.
 //! One call of a side of a stream is [`mc_stream::write_once`] or [`mc_stream::read_once`]. A [`Watch`] says how large an answer may
 //! be, what passed, and how many stores were answered that there is no memory for them.
 //!

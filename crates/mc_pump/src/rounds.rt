@@ -206,7 +206,7 @@ fn receive<S: Store + Drop, R: Read>(
     }
 }
 
-/// The same by a read straight into a data block that the server keeps apart. None says that nothing was read, and nothing has changed.
+/// Receives by a read straight into a data block that the server keeps apart. None says that nothing was read, and nothing has changed.
 fn receive_apart<S: Store + Drop, R: Read>(
     server: &mut Server<S>,
     number: u64,
@@ -230,7 +230,7 @@ fn receive_apart<S: Store + Drop, R: Read>(
     Some(moved_by(side, *ended))
 }
 
-/// How many bytes a read brought: none where it stops the pump.
+/// How many bytes a read brought: none if it stops the pump.
 fn count_of(side: &Result<usize, Pumped>) -> usize {
     match side {
         Ok(count) => *count,
@@ -238,7 +238,7 @@ fn count_of(side: &Result<usize, Pumped>) -> usize {
     }
 }
 
-/// The same by a piece.
+/// Receives by a piece.
 fn receive_piece<S: Store + Drop, R: Read>(
     server: &mut Server<S>,
     number: u64,

@@ -1,8 +1,8 @@
 //! Replies, and what a client is answered.
 //!
-//! A cache answers each command by a [`Reply`]. A retrieval command is answered by what its keys add ([`write_key`]; [`write_head`] is
-//! that without the value) and by the end ([`write_end`]); an update by the line of its reply ([`write_line`]), where that is not hidden
-//! ([`Reply::is_hidden`], by what the request hides; [`shown`] says it of a whole request); a meta command by what its
+//! A cache answers each command by a [`Reply`]. A retrieval command is answered by what its keys add ([`write_key`]) and by the end
+//! ([`write_end`]); [`write_head`] writes what a key adds in front of its value. An update is answered by the line of its reply
+//! ([`write_line`]), if that is not hidden ([`Reply::is_hidden`], by what the request hides; [`shown`] says it of a whole request); a meta command by what its
 //! flag words ask to be given back ([`write_meta`]), where that is not hidden; `mn` and `version` by lines of their own
 //! ([`write_noop`], [`write_version`]); and what is no request by the line of its fault ([`write_fault`]). Who keeps the
 //! request beside its replies appends what each adds by [`write_part`], for which [`part_room`] is room enough. Each of

@@ -4,7 +4,7 @@ use Rattle.std.specs.Io.{ReadsAtMost}
 use Rattle.std.specs.Io.KnownBytes.{ReadConsumes}
 use Rattle.mc_request_reader.specs.Reader.{ReaderState, rest_of}
 
--- more of the text has come to a reader; where nothing is read any more it is let go
+-- more of the text has come to a reader; if nothing is read any more it is consumed
 pub record Comes (old new : ReaderState) (came : List ℕ) : Type 0 where
   pub rest : (text : List ℕ) → rest_of new text ≡ rest_of old (came ++ text)
   pub closed : new.closed ≡ old.closed

@@ -50,7 +50,7 @@ impl Apart {
     ghost use Rattle.mc_request_reader.specs.ApartFields.{begun_by};
     ghost use Rattle.mc_request_reader.specs.Peeks.{Peeks, HasNone, IsFirst, IsWellFormedPeek, front_of, past, set_of};
 
-    /// A piece, kept apart, if it begins with a whole `set` line whose data block is large, and has no more than that block. None too where
+    /// A piece, kept apart, if it begins with a whole `set` line whose data block is large, and has no more than that block. None too if
     /// there is no memory to keep it so: it is kept like any other then.
     pub fn begin(alloc: Global, piece: &[u8]) -> Option<Apart>
         ensures begun { IfSome result (λ apart. apart ≡ begun_by piece.now) }

@@ -17,9 +17,9 @@ use std::marker::Model;
 /// A [`Reader`] for who keeps the data blocks of large `set`s. Contracts see the same of it, and each call that a reader has promises
 /// the same.
 ///
-/// Where nothing is kept, and a piece of at least 1,024 bytes begins with a `set` line that announces a data block of at least 4,096, the
-/// line and what comes after it are kept apart. So the bytes of the block are copied once, when they come, into memory of its own, and
-/// [`ApartReader::take_set`] hands that out. If something has come after the block, or the block has no line end, it is lent by
+/// A `set` line is kept apart if it begins a piece of at least 1,024 bytes, nothing else is kept, and it announces a data block of at
+/// least 4,096 bytes. The bytes of its block are then copied once, as they come, into memory of its own, which
+/// [`ApartReader::take_set`] hands out. If something has come after the block, or the block has no line end, it is lent by
 /// [`ApartReader::peek`] like any other.
 #[derive(Drop)]
 pub struct ApartReader {

@@ -39,7 +39,7 @@ impl Model for Incoming {
 }
 
 impl Incoming {
-    /// The first bytes, where so many are wanted. None where there is no memory.
+    /// The first bytes of so many that are wanted. None if there is no memory.
     pub fn begin(alloc: Global, first: &[u8], wanted: usize) -> Option<Incoming>
         ensures { IfSome result (λ incoming. incoming ≡ first.now) }
     {
@@ -119,7 +119,7 @@ fn room_for(come: usize, wanted: usize) -> usize
     wanted.min(come.saturating_mul(ROOM_FOR)).max(come)
 }
 
-/// Makes room behind bytes, of which so many are wanted, for so many more, if it wants them. Where there is not so much memory, it has
+/// Makes room behind bytes, of which so many are wanted, for so many more, if it wants them. If there is not so much memory, it has
 /// the room that it had.
 fn make_room(bytes: &mut Vec<u8>, more: usize, wanted: usize)
     ensures { bytes.new.items ≡ bytes.old.items }

@@ -5,8 +5,8 @@
 //! halves of `next`: the one lends what is first, its keys and its block being bytes of the reader, and the other
 //! takes it. [`Reader::ready`] says whether there is one, and [`Reader::held`] how many bytes are kept. What is asked for most, a `get`, is
 //! lent sooner by [`Reader::peek_get`], other lines by [`Reader::peek_lone`], and [`Reader::is_short`] tells soonest that there is none;
-//! [`Reader::unread`] are the bytes. An [`ApartReader`] is a reader for who keeps large data blocks: it copies each once, and hands it out
-//! ([`ApartReader::take_set`]).
+//! [`Reader::unread`] are the bytes. An [`ApartReader`] is a reader for who keeps large data blocks: it hands out the block of
+//! a large `set` ([`ApartReader::take_set`]).
 //! What one line asks for is the crate `mc_request`'s: what is lent is its `Asked`, what is given its `Request` or `Fault`.
 //!
 //! A reader stands for a function: from the text still to come to the requests and faults that it will give.
@@ -14,7 +14,8 @@
 //! `specs/Reader.antt` for the function, and `specs/Requests.antt` of `mc_request` for the requests of a text. Its laws are
 //! here ([`requests_begin`], [`requests_go_on`], [`requests_are_well_formed`], [`requests_are_no_more_than_bytes`]).
 //!
-//! Of the calls, `feed` and `next` take memory; all others take none, and cannot fail. Without memory for its key `take_set` gives none.
+//! Of the calls, `feed`, `next`, `read_from` and `take_set` take memory. Without it `take_set` gives none, and `read_from` reads less. All others
+//! take none, and cannot fail.
 #![tactic(auto)]
 
 mod apart;

@@ -10,7 +10,7 @@ use mc_program::Terms;
 /// The most bytes that an answer may have, where nobody says otherwise: 256 MiB.
 pub const USUAL_ANSWER: usize = 268_435_456;
 
-/// How many bytes of memory are kept for when the system gives none, where nobody says otherwise: 4 MiB.
+/// How many bytes of memory are kept for when the system gives none, if nobody says otherwise: 4 MiB.
 pub const USUAL_RESERVE: usize = 4_194_304;
 
 /// How clients are served.

@@ -118,7 +118,7 @@ gathered_short number moment limited written old new steps = record {
   step = gathered_none number moment limited written old.cache new.cache steps.before steps.after steps.step;
 }
 
--- and where the writer can take nothing, nothing was
+-- and if the writer can take nothing, nothing was
 pub ungathered : (number moment went : ℕ) (limited : Limited) (s t : CacheState) (old new : ConnectionState)
     → IsGatheredTurn number moment limited went (Some []) (Some []) s t old new → IsLimitedTurn number moment limited s t old new
 ungathered number moment went (Turned Took) s t old new h =

@@ -14,7 +14,7 @@ use Rattle.mc_server.specs.declared.turns.Limited.{Limited}
 use Rattle.mc_server.specs.declared.turns.Limited.TheVariants.{Turned}
 
 -- What is taken is served at this moment, and its answer goes after the output. The writer took so many first bytes of both, and
--- those after them are left. It took some only where an item is shown.
+-- those after them are left. It took some only if an item is shown.
 pub record PutsOut (number moment went : ℕ) (written written' : Option (List ℕ)) (s t : CacheState) (what : Taken) (before after : List ℕ) : Type 0 where
   pub whole : List ℕ
   pub served : IsServed number s what moment t before whole
@@ -30,7 +30,7 @@ pub record TakesOut (number moment went : ℕ) (written written' : Option (List 
   pub put : PutsOut number moment went written written' s t what old.output new.output
 
 -- what a turn of the connection of a number at a moment does within a limit, of whose answer the writer took so many bytes: none
--- where nothing was taken
+-- if nothing was taken
 abbrev pub IsGatheredTurn : ℕ → ℕ → Limited → ℕ → Option (List ℕ) → Option (List ℕ) → CacheState → CacheState → ConnectionState → ConnectionState → Type 0
 IsGatheredTurn number moment (Turned Took) went written written' s t old new = TakesOut number moment went written written' s t old new
 IsGatheredTurn number moment limited went written written' s t old new =

@@ -273,7 +273,7 @@ fn serve_update<S: Store + Drop>(
     Ok(())
 }
 
-/// Serves a `set` whose key and block are its own: no byte of the block is copied. There is room for its line, so it cannot fail: where the
+/// Serves a `set` whose key and block are its own: no byte of the block is copied. There is room for its line, so it cannot fail: if the
 /// cache is refused memory, it is answered so.
 pub fn serve_set<S: Store + Drop>(
     set: TakenSet,

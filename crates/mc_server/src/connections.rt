@@ -134,10 +134,10 @@ impl Connection {
         }
     }
 
-    /// Takes the first request or fault that has come whole, and serves it at a moment, where its answer is within a limit.
+    /// Takes the first request or fault that has come whole, and serves it at a moment, if its answer is within a limit.
     ///
     /// What it may need of memory is taken before anything is: room for the answer, and the block of a value that is
-    /// stored under a held key, unless the reader hands that out. Where none waits it needs none.
+    /// stored under a held key, unless the reader hands that out. If none waits it needs none.
     pub fn turn_within<S: Store + Drop>(
         &mut self,
         cache: &mut Cache<S>,
@@ -164,8 +164,8 @@ impl Connection {
         self.turn_gathering(cache, moment, limit, ahead, &mut NoWriter, &mut went)
     }
 
-    /// The same, where the answer may be written at once: if it shows one large value, the writer is given what is unsent, the answer
-    /// and the value where it is, in one call. It says how many bytes the writer took; the others stay in the output.
+    /// Takes a [turn](Self::turn_within) whose answer may be written at once. If it shows one large value, the writer is given in one call
+    /// what is unsent, the answer, and the value from where it is. `went` says how many bytes the writer took. The others stay in the output.
     pub fn turn_gathering<S: Store + Drop, W: Gather>(
         &mut self,
         cache: &mut Cache<S>,
@@ -283,8 +283,8 @@ impl Connection {
         }
     }
 
-    /// The same of a large `set` that the reader hands out: no byte of its data block is copied. None where it hands out none, where there is
-    /// no room for an answer, or where the limit is low: then nothing has changed.
+    /// Takes a turn of a large `set` that the reader hands out: no byte of its data block is copied. None if it hands out none, if there is
+    /// no room for an answer, or if the limit is low: then nothing has changed.
     #[inline(never)]
     fn turn_set<S: Store + Drop>(
         &mut self,
@@ -313,7 +313,7 @@ impl Connection {
         Some(Turn::Took)
     }
 
-    /// The same, by a look at what is first.
+    /// Takes a turn by a look at what is first.
     fn turn_peeked<S: Store + Drop>(
         &mut self,
         cache: &mut Cache<S>,

@@ -118,7 +118,7 @@ fn serve_lone<S: Store + Drop, W: Gather>(
 }
 
 /// Serves a retrieval of one key, given a guess of its item, but for the value and what follows it, and says whether there is one:
-/// it is the first of the cache. Where there is none the answer is whole.
+/// it is the first of the cache. If there is none the answer is whole.
 fn serve_head<S: Store + Drop>(
     key: &[u8],
     guess: u32,

@@ -43,7 +43,7 @@ pub fn read_once<R: Read>(
 }
 
 /// What a read by someone else says, as [`read_once`] says it of its own: how many bytes came, which are the first of its piece,
-/// where 0 is the end, which `ended` then says; or what its error says.
+/// of which 0 is the end, which `ended` then says; or what its error says.
 pub fn told(read: Result<usize, Error>, ended: &mut bool) -> Result<usize, Pumped>
     requires goes_on { ended.old ≡ false }
     ensures came { IfOk read (λ count. (result ≡ Ok count) × (ended.new ≡ (count == 0))) }

@@ -100,7 +100,7 @@ impl<S: Store + Drop> Cache<S> {
         }
     }
 
-    /// The command `set` on a settled cache, where this was found under its key. The body's number is not read.
+    /// The command `set` on a settled cache in which this was found under its key. The body's number is not read.
     pub(super) fn set_own(&mut self, key: Key, body: Body, found: Option<Found>) -> Reply<()>
         requires found { body_at key self.old.items ≡ found_body found (value_at key self.old.items) }
         ensures step { (value : List ℕ)
