@@ -193,6 +193,7 @@ def names_of_operators_are_hosts():
 def sizes_are_within_their_limits():
     wrong_sizes_are_refused(PROGRAM, "budget", 1)
     wrong_sizes_are_refused(PROGRAM, "answer", 1024, ("1023", "0", "0K"))
+    wrong_sizes_are_refused(PROGRAM, "reserve", 0, ("1073741825", "1025M", "2G"), most=1)
 
 
 def cas_numbers_begin_as_said():
@@ -652,28 +653,32 @@ def a_store_ends_the_row_of_refusals():
         want(server.process.poll(), None)
 
 
-def without_memory_what_is_held_is_served(size):
+def without_memory_what_is_held_is_served(size, turns):
     """A server that keeps a reserve and whose memory is used up serves gets and sets of the keys that it holds, on connections that were idle
     and on new ones, however often keys that it does not hold are refused between. Nobody is closed. After deletes it stores anew."""
     value = b"w" * size
     stored, shown = b"set k 0 0 %d\r\n%s\r\n" % (size, value), b"VALUE k 0 %d\r\n%s\r\nEND\r\n" % (size, value)
     with start_with_little("--memory-exit 3", "4M") as server, Filler(server) as filler:
-        idle = [server.connected() for _ in range(5)]
+        idle = [server.connected() for _ in range(7)]
         for client in idle:
             asked(client, stored, b"STORED\r\n")
         first = filler.number + 1
         filler.fill(size)
+        # By then idle clients have given their memory back, so a few more are stored.
         time.sleep(3.2)
-        for turn in range(40):
-            for client in idle:
-                asked(client, b"get k\r\n", shown)
-                asked(client, stored, b"STORED\r\n")
-            with server.connected() as new:
-                asked(new, b"get k\r\n", shown)
-                asked(new, filler.store(size), NO_MEMORY)
-            want(filler.is_refused(size), True)
-        for number in range(first, first + 10):
-            asked(idle[0], b"delete f%d\r\n" % number, b"DELETED\r\n")
+        filler.fill(size)
+        for turn in range(turns):
+            client = idle[turn % len(idle)]
+            asked(client, b"get k\r\n", shown)
+            asked(client, stored, b"STORED\r\n")
+            if turn % 10 == 0:
+                with server.connected() as new:
+                    asked(new, b"get k\r\n", shown)
+                    asked(new, stored, b"STORED\r\n")
+            filler.is_refused(size)
+        filler.fill(size)
+        deletes = b"".join(b"delete f%d noreply\r\n" % number for number in range(first, first + 10))
+        asked(idle[0], deletes + b"version\r\n", b"VERSION 1.6.0\r\n")
         want(any(not filler.is_refused(size) for _ in range(10)), True)
         for client in idle:
             client.close()
@@ -709,8 +714,8 @@ def checks():
         yield f"no memory ends who is asked to, {name} bytes", no_memory_ends_who_is_asked_to, (sizes,)
     for size in (5_000, 10_000):
         yield f"refused stores are counted, {size} bytes", refused_stores_are_counted, (size,)
-    for size in (10, 1_000, 100_000):
-        yield f"without memory what is held is served, {size} bytes", without_memory_what_is_held_is_served, (size,)
+    for size, turns in ((10, 2_000), (1_000, 2_000), (10_000, 1_000), (100_000, 300), (1_000_000, 50)):
+        yield f"without memory what is held is served, {size} bytes", without_memory_what_is_held_is_served, (size, turns)
     for at, (name, before) in enumerate(BEFORE.items()):
         yield f"each command is counted, {name}", each_command_is_counted, (at, before)
         yield f"commands are counted among many items, {name}", commands_are_counted_among_many_items, (at, before)

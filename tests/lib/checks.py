@@ -168,10 +168,12 @@ NO_SIZES = [
 ]  # fmt: skip
 
 
-def wrong_sizes_are_refused(program, option, least, words=()):
-    """A word that is no number of bytes, with K, M or G or without, or one outside the limits."""
-    why = f"invalid value for '--{option} <bytes>': neither in {least}..=1099511627776 nor a number of K, M or G up to 1024G"
+def wrong_sizes_are_refused(program, option, least, words=(), most=1024):
+    """A word that is no number of bytes, with K, M or G or without, or one outside the limits, of which the upper is told in G."""
+    why = f"invalid value for '--{option} <bytes>': neither in {least}..={most << 30} nor a number of K, M or G up to {most}G"
     for word in (*NO_SIZES, *words):
+        if least == 0 and word in ("0", "0G"):
+            continue
         want((word, program.run("--check", f"--{option}={word}")), (word, (2, "", f"{program.name}: {why}\n")))
 
 

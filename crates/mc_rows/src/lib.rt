@@ -14,6 +14,8 @@ mod gathers;
 #[cfg(test)]
 mod hashers;
 #[cfg(test)]
+mod large;
+#[cfg(test)]
 mod limits;
 #[cfg(test)]
 mod pumps;
