@@ -109,11 +109,7 @@ impl Display for Options<'_> {
             cas_from,
             service,
         } = self.settings;
-        let Terms {
-            accept,
-            idle,
-            report,
-        } = service.terms;
+        let accept = service.terms.accept;
         let listen = self.listen;
         write!(
             f,
@@ -125,23 +121,30 @@ impl Display for Options<'_> {
         if cas_from != CasFrom::Last(0) {
             write!(f, " cas-from {cas_from}")?;
         }
-        if service.answer != USUAL_ANSWER {
-            write!(f, " answer {}", service.answer)?;
-        }
-        if idle > 0 {
-            write!(f, " idle {idle}")?;
-        }
-        if report > 0 {
-            write!(f, " report {report}")?;
-        }
-        if service.memory_exit > 0 {
-            write!(f, " memory-exit {}", service.memory_exit)?;
-        }
-        if service.reserve != USUAL_RESERVE {
-            write!(f, " reserve {}", service.reserve)?;
-        }
+        write_service(service, f)?;
         write!(f, "{}{}", self.log, self.admin)
     }
+}
+
+/// Writes how clients are served, but what is at its default.
+fn write_service<W: fmt::Write>(service: Service, f: &mut Formatter<W>) -> fmt::Result {
+    let Terms { idle, report, .. } = service.terms;
+    if service.answer != USUAL_ANSWER {
+        write!(f, " answer {}", service.answer)?;
+    }
+    if idle > 0 {
+        write!(f, " idle {idle}")?;
+    }
+    if report > 0 {
+        write!(f, " report {report}")?;
+    }
+    if service.memory_exit > 0 {
+        write!(f, " memory-exit {}", service.memory_exit)?;
+    }
+    if service.reserve != USUAL_RESERVE {
+        write!(f, " reserve {}", service.reserve)?;
+    }
+    Ok(())
 }
 
 /// The command of a server program, with the meaning, the default and the limits of each option.
