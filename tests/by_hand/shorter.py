@@ -158,8 +158,8 @@ def with_arith(text):
 class Copy:
     """A copy of a crate, with a function whose proof reads lemma files and nothing else."""
 
-    def __init__(self, crate, top):
-        self.folder = prove.folder_of(crate, top)
+    def __init__(self, crate, folder):
+        self.folder = folder
         lib = self.folder / "src/lib.rt"
         lib.write_text(f"{lib.read_text()}\npub fn {PROBE}()\n    ensures {{ Unit {{0}} }}\n{{}}\n")
         self.answers = self.folder / "proofs" / PROBE / "Answers.antt"
@@ -220,12 +220,11 @@ def main():
     words.add_argument("crate", metavar="CRATE")
     words.add_argument("files", metavar="FILE", nargs="*")
     asked = words.parse_args()
-    proofs = prove.folder_of(asked.crate) / "proofs"
+    proofs = prove.TOP / "crates" / asked.crate / "proofs"
     paths = [proofs / f"{name}.antt" for name in asked.files] or sorted(it for it in proofs.glob("*.antt") if it.stem != "Lib")
     fewer = 0
     with tempfile.TemporaryDirectory(dir=prove.TOP / ".git") as room:
-        crates = prove.Crates((prove.TOP / "crates.txt").read_text())
-        copy = Copy(asked.crate, prove.copied(crates, asked.crate, pathlib.Path(room)))
+        copy = Copy(asked.crate, prove.copied(asked.crate, pathlib.Path(room)))
         for path in paths:
             lines = shortened(copy, path)
             print(f"{path.name}: {lines}", flush=True)

@@ -7,7 +7,6 @@ It is tried in temporary repositories whose `rt` is a stand-in that proves nothi
 a little, and writes what `rt` leaves in out/. A crate whose text says so fails, or takes long, or does not end.
 The last line is 'N passed, M failed'.
 """
-
 import contextlib
 import json
 import os
@@ -19,14 +18,10 @@ import sys
 import tempfile
 import time
 
-TESTS = pathlib.Path(__file__).resolve().parents[1]
-sys.path[:0] = [str(TESTS / "lib"), str(TESTS.parent)]
+sys.path.insert(0, str(pathlib.Path(__file__).resolve().parents[1] / "lib"))
 
-import prove
 from checks import PATIENCE, Wrong, tally, want
 from suite import TOP
-
-PROVE = TOP / "prove.py"
 
 STAND_IN = '''#!/usr/bin/env python3
 import json, os, pathlib, sys, time
@@ -36,37 +31,37 @@ if sys.argv[1:] == ["version"]:
     sys.exit()
 crate, top = pathlib.Path.cwd(), pathlib.Path.cwd().parent.parent
 is_program = (crate / "src/main.rt").is_file()
-text = (crate / ("src/main.rt" if is_program else "src/lib.rt")).read_text()
-uses = {}
-for line in (top / "crates.txt").read_text().splitlines():
-    uses[line.partition(":")[0]] = [it for it in line.partition(":")[2].split() if it != "kit"]
+source = crate / ("src/main.rt" if is_program else "src/lib.rt")
+text = source.read_text()
+lines = (line.partition(":") for line in (top / "crates.txt").read_text().splitlines())
+uses = {name: [it for it in below.split() if it != "kit"] for name, _, below in lines}
 note = {"name": crate.name, "words": sys.argv[1:], "uses": uses, "process": os.getpid(), "begun": time.monotonic(),
-        "handles": (top / "HANDLES").read_text(), "given": sys.stdin.read() if is_program else "",
+        "handles": (top / "HANDLES").read_text(), "given": sys.stdin.read(), "links": source.stat().st_nlink,
         "before": (crate / "out/kept.oantt").is_file()}
 
-def tell(**more):
+def tell(ended):
     with open(os.environ["LOG"], "a") as log:
-        log.write(json.dumps({**note, **more}) + "\\n")
+        log.write(json.dumps({**note, "ended": ended}) + "\\n")
+
+def write(path):
+    path.unlink(missing_ok=True)
+    path.write_text(text)
 
 for below in uses[crate.name]:
     if not (top / "crates" / below / "out/rlib/library").is_file():
         sys.exit(f"{below} is not built")
 out = crate / "out"
 (out / "rlib").mkdir(parents=True, exist_ok=True)
-(out / "kept.oantt").unlink(missing_ok=True)
-(out / "kept.oantt").write_text(text)
+write(out / "kept.oantt")
 if "slow" in text:
-    tell(ended=None)
+    tell(None)
     time.sleep(60)
 time.sleep(2 if "long" in text else 0.2)
-tell(ended=time.monotonic())
+tell(time.monotonic())
 if "wrong" in text:
     sys.exit(f"a goal of {crate.name} is left")
-if is_program:
-    (out / crate.name).write_text(text)
-    sys.exit(3)
-(out / "rlib/library").unlink(missing_ok=True)
-(out / "rlib/library").write_text(text)
+write(out / (crate.name if is_program else "rlib/library"))
+sys.exit(3 if is_program else 0)
 '''
 
 CRATES = """# crate: the libraries that it uses
@@ -78,27 +73,25 @@ high: left middle right
 program: high
 apart:
 """
+BELOW = ["low", "left", "middle", "right"]
 
 
 class Repository:
     """A temporary repository with some crates and a stand-in for rt."""
 
     def __init__(self, room):
-        self.top, self.log, self.toolchain = pathlib.Path(room, "top"), pathlib.Path(room, "log"), "kit 1"
-        self.bin = pathlib.Path(room, "bin")
-        self.bin.mkdir()
+        self.top, self.log, self.bin, self.toolchain = room / "top", room / "log", room / "bin", "kit 1"
+        for folder in (self.bin, self.top / ".git", self.top / "crates"):
+            folder.mkdir(parents=True)
         (self.bin / "rt").write_text(STAND_IN)
         (self.bin / "rt").chmod(0o755)
-        for folder in (".git", "crates"):
-            (self.top / folder).mkdir(parents=True)
-        shutil.copy(PROVE, self.top)
+        shutil.copy(TOP / "prove.py", self.top)
         (self.top / "crates.txt").write_text(CRATES)
         (self.top / "HANDLES").write_text("Handles allowed: none.\n")
-        for name in ("low", "left", "middle", "right", "high", "apart"):
+        for name in (*BELOW, "high", "apart"):
             self.write(name, "first")
-        self.write("program", "first", "src/main.rt")
-        self.write("program", "--check\n", "args")
-        self.write("program", "what it reads", "stdin")
+        for text, file in (("first", "src/main.rt"), ("--check\n", "args"), ("what it reads", "stdin")):
+            self.write("program", text, file)
 
     def write(self, name, text, file="src/lib.rt"):
         path = self.top / "crates" / name / file
@@ -108,21 +101,26 @@ class Repository:
     def out(self, name):
         return self.top / "crates" / name / "out"
 
+    def built(self, name):
+        return self.out(name) / ("program" if name == "program" else "rlib/library")
+
     def start(self, *words):
+        self.log.touch()
         more = {"LOG": str(self.log), "TOOLCHAIN": self.toolchain, "PATH": f"{self.bin}:{os.environ['PATH']}"}
         how = {"stdout": subprocess.PIPE, "stderr": subprocess.STDOUT, "text": True}
-        return subprocess.Popen([self.top / "prove.py", *words], env={**os.environ, **more}, **how)
+        return subprocess.Popen([self.top / "prove.py", "--processors", "4", *words], env={**os.environ, **more}, **how)
 
     def prove(self, *words, status=0):
         """What the stand-in noted of a run with that status, by crate, and what was printed."""
         self.log.write_text("")
-        process = self.start("--processors", "4", *words)
+        process = self.start(*words)
         said, _ = process.communicate(timeout=3 * PATIENCE)
         want((process.returncode, said if process.returncode != status else ""), (status, ""))
         self.want_nothing_left()
         return self.noted(), said
 
     def noted(self):
+        """The notes by crate, in the order in which they were made."""
         notes = [json.loads(line) for line in self.log.read_text().splitlines()]
         want(len({note["name"] for note in notes}), len(notes))
         return {note["name"]: note for note in notes}
@@ -134,27 +132,21 @@ class Repository:
 
     def want_whole(self, *names):
         """These crates, and no others, have an out/, and it is of their text."""
-        found = {it.parent.name: it for it in self.top.glob("crates/*/out")}
-        want(sorted(found), sorted(names))
-        for name, out in found.items():
+        want(sorted(it.parent.name for it in self.top.glob("crates/*/out")), sorted(names))
+        for name in names:
             text = (self.top / "crates" / name / "src" / ("main.rt" if name == "program" else "lib.rt")).read_text()
-            want((out / ("program" if name == "program" else "rlib/library")).read_text(), text)
+            want(self.built(name).read_text(), text)
 
 
 def overlap(one, other):
     return one["begun"] < other["ended"] and other["begun"] < one["ended"]
 
 
-BELOW = ["low", "left", "middle", "right"]
-
-
 def lowest_come_first(repository):
     notes, _ = repository.prove("program")
     want(sorted(notes), sorted([*BELOW, "high", "program"]))
-    for note in notes.values():
-        for below in note["uses"][note["name"]]:
-            if notes[below]["ended"] > note["begun"]:
-                raise Wrong(f"{note['name']} begins before {below} ends")
+    for name, note in notes.items():
+        want([below for below in note["uses"][name] if notes[below]["ended"] > note["begun"]], [])
     repository.want_whole(*BELOW, "high", "program")
 
 
@@ -169,36 +161,32 @@ def one_processor_takes_one_at_a_time(repository):
     notes, _ = repository.prove("high", "--processors", "1")
     spans = sorted((note["begun"], note["ended"]) for note in notes.values())
     want([one[1] <= other[0] for one, other in zip(spans, spans[1:])], [True] * 4)
-    want({note["words"][-1] for note in notes.values()}, {"1"})
 
 
-def free_processors_are_shared(repository):
-    notes, _ = repository.prove("high")
-    jobs = {name: int(note["words"][2]) for name, note in notes.items()}
-    want((jobs["low"], jobs["high"]), (4, 4))
-    want(sorted(jobs[it] for it in ("left", "middle", "right")), [1, 1, 2])
+def the_longest_chain_comes_first(repository):
+    """`apart` is ready at once, and no other crate waits for it."""
+    notes, _ = repository.prove("apart", "program", "--processors", "1")
+    want(list(notes), [*BELOW, "high", "apart", "program"])
 
 
 def a_copy_has_what_the_crate_needs(repository):
+    """Its text is no link: it stays the same though the crate's is written anew."""
     notes, _ = repository.prove("program", "apart")
     want(notes["left"]["uses"], {"low": [], "left": ["low"]})
     want(notes["apart"]["uses"], {"apart": []})
-    want({note["handles"] for note in notes.values()}, {"Handles allowed: none.\n"})
+    want({(note["handles"], note["links"]) for note in notes.values()}, {("Handles allowed: none.\n", 1)})
 
 
-def a_program_has_its_words_and_input(repository):
+def each_has_one_job_and_a_program_its_words_and_input(repository):
     notes, _ = repository.prove("program")
-    want(notes["program"]["words"], ["run", "--jobs", "4", "--", "--check"])
-    want(notes["program"]["given"], "what it reads")
-    want(notes["low"]["words"], ["lib", "--jobs", "4"])
+    want((notes["program"]["words"], notes["program"]["given"]), (["run", "--jobs", "1", "--", "--check"], "what it reads"))
+    want([notes[name]["words"] for name in (*BELOW, "high")], [["lib", "--jobs", "1"]] * 5)
 
 
 def it_says_how_far_it_is(repository):
-    _, said = repository.prove("high")
-    lines = said.splitlines()
-    want(lines[0].partition(";")[0], "5 of 5 crates are to be proved")
-    want([line.partition(" is")[0] for line in (lines[1], lines[5])], ["1 of 5: low", "5 of 5: high"])
-    want((lines[1].endswith(" to go"), lines[5].endswith(")"), len(lines)), (True, True, 6))
+    _, said = repository.prove("high", "--processors", "1")
+    lines = ["5 of 5 crates are to be proved", *(f"{number} of 5: {name} is proved" for number, name in enumerate([*BELOW, "high"], 1))]
+    want([line.partition(" (")[0] for line in said.splitlines()], lines)
 
 
 def what_is_proved_is_skipped(repository):
@@ -211,8 +199,8 @@ def what_uses_a_changed_crate_is_proved_anew(repository):
     repository.write("left", "second", "specs/Lib.antt")
     notes, said = repository.prove("program", "apart")
     want(sorted(notes), ["high", "left", "program"])
-    want(said.partition(";")[0], "3 of 7 crates are to be proved")
-    want([notes[it]["before"] for it in notes], [True] * 3)
+    want(said.splitlines()[0], "3 of 7 crates are to be proved")
+    want([note["before"] for note in notes.values()], [True] * 3)
 
 
 def another_toolchain_proves_all_anew(repository):
@@ -228,13 +216,15 @@ def another_line_of_crates_proves_anew(repository):
 
 
 def what_was_built_since_is_not_trusted(repository):
+    """Nor is a program proved over it, though the crates between are as they were."""
     repository.prove("program")
-    library = repository.out("low") / "rlib" / "library"
-    library.unlink()
-    library.write_text("of another text")
+    for name in ("low", "program"):
+        repository.built(name).unlink()
+        repository.built(name).write_text("of another text")
     shutil.rmtree(repository.out("left") / "rlib")
-    (repository.out("program") / "program").write_text("of another text")
-    want(sorted(repository.prove("program")[0]), ["left", "low", "program"])
+    notes, _ = repository.prove("program")
+    want(list(notes), ["low", "left", "program"])
+    want(notes["program"]["begun"] > notes["left"]["ended"], True)
     repository.want_whole(*BELOW, "high", "program")
 
 
@@ -250,11 +240,9 @@ def a_failure_is_printed_and_ends_all(repository):
 
 def a_failure_leaves_what_was_built(repository):
     repository.prove("high")
-    kept = (repository.out("left") / "rlib" / "library").read_text()
     repository.write("left", "wrong")
     repository.prove("high", status=1)
-    want((repository.out("left") / "rlib" / "library").read_text(), kept)
-    want((repository.out("left") / "kept.oantt").read_text(), kept)
+    want([it.read_text() for it in (repository.built("left"), repository.out("left") / "kept.oantt")], ["first"] * 2)
     repository.write("left", "mended")
     want(sorted(repository.prove("high")[0]), ["high", "left"])
     repository.want_whole(*BELOW, "high")
@@ -270,8 +258,7 @@ def a_program_that_is_not_built_fails(repository):
     repository.prove("program")
     repository.write("program", "wrong", "src/main.rt")
     _, said = repository.prove("program", status=1)
-    want("program is not proved" in said, True)
-    want((repository.out("program") / "program").read_text(), "right")
+    want(("program is not proved" in said, repository.built("program").read_text()), (True, "right"))
 
 
 def a_library_that_is_used_stays_as_it_was(repository):
@@ -294,8 +281,7 @@ def want_ended(number):
 
 def an_interrupt_ends_all(repository):
     repository.write("left", "slow")
-    repository.log.write_text("")
-    process = repository.start("high", "--processors", "4")
+    process = repository.start("high")
     patience = time.monotonic() + 2 * PATIENCE
     while "left" not in repository.noted() and time.monotonic() < patience:
         time.sleep(0.05)
@@ -304,48 +290,28 @@ def an_interrupt_ends_all(repository):
     want((process.returncode, said.splitlines()[-1]), (130, "prove.py: ended; what was proved is kept"))
     want_ended(repository.noted()["left"]["process"])
     repository.want_nothing_left()
-    want(repository.out("left").exists(), False)
+    want((repository.out("low").exists(), repository.out("left").exists()), (True, False))
 
 
 def two_at_once_prove_each_crate_once(repository):
-    repository.log.write_text("")
-    both = [repository.start("high", "--processors", "4") for _ in range(2)]
+    both = [repository.start("high") for _ in range(2)]
     said = [process.communicate(timeout=3 * PATIENCE)[0] for process in both]
     want([process.returncode for process in both], [0, 0])
     want(sorted("waiting for another prove.py to end" in it for it in said), [False, True])
     want(sorted(repository.noted()), sorted([*BELOW, "high"]))
 
 
-def a_plan_proves_nothing(repository):
-    notes, said = repository.prove("--plan", "high")
-    want((notes, len(said.splitlines())), ({}, 6))
-    repository.want_whole()
-
-
 def a_name_that_is_no_crate_is_refused(repository):
     want(repository.prove("other", status=1), ({}, "prove.py: crates.txt lists no other\n"))
-
-
-def each_crate_of_a_program_has_words(_):
-    """Of this project's own crates: what the screen says is being shown."""
-    crates = prove.Crates((TOP / "crates.txt").read_text())
-    need = {it for name in ("mc_serverd", "mc_proxyd", "mc_sim") for it in crates.below(name) | {name}}
-    want(sorted(prove.SHOWN), sorted(need))
-    want([name for name, shown in prove.SHOWN.items() if len(shown) > 72], [])
-
-
-def tried(check):
-    with tempfile.TemporaryDirectory() as room:
-        check(Repository(room))
 
 
 CHECKS = [
     lowest_come_first,
     those_that_are_ready_run_side_by_side,
     one_processor_takes_one_at_a_time,
-    free_processors_are_shared,
+    the_longest_chain_comes_first,
     a_copy_has_what_the_crate_needs,
-    a_program_has_its_words_and_input,
+    each_has_one_job_and_a_program_its_words_and_input,
     it_says_how_far_it_is,
     what_is_proved_is_skipped,
     what_uses_a_changed_crate_is_proved_anew,
@@ -358,10 +324,14 @@ CHECKS = [
     a_library_that_is_used_stays_as_it_was,
     an_interrupt_ends_all,
     two_at_once_prove_each_crate_once,
-    a_plan_proves_nothing,
     a_name_that_is_no_crate_is_refused,
-    each_crate_of_a_program_has_words,
 ]
+
+
+def tried(check):
+    with tempfile.TemporaryDirectory() as room:
+        check(Repository(pathlib.Path(room)))
+
 
 if __name__ == "__main__":
     if len(sys.argv) != 1:
