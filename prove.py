@@ -3,10 +3,10 @@
 
 Usage: prove.py [--processors N] CRATE ..
 
-A crate is proved by one job of `rt lib`, a program of `rt run`, in a copy whose out/ then takes the place of the crate's: there is never
-half of one. It is skipped if neither its text, nor that of one below it, nor the toolchain has changed since, and what rt built is still
-there, by its time. Of those that are ready, the one with the longest chain up to one that was asked for comes first. N run at a time; with
-no N, as many as there are processors, and 3 GB of free memory for each. If one fails, all end with status 1, and rt's words are printed.
+A crate is proved by `rt lib`, a program by `rt run`, in a copy whose out/ then takes the place of the crate's: there is never half of one.
+It is skipped if neither its text, nor that of one below it, nor the toolchain has changed since, and what rt built is still there, by its
+time. Of those that are ready, the one with the longest chain up to one that was asked for comes first. They share N processors, by jobs;
+with no N, all that there are, with 3 GB of free memory each. If one fails, all end with status 1, and rt's words are printed.
 """
 import argparse
 import fcntl
@@ -52,7 +52,6 @@ def copied(name, top):
     """Makes the copy in which a crate is proved, and gives its folder there. A program is not in it: it is there once it is proved."""
     def link_or_copy(one, other):  # rt never writes into a library, nor into what it keeps of a proof, but makes it anew
         (os.link if "/rlib/" in one or one.endswith(".oantt") else shutil.copy2)(one, other)
-
     own, below = f"crates/{name}", needed(USES[name])
     shutil.copytree(TOP / own, top / own, copy_function=link_or_copy, ignore=shutil.ignore_patterns("must-fail", STAMP))
     (top / own / "out" / name).unlink(missing_ok=True)
@@ -81,12 +80,12 @@ class Crate:
         built = out / (self.name if self.is_program else "rlib")
         return f"{self.sum}\n{built.stat().st_mtime_ns}\n" if built.exists() else None
 
-    def start(self, room):
+    def start(self, room, jobs):
         """Starts its proof in a copy, and gives the process."""
-        self.begun, self.top, self.said = time.monotonic(), room / self.name, room / f"{self.name}.said"
+        self.begun, self.jobs, self.top, self.said = time.monotonic(), jobs, room / self.name, room / f"{self.name}.said"
         folder = copied(self.name, self.top)
         args = "".join(it.read_text() for it in folder.glob("args")).split()
-        words = ["run", "--jobs", "1", "--", *args] if self.is_program else ["lib", "--jobs", "1"]
+        words = ["run", "--jobs", str(jobs), "--", *args] if self.is_program else ["lib", "--jobs", str(jobs)]
         with open(self.said, "w") as said, open(next(folder.glob("stdin"), os.devnull)) as given:
             return subprocess.Popen(["rt", *words], cwd=folder, stdin=given, stdout=said, stderr=subprocess.STDOUT)
 
@@ -109,8 +108,10 @@ def prove(left, processors, room):
     count, runs = len(left), {}
     try:
         while left:
-            for name in [it for it in left if it not in runs and left.keys().isdisjoint(left[it].below)][: processors - len(runs)]:
-                runs[name] = left[name].start(room)
+            free = processors - sum(left[it].jobs for it in runs)
+            ready = [it for it in left if it not in runs and left.keys().isdisjoint(left[it].below)]
+            for name in ready[:free]:
+                runs[name] = left[name].start(room, max(free // len(ready), 1))
             for name in [it for it in runs if runs[it].poll() is not None]:
                 (crate := left.pop(name)).take(runs.pop(name).returncode)
                 print(f"{count - len(left)} of {count}: {name} is proved ({time.monotonic() - crate.begun:.0f} s)", flush=True)
@@ -123,9 +124,8 @@ def prove(left, processors, room):
 
 def main():
     free = int(pathlib.Path("/proc/meminfo").read_text().partition("MemAvailable:")[2].split()[0])  # in kB
-    usable = max(min(len(os.sched_getaffinity(0)), free * 1024 // 3_000_000_000), 1)
     words = argparse.ArgumentParser(description=__doc__, formatter_class=argparse.RawDescriptionHelpFormatter)
-    words.add_argument("--processors", type=int, metavar="N", default=usable)
+    words.add_argument("--processors", type=int, metavar="N", default=max(min(len(os.sched_getaffinity(0)), free * 1024 // 3_000_000_000), 1))
     words.add_argument("names", metavar="CRATE", nargs="+")
     asked, crates = words.parse_args(), {}
     if unknown := [it for it in asked.names if it not in LINES]:

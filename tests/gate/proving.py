@@ -177,10 +177,15 @@ def a_copy_has_what_the_crate_needs(repository):
     want({(note["handles"], note["links"]) for note in notes.values()}, {("Handles allowed: none.\n", 1)})
 
 
-def each_has_one_job_and_a_program_its_words_and_input(repository):
+def those_that_are_ready_share_the_processors(repository):
     notes, _ = repository.prove("program")
-    want((notes["program"]["words"], notes["program"]["given"]), (["run", "--jobs", "1", "--", "--check"], "what it reads"))
-    want([notes[name]["words"] for name in (*BELOW, "high")], [["lib", "--jobs", "1"]] * 5)
+    want([int(notes[name]["words"][2]) for name in (*BELOW, "high", "program")], [4, 1, 1, 1, 4, 4])
+
+
+def a_program_has_its_words_and_input(repository):
+    notes, _ = repository.prove("program")
+    want((notes["program"]["words"], notes["program"]["given"]), (["run", "--jobs", "4", "--", "--check"], "what it reads"))
+    want(notes["low"]["words"], ["lib", "--jobs", "4"])
 
 
 def it_says_how_far_it_is(repository):
@@ -311,7 +316,8 @@ CHECKS = [
     one_processor_takes_one_at_a_time,
     the_longest_chain_comes_first,
     a_copy_has_what_the_crate_needs,
-    each_has_one_job_and_a_program_its_words_and_input,
+    those_that_are_ready_share_the_processors,
+    a_program_has_its_words_and_input,
     it_says_how_far_it_is,
     what_is_proved_is_skipped,
     what_uses_a_changed_crate_is_proved_anew,

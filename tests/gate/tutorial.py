@@ -6,7 +6,7 @@ Usage: tutorial.py
 The texts, the files that they go to and the commands are read from CONTRIBUTING.md, steps 1 to 5. The copy has the crate, the crates that
 it uses, what is built of them, and `prove.py` and `tests/`; it is removed at the end. The change is a definition at the end of a file of
 specs/, a method at the end of a file of src/, whose last `ghost use` line gets a name, and a wrong body that the prover must refuse. `rt fmt` may
-change nothing of it. Where nothing is built, as after `rt ci`, the crates are proved from nothing: that takes some two minutes.
+change nothing of it. Where nothing is built, as after `rt ci`, the crates are proved from nothing: that takes one and a half minutes.
 
 It prints what a command that fails says, and nothing is tried after it. The last line is 'N passed, M failed', one for each command.
 """
