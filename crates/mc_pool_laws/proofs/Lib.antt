@@ -16,3 +16,6 @@ pub mod LateExample
 pub mod ChoiceLemmas
 pub mod MissExample
 pub mod RestartExample
+pub mod OneMapOwnerLemmas
+pub mod MergeLemmas
+pub mod OneMapLemmas

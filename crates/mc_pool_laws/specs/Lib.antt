@@ -5,3 +5,6 @@ pub mod Choices
 pub mod Wanted
 pub mod Drained
 pub mod Without
+pub mod Executions
+pub mod OneMaps
+pub mod MergeExamples

@@ -1,10 +1,15 @@
 //! What an account of a pool promises to somebody who sees only texts, what was put out, histories and the log.
 //!
 //! No program uses this crate. Its functions do nothing: their contracts are the laws. Each is proved from `Account` of `mc_world` alone,
-//! whatever order it has, but those of a drain. Each clause of the record `Accounts` has a law here that needs it: `docs/LAWS.md` has
+//! whatever order it has, but those of a drain and of one map. Each clause of the record `Accounts` has a law here that needs it: `docs/LAWS.md` has
 //! the table. `specs/Sent.antt` says what a client's text tells of a command, `specs/Followed.antt` what the proxy sent to a server, and
 //! `specs/Told.antt` what the histories and the log tell of a command. `specs/Choices.antt` says what an answer shows by the choice for
 //! lost commands, `specs/Wanted.antt` which commands memory may be refused to, `specs/Drained.antt` what a drain adds to a log.
+//!
+//! # One map
+//!
+//! A pool is one map: the commands of all servers, in the order of their turns, are answered as by one map. `specs/Executions.antt` says in
+//! which order all servers executed their commands, and `specs/OneMaps.antt` what a plain run is, and what one map says of it.
 #![tactic(auto)]
 
 mod answers;
@@ -13,6 +18,11 @@ mod drains;
 mod histories;
 mod losses;
 mod needs;
+mod one_map;
+mod one_map_needs;
+mod one_map_rows;
+mod one_map_texts;
+mod one_map_worlds;
 mod refusals;
 mod requests;
 
@@ -35,6 +45,11 @@ pub use needs::{
     answers_need_their_clauses, clauses_are_those_of_the_account, histories_need_their_clauses,
     requests_need_their_clauses, the_order_needs_its_clause,
 };
+pub use one_map::accounts_are_of_one_map;
+pub use one_map_needs::restarted_servers_are_not_one_map;
+pub use one_map_rows::{a_set_and_a_get_are_plain, commands_are_merged_by_turns};
+pub use one_map_texts::commands_are_looked_up_in_texts;
+pub use one_map_worlds::worlds_act_as_one_map;
 pub use refusals::{
     no_answer_without_a_request, no_command_in_two_histories, no_entry_without_a_turn,
     no_reply_of_another_cache,

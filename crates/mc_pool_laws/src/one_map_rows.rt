@@ -6,9 +6,9 @@ ghost use Rattle.mc_cache_laws.specs.Examples.{flush_of, set_of};
 ghost use Rattle.mc_cache_laws.specs.Pools.{empty_map, map_replies};
 ghost use Rattle.mc_account.specs.Lookups.{command_at};
 ghost use Rattle.mc_history.specs.declared.entries.Entry.{Entry};
-ghost use Rattle.mc_one_map.specs.Executions.{commands_of, executed, told_by, turns_of};
-ghost use Rattle.mc_one_map.specs.MergeExamples.{executed_at, one_history, set_and_flush, set_and_get, three_turns, two_histories, two_turns};
-ghost use Rattle.mc_one_map.specs.OneMaps.{IsPlainRun};
+ghost use Rattle.mc_pool_laws.specs.Executions.{commands_of, executed, told_by, turns_of};
+ghost use Rattle.mc_pool_laws.specs.MergeExamples.{executed_at, one_history, set_and_flush, set_and_get, three_turns, two_histories, two_turns};
+ghost use Rattle.mc_pool_laws.specs.OneMaps.{IsPlainRun};
 
 /// At each turn of the log its server executes the command of the next entry in its history.
 pub fn commands_are_merged_by_turns()

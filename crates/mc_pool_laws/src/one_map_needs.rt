@@ -10,8 +10,8 @@ ghost use Rattle.mc_account.specs.Orders.{Order};
 ghost use Rattle.mc_history.specs.declared.entries.Entry.{Entry};
 ghost use Rattle.mc_world.specs.Accounts.{Accounts};
 ghost use Rattle.mc_world.specs.Logs.{Log, number_of, restarts};
-ghost use Rattle.mc_one_map.specs.Executions.{commands_of};
-ghost use Rattle.mc_one_map.specs.OneMaps.{AreOfOneMap, joins};
+ghost use Rattle.mc_pool_laws.specs.Executions.{commands_of};
+ghost use Rattle.mc_pool_laws.specs.OneMaps.{AreOfOneMap, joins};
 
 /// Why no server may restart. In this account a client stores an item, and is answered so. Its server restarts, and its link comes back. The
 /// client gets the item, and is answered that there is none. No server joined, and each command is a plain step of a cache that goes on.

@@ -1,5 +1,5 @@
-use Rattle.mc_one_map.proofs.OneMapLemmas.{map_by_order, map_by_texts}
-use Rattle.mc_one_map.proofs.laws.accounts_are_of_one_map.Goals as goal
+use Rattle.mc_pool_laws.proofs.OneMapLemmas.{map_by_order, map_by_texts}
+use Rattle.mc_pool_laws.proofs.one_map.accounts_are_of_one_map.Goals as goal
 
 pub returns-clause-by_texts : goal.returns-clause-by_texts
 returns-clause-by_texts c losses ring budget items texts outs histories log bounds account =

@@ -5,8 +5,8 @@ ghost use Rattle.std.specs.Prelude.{◌≡◌, pos, Some, None, codes};
 ghost use Rattle.mc_route.specs.Routes.{to_place};
 ghost use Rattle.mc_session.specs.Sending.{tag_of};
 ghost use Rattle.mc_cache_laws.specs.Examples.{flush_of};
-ghost use Rattle.mc_one_map.specs.Executions.{sent_at};
-ghost use Rattle.mc_one_map.specs.MergeExamples.{two_in_ring};
+ghost use Rattle.mc_pool_laws.specs.Executions.{sent_at};
+ghost use Rattle.mc_pool_laws.specs.MergeExamples.{two_in_ring};
 
 /// A `flush_all` has a command for each of two servers, and no third. A client that sent one request has no second.
 pub fn commands_are_looked_up_in_texts()

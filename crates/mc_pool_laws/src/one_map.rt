@@ -8,8 +8,8 @@ ghost use Rattle.mc_account.specs.Orders.{Order};
 ghost use Rattle.mc_history.specs.declared.entries.Entry.{Entry};
 ghost use Rattle.mc_world.specs.Accounts.{Account, Accounts};
 ghost use Rattle.mc_world.specs.Logs.{Log};
-ghost use Rattle.mc_one_map.specs.Executions.{sent_at};
-ghost use Rattle.mc_one_map.specs.OneMaps.{ArePlainlyOfOneMap};
+ghost use Rattle.mc_pool_laws.specs.Executions.{sent_at};
+ghost use Rattle.mc_pool_laws.specs.OneMaps.{ArePlainlyOfOneMap};
 
 /// No server joined or restarted, no store was refused, nothing was evicted, and no command was a flush, compared an item's number, or showed it. Then
 /// all histories of an account are those of one map, which takes the commands of all servers in the order of their turns. The commands of

@@ -23,10 +23,10 @@ use Rattle.mc_world.specs.Steps.{GivesAccount}
 use Rattle.mc_world.specs.Worlds.{WorldState, history_of, put_out_of, text_of}
 use Rattle.mc_world.proofs.LifeLemmas.{whole_life}
 use Rattle.mc_world.proofs.LogLemmas.{moments-count}
-use Rattle.mc_one_map.specs.Executions.{LookUp, commands_of, executed, sent_at, told_by, told_in, turns_of, with_command}
-use Rattle.mc_one_map.specs.OneMaps.{ActsAsOneMap, ArePlainlyOfOneMap}
-use Rattle.mc_one_map.proofs.MergeLemmas.{AreOwned, HaveTurns, merged-own, merged-owned, turns-count}
-use Rattle.mc_one_map.proofs.OwnerLemmas.{command_is_sent, command_own}
+use Rattle.mc_pool_laws.specs.Executions.{LookUp, commands_of, executed, sent_at, told_by, told_in, turns_of, with_command}
+use Rattle.mc_pool_laws.specs.OneMaps.{ActsAsOneMap, ArePlainlyOfOneMap}
+use Rattle.mc_pool_laws.proofs.MergeLemmas.{AreOwned, HaveTurns, merged-own, merged-owned, turns-count}
+use Rattle.mc_pool_laws.proofs.OneMapOwnerLemmas.{command_is_sent, command_own}
 
 -- what the order has of a command is found
 abbrev Finds : LookUp → Order → Type 0

@@ -13,7 +13,7 @@ use Rattle.mc_world.specs.Accounts.{Accounts}
 use Rattle.mc_world.specs.Logs.{Log, number_of, restarts}
 use Rattle.mc_world.specs.Steps.{GivesAccount}
 use Rattle.mc_world.specs.Worlds.{WorldState, cache_of, history_of, put_out_of, text_of}
-use Rattle.mc_one_map.specs.Executions.{LookUp, commands_of, executed, sent_at, told_by}
+use Rattle.mc_pool_laws.specs.Executions.{LookUp, commands_of, executed, sent_at, told_by}
 
 -- what lets a server join
 abbrev pub joins : Logged → Bool

@@ -1,7 +1,7 @@
 //! The law of worlds.
 ghost use Rattle.std.specs.Prelude.{◌≡◌, [], All, IfOk};
 ghost use Rattle.mc_cache.specs.CacheState.{HasRoom};
-ghost use Rattle.mc_one_map.specs.OneMaps.{ActsAsOneMap};
+ghost use Rattle.mc_pool_laws.specs.OneMaps.{ActsAsOneMap};
 
 use mc_cache::is_within_bounds;
 use mc_ring::Ring;

@@ -6,9 +6,9 @@ use Rattle.mc_cache_laws.specs.Pools.{ArePlainSteps, opening_caches}
 use Rattle.mc_account.specs.Lookups.{command_at}
 use Rattle.mc_pool_laws.proofs.NeedLemmas.{first_only, one_server, outs_of}
 use Rattle.mc_pool_laws.proofs.RestartExample.{restart_accounts, restart_answers, restart_history, restart_log, restart_order, restart_text}
-use Rattle.mc_one_map.specs.Executions.{commands_of}
-use Rattle.mc_one_map.specs.OneMaps.{AreOfOneMap}
-use Rattle.mc_one_map.proofs.needs.restarted_servers_are_not_one_map.Goals as goal
+use Rattle.mc_pool_laws.specs.Executions.{commands_of}
+use Rattle.mc_pool_laws.specs.OneMaps.{AreOfOneMap}
+use Rattle.mc_pool_laws.proofs.one_map_needs.restarted_servers_are_not_one_map.Goals as goal
 
 -- both commands are plain steps of one cache
 both : ArePlainSteps (opening_cache 1000 10 0) (commands_of (command_at restart_order) restart_history)

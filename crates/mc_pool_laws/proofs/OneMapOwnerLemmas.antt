@@ -20,8 +20,8 @@ use Rattle.mc_world.specs.Logs.{IsRingAfter, Log, number_of}
 use Rattle.mc_world.proofs.LogEntryLemmas.{got_map, got_there}
 use Rattle.mc_world.proofs.LogLemmas.{number-before}
 use Rattle.mc_pool_laws.proofs.OwnerLemmas.{taken-own}
-use Rattle.mc_one_map.specs.Executions.{command_sent, sent_at}
-use Rattle.mc_one_map.specs.OneMaps.{joins}
+use Rattle.mc_pool_laws.specs.Executions.{command_sent, sent_at}
+use Rattle.mc_pool_laws.specs.OneMaps.{joins}
 
 -- the ring stays where none joins
 ring-stays : (ring now : RingState) (log : Log) → number_of joins log ≡ 0 → IsRingAfter ring log now → now ≡ ring

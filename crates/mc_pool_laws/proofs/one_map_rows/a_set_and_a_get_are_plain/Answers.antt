@@ -3,9 +3,9 @@ use Rattle.std.specs.Fmt.{digits}
 use Rattle.mc_cache.specs.CacheState.{opening_cache}
 use Rattle.mc_cache_laws.specs.Pools.{ArePlainSteps}
 use Rattle.mc_account.specs.Lookups.{command_at}
-use Rattle.mc_one_map.specs.Executions.{commands_of}
-use Rattle.mc_one_map.specs.MergeExamples.{entry_of, one_history, set_and_get}
-use Rattle.mc_one_map.proofs.rows.a_set_and_a_get_are_plain.Goals as goal
+use Rattle.mc_pool_laws.specs.Executions.{commands_of}
+use Rattle.mc_pool_laws.specs.MergeExamples.{entry_of, one_history, set_and_get}
+use Rattle.mc_pool_laws.proofs.one_map_rows.a_set_and_a_get_are_plain.Goals as goal
 
 both : ArePlainSteps (opening_cache 1000 2 0) (commands_of (command_at set_and_get) (one_history 0))
 both = (record { of_map = refl; answered = refl; kept = refl }, (record { of_map = refl; answered = refl; kept = refl }, tt))

@@ -1,8 +1,8 @@
 use Rattle.std.proofs.Common.{◌≡◌, ◌∙◌, ℕ, sym, ap, subst}
 use Rattle.mc_cache.specs.CacheState.{IsWithinBounds}
 use Rattle.mc_world.specs.Worlds.{WorldState}
-use Rattle.mc_one_map.proofs.OneMapLemmas.{one_map_of}
-use Rattle.mc_one_map.proofs.world_laws.worlds_act_as_one_map.Goals as goal
+use Rattle.mc_pool_laws.proofs.OneMapLemmas.{one_map_of}
+use Rattle.mc_pool_laws.proofs.one_map_worlds.worlds_act_as_one_map.Goals as goal
 
 pub returns : goal.returns
 returns g c =

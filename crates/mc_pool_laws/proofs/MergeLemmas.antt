@@ -10,7 +10,7 @@ use Rattle.mc_event.specs.declared.events.Event.TheVariants.{ServerTurn}
 use Rattle.mc_world.specs.declared.logs.Logged.{Logged}
 use Rattle.mc_world.specs.declared.logs.Logged.TheVariants.{Happened}
 use Rattle.mc_world.specs.Logs.{Log, number_of, serves}
-use Rattle.mc_one_map.specs.Executions.{after_turn, first_at, merged, turn_of, turns_of}
+use Rattle.mc_pool_laws.specs.Executions.{after_turn, first_at, merged, turn_of, turns_of}
 
 -- how many turns a place has
 abbrev pub times : ℕ → List ℕ → ℕ

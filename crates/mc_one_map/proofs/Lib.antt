@@ -1,3 +1,0 @@
-pub mod OwnerLemmas
-pub mod MergeLemmas
-pub mod OneMapLemmas

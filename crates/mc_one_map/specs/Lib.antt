@@ -1,3 +1,0 @@
-pub mod Executions
-pub mod OneMaps
-pub mod MergeExamples
