@@ -5,7 +5,7 @@ use crate::digests::Digest;
 use crate::errors::JobError;
 use crate::keys::{Stock, append_key, append_number, by_rank, small_len};
 use crate::randoms::Random;
-use mc_pool_play::{account_of_pool_script, text_of_pool_script};
+use mc_pool_script::{account_of_pool_script, text_of_pool_script};
 use mc_store::{FixedHasher, LruStore};
 use std::alloc::{AllocError, Global};
 

@@ -1,3 +1,5 @@
 pub mod PointLemmas
 pub mod AddressLemmas
 pub mod PoolLemmas
+pub mod PlayLemmas
+pub mod ToldLemmas

@@ -2,3 +2,7 @@ pub mod Commands
 pub mod PoolLines
 pub mod PoolScripts
 pub mod Kinds
+pub mod Stores
+pub mod Plays
+pub mod Told
+pub mod PoolTexts

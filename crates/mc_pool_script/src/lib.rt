@@ -1,4 +1,4 @@
-//! Scripts of events for a pool: read and checked.
+//! Scripts of events for a pool: read, checked, played and printed.
 //!
 //! [`is_of_pool`] tells such a script from one of a server. [`read_pool_script`] reads a script's bytes as a [`PoolScript`];
 //! [`PoolScript::ring`] is the ring that its pool begins with, [`PoolScript::losses`] its choice for lost commands, and
@@ -8,6 +8,16 @@
 //! `point <8 hexadecimal digits> <server>` straight after it give the ring's points, and one line `losses told` or
 //! `losses missed` among these the choice for lost commands; then one line each says what comes. What each means is said by the
 //! definitions in `specs/`; worked examples are in `src/rows.rt`. Lines, escapes and numbers are those of `mc_script`.
+//!
+//! # Played and printed
+//!
+//! [`text_of_pool_script`] goes from a script's bytes to what is printed for it: its contract is the main theorem, and holds of
+//! every input. [`account_of_pool_script`] prints the account of the play after that, and [`steps_of_pool_script`] says what each line
+//! did. A caller that wants the parts meets them in this order: [`played_script`] plays a script that was read, which gives a world and
+//! what each line did ([`Played`]); [`push_output_lines`] prints what was put out to the clients, and [`push_account`] the account.
+//!
+//! Each server's cache keeps its items in a store of any kind that a script can be played over (`mc_script::ScriptStore`). What a
+//! script's lines do to a world is said by the definitions in `specs/`, over those of `mc_world`.
 #![tactic(auto)]
 
 mod addresses;
@@ -17,17 +27,26 @@ mod joins;
 mod kinds;
 mod lines;
 mod losses;
+mod outputs;
+mod plays;
 mod points;
 mod reading;
 mod rows;
 mod scripts;
 mod server_lines;
+mod texts;
+mod told;
+mod worlds;
 
 pub use commands::Command;
 pub use kinds::is_of_pool;
 pub use lines::PoolLine;
+pub use outputs::push_output_lines;
+pub use plays::{Played, played_script};
 pub use rows::{
     lines_of_clients, lines_of_drains, lines_of_joins, lines_of_restarts, lines_of_servers,
     losses_of_scripts, points_of_servers,
 };
 pub use scripts::{PoolScript, copy_of, read_pool_script};
+pub use texts::{account_of_pool_script, steps_of_pool_script, text_of_pool_script};
+pub use told::push_account;

@@ -4,7 +4,7 @@ use Rattle.mc_script.specs.ScriptSeen.{Explains}
 use Rattle.mc_script.specs.Scripts.{script_of}
 use Rattle.mc_script.specs.Texts.{IsTextOf}
 use Rattle.mc_script.specs.declared.errors.SimError.{SimError}
-use Rattle.mc_pool_play.specs.PoolTexts.{IsAccountOf, IsPoolTextOf}
+use Rattle.mc_pool_script.specs.PoolTexts.{IsAccountOf, IsPoolTextOf}
 use Rattle.mc_pool_script.specs.PoolScripts.{pool_script_of}
 use Rattle.mc_sim.specs.declared.texts.Printed.{Printed}
 use Rattle.mc_sim.specs.declared.texts.Printed.TheVariants.{Account, Outputs}

@@ -4,8 +4,7 @@ ghost use Rattle.mc_pool_script.specs.Kinds.{is_of_pool};
 ghost use Rattle.mc_sim.specs.Printed.{ExplainsFor, IsTextFor};
 
 use crate::kinds::StoreKind;
-use mc_pool_play::{account_of_pool_script, text_of_pool_script};
-use mc_pool_script::is_of_pool;
+use mc_pool_script::{account_of_pool_script, is_of_pool, text_of_pool_script};
 use mc_script::{ScriptStore, SimError, text_of_script};
 use mc_store::{FixedHasher, ListStore, LruStore, TableStore};
 use std::alloc::Global;

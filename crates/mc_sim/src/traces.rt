@@ -1,7 +1,6 @@
 //! What each line of a pool script does, told line by line.
 
-use mc_pool_play::steps_of_pool_script;
-use mc_pool_script::is_of_pool;
+use mc_pool_script::{is_of_pool, steps_of_pool_script};
 use mc_script::{SimError, lines_of};
 use mc_store::{FixedHasher, LruStore};
 use mc_world::Step;

@@ -1,2 +1,0 @@
-pub mod PlayLemmas
-pub mod ToldLemmas

@@ -1,4 +1,0 @@
-pub mod Stores
-pub mod Plays
-pub mod Told
-pub mod PoolTexts

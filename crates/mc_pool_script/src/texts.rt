@@ -1,0 +1,60 @@
+//! The text of a pool script: a line for each client, and the account of the play where it is asked for.
+ghost use Rattle.std.specs.Prelude.{IfErr, IfOk};
+ghost use Rattle.mc_script.specs.ScriptSeen.{Explains};
+ghost use Rattle.mc_pool_script.specs.PoolScripts.{pool_script_of};
+ghost use Rattle.mc_pool_script.specs.PoolTexts.{AreStepsOf, IsAccountOf, IsPoolTextOf};
+
+use crate::outputs::push_output_lines;
+use crate::plays::played_script;
+use crate::scripts::read_pool_script;
+use crate::told::push_account;
+use mc_script::{ScriptStore, SimError};
+use mc_world::Step;
+use std::alloc::Global;
+
+/// The text that is printed for a pool script: a line for each of its clients, in order, with what was put out to it by a world
+/// of servers over such stores that took the script's lines in order. The error is the script's first bad line, or `Memory`.
+///
+/// The contract has no condition: it holds of every input, wherever its bytes came from. Where the call succeeds, the input
+/// is a script, and the lines are those of a world that has played it, and that gives account. Where it names a line, the input
+/// is no script, and that line is its first bad one.
+pub fn text_of_pool_script<S: ScriptStore>(alloc: Global, input: &[u8]) -> Result<Vec<u8>, SimError>
+    ensures text { IfOk result (λ text. IsPoolTextOf input.now text.items) }
+    ensures error { IfErr result (λ error. Explains error (pool_script_of input.now)) }
+{
+    let script = read_pool_script(alloc, input)?;
+    let played = played_script::<S>(alloc, &script)?;
+    let mut text = Vec::new(alloc);
+    push_output_lines(&played.world, script.clients(), &mut text)?;
+    Ok(text)
+}
+
+/// The same text, and after it the account of the play: what each line did, what each client sent, and what each server took.
+pub fn account_of_pool_script<S: ScriptStore>(
+    alloc: Global,
+    input: &[u8],
+) -> Result<Vec<u8>, SimError>
+    ensures text { IfOk result (λ text. IsAccountOf input.now text.items) }
+    ensures error { IfErr result (λ error. Explains error (pool_script_of input.now)) }
+{
+    let script = read_pool_script(alloc, input)?;
+    let played = played_script::<S>(alloc, &script)?;
+    let (clients, servers) = (script.clients(), script.server_count());
+    let mut text = Vec::new(alloc);
+    push_output_lines(&played.world, clients, &mut text)?;
+    push_account(alloc, &played, clients, servers, &mut text)?;
+    Ok(text)
+}
+
+/// What each line of a pool script does, in order, where a world takes them so. A server that joins is `Done`.
+pub fn steps_of_pool_script<S: ScriptStore>(
+    alloc: Global,
+    input: &[u8],
+) -> Result<Vec<Step>, SimError>
+    ensures steps { IfOk result (λ steps. AreStepsOf input.now steps.items) }
+    ensures error { IfErr result (λ error. Explains error (pool_script_of input.now)) }
+{
+    let script = read_pool_script(alloc, input)?;
+    let played = played_script::<S>(alloc, &script)?;
+    Ok(played.steps)
+}
