@@ -24,14 +24,14 @@ use Rattle.mc_route.specs.declared.losses.Losses.TheVariants.{Told}
 use Rattle.mc_route.specs.declared.outcomes.Outcome.TheVariants as outcomes
 use Rattle.mc_cache.specs.CacheState.{IsWithinBounds, opening_cache}
 use Rattle.mc_account.specs.Orders.{Entry as AskedFor, IsSized, Order}
-use Rattle.mc_event.specs.declared.events.Event.TheVariants.{LinkBack, LinkLost, ServerTurn}
-use Rattle.mc_history.specs.declared.entries.Entry.{Entry}
-use Rattle.mc_history.specs.Histories.{IsLegal, tag_in}
+use Rattle.mc_world.specs.declared.events.Event.TheVariants.{LinkBack, LinkLost, ServerTurn}
 use Rattle.mc_world.specs.Accounts.{Accounts}
 use Rattle.mc_world.specs.Logs.{Log, in_life, number_of, restarts}
 use Rattle.mc_world.specs.declared.logs.Logged.{Logged}
 use Rattle.mc_world.specs.declared.logs.Logged.TheVariants.{Happened, Joined, Restarted}
 use Rattle.mc_world.proofs.LifeLemmas.{legal_unrestarted, taken_past}
+use Rattle.mc_history.specs.declared.entries.Entry.{Entry}
+use Rattle.mc_history.specs.Histories.{IsLegal, tag_in}
 use Rattle.mc_pool_laws.proofs.MissExample.{get_asked, get_key}
 use Rattle.mc_pool_laws.proofs.NeedLemmas.{a_cache, loses_one, one_server, outs_of, puts_one, returns_one, serves_one, takes_one}
 use Rattle.mc_linearizable.specs.Linearizable.{Executed, IsEarlier, IsLinearizablePool}

@@ -15,14 +15,14 @@ use Rattle.mc_route.specs.declared.outcomes.Outcome.TheVariants as outcomes
 use Rattle.mc_cache.specs.CacheState.{opening_cache}
 use Rattle.mc_account.specs.Lookups.{IsBefore}
 use Rattle.mc_account.specs.Orders.{Entry as AskedFor, IsSized, Order}
-use Rattle.mc_event.specs.declared.events.Event.TheVariants.{ServerTurn}
-use Rattle.mc_history.specs.declared.entries.Entry.{Entry}
-use Rattle.mc_history.specs.Histories.{IsLegal, tag_in}
+use Rattle.mc_world.specs.declared.events.Event.TheVariants.{ServerTurn}
 use Rattle.mc_world.specs.Accounts.{Accounts}
 use Rattle.mc_world.specs.Logs.{Log, number_of}
 use Rattle.mc_world.specs.declared.logs.Logged.{Logged}
 use Rattle.mc_world.specs.declared.logs.Logged.TheVariants.{Happened}
 use Rattle.mc_world.proofs.LifeLemmas.{legal_unrestarted}
+use Rattle.mc_history.specs.declared.entries.Entry.{Entry}
+use Rattle.mc_history.specs.Histories.{IsLegal, tag_in}
 use Rattle.mc_pool_laws.proofs.NeedLemmas.{a_cache, is_lost, loses_one, one_server, outs_of, puts_one, returns_one, takes_one}
 use Rattle.mc_linearizable.specs.Linearizable.{ComesFirst, Executed, WasReplied}
 use Rattle.mc_linearizable.proofs.SmallAccounts.{IsKnown, IsSmall, asked_of, at_first, entry_of, first_text, one_ring, puts_if, replied_as, small_accounts, store_asked, store_of, to_first, two_histories}

@@ -29,14 +29,14 @@ use Rattle.mc_session.specs.Sending.{tag_of}
 use Rattle.mc_cache.specs.CacheState.{CacheState}
 use Rattle.mc_account.specs.Lookups.{asked_at, command_at, outcome_at}
 use Rattle.mc_account.specs.Orders.{AreInOrder, Entry as AskedFor, IsSized, Order, commands_to, entries_of, is_complete}
-use Rattle.mc_event.specs.declared.events.Event.TheVariants.{Emit}
-use Rattle.mc_history.specs.declared.entries.Entry.{Entry}
-use Rattle.mc_history.specs.Histories.{IsLegal, tag_in}
-use Rattle.mc_history.specs.Named.{tags_of}
+use Rattle.mc_world.specs.declared.events.Event.TheVariants.{Emit}
 use Rattle.mc_world.specs.Accounts.{Accounts, NotAnswered, WasTaken}
 use Rattle.mc_world.specs.Logs.{IsRingAfter, Log, before, in_life, loses, moments_of, number_of, puts, serves, taken_before, takes, turns_of}
 use Rattle.mc_world.specs.declared.logs.Logged.{Logged}
 use Rattle.mc_world.specs.declared.logs.Logged.TheVariants.{Happened}
+use Rattle.mc_history.specs.declared.entries.Entry.{Entry}
+use Rattle.mc_history.specs.Histories.{IsLegal, tag_in}
+use Rattle.mc_history.specs.Named.{tags_of}
 use Rattle.mc_pool_laws.specs.Told.{IsToldBy}
 use Rattle.mc_pool_laws.proofs.MissExample.{nothing_read, owned}
 use Rattle.mc_pool_laws.proofs.NeedLemmas.{none_there, one_here, one_server, outcome_in_request, outs_of}

@@ -6,7 +6,7 @@ use Rattle.std.proofs.lemmas.List.Elements.{All-cons, All-nil}
 use Rattle.mc_cache.specs.Replay.{Command}
 use Rattle.mc_cache.specs.Step.{atom_key}
 use Rattle.mc_cache_laws.specs.Pools.{Executed, IsAtOwner, commands_at}
-use Rattle.mc_event.specs.declared.events.Event.TheVariants.{ServerTurn}
+use Rattle.mc_world.specs.declared.events.Event.TheVariants.{ServerTurn}
 use Rattle.mc_world.specs.declared.logs.Logged.{Logged}
 use Rattle.mc_world.specs.declared.logs.Logged.TheVariants.{Happened}
 use Rattle.mc_world.specs.Logs.{Log, number_of, serves}

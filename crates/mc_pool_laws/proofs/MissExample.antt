@@ -35,12 +35,12 @@ use Rattle.mc_session.specs.Sending.{tag_of}
 use Rattle.mc_cache.specs.CacheState.{opening_cache}
 use Rattle.mc_account.specs.Lookups.{IsBefore, asked_at, command_at, outcome_at}
 use Rattle.mc_account.specs.Orders.{AreInOrder, Entry as AskedFor, IsSized, Order, is_complete}
-use Rattle.mc_event.specs.declared.events.Event.TheVariants.{ServerTurn}
-use Rattle.mc_history.specs.declared.entries.Entry.{Entry}
-use Rattle.mc_history.specs.Histories.{HasNone, HasReply, IsLegal, tag_in}
+use Rattle.mc_world.specs.declared.events.Event.TheVariants.{ServerTurn}
 use Rattle.mc_world.specs.Accounts.{Account, Accounts, IsToldLost, NotAnswered, WasTaken}
 use Rattle.mc_world.specs.Logs.{IsRingAfter, Log, before, number_of, puts, serves, takes}
 use Rattle.mc_world.specs.declared.logs.Logged.TheVariants.{Happened}
+use Rattle.mc_history.specs.declared.entries.Entry.{Entry}
+use Rattle.mc_history.specs.Histories.{HasNone, HasReply, IsLegal, tag_in}
 use Rattle.mc_pool_laws.proofs.NeedLemmas.{first_only, first_there, follows_lost, lives_of_first, loses_one, none_there, one_here, one_server, outcome_in_request, outs_of, own_by, puts_one, returns_one, serves_one, takes_one}
 use Rattle.mc_pool_laws.proofs.SentLemmas.{in_request}
 

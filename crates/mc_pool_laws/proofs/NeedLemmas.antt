@@ -39,7 +39,7 @@ use Rattle.mc_history.specs.Named.{tags_of}
 use Rattle.mc_world.proofs.LifeLemmas.{legal_unrestarted}
 use Rattle.mc_world.specs.Accounts.{WasTaken, answers_by}
 use Rattle.mc_world.specs.Logs.{IsRingAfter, Log, before, in_life, loses, moments_of, number_of, puts, restarts, serves, takes, turns_of}
-use Rattle.mc_event.specs.declared.events.Event.TheVariants.{Emit, LinkBack, LinkLost, ProxyTurn, ServerTurn}
+use Rattle.mc_world.specs.declared.events.Event.TheVariants.{Emit, LinkBack, LinkLost, ProxyTurn, ServerTurn}
 use Rattle.mc_world.specs.declared.logs.Logged.{Logged}
 use Rattle.mc_world.specs.declared.logs.Logged.TheVariants.{Happened}
 use Rattle.mc_pool_laws.specs.Sent.{IsReplayed}

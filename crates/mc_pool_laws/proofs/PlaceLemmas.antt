@@ -1,7 +1,7 @@
 -- Events of a log that come before others.
 use Rattle.std.proofs.Common.{◌≡◌, ◌∙◌, ℕ, zero, suc, ◌<◌, Bool, true, false, if◌then◌else◌, [], ◌∷◌, ◌++◌, refl, ap, arith}
 use Rattle.std.proofs.lemmas.Bool.{false≢true}
-use Rattle.mc_event.specs.declared.events.Event.TheVariants.{Emit}
+use Rattle.mc_world.specs.declared.events.Event.TheVariants.{Emit}
 use Rattle.mc_world.specs.Logs.{Log, before, loses, number_of, puts}
 use Rattle.mc_world.specs.declared.logs.Logged.{Logged}
 use Rattle.mc_world.specs.declared.logs.Logged.TheVariants.{Happened}

@@ -12,14 +12,14 @@ use Rattle.mc_account.specs.Orders.{AreInOrder, Entry as Asked, Order, Tagged, c
 use Rattle.mc_account.proofs.LookupLemmas.{get_after}
 use Rattle.mc_account.proofs.OpenSessions.{own_number}
 use Rattle.mc_account.proofs.OrderLemmas.{entries-append, numbered_after}
-use Rattle.mc_event.specs.declared.events.Event.TheVariants.{ProxyTurn}
-use Rattle.mc_history.specs.declared.entries.Entry.{Entry}
+use Rattle.mc_world.specs.declared.events.Event.TheVariants.{ProxyTurn}
 use Rattle.mc_world.specs.Accounts.{Accounts}
 use Rattle.mc_world.specs.Logs.{IsRingAfter, Log, before, loses, number_of, takes, turn_of, turns_of}
 use Rattle.mc_world.specs.declared.logs.Logged.{Logged}
 use Rattle.mc_world.specs.declared.logs.Logged.TheVariants.{Happened}
 use Rattle.mc_world.proofs.LogLemmas.{before-here}
 use Rattle.mc_world.proofs.LogOrderLemmas.{turns-none, turns-push, turns-taken}
+use Rattle.mc_history.specs.declared.entries.Entry.{Entry}
 use Rattle.mc_pool_laws.specs.Followed.{AreSentBy, FollowsProxy, IsSentBy, TakesNext}
 use Rattle.mc_pool_laws.proofs.OneRing.{ring_one}
 use Rattle.mc_pool_laws.proofs.SentLemmas.{entry_taken}

@@ -27,13 +27,13 @@ use Rattle.mc_cache.specs.CacheState.{opening_cache}
 use Rattle.mc_cache.specs.Step.{step_of}
 use Rattle.mc_account.specs.Lookups.{IsBefore, asked_at, command_at, outcome_at}
 use Rattle.mc_account.specs.Orders.{AreInOrder, Entry as AskedFor, IsSized, Order, is_complete}
-use Rattle.mc_event.specs.declared.events.Event.TheVariants.{ServerTurn}
-use Rattle.mc_history.specs.declared.entries.Entry.{Entry}
-use Rattle.mc_history.specs.Histories.{HasReply, IsLegal, tag_in}
+use Rattle.mc_world.specs.declared.events.Event.TheVariants.{ServerTurn}
 use Rattle.mc_world.specs.Accounts.{Account, Accounts, IsToldLost, NotAnswered, WasTaken}
 use Rattle.mc_world.specs.Logs.{IsRingAfter, Log, before, in_life, number_of, puts, serves, taken_before, takes}
 use Rattle.mc_world.specs.declared.logs.Logged.TheVariants.{Happened, Restarted}
 use Rattle.mc_world.proofs.LifeLemmas.{taken_past}
+use Rattle.mc_history.specs.declared.entries.Entry.{Entry}
+use Rattle.mc_history.specs.Histories.{HasReply, IsLegal, tag_in}
 use Rattle.mc_pool_laws.specs.Sent.{IsReplayed}
 use Rattle.mc_pool_laws.proofs.MissExample.{commands_of as one_command, entry_as, get_asked, get_key, in_two, key, nothing_read, outcome_of, owned, set_asked, set_key, stored}
 use Rattle.mc_pool_laws.proofs.NeedLemmas.{a_cache, first_only, first_there, follows_lost, is_lost, loses_one, none_there, one_server, outcome_in_request, outs_of, own_by, puts_one, returns_one, serves_one, takes_one}

@@ -19,15 +19,15 @@ use Rattle.mc_link.specs.declared.turns.Tag.{Tag}
 use Rattle.mc_session.specs.Sending.{tag_of}
 use Rattle.mc_account.specs.Lookups.{asked_at, command_at, outcome_at}
 use Rattle.mc_account.specs.Orders.{AreInOrder, Entry as AskedFor, IsSized, Order, Tagged, commands_from, entries_of}
-use Rattle.mc_event.specs.declared.events.Event.TheVariants.{ProxyTurn}
-use Rattle.mc_history.specs.declared.entries.Entry.{Entry}
-use Rattle.mc_history.specs.Histories.{IsLegal, tag_in}
-use Rattle.mc_history.specs.Named.{tags_of}
+use Rattle.mc_world.specs.declared.events.Event.TheVariants.{ProxyTurn}
 use Rattle.mc_world.specs.Accounts.{WasTaken}
 use Rattle.mc_world.specs.Logs.{IsRingAfter, Log, before, loses, number_of, serves, takes}
 use Rattle.mc_world.specs.declared.logs.Logged.{Logged}
 use Rattle.mc_world.specs.declared.logs.Logged.TheVariants.{Happened}
 use Rattle.mc_world.proofs.LogLemmas.{IsEvent}
+use Rattle.mc_history.specs.declared.entries.Entry.{Entry}
+use Rattle.mc_history.specs.Histories.{IsLegal, tag_in}
+use Rattle.mc_history.specs.Named.{tags_of}
 use Rattle.mc_pool_laws.specs.Followed.{AreSentBy, FollowsProxy}
 use Rattle.mc_pool_laws.specs.Without.{AccountsBut, Allows, Clause, Followed, Numbered, Turns}
 use Rattle.mc_pool_laws.proofs.NeedLemmas.{Follows, a_cache, first_only, first_there, flush, flush_asked, is_lost, is_reply, lives_of_first, none_complete, none_out, one_here, one_server, outcome_in_request, serves_one, takes_one}

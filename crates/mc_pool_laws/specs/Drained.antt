@@ -1,6 +1,6 @@
 -- What a drain adds to a log: this project's own.
 use Rattle.std.specs.Prelude.{ℕ, ◌==◌, Bool, true, false}
-use Rattle.mc_event.specs.declared.events.Event.TheVariants.{ClientTakes, Emit, ProxyTurn, ReplyTurn, ServerSeesEnd, ServerTurn, ToProxy, ToServer}
+use Rattle.mc_world.specs.declared.events.Event.TheVariants.{ClientTakes, Emit, ProxyTurn, ReplyTurn, ServerSeesEnd, ServerTurn, ToProxy, ToServer}
 use Rattle.mc_world.specs.declared.logs.Logged.{Logged}
 use Rattle.mc_world.specs.declared.logs.Logged.TheVariants.{Happened}
 

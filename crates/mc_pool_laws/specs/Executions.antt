@@ -13,7 +13,7 @@ use Rattle.mc_cache.specs.Replay.{Command}
 use Rattle.mc_cache_laws.specs.Pools.{Executed}
 use Rattle.mc_history.specs.declared.entries.Entry.{Entry}
 use Rattle.mc_history.specs.Histories.{tag_in}
-use Rattle.mc_event.specs.declared.events.Event.TheVariants.{ServerTurn}
+use Rattle.mc_world.specs.declared.events.Event.TheVariants.{ServerTurn}
 use Rattle.mc_world.specs.declared.logs.Logged.{Logged}
 use Rattle.mc_world.specs.declared.logs.Logged.TheVariants.{Happened}
 use Rattle.mc_world.specs.Logs.{Log}

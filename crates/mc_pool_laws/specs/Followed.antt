@@ -7,13 +7,13 @@ use Rattle.mc_ring.specs.Rings.{RingState}
 use Rattle.mc_route.specs.Routes.{route_of_taken}
 use Rattle.mc_link.specs.declared.turns.Tag.{Tag}
 use Rattle.mc_account.specs.Orders.{Tagged, commands_from}
-use Rattle.mc_event.specs.declared.events.Event.TheVariants.{ProxyTurn}
-use Rattle.mc_history.specs.declared.entries.Entry.{Entry}
-use Rattle.mc_history.specs.Histories.{tag_in}
-use Rattle.mc_history.specs.Named.{tags_of}
+use Rattle.mc_world.specs.declared.events.Event.TheVariants.{ProxyTurn}
 use Rattle.mc_world.specs.Logs.{IsRingAfter, Log, number_of, takes}
 use Rattle.mc_world.specs.declared.logs.Logged.{Logged}
 use Rattle.mc_world.specs.declared.logs.Logged.TheVariants.{Happened}
+use Rattle.mc_history.specs.declared.entries.Entry.{Entry}
+use Rattle.mc_history.specs.Histories.{tag_in}
+use Rattle.mc_history.specs.Named.{tags_of}
 
 -- a turn of a client, after what was done, takes its next request, by the ring of then: these of its commands go to the server of a place
 pub record TakesNext (opening : RingState) (texts : ℕ → List ℕ) (place : ℕ) (done : Log) (client : ℕ) (commands : List Tagged) : Type 0 where

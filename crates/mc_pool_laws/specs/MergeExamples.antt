@@ -12,7 +12,7 @@ use Rattle.mc_cache.specs.Replay.{granted}
 use Rattle.mc_cache_laws.specs.Pools.{Executed}
 use Rattle.mc_account.specs.Orders.{Entry as Asked, Order}
 use Rattle.mc_history.specs.declared.entries.Entry.{Entry}
-use Rattle.mc_event.specs.declared.events.Event.TheVariants.{ProxyTurn, ServerTurn}
+use Rattle.mc_world.specs.declared.events.Event.TheVariants.{ProxyTurn, ServerTurn}
 use Rattle.mc_world.specs.declared.logs.Logged.TheVariants.{Happened}
 use Rattle.mc_world.specs.Logs.{Log}
 

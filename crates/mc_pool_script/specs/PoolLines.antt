@@ -14,7 +14,7 @@ use Rattle.mc_pool_script.specs.declared.commands.Command.{Command}
 use Rattle.mc_pool_script.specs.declared.commands.Command.TheVariants.{Bytes, Gone, Turn, Emit, Takes, ToServer, Serve, ToProxy, Reply, Lost, Back, End, Join, Restart, Drain}
 use Rattle.mc_pool_script.specs.declared.lines.PoolLine.{PoolLine}
 use Rattle.mc_pool_script.specs.declared.lines.PoolLine.TheVariants.{Event, Join as Joins, Restart as Restarts, Drain as Drains}
-use Rattle.mc_event.specs.declared.events.Event.TheVariants.{ClientBytes, ClientGone, ProxyTurn, ToServer as ReachServer, ServerTurn, ToProxy as ReachProxy, ReplyTurn, Emit as PutOut, ClientTakes, LinkLost, LinkBack, ServerSeesEnd}
+use Rattle.mc_world.specs.declared.events.Event.TheVariants.{ClientBytes, ClientGone, ProxyTurn, ToServer as ReachServer, ServerTurn, ToProxy as ReachProxy, ReplyTurn, Emit as PutOut, ClientTakes, LinkLost, LinkBack, ServerSeesEnd}
 
 -- how many bytes: a number, or `all`, which stands for the greatest
 abbrev pub count_of : List ℕ → Option ℕ

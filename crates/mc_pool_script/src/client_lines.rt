@@ -3,9 +3,9 @@ ghost use Rattle.std.specs.Prelude.{◌≡◌, ◌^◌, IfOk, IfSome, IsOkUnless
 ghost use Rattle.mc_pool_script.specs.PoolLines.{HasMoment, bytes_line, count_of, takes_line};
 
 use crate::lines::PoolLine;
-use mc_event::Event;
 use mc_script::{SimError, cut_at_space, read_escaped, read_place};
 use mc_text::{Block, read_u64};
+use mc_world::Event;
 use std::alloc::Global;
 
 /// `<client> <text>`

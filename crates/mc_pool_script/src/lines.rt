@@ -1,7 +1,7 @@
 //! What a line of a pool script says.
-use mc_event::Event;
 use mc_ring::Address;
 use mc_text::Block;
+use mc_world::Event;
 
 /// What a line after the ring's points says.
 #[derive(Debug, Drop)]

@@ -7,9 +7,9 @@ use crate::commands::{Command, command_of};
 use crate::joins::read_join;
 use crate::lines::PoolLine;
 use crate::server_lines::{read_end, read_serve, read_server, read_to_proxy, read_to_server};
-use mc_event::Event;
 use mc_ring::Address;
 use mc_script::{SimError, cut_at_space, read_moment, read_place};
+use mc_world::Event;
 use std::alloc::Global;
 
 /// What a line says, where so many clients and these servers are there.

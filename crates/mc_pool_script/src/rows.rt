@@ -6,7 +6,7 @@ ghost use Rattle.std.specs.Option.{option_map};
 ghost use Rattle.mc_pool_script.specs.PoolLines.{line_of};
 ghost use Rattle.mc_pool_script.specs.PoolScripts.{followed, losses_named, losses_of, opening_script, point_of, read_more};
 ghost use Rattle.mc_pool_script.specs.declared.lines.PoolLine.TheVariants.{Drain, Event, Join, Restart};
-ghost use Rattle.mc_event.specs.declared.events.Event.TheVariants.{ClientBytes, ClientTakes, ServerSeesEnd, ServerTurn, ToServer};
+ghost use Rattle.mc_world.specs.declared.events.Event.TheVariants.{ClientBytes, ClientTakes, ServerSeesEnd, ServerTurn, ToServer};
 ghost use Rattle.mc_ring.specs.Points.{pair_at};
 ghost use Rattle.mc_route.specs.declared.losses.Losses.TheVariants.{Missed, Told};
 

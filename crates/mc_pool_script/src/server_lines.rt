@@ -5,9 +5,9 @@ ghost use Rattle.mc_pool_script.specs.PoolLines.{HasMoment, end_line, serve_line
 
 use crate::client_lines::read_count;
 use crate::lines::PoolLine;
-use mc_event::Event;
 use mc_script::{cut_at_space, read_moment, read_place};
 use mc_text::read_u64;
+use mc_world::Event;
 
 /// `<server> <generation> <count>`
 #[tactic(auto, unfolding(crate::specs::PoolLines::to_server_line))]

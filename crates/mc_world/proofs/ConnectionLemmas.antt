@@ -5,9 +5,9 @@ use Rattle.mc_cache.specs.CacheState.{CacheState}
 use Rattle.mc_link.specs.LinkState.{LinkState, can_come_back}
 use Rattle.mc_server.specs.ServerState.{ConnectionState, ServerState, connection_at, sent_by}
 use Rattle.mc_session.specs.SessionState.{link_at}
-use Rattle.mc_event.specs.Bare.{bare}
-use Rattle.mc_event.specs.declared.events.Event.{Event}
-use Rattle.mc_event.specs.declared.events.Event.TheVariants.{ClientBytes, ClientGone, ClientTakes, Emit, LinkBack, LinkLost, ProxyTurn, ReplyTurn, ServerSeesEnd, ServerTurn, ToProxy, ToServer}
+use Rattle.mc_world.specs.Bare.{bare}
+use Rattle.mc_world.specs.declared.events.Event.{Event}
+use Rattle.mc_world.specs.declared.events.Event.TheVariants.{ClientBytes, ClientGone, ClientTakes, Emit, LinkBack, LinkLost, ProxyTurn, ReplyTurn, ServerSeesEnd, ServerTurn, ToProxy, ToServer}
 use Rattle.mc_world.specs.Courses.{Happens, IsDone}
 use Rattle.mc_world.specs.CourseHolds.{CourseHolds, HaveOneConnection}
 use Rattle.mc_world.specs.Joins.{HasServerJoined}

@@ -29,8 +29,8 @@ use Rattle.mc_world.specs.Logs.{Log}
 use Rattle.mc_world.specs.Courses.{IsDone}
 use Rattle.mc_world.specs.Pools.{ClientGoes, PoolHolds, asked_by}
 use Rattle.mc_world.specs.WorldState.{PoolState}
-use Rattle.mc_event.specs.declared.events.Event.{Event}
-use Rattle.mc_event.specs.declared.events.Event.TheVariants.{ClientBytes, ClientGone, ClientTakes, Emit, LinkBack, LinkLost, ProxyTurn, ReplyTurn, ServerSeesEnd, ServerTurn, ToProxy, ToServer}
+use Rattle.mc_world.specs.declared.events.Event.{Event}
+use Rattle.mc_world.specs.declared.events.Event.TheVariants.{ClientBytes, ClientGone, ClientTakes, Emit, LinkBack, LinkLost, ProxyTurn, ReplyTurn, ServerSeesEnd, ServerTurn, ToProxy, ToServer}
 use Rattle.mc_world.specs.declared.logs.Logged.TheVariants.{Happened}
 use Rattle.mc_world.specs.Worlds.{ClientState, CourseState, client_at, put_out_of, taken_by, text_of, with_client}
 use Rattle.mc_world.proofs.CourseLemmas.{read_changed, with_client-length}

@@ -7,6 +7,7 @@ use Rattle.mc_link.specs.LinkState.{LinkState}
 use Rattle.mc_cache.specs.CacheState.{CacheState}
 use Rattle.mc_session.specs.SessionState.{link_at}
 use Rattle.mc_proxy.specs.ProxyState.{output_of as output_at, session_at}
+use Rattle.mc_account.proofs.OpenSessions.{own_number}
 use Rattle.mc_world.specs.Acts.{GoesOn, HasDrained, IsIdle, IsOver, coming_of, event_of, generation_of}
 use Rattle.mc_world.specs.Courses.{Applies, IsDone}
 use Rattle.mc_world.specs.CourseHolds.{CourseHolds, WorldHolds}
@@ -18,8 +19,7 @@ use Rattle.mc_world.specs.Worlds.{CourseState, WorldState, cache_of}
 use Rattle.mc_world.specs.declared.acts.Act.{Act}
 use Rattle.mc_world.specs.declared.acts.Act.TheVariants.{PutAnswer, ReachProxy, ReachServer, SeeEnd, Serve, TakeBytes, TakeReply, TakeRequest}
 use Rattle.mc_world.specs.declared.errors.Step.TheVariants.{Done}
-use Rattle.mc_event.specs.declared.events.Event.{Event}
-use Rattle.mc_account.proofs.OpenSessions.{own_number}
+use Rattle.mc_world.specs.declared.events.Event.{Event}
 use Rattle.mc_world.proofs.LessLemmas.{ended_less, late_less, put_out_less, reached_less, replied_less, returned_less, served_less, taken_less, took_less}
 use Rattle.mc_world.proofs.LogEntryLemmas.{got_inside}
 use Rattle.mc_world.proofs.ServingLemmas.{pool_serves}

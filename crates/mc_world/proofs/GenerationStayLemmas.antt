@@ -20,8 +20,8 @@ use Rattle.mc_world.specs.Pools.{AtSite, LinkReturns, LosesLink, cut_off}
 use Rattle.mc_world.specs.Restarts.{ServerRestarts, restarted}
 use Rattle.mc_world.specs.WorldState.{PoolState, SiteState, WayState}
 use Rattle.mc_world.specs.Worlds.{first_site}
-use Rattle.mc_event.specs.declared.events.Event.{Event}
-use Rattle.mc_event.specs.declared.events.Event.TheVariants.{ClientBytes, ClientGone, ClientTakes, Emit, LinkBack, LinkLost, ProxyTurn, ReplyTurn, ServerSeesEnd, ServerTurn, ToProxy, ToServer}
+use Rattle.mc_world.specs.declared.events.Event.{Event}
+use Rattle.mc_world.specs.declared.events.Event.TheVariants.{ClientBytes, ClientGone, ClientTakes, Emit, LinkBack, LinkLost, ProxyTurn, ReplyTurn, ServerSeesEnd, ServerTurn, ToProxy, ToServer}
 use Rattle.mc_world.proofs.LateLemmas.{get_removed, get_set, shift, shift_rises}
 use Rattle.mc_world.proofs.LogEntryLemmas.{got_inside}
 use Rattle.mc_world.proofs.LossLemmas.{get_pushed}

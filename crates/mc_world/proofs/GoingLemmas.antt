@@ -1,9 +1,9 @@
 -- Each server stays in its life, and its history goes on, after each event that happens.
 use Rattle.std.proofs.Common.{◌≡◌, ◌∙◌, ⊎_elim, ℕ, inl, inr, List, [], ◌++◌, Some, slice_get, slice_set, sym, ap, subst, append-nil}
 use Rattle.std.proofs.lemmas.Bool.Decides.{eqb_tells}
-use Rattle.mc_event.specs.declared.events.Event.{Event}
-use Rattle.mc_event.specs.declared.events.Event.TheVariants.{ClientBytes, ClientGone, ClientTakes, Emit, LinkBack, LinkLost, ProxyTurn, ReplyTurn, ServerSeesEnd, ServerTurn, ToProxy, ToServer}
 use Rattle.mc_history.specs.declared.entries.Entry.{Entry}
+use Rattle.mc_world.specs.declared.events.Event.{Event}
+use Rattle.mc_world.specs.declared.events.Event.TheVariants.{ClientBytes, ClientGone, ClientTakes, Emit, LinkBack, LinkLost, ProxyTurn, ReplyTurn, ServerSeesEnd, ServerTurn, ToProxy, ToServer}
 use Rattle.mc_world.specs.Courses.{Happens}
 use Rattle.mc_world.specs.WorldState.{PoolState, SiteState, begun_of, histories_of}
 use Rattle.mc_world.proofs.LogEntryLemmas.{begun_at, begun_other, begun_own, history_at, history_other, history_own}

@@ -7,11 +7,11 @@ use Rattle.mc_cache.specs.CacheState.{CacheState}
 use Rattle.mc_cache.specs.Step.{step_of}
 use Rattle.mc_route.specs.Routes.{to_place}
 use Rattle.mc_account.specs.Orders.{Order}
-use Rattle.mc_event.specs.Bare.{bare}
-use Rattle.mc_event.specs.declared.events.Event.{Event}
 use Rattle.mc_history.specs.Histories.{IsLegal, tag_in}
 use Rattle.mc_history.specs.declared.entries.Entry.{Entry}
 use Rattle.mc_history.proofs.NamedLemmas.{Keeps}
+use Rattle.mc_world.specs.Bare.{bare}
+use Rattle.mc_world.specs.declared.events.Event.{Event}
 use Rattle.mc_world.specs.Courses.{IsDone}
 use Rattle.mc_world.specs.CourseHolds.{CourseHolds, LivesHold}
 use Rattle.mc_world.specs.LogHolds.{LogHolds}

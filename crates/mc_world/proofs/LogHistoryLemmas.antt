@@ -11,7 +11,7 @@ use Rattle.mc_history.specs.Histories.{tag_in}
 use Rattle.mc_history.specs.declared.entries.Entry.{Entry}
 use Rattle.mc_world.specs.LogHolds.{AreOrdered, HistoriesHold, IsPlaced}
 use Rattle.mc_world.specs.Logs.{Log, before, moment_of, moments_of, number_of, serves}
-use Rattle.mc_event.specs.declared.events.Event.TheVariants.{ServerTurn}
+use Rattle.mc_world.specs.declared.events.Event.TheVariants.{ServerTurn}
 use Rattle.mc_world.specs.declared.logs.Logged.{Logged}
 use Rattle.mc_world.specs.declared.logs.Logged.TheVariants.{Happened}
 use Rattle.mc_world.proofs.LogEntryLemmas.{got_inside, got_pushed}

@@ -21,7 +21,7 @@ use Rattle.mc_world.specs.LogHolds.{LogHolds}
 use Rattle.mc_world.specs.Logs.{Log, up_by}
 use Rattle.mc_world.specs.Pools.{ClientGoes, EndSeen, HearsClient, LateBytes, LinkReturns, LosesLink, ReachesProxy, ReachesServer, TakesBytes, TakesReply}
 use Rattle.mc_world.specs.WorldState.{PoolState, SiteState, histories_of}
-use Rattle.mc_event.specs.declared.events.Event.TheVariants.{ClientBytes, ClientGone, ClientTakes, LinkBack, LinkLost, ReplyTurn, ServerSeesEnd, ToProxy, ToServer}
+use Rattle.mc_world.specs.declared.events.Event.TheVariants.{ClientBytes, ClientGone, ClientTakes, LinkBack, LinkLost, ReplyTurn, ServerSeesEnd, ToProxy, ToServer}
 use Rattle.mc_world.specs.declared.logs.Logged.{Logged}
 use Rattle.mc_world.specs.declared.logs.Logged.TheVariants.{Happened}
 use Rattle.mc_world.proofs.LogCommandLemmas.{commands_reply}

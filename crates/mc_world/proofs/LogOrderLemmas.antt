@@ -1,7 +1,7 @@
 -- An order of requests whose clients are those of the turns of a log.
 use Rattle.std.proofs.Common.{◌≡◌, ◌∙◌, ℕ, suc, ◌==◌, true, false, if◌then◌else◌, List, [], ◌∷◌, ◌++◌, length, map, refl, sym, ap, append_assoc, append-nil}
 use Rattle.mc_account.specs.Orders.{Entry as Asked, Order, entries_of}
-use Rattle.mc_event.specs.declared.events.Event.TheVariants.{ProxyTurn}
+use Rattle.mc_world.specs.declared.events.Event.TheVariants.{ProxyTurn}
 use Rattle.mc_world.specs.Logs.{Log, number_of, takes, turn_of, turns_of}
 use Rattle.mc_world.specs.declared.logs.Logged.{Logged}
 use Rattle.mc_world.specs.declared.logs.Logged.TheVariants.{Happened}

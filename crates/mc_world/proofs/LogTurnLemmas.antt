@@ -31,7 +31,7 @@ use Rattle.mc_world.specs.Logs.{Log}
 use Rattle.mc_world.specs.Pools.{LateTurn, PoolHolds, PutsAnswer, ServerTakes, TakesRequest, asked_by}
 use Rattle.mc_world.specs.Sites.{SiteHolds}
 use Rattle.mc_world.specs.WorldState.{PoolState, SiteState, WayState, histories_of}
-use Rattle.mc_event.specs.declared.events.Event.TheVariants.{Emit, ProxyTurn, ServerTurn}
+use Rattle.mc_world.specs.declared.events.Event.TheVariants.{Emit, ProxyTurn, ServerTurn}
 use Rattle.mc_world.specs.declared.logs.Logged.TheVariants.{Happened}
 use Rattle.mc_world.proofs.LogCommandLemmas.{commands_serve, commands_still, outcome_taken}
 use Rattle.mc_world.proofs.LogEntryLemmas.{HasUntaken, HasUntakenAt, history_at, history_other, history_own, untaken_fewer, untaken_still}

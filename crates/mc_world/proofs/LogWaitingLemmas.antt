@@ -24,7 +24,7 @@ use Rattle.mc_world.specs.LogHolds.{AnswersHold, CommandsHold, IsTold, IsUntaken
 use Rattle.mc_world.specs.Logs.{Log, loses, number_of, puts}
 use Rattle.mc_world.specs.Pools.{LosesLink, cut_off}
 use Rattle.mc_world.specs.WorldState.{PoolState, SiteState, WayState, histories_of}
-use Rattle.mc_event.specs.declared.events.Event.TheVariants.{LinkLost}
+use Rattle.mc_world.specs.declared.events.Event.TheVariants.{LinkLost}
 use Rattle.mc_world.specs.declared.logs.Logged.TheVariants.{Happened}
 use Rattle.mc_world.proofs.LogCommandLemmas.{News, command_taken, commands_go, none_still, up_stays}
 use Rattle.mc_world.proofs.LogEntryLemmas.{HasUntaken, HasUntakenAt, got_mapped, got_pushed, history_still, untaken_set}

@@ -7,8 +7,8 @@ use Rattle.mc_session.specs.Emits.{answer_by}
 use Rattle.mc_proxy.specs.ProxyState.{ProxyState, sent_by, session_at}
 use Rattle.mc_account.specs.Orders.{Entry as Asked, IsToldAs, Order, answers_of, entries_of}
 use Rattle.mc_cache.specs.CacheState.{CacheState}
-use Rattle.mc_event.specs.declared.events.Event.{Event}
-use Rattle.mc_event.specs.declared.events.Event.TheVariants.{ClientBytes, ClientGone, ClientTakes, Emit, LinkBack, LinkLost, ProxyTurn, ReplyTurn, ServerSeesEnd, ServerTurn, ToProxy, ToServer}
+use Rattle.mc_world.specs.declared.events.Event.{Event}
+use Rattle.mc_world.specs.declared.events.Event.TheVariants.{ClientBytes, ClientGone, ClientTakes, Emit, LinkBack, LinkLost, ProxyTurn, ReplyTurn, ServerSeesEnd, ServerTurn, ToProxy, ToServer}
 use Rattle.mc_world.specs.Accounts.{answers_by}
 use Rattle.mc_world.specs.Courses.{Happens, IsDone}
 use Rattle.mc_world.specs.Happens.{Does}

@@ -32,8 +32,8 @@ use Rattle.mc_world.specs.Logs.{number_of, puts, takes}
 use Rattle.mc_world.specs.Runs.{Call, Calls}
 use Rattle.mc_world.specs.WorldState.{PoolState, SiteState, WayState}
 use Rattle.mc_world.specs.Worlds.{CourseState, taken_by, text_of, world_opened}
-use Rattle.mc_event.specs.declared.events.Event.{Event}
-use Rattle.mc_event.specs.declared.events.Event.TheVariants.{ClientTakes, Emit, ProxyTurn, ReplyTurn, ServerSeesEnd, ServerTurn, ToProxy, ToServer}
+use Rattle.mc_world.specs.declared.events.Event.{Event}
+use Rattle.mc_world.specs.declared.events.Event.TheVariants.{ClientTakes, Emit, ProxyTurn, ReplyTurn, ServerSeesEnd, ServerTurn, ToProxy, ToServer}
 use Rattle.mc_world.proofs.LogOrderLemmas.{turns-taken}
 use Rattle.mc_world.proofs.RunLemmas.{course_called}
 use Rattle.mc_world.proofs.WorldOpeningLemmas.{course_opens}

@@ -20,8 +20,8 @@ use Rattle.mc_world.specs.Quiet.{IsQuiet, is_inner}
 use Rattle.mc_world.specs.WorldState.{PoolState, SiteState, WayState}
 use Rattle.mc_world.specs.Worlds.{CourseState}
 use Rattle.mc_world.specs.declared.acts.Act.TheVariants.{SeeEnd}
-use Rattle.mc_event.specs.declared.events.Event.{Event}
-use Rattle.mc_event.specs.declared.events.Event.TheVariants.{ClientBytes, ClientGone, ClientTakes, Emit, LinkBack, LinkLost, ProxyTurn, ReplyTurn, ServerSeesEnd, ServerTurn, ToProxy, ToServer}
+use Rattle.mc_world.specs.declared.events.Event.{Event}
+use Rattle.mc_world.specs.declared.events.Event.TheVariants.{ClientBytes, ClientGone, ClientTakes, Emit, LinkBack, LinkLost, ProxyTurn, ReplyTurn, ServerSeesEnd, ServerTurn, ToProxy, ToServer}
 use Rattle.mc_world.specs.declared.logs.Logged.{Logged}
 use Rattle.mc_world.specs.declared.logs.Logged.TheVariants.{Happened}
 use Rattle.mc_world.proofs.DoneLemmas.{is_there}

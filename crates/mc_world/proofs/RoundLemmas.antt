@@ -10,8 +10,8 @@ use Rattle.mc_world.specs.Rounds.{InOrder, Until}
 use Rattle.mc_world.specs.WorldState.{PoolState, SiteState, WayState}
 use Rattle.mc_world.specs.Worlds.{CourseState, WorldState}
 use Rattle.mc_world.specs.declared.acts.Act.TheVariants.{SeeEnd}
-use Rattle.mc_event.specs.declared.events.Event.{Event}
-use Rattle.mc_event.specs.declared.events.Event.TheVariants.{ClientBytes, ClientGone, ClientTakes, Emit, LinkBack, LinkLost, ProxyTurn, ReplyTurn, ServerSeesEnd, ServerTurn, ToProxy, ToServer}
+use Rattle.mc_world.specs.declared.events.Event.{Event}
+use Rattle.mc_world.specs.declared.events.Event.TheVariants.{ClientBytes, ClientGone, ClientTakes, Emit, LinkBack, LinkLost, ProxyTurn, ReplyTurn, ServerSeesEnd, ServerTurn, ToProxy, ToServer}
 use Rattle.mc_world.proofs.LogEntryLemmas.{got_inside}
 use Rattle.mc_world.proofs.PoolLemmas.{set_site}
 use Rattle.mc_world.proofs.RestLemmas.{first_lost}

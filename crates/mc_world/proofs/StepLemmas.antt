@@ -15,7 +15,7 @@ use Rattle.mc_world.specs.Worlds.{CourseState, WorldState, cache_of, world_opene
 use Rattle.mc_world.specs.declared.errors.Step.{Step}
 use Rattle.mc_world.specs.declared.errors.Step.TheVariants.{Done, Nothing}
 use Rattle.mc_world.specs.declared.errors.WorldError.{WorldError}
-use Rattle.mc_event.specs.declared.events.Event.{Event}
+use Rattle.mc_world.specs.declared.events.Event.{Event}
 use Rattle.mc_world.proofs.DoneLemmas.{course_done, is_there}
 use Rattle.mc_world.proofs.JoinLemmas.{course_joins}
 use Rattle.mc_world.proofs.RestartLemmas.{course_restarts}

@@ -14,8 +14,8 @@ use Rattle.mc_world.specs.Worlds.{ClientState, CourseState}
 use Rattle.mc_world.specs.declared.errors.Step.{Step}
 use Rattle.mc_world.specs.declared.errors.Step.TheVariants.{Done, Nothing}
 use Rattle.mc_world.specs.declared.errors.WorldError.{WorldError}
-use Rattle.mc_event.specs.declared.events.Event.{Event}
-use Rattle.mc_event.specs.declared.events.Event.TheVariants.{LinkLost, ServerTurn, ToServer}
+use Rattle.mc_world.specs.declared.events.Event.{Event}
+use Rattle.mc_world.specs.declared.events.Event.TheVariants.{LinkLost, ServerTurn, ToServer}
 use Rattle.mc_world.specs.declared.logs.Logged.TheVariants.{Happened, Restarted}
 
 abbrev pub course_of : PoolState → List ClientState → Log → CourseState

@@ -10,8 +10,8 @@ use Rattle.mc_world.specs.WorldState.{PoolState, SiteState, WayState}
 use Rattle.mc_world.specs.Worlds.{CourseState, WorldState}
 use Rattle.mc_world.specs.declared.acts.Act.{Act}
 use Rattle.mc_world.specs.declared.acts.Act.TheVariants.{PutAnswer, ReachProxy, ReachServer, SeeEnd, Serve, TakeBytes, TakeReply, TakeRequest}
-use Rattle.mc_event.specs.declared.events.Event.{Event}
-use Rattle.mc_event.specs.declared.events.Event.TheVariants.{ClientTakes, Emit, ProxyTurn, ReplyTurn, ServerSeesEnd, ServerTurn, ToProxy, ToServer}
+use Rattle.mc_world.specs.declared.events.Event.{Event}
+use Rattle.mc_world.specs.declared.events.Event.TheVariants.{ClientTakes, Emit, ProxyTurn, ReplyTurn, ServerSeesEnd, ServerTurn, ToProxy, ToServer}
 
 -- the living generation at a place, the first that was lost there, and the bytes on their way back: 0, 0 and none where there is nothing
 abbrev pub generation_of : Option SiteState → ℕ

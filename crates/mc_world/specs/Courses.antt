@@ -2,14 +2,14 @@
 use Rattle.std.specs.Prelude.{ℕ, ◌≡◌, ◌<◌, ◌^◌, ◌⊎◌, List, [], ◌∷◌, ◌++◌, length, take, Some, All}
 use Rattle.mc_session.specs.SessionState.{SessionState}
 use Rattle.mc_proxy.specs.ProxyState.{output_of, session_at}
-use Rattle.mc_event.specs.Bare.{bare}
+use Rattle.mc_world.specs.Bare.{bare}
 use Rattle.mc_world.specs.Applies.{CanHear, CanPutAnswer, CanReachLate, CanReachProxy, CanReachServer, CanReturn, CanServe, CanServeLate, CanTakeBytes, CanTakeReply, CanTakeRequest, HasLost, IsThere, IsUp, Lives}
 use Rattle.mc_world.specs.Serving.{PoolServes}
 use Rattle.mc_world.specs.Pools.{ClientGoes, EndSeen, HearsClient, LateBytes, LateTurn, LinkReturns, LosesLink, PutsAnswer, ReachesProxy, ReachesServer, ServerTakes, TakesBytes, TakesReply, TakesRequest}
 use Rattle.mc_world.specs.WorldState.{PoolState}
 use Rattle.mc_world.specs.Worlds.{ClientState, CourseState, client_at, with_client}
-use Rattle.mc_event.specs.declared.events.Event.{Event}
-use Rattle.mc_event.specs.declared.events.Event.TheVariants.{ClientBytes, ClientGone, ClientTakes, Emit, LinkBack, LinkLost, ProxyTurn, ReplyTurn, ServerSeesEnd, ServerTurn, ToProxy, ToServer}
+use Rattle.mc_world.specs.declared.events.Event.{Event}
+use Rattle.mc_world.specs.declared.events.Event.TheVariants.{ClientBytes, ClientGone, ClientTakes, Emit, LinkBack, LinkLost, ProxyTurn, ReplyTurn, ServerSeesEnd, ServerTurn, ToProxy, ToServer}
 use Rattle.mc_world.specs.declared.logs.Logged.TheVariants.{Happened}
 
 -- bytes of a generation arrive at its server: of the living one from its link, of one that does not live the first of those on their way

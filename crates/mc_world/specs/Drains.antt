@@ -4,8 +4,8 @@ use Rattle.std.specs.List.{list_all}
 use Rattle.mc_world.specs.Courses.{IsDone}
 use Rattle.mc_world.specs.Quiet.{is_inner}
 use Rattle.mc_world.specs.Worlds.{CourseState}
-use Rattle.mc_event.specs.declared.events.Event.{Event}
-use Rattle.mc_event.specs.declared.events.Event.TheVariants.{ServerTurn}
+use Rattle.mc_world.specs.declared.events.Event.{Event}
+use Rattle.mc_world.specs.declared.events.Event.TheVariants.{ServerTurn}
 
 -- an event that a drain at a moment may do: one of the pool itself, where a server takes its requests at that moment
 abbrev pub is_of_drain : ℕ → Event (List ℕ) → Bool

@@ -1,3 +1,4 @@
+pub mod Bare
 pub mod Logs
 pub mod WorldState
 pub mod Accounts

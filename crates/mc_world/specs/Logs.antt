@@ -2,8 +2,8 @@
 use Rattle.std.specs.Prelude.{ℕ, ◌≡◌, zero, suc, ◌==◌, Bool, true, false, List, [], ◌∷◌, ◌++◌, length, take, drop, if◌then◌else◌}
 use Rattle.mc_ring.specs.Points.{pairs_at, points_of}
 use Rattle.mc_ring.specs.Rings.{RingState, Shows}
-use Rattle.mc_event.specs.declared.events.Event.TheVariants.{Emit, LinkBack, LinkLost, ProxyTurn, ServerTurn}
 use Rattle.mc_history.specs.declared.entries.Entry.{Entry}
+use Rattle.mc_world.specs.declared.events.Event.TheVariants.{Emit, LinkBack, LinkLost, ProxyTurn, ServerTurn}
 use Rattle.mc_world.specs.declared.logs.Logged.{Logged}
 use Rattle.mc_world.specs.declared.logs.Logged.TheVariants.{Happened, Joined, Restarted}
 

@@ -8,8 +8,8 @@ use Rattle.mc_world.specs.Applies.{IsThere, IsUp}
 use Rattle.mc_world.specs.Logs.{number_of, puts}
 use Rattle.mc_world.specs.WorldState.{SiteState}
 use Rattle.mc_world.specs.Worlds.{CourseState, text_of}
-use Rattle.mc_event.specs.declared.events.Event.{Event}
-use Rattle.mc_event.specs.declared.events.Event.TheVariants.{ClientBytes, ClientGone, LinkBack, LinkLost}
+use Rattle.mc_world.specs.declared.events.Event.{Event}
+use Rattle.mc_world.specs.declared.events.Event.TheVariants.{ClientBytes, ClientGone, LinkBack, LinkLost}
 
 -- an event of the pool itself: no client sends or goes, and no link is lost or comes back
 abbrev pub is_inner : Event (List ℕ) → Bool

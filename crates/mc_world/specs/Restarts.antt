@@ -1,7 +1,7 @@
 -- A server of a pool restarts, and so in the course of a world.
 use Rattle.std.specs.Prelude.{ℕ, ◌≡◌, ◌⊎◌, [], ◌∷◌, ◌++◌, length, Some, slice_get, slice_set}
 use Rattle.mc_cache.specs.CacheState.{CacheState}
-use Rattle.mc_event.specs.declared.events.Event.TheVariants.{LinkLost}
+use Rattle.mc_world.specs.declared.events.Event.TheVariants.{LinkLost}
 use Rattle.mc_world.specs.Applies.{IsUp}
 use Rattle.mc_world.specs.Courses.{IsDone}
 use Rattle.mc_world.specs.WorldState.{PoolState, SiteState}

@@ -5,7 +5,7 @@ use Rattle.mc_world.specs.Courses.{IsDone}
 use Rattle.mc_world.specs.Joins.{HasServerJoined}
 use Rattle.mc_world.specs.Restarts.{HasServerRestarted}
 use Rattle.mc_world.specs.Worlds.{CourseState}
-use Rattle.mc_event.specs.declared.events.Event.{Event}
+use Rattle.mc_world.specs.declared.events.Event.{Event}
 
 -- an event is done, or nothing has changed: it did not apply, or memory was refused
 abbrev pub Goes : Event (List ℕ) → CourseState → CourseState → Type 0

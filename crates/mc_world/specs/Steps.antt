@@ -6,7 +6,7 @@ use Rattle.mc_world.specs.Happens.{Does}
 use Rattle.mc_world.specs.Worlds.{CourseState, WorldState, cache_of, history_of, put_out_of, text_of}
 use Rattle.mc_world.specs.declared.errors.Step.{Step}
 use Rattle.mc_world.specs.declared.errors.Step.TheVariants.{Done}
-use Rattle.mc_event.specs.declared.events.Event.{Event}
+use Rattle.mc_world.specs.declared.events.Event.{Event}
 
 -- what a step does that answers so: where it answers Done the event is done, else nothing changes; it answers Done exactly where the
 -- event applies

@@ -1,8 +1,8 @@
 //! What a drain does at a client or at a server.
 ghost use Rattle.std.specs.Prelude.{◌≡◌, slice_get};
 
+use crate::events::Event;
 use crate::pools::Pool;
-use mc_event::Event;
 use mc_store::Store;
 use mc_text::Block;
 

@@ -1,8 +1,8 @@
 //! Whether an event applies to a pool. No call takes memory.
 ghost use Rattle.std.specs.Prelude.{◌<◌, ◌↔◌, ℕ, IsTrue};
 
+use crate::events::Event;
 use crate::pools::Pool;
-use mc_event::Event;
 use mc_store::Store;
 use mc_text::Block;
 

@@ -3,9 +3,9 @@ ghost use Rattle.std.specs.Prelude.{◌≡◌, ◌<◌, ◌^◌, ◌↔◌, [], 
 
 use crate::clients::Client;
 use crate::errors::{Step, WorldError};
+use crate::events::Event;
 use crate::logs::Logged;
 use crate::pools::Pool;
-use mc_event::Event;
 use mc_ring::Address;
 use mc_server::Server;
 use mc_store::Store;
@@ -39,7 +39,7 @@ impl<S: Store + Drop> Course<S> {
     ghost use Rattle.mc_world.specs.Refusals.{refusal_in, refusal_of, restart_refusal_of};
     ghost use Rattle.mc_world.specs.Restarts.{HasServerRestarted};
     ghost use Rattle.mc_world.specs.declared.errors.Step.TheVariants.{Done};
-    ghost use Rattle.mc_event.specs.declared.events.Event.TheVariants.{ClientBytes, ClientGone, ClientTakes, ServerTurn, ToServer};
+    ghost use Rattle.mc_world.specs.declared.events.Event.TheVariants.{ClientBytes, ClientGone, ClientTakes, ServerTurn, ToServer};
 
     /// Does what an event says, where it applies, and puts it down in the log, in which there is room first: so the log is out of
     /// reach of what happens. Where the event does not apply no memory is asked for. At an error nothing has changed.

@@ -2,7 +2,8 @@
 //! gives.
 //!
 //! A [`World`] takes a list of events, one by one ([`World::step`], [`World::run`]), servers that join ([`World::join_server`]) and
-//! servers that die and begin anew with nothing ([`World::restart_server`]).
+//! servers that die and begin anew with nothing ([`World::restart_server`]). An [`Event`] is what can happen to a pool in one step: what
+//! a script says line by line, and a world does.
 //! Whatever it took, it gives account ([`World::gives_account`]): that is its invariant, and in the contract of each of these calls.
 //!
 //! [`every_run_gives_account`] is the theorem of the pool. Whatever list of events is done and whichever servers join or restart, each as the
@@ -26,6 +27,7 @@ mod clients;
 mod courses;
 mod drains;
 mod errors;
+mod events;
 mod joins;
 mod late;
 mod laws;
@@ -42,12 +44,12 @@ mod world_laws;
 mod worlds;
 
 pub use errors::{Step, WorldError};
+pub use events::Event;
 pub use laws::{
     clients_keep_pools, living_ways_keep_pools, logs_go_on, lost_ways_keep_pools,
     nothing_gives_account, pools_account_for_commands,
 };
 pub use logs::Logged;
-pub use mc_event::Event;
 pub use mc_history::Entry;
 pub use mc_route::Losses;
 pub use pools::Pool;

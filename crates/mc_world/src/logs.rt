@@ -1,6 +1,6 @@
 //! How a log keeps what was done.
 
-use mc_event::Event;
+use crate::events::Event;
 use mc_ring::Address;
 
 /// What was done, as a log keeps it.

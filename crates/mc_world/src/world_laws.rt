@@ -15,11 +15,11 @@ ghost use Rattle.mc_world.specs.Quiet.{IsQuiet, is_inner};
 ghost use Rattle.mc_world.specs.Runs.{Call, Calls};
 ghost use Rattle.mc_world.specs.Steps.{RunsTo};
 ghost use Rattle.mc_world.specs.Worlds.{CourseState, history_of, opening_pool, put_out_of, text_of, world_opened};
-ghost use Rattle.mc_event.specs.declared.events.Event.{Event};
+ghost use Rattle.mc_world.specs.declared.events.Event.{Event};
 
 use crate::errors::WorldError;
+use crate::events::Event;
 use crate::worlds::World;
-use mc_event::Event;
 use mc_ring::Ring;
 use mc_route::Losses;
 use mc_store::Store;

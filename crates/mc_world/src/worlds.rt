@@ -4,10 +4,10 @@ ghost use Rattle.std.specs.Prelude.{◌≡◌, ◌↔◌, ◌⊎◌, [], length,
 use crate::clients::Client;
 use crate::courses::Course;
 use crate::errors::{Step, WorldError};
+use crate::events::Event;
 use crate::logs::Logged;
 use crate::openings::{copy_of, empty_stores, fresh_server, opened_course};
 use mc_cache::is_within_bounds;
-use mc_event::Event;
 use mc_history::Entry;
 use mc_ring::{Address, Ring};
 use mc_route::Losses;

@@ -1,5 +1,5 @@
 use Rattle.std.proofs.Common.{rules, ◌≡◌, List, [], ◌∷◌, ◌++◌, length, ap, arith}
-use Rattle.mc_event.specs.declared.events.Event.TheVariants.{LinkLost}
+use Rattle.mc_world.specs.declared.events.Event.TheVariants.{LinkLost}
 use Rattle.mc_world.specs.WorldState.{SiteState}
 use Rattle.mc_world.specs.declared.logs.Logged.TheVariants.{Happened, Restarted}
 use Rattle.mc_world.proofs.ApplyingLemmas.{refused_inside, refused_past}

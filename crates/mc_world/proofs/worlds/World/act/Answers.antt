@@ -6,7 +6,7 @@ use Rattle.mc_world.specs.WorldState.{PoolState}
 use Rattle.mc_world.specs.Worlds.{WorldState}
 use Rattle.mc_world.specs.declared.errors.Step.TheVariants.{Done}
 use Rattle.mc_world.specs.declared.worlds.World.TheInside.{Inside}
-use Rattle.mc_event.specs.declared.events.Event.{Event}
+use Rattle.mc_world.specs.declared.events.Event.{Event}
 use Rattle.mc_world.proofs.DrainLemmas.{act_done}
 use Rattle.mc_world.proofs.worlds.World.act.Goals as goal
 

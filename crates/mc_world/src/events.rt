@@ -85,7 +85,7 @@ pub enum Event<B> {
 }
 
 impl Event<Block> {
-    ghost use Rattle.mc_event.specs.Bare.{bare};
+    ghost use Rattle.mc_world.specs.Bare.{bare};
 
     /// The event without the bytes of a client, as a log keeps it.
     pub fn bare(&self) -> Event<()>
