@@ -2,9 +2,9 @@
 use Rattle.std.proofs.Common.{◌≡◌, ℕ, Bool, true, List, ◌++◌, length, Option, Some, None, codes, ℤ, refl, ap, ◌∙◌, arith}
 use Rattle.std.specs.Fmt.{decimal}
 use Rattle.std.specs.Option.{is_some}
-use Rattle.mc_forms.specs.Forms.{Or, Path, or_if}
-use Rattle.mc_forms.proofs.LeadLemmas.{clear_lines}
-use Rattle.mc_forms.proofs.CoverLaws.{Holds, Spells, Covers, of_line, of_or, of_or_if, to_line, to_left, to_right, to_if, to_after}
+use Rattle.mc_text.specs.Forms.{Or, Path, or_if}
+use Rattle.mc_text.proofs.LeadLemmas.{clear_lines}
+use Rattle.mc_text.proofs.CoverLaws.{Holds, Spells, Covers, of_line, of_or, of_or_if, to_line, to_left, to_right, to_if, to_after}
 use Rattle.mc_request.specs.WellFormed.{is_good_block, is_u64}
 use Rattle.mc_request.specs.declared.faults.Fault.{Fault}
 use Rattle.mc_request.specs.declared.faults.Fault.TheVariants.{NonNumeric, TooLarge, CasUsedUp, OutOfMemory}

@@ -2,9 +2,9 @@
 -- is after each block.
 use Rattle.std.proofs.Common.{◌≡◌, ℕ, Bool, true, false, List, Option, Some, None, codes, refl, arith}
 use Rattle.mc_text.specs.declared.blocks.TheConstants.{VALUE_LIMIT}
-use Rattle.mc_forms.specs.Forms.{Form, Text, Number, Or}
-use Rattle.mc_forms.proofs.FormLaws.{IsClear}
-use Rattle.mc_forms.proofs.LeadLemmas.{leads, all_differ, clear_or, clear_number, clear_lines, after_number_if, IsAfter}
+use Rattle.mc_text.specs.Forms.{Form, Text, Number, Or}
+use Rattle.mc_text.proofs.FormLaws.{IsClear}
+use Rattle.mc_text.proofs.LeadLemmas.{leads, all_differ, clear_or, clear_number, clear_lines, after_number_if, IsAfter}
 use Rattle.mc_request.specs.declared.faults.Fault.TheVariants.{CasUsedUp}
 use Rattle.mc_request.specs.declared.meta.Show.{Show}
 use Rattle.mc_reply.specs.declared.replies.Marks.{Marks}

@@ -4,11 +4,11 @@ use Rattle.std.proofs.lemmas.List.{length-append}
 use Rattle.std.specs.Option.{is_some}
 use Rattle.std.specs.Prelude.{◌↔◌, IsTrue, OnErr}
 use Rattle.std.specs.Result.{is_ok}
-use Rattle.mc_forms.specs.Forms.{Form, Or, or_if, read, text_at, number_at}
-use Rattle.mc_forms.specs.Seen.{seen_by}
-use Rattle.mc_forms.specs.declared.unready.Unready.{Unready}
-use Rattle.mc_forms.specs.declared.unready.Unready.TheVariants.{More, Strange}
-use Rattle.mc_forms.proofs.CoverLaws.{Covers, Begins, BegunFor, read_ok, read_more, read_strange, are_apart}
+use Rattle.mc_text.specs.Forms.{Form, Or, or_if, read, text_at, number_at}
+use Rattle.mc_text.specs.FormsSeen.{seen_by}
+use Rattle.mc_text.specs.declared.unready.Unready.{Unready}
+use Rattle.mc_text.specs.declared.unready.Unready.TheVariants.{More, Strange}
+use Rattle.mc_text.proofs.CoverLaws.{Covers, Begins, BegunFor, read_ok, read_more, read_strange, are_apart}
 use Rattle.mc_request.specs.Parts.{meta_map, update_map}
 use Rattle.mc_request.specs.Atoms.{head_of}
 use Rattle.mc_spelling.specs.Spellings.{is_askable, is_good_atom}

@@ -1,8 +1,8 @@
 -- The forms of the replies to meta commands cover their spellings.
 use Rattle.std.proofs.Common.{◌≡◌, ℕ, Bool, true, false, List, Option, ℤ, refl, arith}
 use Rattle.std.specs.Option.{is_some}
-use Rattle.mc_forms.specs.Forms.{Or, Path, or_if}
-use Rattle.mc_forms.proofs.CoverLaws.{Holds, Spells, Covers, of_line, of_or, of_or_if, to_line, to_left, to_right, to_if, to_after}
+use Rattle.mc_text.specs.Forms.{Or, Path, or_if}
+use Rattle.mc_text.proofs.CoverLaws.{Holds, Spells, Covers, of_line, of_or, of_or_if, to_line, to_left, to_right, to_if, to_after}
 use Rattle.mc_request.specs.declared.faults.Fault.{Fault}
 use Rattle.mc_request.specs.declared.faults.Fault.TheVariants.{CasUsedUp}
 use Rattle.mc_request.specs.declared.meta.Counting.{Counting}

@@ -2,8 +2,8 @@
 use Rattle.std.proofs.Common.{◌≡◌, ℕ, ◌≤◌, Bool, true, false, List, ◌++◌, length, Option, Some, None, codes, inl, inr, refl, sym, ap, ◌∙◌, arith}
 use Rattle.std.specs.Fmt.{decimal}
 use Rattle.mc_text.specs.declared.blocks.TheConstants.{VALUE_LIMIT}
-use Rattle.mc_forms.specs.Forms.{Form, Path, word, meant, number_if}
-use Rattle.mc_forms.proofs.CoverLaws.{Spells}
+use Rattle.mc_text.specs.Forms.{Form, Path, word, meant, number_if}
+use Rattle.mc_text.proofs.CoverLaws.{Spells}
 use Rattle.mc_request.specs.WellFormed.{is_good_block, is_u64, is_where_some}
 use Rattle.mc_request.specs.declared.meta.Show.{Show}
 use Rattle.mc_reply.specs.CanHave.{is_as_asked, is_shown_by, is_size, is_u32, is_unmarked}

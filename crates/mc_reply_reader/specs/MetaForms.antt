@@ -2,9 +2,9 @@
 use Rattle.std.specs.Prelude.{ℕ, Bool, true, false, List, Option, Some, None, Result, Err, codes}
 use Rattle.std.specs.Option.{is_some}
 use Rattle.mc_text.specs.declared.blocks.TheConstants.{VALUE_LIMIT}
-use Rattle.mc_forms.specs.Forms.{Form, Done, Text, Number, Block, Or, or_if, number_if, read}
-use Rattle.mc_forms.specs.declared.unready.Unready.{Unready}
-use Rattle.mc_forms.specs.declared.unready.Unready.TheVariants.{Strange}
+use Rattle.mc_text.specs.Forms.{Form, Done, Text, Number, Block, Or, or_if, number_if, read}
+use Rattle.mc_text.specs.declared.unready.Unready.{Unready}
+use Rattle.mc_text.specs.declared.unready.Unready.TheVariants.{Strange}
 use Rattle.mc_request.specs.declared.faults.Fault.TheVariants.{CasUsedUp}
 use Rattle.mc_request.specs.declared.meta.MetaCommand.{MetaCommand}
 use Rattle.mc_request.specs.declared.meta.MetaCommand.TheVariants as metas

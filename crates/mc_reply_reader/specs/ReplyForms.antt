@@ -2,7 +2,7 @@
 use Rattle.std.specs.Prelude.{ℕ, Bool, List, Option, codes}
 use Rattle.std.specs.Option.{is_some}
 use Rattle.mc_text.specs.declared.blocks.TheConstants.{VALUE_LIMIT}
-use Rattle.mc_forms.specs.Forms.{Form, Done, Text, Number, Block, Or, or_if, number_if}
+use Rattle.mc_text.specs.Forms.{Form, Done, Text, Number, Block, Or, or_if, number_if}
 use Rattle.mc_request.specs.declared.faults.Fault.TheVariants.{NonNumeric, TooLarge, CasUsedUp, OutOfMemory}
 use Rattle.mc_request.specs.declared.parts.Update.{Update}
 use Rattle.mc_request.specs.declared.parts.Update.TheVariants as updates

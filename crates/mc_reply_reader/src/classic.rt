@@ -1,17 +1,16 @@
 //! The replies to classic commands.
 ghost use Rattle.std.specs.Prelude.{◌≡◌};
-ghost use Rattle.mc_forms.specs.Forms.{read, Or};
-ghost use Rattle.mc_forms.specs.Seen.{seen_by};
+ghost use Rattle.mc_text.specs.Forms.{read, Or};
+ghost use Rattle.mc_text.specs.FormsSeen.{seen_by};
 ghost use Rattle.mc_reply.specs.Seen.{bytes_seen};
 ghost use Rattle.mc_reply.specs.CanHave.{is_conditional};
 ghost use Rattle.mc_reply_reader.specs.ReplyForms.{update_line, get_form, hit, store_form, compared_form, count_form, number_line, count_faults, update_form};
 
 use crate::limits::{FLAGS_LIMIT, NUMBER_LIMIT};
 use crate::lines::{Reading, count_fault, line, store_fault};
-use mc_forms::{Unready, block, number, number_if, text};
 use mc_reply::Reply;
 use mc_request::{StoreMode, Update};
-use mc_text::{Key, VALUE_LIMIT};
+use mc_text::{Key, Unready, VALUE_LIMIT, block, number, number_if, text};
 
 /// The reply to a retrieval command on one key.
 pub fn get_reply<'a>(key: &[u8], with_cas: bool, unread: &'a [u8]) -> Reading<'a>

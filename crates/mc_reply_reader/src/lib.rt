@@ -22,7 +22,7 @@ macro_rules! or {
     ($reading:expr) => { $reading };
     ($reading:expr, $($others:expr),+) => {
         match $reading {
-            Err(mc_forms::Unready::Strange) => or!($($others),+),
+            Err(mc_text::Unready::Strange) => or!($($others),+),
             other => other,
         }
     };

@@ -1,13 +1,13 @@
 //! Lines that are the same whatever is held.
 ghost use Rattle.std.specs.Prelude.{◌≡◌};
-ghost use Rattle.mc_forms.specs.Forms.{read};
-ghost use Rattle.mc_forms.specs.Seen.{seen_by};
+ghost use Rattle.mc_text.specs.Forms.{read};
+ghost use Rattle.mc_text.specs.FormsSeen.{seen_by};
 ghost use Rattle.mc_reply.specs.Seen.{bytes_seen};
 ghost use Rattle.mc_reply_reader.specs.ReplyForms.{line, update_line, store_faults, count_faults};
 
-use mc_forms::{Unready, text};
 use mc_reply::Reply;
 use mc_request::Fault;
+use mc_text::{Unready, text};
 
 /// A reply whose value is in the bytes, and the bytes after it.
 pub type Reading<'a> = Result<(Reply<&'a [u8]>, &'a [u8]), Unready>;

@@ -1,17 +1,16 @@
 //! The replies to meta commands.
 ghost use Rattle.std.specs.Prelude.{◌≡◌, ◌<◌, ◌^◌, IfSome, Some, None, codes};
-ghost use Rattle.mc_forms.specs.Forms.{Or, Text, Number, number_if, or_if, read};
-ghost use Rattle.mc_forms.specs.Seen.{seen_by};
+ghost use Rattle.mc_text.specs.Forms.{Or, Text, Number, number_if, or_if, read};
+ghost use Rattle.mc_text.specs.FormsSeen.{seen_by};
 ghost use Rattle.mc_reply.specs.Seen.{bytes_seen};
 ghost use Rattle.mc_reply_reader.specs.ReplyForms.{store_faults, count_faults, update_line};
 ghost use Rattle.mc_reply_reader.specs.MetaForms.{after_line, code_line, end_if, left_if, mark_end, meta_count_form, meta_delete_form, meta_form, meta_get_form, meta_store_form, read_if, shown_by, shown_form, unmet_form};
 
 use crate::limits::{FLAGS_LIMIT, NUMBER_LIMIT};
 use crate::lines::{Reading, count_fault, fault_line, line, store_fault};
-use mc_forms::{Unready, block, number, number_if, text};
 use mc_reply::{Marks, Reply, Shown};
 use mc_request::{Fault, MetaCommand, Show, Update};
-use mc_text::{Key, VALUE_LIMIT};
+use mc_text::{Key, Unready, VALUE_LIMIT, block, number, number_if, text};
 
 /// The reply to a meta command. What has no meta form has none.
 pub fn meta_reply<'a>(command: &MetaCommand<Key, ()>, unread: &'a [u8]) -> Reading<'a>

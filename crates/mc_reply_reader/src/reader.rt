@@ -4,10 +4,9 @@ ghost use Rattle.mc_reply_reader.specs.NextReply.{Gives, HasReply, fresh_reply_r
 
 use crate::next_replies::NextReply;
 use crate::replies::{owned, read_reply};
-use mc_forms::Unready;
 use mc_reply::ReplyError;
 use mc_request::Head;
-use mc_text::{give_back, let_go};
+use mc_text::{Unready, give_back, let_go};
 use std::alloc::Global;
 use std::marker::Model;
 

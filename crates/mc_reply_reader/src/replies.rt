@@ -1,6 +1,6 @@
 //! The reply at the front of the bytes.
 ghost use Rattle.std.specs.Prelude.{◌≡◌, IfOk};
-ghost use Rattle.mc_forms.specs.Seen.{seen_by};
+ghost use Rattle.mc_text.specs.FormsSeen.{seen_by};
 ghost use Rattle.mc_reply.specs.Seen.{bytes_seen};
 ghost use Rattle.mc_reply_reader.specs.MetaForms.{form_of, read_if};
 

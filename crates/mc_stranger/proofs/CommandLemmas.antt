@@ -3,7 +3,7 @@ use Rattle.std.proofs.Common.{◌≡◌, ℕ, ◌<◌, ◌≤◌, ◌==◌, ◌|
 use Rattle.std.proofs.Math.Bool.{and-false}
 use Rattle.std.proofs.lemmas.Bool.Decides.{nat_tests}
 use Rattle.std.specs.Str.{bytes_eq}
-use Rattle.mc_forms.proofs.FieldLemmas.{either}
+use Rattle.mc_text.proofs.FieldLemmas.{either}
 use Rattle.mc_request.specs.Names.{classic_name_of, name_of}
 use Rattle.mc_stranger.specs.FirstLines.{is_command}
 

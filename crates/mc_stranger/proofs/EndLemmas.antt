@@ -5,7 +5,7 @@ use Rattle.std.proofs.lemmas.Bool.{lt-ltb}
 use Rattle.std.proofs.lemmas.List.{append-nil}
 use Rattle.std.specs.List.{list_all, slice_split, onto_first}
 use Rattle.std.specs.Str.Lines.{strip_carriage_return}
-use Rattle.mc_forms.proofs.FieldLemmas.{either}
+use Rattle.mc_text.proofs.FieldLemmas.{either}
 use Rattle.mc_text.specs.Words.{words}
 use Rattle.mc_stranger.specs.FirstLines.{is_version, end_in_version}
 use Rattle.mc_stranger.specs.Places.{ends, EndsTheSame, ending_text}

@@ -5,7 +5,7 @@ use Rattle.std.proofs.lemmas.Bool.Decides.{nat_tests}
 use Rattle.std.proofs.lemmas.List.{append-nil}
 use Rattle.std.specs.List.{slice_split}
 use Rattle.std.specs.Str.Lines.{strip_carriage_return}
-use Rattle.mc_forms.proofs.FieldLemmas.{either}
+use Rattle.mc_text.proofs.FieldLemmas.{either}
 use Rattle.mc_text.specs.Words.{words}
 use Rattle.mc_request.specs.Names.{name_of}
 use Rattle.mc_stranger.specs.FirstLines.{is_command, is_version, end_in_version, line_says, front_says, all_but_last, ended_words, lines_say, first_line_says}

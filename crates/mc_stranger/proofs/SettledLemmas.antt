@@ -1,10 +1,10 @@
 -- What stays once it is known, and after how many bytes it is.
 use Rattle.std.proofs.Common.{◌≡◌, ◌≢◌, ℕ, suc, ◌+◌, ◌<◌, ◌≤◌, ◌==◌, false, List, [], ◌∷◌, ◌++◌, length, inl, inr, Result, Ok, Err, refl, arith, codes}
 use Rattle.std.proofs.lemmas.Bool.Decides.{nat_tests}
-use Rattle.mc_forms.specs.Forms.{text_at, or_else, ◌>>=◌}
-use Rattle.mc_forms.specs.declared.unready.Unready.{Unready}
-use Rattle.mc_forms.specs.declared.unready.Unready.TheVariants.{More, Strange}
-use Rattle.mc_forms.proofs.FieldLemmas.{either}
+use Rattle.mc_text.specs.Forms.{text_at, or_else, ◌>>=◌}
+use Rattle.mc_text.specs.declared.unready.Unready.{Unready}
+use Rattle.mc_text.specs.declared.unready.Unready.TheVariants.{More, Strange}
+use Rattle.mc_text.proofs.FieldLemmas.{either}
 use Rattle.mc_stranger.specs.Openings.{http_at, method_at, target_at, opening_by, opening_of}
 use Rattle.mc_stranger.specs.declared.openings.Opening.TheVariants.{Unsettled, Text}
 

@@ -6,7 +6,7 @@ use Rattle.std.proofs.lemmas.List.Elements.{filter-append}
 use Rattle.std.proofs.lemmas.List.Folds.{list_all-append}
 use Rattle.std.specs.List.{list_all, prefix_len, slice_split}
 use Rattle.std.specs.Str.Lines.{strip_carriage_return}
-use Rattle.mc_forms.proofs.FieldLemmas.{either}
+use Rattle.mc_text.proofs.FieldLemmas.{either}
 use Rattle.mc_text.specs.Words.{words, without_spaces}
 use Rattle.mc_stranger.specs.FirstLines.{end_in_version, first_line_says}
 use Rattle.mc_stranger.specs.Places.{ends, EndsTheSame, SaysTheSame, ending_text, place_text}

@@ -3,7 +3,7 @@ use Rattle.std.proofs.Common.{◌≡◌, ◌≢◌, ◌∙◌, ℕ, ◌<◌, ◌
 use Rattle.std.proofs.lemmas.Bool.Decides.{nat_tests}
 use Rattle.std.proofs.lemmas.List.{append-nil}
 use Rattle.std.specs.Str.Lines.{strip_carriage_return}
-use Rattle.mc_forms.proofs.FieldLemmas.{either}
+use Rattle.mc_text.proofs.FieldLemmas.{either}
 use Rattle.mc_stranger.specs.FirstLines.{is_command, is_version, front_says, ended_words, first_line_says}
 use Rattle.mc_stranger.specs.FirstWords.{is_word, is_word_byte}
 use Rattle.mc_stranger.specs.Places.{ends, SaysTheSame}

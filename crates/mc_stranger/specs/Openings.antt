@@ -1,8 +1,8 @@
 -- What the first bytes of a connection say of what it speaks. The openings are this project's own choice.
 use Rattle.std.specs.Prelude.{ℕ, ◌==◌, List, [], ◌∷◌, Result, Ok, Err, codes, if◌then◌else◌}
-use Rattle.mc_forms.specs.Forms.{text_at, or_else, ◌>>=◌}
-use Rattle.mc_forms.specs.declared.unready.Unready.{Unready}
-use Rattle.mc_forms.specs.declared.unready.Unready.TheVariants.{More, Strange}
+use Rattle.mc_text.specs.Forms.{text_at, or_else, ◌>>=◌}
+use Rattle.mc_text.specs.declared.unready.Unready.{Unready}
+use Rattle.mc_text.specs.declared.unready.Unready.TheVariants.{More, Strange}
 use Rattle.mc_stranger.specs.declared.openings.Stranger.TheVariants.{Http, Binary, Tls}
 use Rattle.mc_stranger.specs.declared.openings.Opening.{Opening}
 use Rattle.mc_stranger.specs.declared.openings.Opening.TheVariants.{Unsettled, Text, Strange as AStranger}

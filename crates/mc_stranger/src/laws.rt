@@ -1,5 +1,5 @@
 //! Laws of openings, and examples. The functions do nothing: their contracts are the laws.
-#![tactic(auto, unfolding(mc_forms::specs::Forms::text_at, crate::specs::Openings::opening_of, crate::proofs::OnLiterals::on_literals))]
+#![tactic(auto, unfolding(mc_text::specs::Forms::text_at, crate::specs::Openings::opening_of, crate::proofs::OnLiterals::on_literals))]
 
 ghost use Rattle.std.specs.Prelude.{◌≡◌, ◌≢◌, ◌≤◌, ◌∷◌, ◌++◌, [], ℕ, List, codes, length};
 ghost use Rattle.mc_stranger.specs.Openings.{opening_of};

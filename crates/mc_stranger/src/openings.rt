@@ -1,10 +1,10 @@
 //! What the first bytes of a connection say of what it speaks.
 ghost use Rattle.std.specs.Prelude.{◌≡◌};
-ghost use Rattle.mc_forms.specs.Forms.{or_else, text_at};
-ghost use Rattle.mc_forms.specs.Seen.{seen_by};
+ghost use Rattle.mc_text.specs.Forms.{or_else, text_at};
+ghost use Rattle.mc_text.specs.FormsSeen.{seen_by};
 ghost use Rattle.mc_stranger.specs.Openings.{http_at, method_at, opening_by, opening_of, request_at};
 
-use mc_forms::{Unready, text};
+use mc_text::{Unready, text};
 use std::fmt;
 use std::fmt::{Display, Formatter};
 

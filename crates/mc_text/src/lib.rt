@@ -1,4 +1,4 @@
-//! The text of memcached's protocol: lines, words, numbers, keys and data blocks.
+//! The text of memcached's protocol: lines, words, numbers, keys and data blocks, and forms, which are rows of these.
 //!
 //! A caller meets the calls in this order: [`next_line`] cuts a line from the bytes that have come,
 //! [`words`] gives its words ([`without_spaces`] only passes the spaces in front of one), [`read_u64`], [`read_i64`],
@@ -14,12 +14,33 @@
 //! Each call gives exactly what the definition of its name in `specs/` says of the bytes. Spaces, line ends and key bytes
 //! are looked at [`LANES`] at a time, if there are as many. Only what makes a key or a block takes memory.
 //! [`coded_keys_have_one_word`] is a law, and the other functions are worked examples: they do nothing.
+//!
+//! # Forms
+//!
+//! They say what can be spelled, field by field, and how it is read.
+//!
+//! A form (`specs/Forms.antt`) is a text, a number, a block of so many bytes, or one of two forms, and what follows it. Each
+//! field may depend on the ones before: a block's size is the number that was read. A form says three things of one: which
+//! values its fields can have (`Path`), how these are spelled (`word`) and what they stand for (`meant`). `read` is how it is
+//! read from bytes that come in pieces: it gives what was meant and the bytes after it, or says that more must come, or that
+//! nothing begins so.
+//!
+//! The law of forms (`proofs/FormLaws.antt`, `is_read`): where a form is clear, what is read is what is spelled, exactly. It
+//! is read whole as soon as its spelling has come, More while the bytes are the beginning of a spelling, and Strange from the
+//! first byte on after which none goes on. A form is clear where what follows a number does not begin with a digit, something
+//! follows each block, and no spelling of one of two forms begins one of the other; `proofs/LeadLemmas.antt` decides that by
+//! computing. `proofs/CoverLaws.antt` says the law for who has spellings of their own, and a form that covers them.
+//!
+//! In code a form is a function that calls one function a field, in the form's order, with a `?` after each: [`text`],
+//! [`number`], [`number_if`] and [`block`]; where there are two forms, the second is read where the first is
+//! [`Unready::Strange`]. Each gives exactly what the definition of its name says. None takes memory.
 #![tactic(auto)]
 
 mod appends;
 mod blocks;
 mod byte_tests;
 mod coded_keys;
+mod fields;
 mod fronts;
 mod key_bytes;
 mod keys;
@@ -28,11 +49,13 @@ mod lines;
 mod numbers;
 mod places;
 mod rows;
+mod unready;
 mod word_iter;
 
 pub use appends::append;
 pub use blocks::{Block, VALUE_LIMIT};
 pub use coded_keys::{CODED_LIMIT, CODED_ROOM, is_coded_key, read_coded, write_coded};
+pub use fields::{block, number, number_if, text};
 pub use fronts::{drop_front, give_back, let_go};
 pub use key_bytes::KeyBytes;
 pub use keys::{KEY_LIMIT, Key, KeyError, are_plain_keys, is_plain_key};
@@ -44,4 +67,5 @@ pub use rows::{
     coded_keys_by_their_words, keys_by_their_bytes, lines_by_their_ends, numbers_within_limits,
     words_between_spaces,
 };
+pub use unready::Unready;
 pub use word_iter::{WordIter, without_spaces, words};

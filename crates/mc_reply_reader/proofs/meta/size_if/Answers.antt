@@ -1,5 +1,5 @@
 use Rattle.std.proofs.Common.{refl}
-use Rattle.mc_forms.proofs.SeenLemmas.{read-number_if}
+use Rattle.mc_text.proofs.SeenLemmas.{read-number_if}
 use Rattle.mc_reply_reader.proofs.meta.size_if.Goals as goal
 
 pub returns : goal.returns

@@ -1,5 +1,5 @@
 use Rattle.std.proofs.Common.{refl, codes}
-use Rattle.mc_forms.specs.Forms.{text_at, digits_at, number_at, block_at}
+use Rattle.mc_text.specs.Forms.{text_at, digits_at, number_at, block_at}
 use Rattle.mc_reply_reader.specs.Examples.{get_of_a}
 use Rattle.mc_reply_reader.proofs.HeadLemmas.{strange_from}
 use Rattle.mc_reply_reader.proofs.rows.another_key.Goals as goal

@@ -1,6 +1,6 @@
 use Rattle.std.proofs.Common.{◌≡◌, ◌++◌, ◌∙◌, ◌+◌, ◌-◌, ◌<◌, ◌≤◌, ℕ, List, drop, length, refl, sym, ap, subst, arith}
 use Rattle.std.proofs.lemmas.List.{drop-drop}
-use Rattle.mc_forms.proofs.CoverLaws.{drop-taken}
+use Rattle.mc_text.proofs.CoverLaws.{drop-taken}
 use Rattle.mc_reply.specs.CanHave.{can_have}
 use Rattle.mc_reply.specs.Seen.{bytes_seen}
 use Rattle.mc_reply.specs.Spelling.{spelling_of}

@@ -1,7 +1,7 @@
 //! The fields of a form, read from the front of the bytes.
 ghost use Rattle.std.specs.Prelude.{◌≡◌, ◌+◌, ◌*◌, ◌<◌, ◌≤◌, ◌&&◌, nat_lt, nat_le, IfOk, IfSome, Some, None, if◌then◌else◌};
-ghost use Rattle.mc_forms.specs.Forms.{text_at, digits_at, number_at, block_at};
-ghost use Rattle.mc_forms.specs.Seen.{seen_by, number_if_at};
+ghost use Rattle.mc_text.specs.Forms.{text_at, digits_at, number_at, block_at};
+ghost use Rattle.mc_text.specs.FormsSeen.{seen_by, number_if_at};
 
 use crate::unready::Unready;
 

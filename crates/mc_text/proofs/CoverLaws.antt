@@ -1,11 +1,11 @@
 -- The law of forms, for who has spellings of their own.
 use Rattle.std.proofs.Common.{◌≡◌, ◌≢◌, ℕ, ◌+◌, ◌-◌, ◌<◌, ◌≤◌, Bool, true, false, List, [], ◌∷◌, ◌++◌, length, drop, inl, inr, Result, Ok, Err, refl, sym, ap, ◌∙◌, arith}
 use Rattle.std.proofs.lemmas.List.{append-nil, length-append, drop_at}
-use Rattle.mc_forms.specs.declared.unready.Unready.{Unready}
-use Rattle.mc_forms.specs.declared.unready.Unready.TheVariants.{More, Strange}
-use Rattle.mc_forms.specs.Forms.{Form, Done, Text, Or, Path, word, meant, or_if, read}
-use Rattle.mc_forms.proofs.FieldLemmas.{append_split}
-use Rattle.mc_forms.proofs.FormLaws.{IsClear, IsRead, Waits, is_read}
+use Rattle.mc_text.specs.declared.unready.Unready.{Unready}
+use Rattle.mc_text.specs.declared.unready.Unready.TheVariants.{More, Strange}
+use Rattle.mc_text.specs.Forms.{Form, Done, Text, Or, Path, word, meant, or_if, read}
+use Rattle.mc_text.proofs.FieldLemmas.{append_split}
+use Rattle.mc_text.proofs.FormLaws.{IsClear, IsRead, Waits, is_read}
 
 -- a path of a form stands for a value that may be spelled, and spells it
 pub record Holds {R : Type 0} (f : Form R) (may : R → Bool) (spell : R → List ℕ) (p : Path f) : Type 0 where

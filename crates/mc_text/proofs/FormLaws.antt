@@ -2,10 +2,10 @@
 use Rattle.std.proofs.Common.{◌≡◌, ℕ, ◌-◌, ◌^◌, ◌<◌, ◌≤◌, List, [], ◌∷◌, ◌++◌, length, replicate, ◌⊎◌, inl, inr, Result, Ok, Err, refl, sym, ap, subst, ◌∙◌, arith}
 use Rattle.std.specs.Fmt.{decimal}
 use Rattle.std.proofs.lemmas.List.{append_assoc, append-nil, length-append, length-replicate}
-use Rattle.mc_forms.specs.declared.unready.Unready.{Unready}
-use Rattle.mc_forms.specs.declared.unready.Unready.TheVariants.{More, Strange}
-use Rattle.mc_forms.specs.Forms.{Form, Done, Text, Number, Block, Or, Path, word, meant, read, or_else, ◌>>=◌, text_at, number_at, block_at}
-use Rattle.mc_forms.proofs.FieldLemmas.{StartsPlain, text_whole, text_found, text_more, text_short, number_whole, number_found, number_more, number_short, block_whole, block_found, block_more, block_short}
+use Rattle.mc_text.specs.declared.unready.Unready.{Unready}
+use Rattle.mc_text.specs.declared.unready.Unready.TheVariants.{More, Strange}
+use Rattle.mc_text.specs.Forms.{Form, Done, Text, Number, Block, Or, Path, word, meant, read, or_else, ◌>>=◌, text_at, number_at, block_at}
+use Rattle.mc_text.proofs.FieldLemmas.{StartsPlain, text_whole, text_found, text_more, text_short, number_whole, number_found, number_more, number_short, block_whole, block_found, block_more, block_short}
 
 -- no spelling of a form begins with a digit
 abbrev pub IsPlain : {R : Type 0} → Form R → Type 0

@@ -2,8 +2,8 @@
 use Rattle.std.specs.Prelude.{ℕ, Bool, true, false, ◌≡◌, ◌+◌, ◌-◌, ◌*◌, ◌≤◌, ◌==◌, ◌&&◌, nat_lt, nat_le, List, [], ◌∷◌, ◌++◌, length, take, drop, ◌⊎◌, Option, Some, None, Result, Ok, Err, if◌then◌else◌}
 use Rattle.std.specs.Fmt.{decimal}
 use Rattle.std.proofs.Common.{inl, inr}
-use Rattle.mc_forms.specs.declared.unready.Unready.{Unready}
-use Rattle.mc_forms.specs.declared.unready.Unready.TheVariants.{More, Strange}
+use Rattle.mc_text.specs.declared.unready.Unready.{Unready}
+use Rattle.mc_text.specs.declared.unready.Unready.TheVariants.{More, Strange}
 
 -- what can be spelled: a field, and the form of what follows it
 pub data Form (R : Type 0) : Type 0 where

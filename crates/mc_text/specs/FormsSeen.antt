@@ -1,7 +1,7 @@
 -- What the code reads, as definitions see it.
 use Rattle.std.specs.Prelude.{ℕ, Bool, true, false, List, Option, Some, None, Result, Ok, Err}
-use Rattle.mc_forms.specs.Forms.{text_at, number_at, ◌>>=◌}
-use Rattle.mc_forms.specs.declared.unready.Unready.{Unready}
+use Rattle.mc_text.specs.Forms.{text_at, number_at, ◌>>=◌}
+use Rattle.mc_text.specs.declared.unready.Unready.{Unready}
 
 -- a reading, by what is seen of it
 abbrev pub seen_by : {X Y : Type 0} → (X → Y) → Result X Unready → Result Y Unready

@@ -1,6 +1,6 @@
 use Rattle.std.proofs.Common.{◌≡◌, ◌≤◌, drop}
-use Rattle.mc_forms.specs.Forms.{digits_at}
-use Rattle.mc_forms.proofs.fields.digits.Given as goal
+use Rattle.mc_text.specs.Forms.{digits_at}
+use Rattle.mc_text.proofs.fields.digits.Given as goal
 
 abbrev pub invariant-loop-at : goal.invariant-loop-at
 invariant-loop-at l =

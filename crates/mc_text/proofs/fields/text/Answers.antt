@@ -2,9 +2,9 @@ use Rattle.std.proofs.Common.{◌≡◌, ◌≢◌, ◌++◌, ◌∙◌, drop, l
 use Rattle.std.proofs.lemmas.Bool.{false≢true}
 use Rattle.std.proofs.lemmas.Bool.Decides.{Decides-eqb}
 use Rattle.std.proofs.lemmas.Slice.Eq.{strip_prefix_is, starts_is}
-use Rattle.mc_forms.specs.Forms.{text_at}
-use Rattle.mc_forms.proofs.FieldLemmas.{text_whole, text_cut, text_strange}
-use Rattle.mc_forms.proofs.fields.text.Goals as goal
+use Rattle.mc_text.specs.Forms.{text_at}
+use Rattle.mc_text.proofs.FieldLemmas.{text_whole, text_cut, text_strange}
+use Rattle.mc_text.proofs.fields.text.Goals as goal
 
 pub returns-in-Some : goal.returns-in-Some
 returns-in-Some c =

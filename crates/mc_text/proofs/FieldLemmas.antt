@@ -4,9 +4,9 @@ use Rattle.std.specs.Fmt.{decimal}
 use Rattle.std.proofs.lemmas.Fmt.{decimal_digit, decimal_step, decimal_by_steps}
 use Rattle.std.proofs.lemmas.List.{append_assoc, append-nil, length-append, length-drop, take_at, drop_at, take-append-drop}
 use Rattle.std.proofs.lemmas.Bool.Decides.{nat_tests}
-use Rattle.mc_forms.specs.declared.unready.Unready.{Unready}
-use Rattle.mc_forms.specs.declared.unready.Unready.TheVariants.{More, Strange}
-use Rattle.mc_forms.specs.Forms.{text_at, is_digit, digits_at, number_at, block_at}
+use Rattle.mc_text.specs.declared.unready.Unready.{Unready}
+use Rattle.mc_text.specs.declared.unready.Unready.TheVariants.{More, Strange}
+use Rattle.mc_text.specs.Forms.{text_at, is_digit, digits_at, number_at, block_at}
 
 pub either : (b : Bool) → (b ≡ true) ⊎ (b ≡ false)
 either true = inl refl

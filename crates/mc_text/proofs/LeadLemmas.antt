@@ -5,9 +5,9 @@ use Rattle.std.specs.Fmt.{decimal}
 use Rattle.std.proofs.lemmas.Fmt.{decimal_by_steps}
 use Rattle.std.proofs.lemmas.List.{append_assoc}
 use Rattle.std.proofs.lemmas.Bool.Decides.{nat_tests}
-use Rattle.mc_forms.specs.Forms.{Form, Done, Text, Number, Block, Or, Path, word, number_if, is_digit}
-use Rattle.mc_forms.proofs.FieldLemmas.{StartsPlain}
-use Rattle.mc_forms.proofs.FormLaws.{IsPlain, AreApart, IsClear}
+use Rattle.mc_text.specs.Forms.{Form, Done, Text, Number, Block, Or, Path, word, number_if, is_digit}
+use Rattle.mc_text.proofs.FieldLemmas.{StartsPlain}
+use Rattle.mc_text.proofs.FormLaws.{IsPlain, AreApart, IsClear}
 
 -- what each row of a form begins with: a digit, or these bytes
 pub data Lead : Type 0 where

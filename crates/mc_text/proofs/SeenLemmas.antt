@@ -1,8 +1,8 @@
 -- Readings, as definitions see them.
 use Rattle.std.proofs.Common.{◌≡◌, ℕ, Bool, true, false, List, Option, Some, Result, Ok, Err, refl, sym}
-use Rattle.mc_forms.specs.declared.unready.Unready.{Unready}
-use Rattle.mc_forms.specs.Forms.{Form, read, number_if, ◌>>=◌, text_at, number_at}
-use Rattle.mc_forms.specs.Seen.{number_if_at}
+use Rattle.mc_text.specs.declared.unready.Unready.{Unready}
+use Rattle.mc_text.specs.Forms.{Form, read, number_if, ◌>>=◌, text_at, number_at}
+use Rattle.mc_text.specs.FormsSeen.{number_if_at}
 
 bind_bind : {A B C : Type 0} (r : Result A Unready) (f : A → Result B Unready) (g : B → Result C Unready) → r >>= f >>= g ≡ r >>= (λ x. f x >>= g)
 bind_bind (Ok x) f g = refl

@@ -1,5 +1,0 @@
-pub mod FieldLemmas
-pub mod FormLaws
-pub mod LeadLemmas
-pub mod CoverLaws
-pub mod SeenLemmas
