@@ -6,7 +6,7 @@ use Rattle.std.specs.Str.{bytes_eq}
 use Rattle.std.proofs.lemmas.Bool.Decides.{nat_tests}
 use Rattle.std.proofs.lemmas.List.Sums.{AllPass-from_list_all, list_all-from_AllPass}
 use Rattle.std.proofs.lemmas.List.FromFn.{get_or-range_with_len, length-range_with_len, map-range_with_len_more, take-map-range_with_len, length-map-range_with_len}
-use Rattle.mc_address.specs.Addresses.{is_address}
+use Rattle.mc_text.specs.Addresses.{is_address}
 use Rattle.std.specs.Option.{option_or}
 use Rattle.mc_ring.specs.Refusals.{refusal_of, refusal_of_pairs}
 use Rattle.mc_ring.specs.declared.errors.RingError.TheVariants.{NoServer}

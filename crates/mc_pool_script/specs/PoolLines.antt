@@ -3,7 +3,7 @@ use Rattle.std.specs.Prelude.{ℕ, ◌^◌, ◌-◌, ◌<◌, List, length, Opti
 use Rattle.std.specs.Option.{option_map, option_or}
 use Rattle.std.specs.Str.{bytes_eq}
 use Rattle.mc_text.specs.Numbers.{read_u64}
-use Rattle.mc_address.specs.Addresses.{is_address}
+use Rattle.mc_text.specs.Addresses.{is_address}
 use Rattle.mc_ring.specs.Refusals.{refusal_of_more}
 use Rattle.mc_script.specs.Escapes.{text_of}
 use Rattle.mc_script.specs.Lines.{cut_at_space}

@@ -1,6 +1,6 @@
 -- By which other name the listener of operators may be called: this project's own.
 use Rattle.std.specs.Prelude.{ℕ, ◌==◌, ◌||◌, Bool, List, length}
-use Rattle.mc_address.specs.Addresses.{is_host}
+use Rattle.mc_text.specs.Addresses.{is_host}
 
 -- none, or a host
 abbrev pub is_name : List ℕ → Bool

@@ -1,12 +1,12 @@
 //! Where operators are answered.
 ghost use Rattle.std.specs.Prelude.{◌≡◌, is_ok};
 ghost use Rattle.std.specs.List.{list_all};
-ghost use Rattle.mc_address.specs.Addresses.{is_host, is_host_byte};
+ghost use Rattle.mc_text.specs.Addresses.{is_host, is_host_byte};
 ghost use Rattle.mc_program.specs.Admins.{is_name};
 
 use clap::builder::ValueParser;
 use clap::{Arg, ArgMatches};
-use mc_address::HOST_LIMIT;
+use mc_text::HOST_LIMIT;
 use std::alloc::Global;
 use std::fmt;
 use std::fmt::{Display, Formatter};

@@ -1,7 +1,7 @@
 -- What the word of a server says: this project's own.
 use Rattle.std.specs.Prelude.{ℕ, ◌==◌, ◌&&◌, Bool, nat_lt, List, length, if◌then◌else◌}
 use Rattle.std.specs.List.{before_first, after_first, position_or_len}
-use Rattle.mc_address.specs.Addresses.{is_address}
+use Rattle.mc_text.specs.Addresses.{is_address}
 
 -- a byte `=`, which no address has
 abbrev pub is_equals : ℕ → Bool

@@ -3,8 +3,8 @@ ghost use Rattle.std.specs.Prelude.{◌≡◌, true, false, IfOk, IsErrOf, IsOkU
 ghost use Rattle.mc_proxy_serve.specs.Servers.{name_of, address_of, is_server};
 
 use crate::options::ListError;
-use mc_address::is_address;
 use mc_ring::Address;
+use mc_text::is_address;
 use std::alloc::Global;
 
 /// A server of a pool. Its name stays while its machine is replaced by another at another address: then no key moves.

@@ -7,7 +7,7 @@ use Rattle.std.specs.Str.{bytes_eq}
 use Rattle.mc_ring.specs.declared.points.Point.{Point}
 use Rattle.mc_ring.specs.declared.errors.RingError.{RingError}
 use Rattle.mc_ring.specs.declared.errors.RingError.TheVariants.{NoServer, TooMany, Doubled, BadAddress, Memory}
-use Rattle.mc_address.specs.Addresses.{is_address}
+use Rattle.mc_text.specs.Addresses.{is_address}
 use Rattle.mc_ring.specs.Rings.{has_doubled}
 
 -- a cause other than memory

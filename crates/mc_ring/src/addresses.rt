@@ -4,11 +4,11 @@ ghost use Rattle.std.specs.Str.{bytes_eq};
 ghost use Rattle.std.specs.Cmp.Rules.{comparing};
 ghost use Rattle.std.proofs.Common.{rules};
 ghost use Rattle.std.proofs.lemmas.Cmp.{nat_list_eq_equiv};
-ghost use Rattle.mc_address.specs.Addresses.{is_address};
+ghost use Rattle.mc_text.specs.Addresses.{is_address};
 ghost use Rattle.mc_ring.specs.Refusals.{refusal_in, refusal_of_text};
 
 use crate::errors::RingError;
-use mc_address::is_address;
+use mc_text::is_address;
 use std::alloc::Global;
 use std::marker::Model;
 

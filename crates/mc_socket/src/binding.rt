@@ -5,15 +5,15 @@ ghost use Rattle.std.specs.Net.Addr.{is_ipv4};
 ghost use Rattle.std.specs.Net.Socket.{socket_ip};
 ghost use Rattle.std.specs.Net.ToAddrs.{HostAddrs, GivesAddrOfText};
 ghost use Rattle.std.specs.declared.io.Error.{Error};
-ghost use Rattle.mc_address.specs.Addresses.{is_address};
+ghost use Rattle.mc_text.specs.Addresses.{is_address};
 ghost use Rattle.mc_program.specs.Statuses.{status_of_error};
 ghost use Rattle.mc_program.specs.declared.errors.ListenError.TheVariants.{NoAddress, UnknownHost};
 ghost use Rattle.mc_program.specs.declared.errors.ServeError.TheVariants.{Listen};
 ghost use Rattle.mc_socket.specs.Bindings.{address_by, first_ipv4};
 
 use crate::keeping::keep_alive;
-use mc_address::is_address;
 use mc_program::{ListenError, ServeError};
+use mc_text::is_address;
 use mio::net::TcpListener;
 use std::io;
 use std::net::{HostAddrs, Net, SocketAddr, SocketAddrV4, ToSocketAddrs};

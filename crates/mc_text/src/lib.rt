@@ -1,4 +1,4 @@
-//! The text of memcached's protocol: lines, words, numbers, keys and data blocks, and forms, which are rows of these.
+//! The text of memcached's protocol: lines, words, numbers, keys and data blocks, forms, which are rows of these, and addresses.
 //!
 //! A caller meets the calls in this order: [`next_line`] cuts a line from the bytes that have come,
 //! [`words`] gives its words ([`without_spaces`] only passes the spaces in front of one), [`read_u64`], [`read_i64`],
@@ -34,8 +34,14 @@
 //! In code a form is a function that calls one function a field, in the form's order, with a `?` after each: [`text`],
 //! [`number`], [`number_if`] and [`block`]; where there are two forms, the second is read where the first is
 //! [`Unready::Strange`]. Each gives exactly what the definition of its name says. None takes memory.
+//!
+//! # Addresses
+//!
+//! An address is a text that says where to reach a server. [`is_address`] says whether a text is one: a host, a colon and a port, exactly
+//! as `specs/Addresses.antt` has it. It looks no name up, and takes no memory.
 #![tactic(auto)]
 
+mod addresses;
 mod appends;
 mod blocks;
 mod byte_tests;
@@ -52,6 +58,7 @@ mod rows;
 mod unready;
 mod word_iter;
 
+pub use addresses::{HOST_LIMIT, is_address};
 pub use appends::append;
 pub use blocks::{Block, VALUE_LIMIT};
 pub use coded_keys::{CODED_LIMIT, CODED_ROOM, is_coded_key, read_coded, write_coded};

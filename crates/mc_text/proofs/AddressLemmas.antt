@@ -2,7 +2,7 @@
 use Rattle.std.proofs.Common.{◌≡◌, ◌==◌, ◌&&◌, ◌+◌, ℕ, Bool, true, false, cond, List, Some, None, length, take, drop, nat_lt, position, sym, ap, ◌∙◌}
 use Rattle.std.proofs.lemmas.List.{drop-drop}
 use Rattle.std.specs.List.{position_or_len}
-use Rattle.mc_address.specs.Addresses.{is_host, is_port, is_address}
+use Rattle.mc_text.specs.Addresses.{is_host, is_port, is_address}
 
 some_by : (b : Bool) (n i : ℕ) → cond b (Some n) None ≡ Some i → n ≡ i
 some_by true n i e = cc

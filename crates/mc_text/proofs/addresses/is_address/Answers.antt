@@ -1,7 +1,7 @@
 use Rattle.std.proofs.Common.{◌≡◌, true, take, drop, sym, ap, ◌∙◌}
-use Rattle.mc_address.specs.Addresses.{is_host, is_port}
-use Rattle.mc_address.proofs.AddressLemmas.{address_after_host}
-use Rattle.mc_address.proofs.addresses.is_address.Goals as goal
+use Rattle.mc_text.specs.Addresses.{is_host, is_port}
+use Rattle.mc_text.proofs.AddressLemmas.{address_after_host}
+use Rattle.mc_text.proofs.addresses.is_address.Goals as goal
 
 pub returns-then-is_host : goal.returns-then-is_host
 returns-then-is_host c =

@@ -1,9 +1,9 @@
 //! Addresses.
 ghost use Rattle.std.specs.Prelude.{◌≡◌, ◌==◌, length, position};
 ghost use Rattle.std.specs.List.{list_all};
-ghost use Rattle.mc_address.specs.Addresses.{is_host_byte, is_host, is_port, is_address};
+ghost use Rattle.mc_text.specs.Addresses.{is_host_byte, is_host, is_port, is_address};
 
-use mc_text::read_u64;
+use crate::numbers::read_u64;
 
 /// The most bytes that a host has.
 pub const HOST_LIMIT: usize = 255;
