@@ -1,8 +1,8 @@
 #!/usr/bin/env python3
-"""hashes.py: what the addend of mc_hasher's folded product is for, in models with small words that are counted whole.
+"""hashes.py: what the addend in the folded product of mc_table's hasher is for, in models with small words that are counted whole.
 
 A word is hashed by one product with a secret factor, whose two halves are joined by exclusive or (`folded_product` in
-crates/mc_hasher/specs/Hashes.antt, with words of 64 bits). For words of a few bits this counts, over all words and all secret numbers,
+crates/mc_table/specs/Hashes.antt, with words of 64 bits). For words of a few bits this counts, over all words and all secret numbers,
 how often two words of a given difference have one hash, as a multiple of what chance would give: 2 to the power of -bits.
 
 Without the addend a word and its complement collide far too often. With it no difference does. The last line is 'N passed, M failed'.

@@ -3,10 +3,10 @@
 use crate::digests::Digest;
 use crate::errors::JobError;
 use mc_cache::Cache;
-use mc_hasher::SecretState;
 use mc_item::CasCounter;
 use mc_server::{AnswerLimit, Limited, Server, Turn};
 use mc_store::TableStore;
+use mc_table::SecretState;
 use std::alloc::Global;
 use std::io;
 use std::random::RandomSource;

@@ -1,6 +1,6 @@
 //! A hasher's secret numbers, where the machine has no random bytes.
 
-use mc_hasher::SecretState;
+use mc_table::SecretState;
 use std::io;
 use std::io::ErrorKind;
 use std::random::RandomSource;

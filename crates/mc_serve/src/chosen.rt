@@ -2,9 +2,9 @@
 ghost use Rattle.std.specs.Prelude.{Some};
 ghost use Rattle.mc_serve.specs.Chosen.{held_by};
 
-use mc_hasher::SecretState;
 use mc_item::{Body, Deadline};
 use mc_store::{LruStore, Store, TableStore};
+use mc_table::SecretState;
 use mc_text::Key;
 use std::hash::RandomState;
 

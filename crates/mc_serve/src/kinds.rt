@@ -5,7 +5,7 @@ ghost use Rattle.mc_serve.specs.Kinds.{kind_named};
 /// What a server keeps its items in.
 #[derive(Clone, Copy, Debug, PartialEq, Eq)]
 pub enum StoreKind {
-    /// Our own table, whose keys [`mc_hasher`] hashes.
+    /// Our own table, whose keys [`mc_table::KeyHasher`] hashes.
     Table,
     /// lru's cache, whose keys the standard library's `RandomState` hashes.
     Lru,

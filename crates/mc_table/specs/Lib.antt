@@ -4,3 +4,4 @@ pub mod Chains
 pub mod Slots
 pub mod Tables
 pub mod Lends
+pub mod Hashes

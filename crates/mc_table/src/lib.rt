@@ -1,4 +1,4 @@
-//! A table of entries, in the order of their last use.
+//! Tables: of entries, in the order of their last use; and the hasher of their keys.
 //!
 //! A [`Table`] finds an entry by its key's hash, and knows which one was used most recently. An entry is put in front
 //! ([`Table::put`], [`Table::put_front`]), looked at ([`Table::peek`], [`Table::peek_mru`]), brought to the front and changed
@@ -10,10 +10,28 @@
 //! Entries lie side by side (`chained.rt`), and each is in the chain of its hash's bucket (`chains.rt`). The last one takes the place
 //! of one that is taken out. Their order is in links of their own (`orders.rt`), so a use writes to three links and moves no
 //! entry. Only `put` and `put_front` take memory, and only `clear` does work that grows with the entries.
+//!
+//! # Hashes of keys
+//!
+//! A keyed hasher: what it gives depends on secret random numbers.
+//!
+//! [`SecretState`] makes a [`KeyHasher`] for each key: `std::hash::RandomState` and its hasher, but faster for keys of some tens
+//! of bytes. With both, which keys collide depends on random numbers that a stranger does not know.
+//!
+//! ## How strong it is
+//!
+//! It is a fast keyed hash, at the level of foldhash and wyhash: for keys that were chosen without knowing the secret numbers, no family of
+//! keys is known that collides more often than chance would have it. In models of it with small words, counted whole, no difference between two
+//! words makes their hashes equal much more often than any other (`tests/gate/hashes.py`).
+//!
+//! It is no cipher, and weaker than SipHash: from hashes its secret numbers could be computed, so no hash is to be shown. No proof
+//! speaks of chosen keys: proved is that a hash is what `specs/Hashes.antt` defines, and, of a private function, that each secret number is
+//! made of bytes of its own. That these are random is trusted.
 #![tactic(auto)]
 
 mod chained;
 mod chains;
+mod key_hashers;
 mod links;
 mod orders;
 mod slots;
@@ -22,6 +40,7 @@ mod tables;
 // A crate can name a table in a contract only if the types of its fields are exported.
 #[doc(hidden)]
 pub use chained::Chained;
+pub use key_hashers::{KeyHasher, SecretState};
 #[doc(hidden)]
 pub use links::Link;
 #[doc(hidden)]

@@ -1,7 +1,7 @@
 use Rattle.std.specs.Prelude.{◌≡◌, ℕ, suc, ◌+◌, ◌*◌, ◌/◌, length}
 use Rattle.std.proofs.Common.{refl, arith}
-use Rattle.mc_hasher.specs.Hashes.{after_words, write}
-use Rattle.mc_hasher.proofs.key_hashers.KeyHasherHasher.write.Goals as goal
+use Rattle.mc_table.specs.Hashes.{after_words, write}
+use Rattle.mc_table.proofs.key_hashers.KeyHasherHasher.write.Goals as goal
 
 pub loop-at-init : goal.loop-at-init
 unfolding after_words

@@ -1,6 +1,6 @@
 //! Hashers of keys, and what makes them.
 ghost use Rattle.std.specs.Prelude.{◌≡◌, ◌+◌, ◌≤◌, ◌<◌, length};
-ghost use Rattle.mc_hasher.specs.Hashes as hashes;
+ghost use Rattle.mc_table.specs.Hashes as hashes;
 
 use std::hash::{BuildHasher, Hasher};
 use std::io;

@@ -1,7 +1,7 @@
 use Rattle.std.specs.Prelude.{◌-◌, length}
 use borrow.Author.Tests.{le-leb, lt-leb, lt-ltb, le-ltb}
-use Rattle.mc_hasher.specs.Hashes.{rest_from}
-use Rattle.mc_hasher.proofs.key_hashers.rest_from.Goals as goal
+use Rattle.mc_table.specs.Hashes.{rest_from}
+use Rattle.mc_table.proofs.key_hashers.rest_from.Goals as goal
 
 pub returns-then-len-ge4 : goal.returns-then-len-ge4
 unfolding rest_from

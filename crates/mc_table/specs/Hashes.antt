@@ -1,7 +1,7 @@
 -- What a key is hashed to under three secret numbers: this project's own.
 use Rattle.std.specs.Prelude.{ℕ, zero, suc, ◌+◌, ◌-◌, ◌*◌, ◌/◌, ◌%◌, ◌^◌, List, length, if◌then◌else◌, nat_le, nat_lt, slice_index, bit_and, bit_or, bit_xor, Result, Ok, Err}
-use Rattle.mc_hasher.specs.declared.key_hashers.KeyHasher.{KeyHasher}
-use Rattle.mc_hasher.specs.declared.key_hashers.SecretState.{SecretState}
+use Rattle.mc_table.specs.declared.key_hashers.KeyHasher.{KeyHasher}
+use Rattle.mc_table.specs.declared.key_hashers.SecretState.{SecretState}
 
 -- the two halves of the 128 bits of a product, joined by exclusive or; first the addend is added to the low half
 unfoldable pub folded_product : ℕ → ℕ → ℕ → ℕ
