@@ -2,7 +2,7 @@
 use Rattle.std.proofs.Common.{◌≡◌, ◌≢◌, ◌∙◌, ℕ, ◌==◌, true, false, if◌then◌else◌, [], ◌∷◌, Option, Some, ⊎_elim, refl, sym, ap, subst, arith}
 use Rattle.std.specs.Option.{option_map}
 use Rattle.std.proofs.lemmas.Bool.Decides.{eqb_tells, nat_tests}
-pub use Rattle.mc_numbered.proofs.EntryLemmas.{fresh_other, fresh_own, other_number, own_number, updated_other, updated_own, without_other}
+pub use Rattle.mc_table.proofs.NumberedEntryLemmas.{fresh_other, fresh_own, other_number, own_number, updated_other, updated_own, without_other}
 use Rattle.mc_route.specs.declared.outcomes.Outcome.{Outcome}
 use Rattle.mc_link.specs.declared.turns.Tag.{Tag}
 use Rattle.mc_session.specs.SessionState.{SessionState}

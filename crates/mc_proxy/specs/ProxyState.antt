@@ -1,6 +1,6 @@
 -- A proxy, as contracts see it.
 use Rattle.std.specs.Prelude.{ℕ, ◌+◌, ◌==◌, ◌&&◌, Bool, false, List, [], ◌∷◌, ◌++◌, length, replicate, drop, Option, Some, None}
-use Rattle.mc_numbered.specs.Entries.{entry_of, updated as with_entry, without as without_entry}
+use Rattle.mc_table.specs.Entries.{entry_of, updated as with_entry, without as without_entry}
 use Rattle.mc_ring.specs.Rings.{RingState}
 use Rattle.mc_route.specs.declared.losses.Losses.{Losses}
 use Rattle.mc_link.specs.LinkState.{LinkState, down_link}

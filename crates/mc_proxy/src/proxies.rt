@@ -4,10 +4,10 @@ ghost use Rattle.std.specs.Prelude.{◌≡◌, ◌≢◌, ◌+◌, ◌-◌, ◌^
 use crate::errors::ProxyError;
 use crate::limits::MAX_SESSIONS;
 use mc_link::Link;
-use mc_numbered::Numbered;
 use mc_ring::Ring;
 use mc_route::{Losses, Routed};
 use mc_session::{Emit, Session, Turn};
+use mc_table::Numbered;
 use std::alloc::Global;
 use std::collections::VecDeque;
 use std::marker::Model;
@@ -110,7 +110,7 @@ impl Proxy {
     }
 
     /// Takes the next piece of a session's text.
-    #[tactic(auto, using(mc_numbered::proofs::EntryLemmas::updated_same))]
+    #[tactic(auto, using(mc_table::proofs::NumberedEntryLemmas::updated_same))]
     pub fn feed(&mut self, number: u64, piece: &[u8]) -> Result<(), ProxyError>
         ensures fed { OnOk result (Steps number self.old self.new (Alone (IsFed piece.now))) }
         ensures no_session { IsErrOf result ProxyError.NoSession ↔ (session_at self.old number ≡ None) }
@@ -128,7 +128,7 @@ impl Proxy {
     ///
     /// At an error the request is not taken, and no command was sent. Where none has come whole, or the first has to wait for
     /// a mark, no memory is taken.
-    #[tactic(auto, using(mc_numbered::proofs::EntryLemmas::updated_same))]
+    #[tactic(auto, using(mc_table::proofs::NumberedEntryLemmas::updated_same))]
     pub fn turn(&mut self, number: u64) -> Result<Turn, ProxyError>
         ensures turn { IfOk result (λ turn. Steps number self.old self.new (IsTurn number turn self.old.ring self.old.losses)) }
         ensures memory { IsErrOf result ProxyError.Memory → IfSome (session_at self.old number) (IsReady self.old.ring self.old.links) }
@@ -202,7 +202,7 @@ impl Proxy {
     /// became of it.
     ///
     /// At an error nothing was put out. Where no answer is known no memory is taken.
-    #[tactic(auto, using(mc_numbered::proofs::EntryLemmas::updated_same))]
+    #[tactic(auto, using(mc_table::proofs::NumberedEntryLemmas::updated_same))]
     pub fn emit(&mut self, number: u64) -> Result<Emit, ProxyError>
         ensures emit { IfOk result (λ emit. Steps number self.old self.new (Alone (IsEmit emit))) }
         ensures memory { IsErrOf result ProxyError.Memory → IfSome (session_at self.old number) (λ session. emitted session ≢ None) }
@@ -251,7 +251,7 @@ impl Proxy {
 
     /// Gives back the memory that a session has reserved and that holds nothing, where there is room for more than `kept`
     /// bytes or requests. It is for a session that is idle. Where none of the number is open it does nothing.
-    #[tactic(auto, using(mc_numbered::proofs::EntryLemmas::updated_same))]
+    #[tactic(auto, using(mc_table::proofs::NumberedEntryLemmas::updated_same))]
     pub fn give_back(&mut self, number: u64, kept: usize)
         ensures { self.new ≡ self.old }
     {

@@ -1,6 +1,6 @@
 -- Reads straight into a data block.
 use Rattle.std.proofs.Common.{◌≡◌, ◌∙◌, ℕ, List, Option, Some, refl, sym, ap}
-use Rattle.mc_numbered.proofs.EntryLemmas.{updated_same}
+use Rattle.mc_table.proofs.NumberedEntryLemmas.{updated_same}
 use Rattle.mc_request_reader.specs.Reader.{ReaderState}
 use Rattle.mc_request_reader.specs.Reads.{Comes}
 use Rattle.mc_server.specs.ServerState.{ConnectionState, Connections, ServerState, connection_at, updated}

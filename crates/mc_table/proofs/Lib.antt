@@ -10,3 +10,5 @@ pub mod SlotLemmas
 pub mod WalkLemmas
 pub mod HashedLemmas
 pub mod BucketLemmas
+pub mod NumberedEntryLemmas
+pub mod RisesLemmas

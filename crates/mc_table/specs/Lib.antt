@@ -5,3 +5,6 @@ pub mod Slots
 pub mod Tables
 pub mod Lends
 pub mod Hashes
+pub mod Entries
+pub mod Rises
+pub mod NumberedLends

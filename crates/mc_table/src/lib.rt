@@ -1,4 +1,4 @@
-//! Tables: of entries, in the order of their last use; and the hasher of their keys.
+//! Tables: of entries, in the order of their last use, with the hasher of their keys; and of things under rising numbers.
 //!
 //! A [`Table`] finds an entry by its key's hash, and knows which one was used most recently. An entry is put in front
 //! ([`Table::put`], [`Table::put_front`]), looked at ([`Table::peek`], [`Table::peek_mru`]), brought to the front and changed
@@ -27,12 +27,21 @@
 //! It is no cipher, and weaker than SipHash: from hashes its secret numbers could be computed, so no hash is to be shown. No proof
 //! speaks of chosen keys: proved is that a hash is what `specs/Hashes.antt` defines, and, of a private function, that each secret number is
 //! made of bytes of its own. That these are random is trusted.
+//!
+//! # By number
+//!
+//! A [`Numbered`] gives each thing that is put into it a number that none had before ([`Numbered::push`]), the first of them 0.
+//! Under that number the thing is looked at ([`Numbered::get`]), changed ([`Numbered::get_mut`]) and taken out
+//! ([`Numbered::remove`]). A look-up tries first where the last change was, and then by binary search.
+//!
+//! `specs/Entries.antt` says what is under a number, and what a change and a removal leave. Only `push` takes memory.
 #![tactic(auto)]
 
 mod chained;
 mod chains;
 mod key_hashers;
 mod links;
+mod numbered;
 mod orders;
 mod slots;
 mod tables;
@@ -43,6 +52,7 @@ pub use chained::Chained;
 pub use key_hashers::{KeyHasher, SecretState};
 #[doc(hidden)]
 pub use links::Link;
+pub use numbered::Numbered;
 #[doc(hidden)]
 pub use orders::Order;
 #[doc(hidden)]

@@ -1,6 +1,6 @@
 use Rattle.std.proofs.Common.{◌≡◌, length, refl, sym, arith}
 use Rattle.std.proofs.lemmas.List.{with_items_is}
-use Rattle.mc_numbered.proofs.EntryLemmas.{updated_same}
+use Rattle.mc_table.proofs.NumberedEntryLemmas.{updated_same}
 use Rattle.mc_proxy.proofs.LinkLemmas.{at_error}
 use Rattle.mc_proxy.proofs.proxies.Proxy.turn.Goals as goal
 

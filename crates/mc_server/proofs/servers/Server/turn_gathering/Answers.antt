@@ -1,6 +1,6 @@
 use Rattle.std.proofs.Common.{refl, sym}
 use Rattle.std.proofs.lemmas.Result.{IfOk-weaker}
-use Rattle.mc_numbered.proofs.EntryLemmas.{updated_same}
+use Rattle.mc_table.proofs.NumberedEntryLemmas.{updated_same}
 use Rattle.mc_server.proofs.ConnectionLemmas.{updated_own}
 use Rattle.mc_server.proofs.GatherLemmas.{gathered_short}
 use Rattle.mc_server.proofs.servers.Server.turn_gathering.Goals as goal

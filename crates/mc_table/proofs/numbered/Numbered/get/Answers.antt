@@ -1,7 +1,7 @@
 use Rattle.std.proofs.Common.{◌≡◌, get_or, subst}
-use Rattle.mc_numbered.specs.Entries.{Numbering}
-use Rattle.mc_numbered.proofs.RisesLemmas.{entry_there}
-use Rattle.mc_numbered.proofs.numbered.Numbered.get.Goals as goal
+use Rattle.mc_table.specs.Entries.{Numbering}
+use Rattle.mc_table.proofs.RisesLemmas.{entry_there}
+use Rattle.mc_table.proofs.numbered.Numbered.get.Goals as goal
 
 -- what is at the place is the entry of the number
 pub returns : goal.returns

@@ -7,8 +7,8 @@ use Rattle.std.specs.Ordering.{nat_cmp, ordering_index}
 use Rattle.std.proofs.lemmas.Cmp.{ranked}
 use Rattle.std.proofs.lemmas.Bool.{cond_both}
 use Rattle.std.proofs.lemmas.Bool.Decides.{nat_tests}
-use Rattle.mc_numbered.specs.Entries.{entry_of, updated, without}
-use Rattle.mc_numbered.specs.Rises.{Rises, IsAt}
+use Rattle.mc_table.specs.Entries.{entry_of, updated, without}
+use Rattle.mc_table.specs.Rises.{Rises, IsAt}
 
 module _ {T : Type 0} where
   -- a lower number to rise from

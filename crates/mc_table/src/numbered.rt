@@ -17,11 +17,11 @@ pub struct Numbered<T> {
 }
 
 impl<T> Model for Numbered<T> {
-    ghost use Rattle.mc_numbered.specs.Entries.{Numbering};
+    ghost use Rattle.mc_table.specs.Entries.{Numbering};
 
     ghost Value = { Numbering T };
 
-    ghost use Rattle.mc_numbered.specs.Rises.{Rises};
+    ghost use Rattle.mc_table.specs.Rises.{Rises};
 
     ghost view = { λ n. record { entries = n.entries.items; next = n.next } };
 
@@ -29,9 +29,9 @@ impl<T> Model for Numbered<T> {
 }
 
 impl<T> Numbered<T> {
-    ghost use Rattle.mc_numbered.specs.Entries.{entry_of, without, with_next};
-    ghost use Rattle.mc_numbered.specs.Rises.{Rises, IsAt};
-    ghost use Rattle.mc_numbered.specs.Lends.{LendsPlace, LendsEntry};
+    ghost use Rattle.mc_table.specs.Entries.{entry_of, without, with_next};
+    ghost use Rattle.mc_table.specs.Rises.{Rises, IsAt};
+    ghost use Rattle.mc_table.specs.NumberedLends.{LendsPlace, LendsEntry};
 
     /// Nothing, and 0 as the number of the first. It takes no memory.
     pub fn new(alloc: Global) -> Self
@@ -110,7 +110,7 @@ impl<T> Numbered<T> {
 }
 
 impl<T: Drop> Numbered<T> {
-    ghost use Rattle.mc_numbered.specs.Entries.{entry_of, without, with_next};
+    ghost use Rattle.mc_table.specs.Entries.{entry_of, without, with_next};
 
     /// Puts something in, and gives the number that it has from now on. At an error it is dropped.
     pub fn push(&mut self, value: T) -> Result<u64, AllocError>

@@ -1,6 +1,6 @@
-use Rattle.mc_numbered.proofs.EntryLemmas.{fresh_own}
-use Rattle.mc_numbered.proofs.RisesLemmas.{absent_next, rises_push}
-use Rattle.mc_numbered.proofs.numbered.Numbered.push.Goals as goal
+use Rattle.mc_table.proofs.NumberedEntryLemmas.{fresh_own}
+use Rattle.mc_table.proofs.RisesLemmas.{absent_next, rises_push}
+use Rattle.mc_table.proofs.numbered.Numbered.push.Goals as goal
 
 -- the next number is above all others
 pub invariant_of-self-2 : goal.invariant_of-self-2

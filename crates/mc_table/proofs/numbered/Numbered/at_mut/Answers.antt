@@ -1,5 +1,5 @@
-use Rattle.mc_numbered.proofs.RisesLemmas.{rises_lent}
-use Rattle.mc_numbered.proofs.numbered.Numbered.at_mut.Goals as goal
+use Rattle.mc_table.proofs.RisesLemmas.{rises_lent}
+use Rattle.mc_table.proofs.numbered.Numbered.at_mut.Goals as goal
 
 -- the entry keeps its number
 pub invariant_of-self-lent : goal.invariant_of-self-lent

@@ -1,7 +1,7 @@
 use Rattle.std.proofs.Common.{rules}
 use Rattle.std.proofs.lemmas.List.Sorted.{answers_always}
-use Rattle.mc_numbered.proofs.RisesLemmas.{searched}
-use Rattle.mc_numbered.proofs.numbered.Numbered.search.Goals as goal
+use Rattle.mc_table.proofs.RisesLemmas.{searched}
+use Rattle.mc_table.proofs.numbered.Numbered.search.Goals as goal
 
 -- the closure gives an entry's number
 pub returns : goal.returns

@@ -1,7 +1,7 @@
 -- Entries by their numbers.
 use Rattle.std.proofs.Common.{◌≡◌, ◌≢◌, ℕ, ◌==◌, true, false, if◌then◌else◌, List, [], ◌∷◌, ◌++◌, Option, Some, None, refl, sym, ap, arith}
 use Rattle.std.proofs.lemmas.Bool.Decides.{nat_tests}
-use Rattle.mc_numbered.specs.Entries.{entry_of, updated, without}
+use Rattle.mc_table.specs.Entries.{entry_of, updated, without}
 
 -- a number is its own, and not another's
 pub own_number : (n : ℕ) → (n == n) ≡ true

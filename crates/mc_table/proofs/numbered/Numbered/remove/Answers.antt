@@ -1,9 +1,9 @@
 use Rattle.std.proofs.Common.{◌≡◌, get_or, refl, subst, sym}
-use Rattle.mc_numbered.specs.Entries.{Numbering}
-use Rattle.mc_numbered.specs.Rises.{IsAt}
-use Rattle.mc_numbered.proofs.EntryLemmas.{without_absent}
-use Rattle.mc_numbered.proofs.RisesLemmas.{entry_there, remove_there, rises_without, without_own}
-use Rattle.mc_numbered.proofs.numbered.Numbered.remove.Goals as goal
+use Rattle.mc_table.specs.Entries.{Numbering}
+use Rattle.mc_table.specs.Rises.{IsAt}
+use Rattle.mc_table.proofs.NumberedEntryLemmas.{without_absent}
+use Rattle.mc_table.proofs.RisesLemmas.{entry_there, remove_there, rises_without, without_own}
+use Rattle.mc_table.proofs.numbered.Numbered.remove.Goals as goal
 
 -- what is at the place is the entry of the number
 pub returns-clause-removed : goal.returns-clause-removed

@@ -1,8 +1,8 @@
 -- What entries are once a change of one of them is over.
 use Rattle.std.specs.Prelude.{ℕ, Option, slice_index_or, slice_set}
 use Rattle.std.specs.Borrow.{Lends, LendsIf, Fml, RattleType, MutBor}
-use Rattle.mc_numbered.specs.Entries.{Numbering, updated}
-use Rattle.mc_numbered.specs.contracts.numbered.Numbered.{the_row}
+use Rattle.mc_table.specs.Entries.{Numbering, updated}
+use Rattle.mc_table.specs.contracts.numbered.Numbered.{the_row}
 
 module _ (T : RattleType) (n : MutBor (Numbering T.Denot)) where
   -- the entry at a place is as it was left, under its number

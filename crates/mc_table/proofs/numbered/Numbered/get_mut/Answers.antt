@@ -1,6 +1,6 @@
 use Rattle.std.proofs.Common.{◌∙◌, ℕ, Some, ap, inl, sym}
-use Rattle.mc_numbered.proofs.RisesLemmas.{entry_at, set_there}
-use Rattle.mc_numbered.proofs.numbered.Numbered.get_mut.Goals as goal
+use Rattle.mc_table.proofs.RisesLemmas.{entry_at, set_there}
+use Rattle.mc_table.proofs.numbered.Numbered.get_mut.Goals as goal
 
 -- what is at the place is the entry of the number, and what is left there updates it
 pub returns : goal.returns
