@@ -3,7 +3,7 @@ ghost use Rattle.std.specs.Prelude.{◌≡◌, ◌<◌, ◌^◌};
 
 use mc_socket::{Edge, Step};
 use mc_stranger::FirstLine;
-use mc_watch::Tally;
+use mc_stream::Tally;
 use mio::net::TcpStream;
 
 /// A client of a program on sockets: its socket, and what is known of it.

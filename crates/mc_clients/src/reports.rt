@@ -1,7 +1,7 @@
 //! What a program has done for its clients, as it is said.
 
 use mc_admin::ClientFigures;
-use mc_watch::Tally;
+use mc_stream::Tally;
 use std::fmt;
 use std::fmt::{Display, Formatter};
 

@@ -1,7 +1,7 @@
 //! How many clients the open files of a program allow.
 ghost use Rattle.std.specs.Prelude.{◌≡◌, nat_le};
 
-use mc_watch::{Pace, open_files, served};
+use mc_program::{Pace, open_files, served};
 
 /// In how many seconds it is said once, at most, that no more clients are accepted.
 const TOLD_EVERY: u64 = 60;

@@ -1,8 +1,7 @@
 //! The rounds of a program that serves the clients of a listener.
 
-use mc_program::ServeError;
+use mc_program::{ServeError, earlier};
 use mc_socket::{Acceptor, Backlog};
-use mc_watch::earlier;
 use mio::event::Event;
 use mio::net::{TcpListener, TcpStream};
 use mio::{Events, Poll, Registry, Token};

@@ -7,7 +7,7 @@ use mc_fixtures::{Call, MANY, MOMENT, MeagreStore, SCRIPTS, Sides, Stream, WIDE,
 use mc_proxy::Proxy;
 use mc_proxy_pump::{ClientTally, Pumped, pump_client, pump_link};
 use mc_server::Server;
-use mc_watch::Tally;
+use mc_stream::Tally;
 use std::alloc::{AllocError, Global};
 use std::test::Fail;
 

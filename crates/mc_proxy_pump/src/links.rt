@@ -7,8 +7,7 @@ ghost use Rattle.mc_proxy_pump.specs.LinkRounds.{ReceivesLink, SendsLink, TakesR
 ghost use Rattle.mc_stream.specs.Sides.{pump_of};
 
 use mc_proxy::{LinkTurn, Proxy};
-use mc_stream::{MAX_ROUNDS, Pumped, read_once, write_once};
-use mc_watch::Tally;
+use mc_stream::{MAX_ROUNDS, Pumped, Tally, read_once, write_once};
 use std::io::{Read, Write};
 
 /// Carries a link's bytes between a proxy and the two sides of a stream that do not wait, and gives each command its reply.

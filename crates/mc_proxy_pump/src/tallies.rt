@@ -2,7 +2,7 @@
 ghost use Rattle.std.specs.Prelude.{◌≡◌, is_some};
 ghost use Rattle.mc_proxy_pump.specs.Tallies.{counted, fresh_tally};
 
-use mc_watch::Tally;
+use mc_stream::Tally;
 
 /// What passed of a proxy's clients.
 #[derive(Clone, Copy, Debug)]

@@ -2,7 +2,7 @@
 use Rattle.std.specs.Prelude.{ℕ, ◌+◌, ◌*◌, Bool, if◌then◌else◌}
 use Rattle.mc_proxy_serve.specs.declared.limits.TheConstants.{LISTING_FILES, LOOKUP_FILES, WAKING_FILES}
 use Rattle.mc_ring.specs.declared.rings.TheConstants.{SERVER_LIMIT}
-use Rattle.mc_watch.specs.declared.descriptors.TheConstants.{OWN_FILES}
+use Rattle.mc_program.specs.declared.descriptors.TheConstants.{OWN_FILES}
 
 -- The sockets of a server: one of its link, or those of its look-up, after which its link begins. If a file lists the servers, the look-up of
 -- an address that a server had before may go on beside the link to the new one.

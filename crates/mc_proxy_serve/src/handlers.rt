@@ -8,7 +8,7 @@ use mc_proxy::{Losses, MAX_SESSIONS, Proxy};
 use mc_proxy_pump::{ClientTally, Pumped, is_owed, pump_answers, pump_client};
 use mc_ring::Ring;
 use mc_socket::{Input, PIECE_LEN, Step, step_after};
-use mc_watch::Tally;
+use mc_stream::Tally;
 use std::alloc::Global;
 use std::collections::HashMap;
 

@@ -3,8 +3,8 @@ ghost use Rattle.std.specs.Prelude.{◌≡◌, ◌-◌, ◌^◌, min};
 ghost use Rattle.mc_proxy_serve.specs.Rooms.{files_beside, files_of_each};
 
 use crate::limits::{LISTING_FILES, LOOKUP_FILES, WAKING_FILES};
+use mc_program::OWN_FILES;
 use mc_ring::SERVER_LIMIT;
-use mc_watch::OWN_FILES;
 
 /// How many files a proxy over that many servers has open at most beside its clients, up to 2^64 - 1: its own, and the one by which
 /// look-ups wake it, if a server may have a host's name (`named`). Then a socket for each server, also for the one that joins, if one does

@@ -11,7 +11,7 @@ ghost use Rattle.mc_program.specs.Statuses.{status_of};
 use clap::ArgMatches;
 use mc_program::{
     EprintSeldom, Failure, LogOption, Logged, ServeError, exit_status, is_read, open_streams,
-    read_words,
+    read_words, tell_open_files,
 };
 use mc_proxy::{Losses, MAX_SESSIONS};
 use mc_proxy_serve::{
@@ -20,7 +20,6 @@ use mc_proxy_serve::{
 };
 use mc_ring::Ring;
 use mc_socket::bind;
-use mc_watch::tell_open_files;
 use std::alloc::Global;
 use std::fs::Files;
 use std::net::{Net, TcpListener, TcpStream};

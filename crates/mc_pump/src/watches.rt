@@ -4,7 +4,7 @@ ghost use Rattle.mc_pump.specs.Counts.{refusal_in};
 
 use mc_request::Fault;
 use mc_server::AnswerLimit;
-use mc_watch::Tally;
+use mc_stream::Tally;
 
 /// What is watched of connections while they are pumped.
 #[derive(Clone, Copy, Debug, PartialEq, Eq)]

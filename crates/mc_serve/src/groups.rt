@@ -1,6 +1,6 @@
 //! The limit of memory that the control groups of a process have.
 
-use mc_watch::earlier as lower;
+use mc_program::earlier as lower;
 use std::fs;
 use std::fs::Files;
 

@@ -6,13 +6,12 @@
 
 use mc_program::{
     EprintSeldom, Failure, LogOption, Logged, ServeError, exit_status, is_read, open_streams,
-    read_words,
+    read_words, tell_open_files,
 };
 use mc_serve::{
     Operators, Options, PROGRAM, SystemSeconds, bind, command, other_files, serve, tell_memory,
 };
 use mc_server::MAX_CONNECTIONS;
-use mc_watch::tell_open_files;
 use std::alloc::Global;
 use std::fs::Files;
 use std::net::Net;

@@ -10,8 +10,10 @@ mod gathers;
 mod limits;
 mod outcomes;
 mod sides;
+mod tallies;
 
 pub use gathers::{Gather, NoWriter};
 pub use limits::MAX_ROUNDS;
 pub use outcomes::Pumped;
 pub use sides::{read_once, told, write_once};
+pub use tallies::Tally;

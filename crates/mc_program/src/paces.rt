@@ -1,7 +1,7 @@
 //! When something is said.
 ghost use Rattle.std.specs.Prelude.{◌≡◌, ◌≢◌, ◌≤◌, ◌<◌, ◌↔◌, ◌-◌, None, Some, min, IfNone, IsTrue, OnSome};
 ghost use Rattle.std.specs.Bool.{OnTrue, OnFalse};
-ghost use Rattle.mc_watch.specs.Paces.{earlier, next_of, one_more, said_of, suppressed_with};
+ghost use Rattle.mc_program.specs.Paces.{earlier, next_of, one_more, said_of, suppressed_with};
 
 use std::mem;
 

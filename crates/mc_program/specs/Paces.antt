@@ -1,6 +1,6 @@
 -- When something is said: this project's own.
 use Rattle.std.specs.Prelude.{ℕ, ◌+◌, ◌-◌, ◌^◌, Option, Some, None, min}
-use Rattle.mc_watch.specs.declared.paces.Said.{Said}
+use Rattle.mc_program.specs.declared.paces.Said.{Said}
 
 -- so many seconds after a second, as far as 64 bits count
 abbrev pub next_of : ℕ → ℕ → ℕ
