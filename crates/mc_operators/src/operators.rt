@@ -5,8 +5,8 @@ ghost use Rattle.mc_operators.specs.Listings.{first_listing, listed_by, next_lis
 use crate::budgets::Budget;
 use crate::seats::{QUIET, Seat};
 use mc_admin::{REQUEST_LIMIT, Sheet, host_of};
+use mc_net::{Acceptor, Backlog, Step, bind};
 use mc_program::{AdminTerms, ServeError, earlier};
-use mc_socket::{Acceptor, Backlog, Step, bind};
 use mio::event::Event;
 use mio::net::TcpStream;
 use mio::{Interest, Registry, Token};

@@ -4,7 +4,7 @@ ghost use Rattle.mc_operators.specs.Listings.{listing_of};
 
 use crate::budgets::Budget;
 use mc_admin::{AdminError, Asked, Hosts, REQUEST_LIMIT, Sheet, Talk};
-use mc_socket::{Edge, Input, Step};
+use mc_net::{Edge, Input, Step};
 use mc_stream::{Pumped, read_once, write_once};
 use mio::event::Event;
 use mio::net::TcpStream;

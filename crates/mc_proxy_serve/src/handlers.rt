@@ -2,12 +2,11 @@
 ghost use Rattle.std.specs.Prelude.{◌≡◌, ◌<◌, vec_len};
 
 use crate::limits::CLIENT_ROOM;
-use mc_clients::{Client, Guard, Handler};
+use mc_net::{Client, Guard, Handler, Input, PIECE_LEN, Step, step_after};
 use mc_program::ServeError;
 use mc_proxy::{Losses, MAX_SESSIONS, Proxy};
 use mc_proxy_pump::{ClientTally, Pumped, is_owed, pump_answers, pump_client};
 use mc_ring::Ring;
-use mc_socket::{Input, PIECE_LEN, Step, step_after};
 use mc_stream::Tally;
 use std::alloc::Global;
 use std::collections::HashMap;

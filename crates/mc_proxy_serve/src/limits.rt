@@ -1,8 +1,8 @@
 //! The limits of a proxy that serves.
 
+use mc_net::Keepalive;
 use mc_proxy::MAX_SESSIONS;
 use mc_ring::SERVER_LIMIT;
-use mc_socket::Keepalive;
 use mio::Token;
 
 /// The most bytes of a file that lists servers: 64 KiB.

@@ -1,7 +1,7 @@
 //! A host that is looked up.
 
 use crate::notices::Cause;
-use mc_socket::first_address;
+use mc_net::first_address;
 use mio::Waker;
 use std::alloc::Global;
 use std::net::{Net, SocketAddr};

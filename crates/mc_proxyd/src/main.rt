@@ -9,6 +9,7 @@ ghost use Rattle.std.specs.Prelude.{◌≡◌};
 ghost use Rattle.mc_program.specs.Statuses.{status_of};
 
 use clap::ArgMatches;
+use mc_net::bind;
 use mc_program::{
     EprintSeldom, Failure, LogOption, Logged, ServeError, exit_status, is_read, open_streams,
     read_words, tell_open_files,
@@ -19,7 +20,6 @@ use mc_proxy_serve::{
     serve, tell_mistake,
 };
 use mc_ring::Ring;
-use mc_socket::bind;
 use std::alloc::Global;
 use std::fs::Files;
 use std::net::{Net, TcpListener, TcpStream};

@@ -2,8 +2,8 @@
 ghost use Rattle.std.specs.Prelude.{◌≡◌, ◌<◌, ◌≤◌, ◌^◌, ◌/◌, ℕ};
 ghost use Rattle.mc_serve.specs.Clocks.{moment_after};
 
+use mc_net::Stopwatch;
 use mc_operators::wall_clock;
-use mc_socket::Stopwatch;
 use std::marker::Model;
 use std::rt::Clock;
 

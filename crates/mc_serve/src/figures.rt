@@ -7,7 +7,7 @@ use crate::counts::Counts;
 use crate::kinds::StoreKind;
 use crate::settings::{Service, Settings};
 use mc_admin::{Setting, Sheet, Value, push_client_figures, push_store_figures};
-use mc_clients::{Listed, Report};
+use mc_net::{Listed, Report};
 use mc_operators::{Operators, process_number, resident_memory};
 use mc_server::MAX_CONNECTIONS;
 use mc_text::VALUE_LIMIT;

@@ -1,0 +1,2 @@
+pub mod BindingLemmas
+pub mod ListLemmas

@@ -1,0 +1,5 @@
+pub mod Acceptors
+pub mod Bindings
+pub mod Keeping
+pub mod Steps
+pub mod Lists

@@ -1,0 +1,62 @@
+-- What is listed of the clients of a host: this project's own.
+use Rattle.std.specs.Prelude.{ℕ, zero, suc, ◌+◌, ◌-◌, ◌%◌, ◌^◌, Bool, true, false, List, [], ◌∷◌, Option, Some, None, codes}
+use Rattle.slab.specs.Slab.{Slab, get}
+use Rattle.mc_admin.specs.declared.conns.Conn.{Conn}
+use Rattle.mc_net.specs.declared.clients.Seat.{Seat}
+use Rattle.mc_net.specs.declared.conns.Known.{Known}
+use Rattle.mc_net.specs.declared.conns.Owed.{Owed}
+use Rattle.mc_net.specs.declared.conns.Owed.TheVariants.{Answers, Replies}
+
+-- a count once another has gone from one number to the next: each begins again at 0 after 2^64 - 1
+abbrev pub count_after : ℕ → ℕ → ℕ → ℕ
+count_after count before after = (count + (after + (2 ^ 64 - before)) % 2 ^ 64) % 2 ^ 64
+
+-- what is known of a client at a place: for how many seconds it was quiet, since when it is there, what was read and written
+module _ {K : Type 0} where
+  abbrev pub known_of : ℕ → ℕ → Bool → Seat K → Known
+  known_of moment place owed seat =
+      record { place = place; is_owed = owed; quiet = moment - seat.used; age = moment - seat.since; read = seat.read; written = seat.written }
+
+-- what is listed of a client beside its addresses and its state
+pub record Shown : Type 0 where
+  pub place : ℕ
+  pub quiet : ℕ
+  pub age : ℕ
+  pub read : ℕ
+  pub written : ℕ
+
+abbrev pub shown_by : Known → Shown
+shown_by known = record { place = known.place; quiet = known.quiet; age = known.age; read = known.read; written = known.written }
+
+abbrev pub shown_of : Conn → Shown
+shown_of conn = record { place = conn.place; quiet = conn.quiet; age = conn.age; read = conn.read; written = conn.written }
+
+abbrev pub conn_state : Conn → List ℕ
+conn_state conn = conn.state.now
+
+-- what a client waits for that is owed something
+-- source: memcached's doc/protocol.txt, "Connection statistics"
+abbrev pub owed_state : Owed → List ℕ
+owed_state Answers = codes "conn_mwrite"
+owed_state Replies = codes "conn_io_queue"
+
+abbrev pub state_of : Bool → Owed → List ℕ
+state_of true owed = owed_state owed
+state_of false owed = codes "conn_waiting"
+
+module _ {K : Type 0} where
+  -- the client of a place, if there is one, before others
+  abbrev pub shown_before : ℕ → ℕ → Option (Seat K) → List Shown → List Shown
+  shown_before moment place (Some seat) rest = shown_by (known_of moment place false seat) ∷ rest
+  shown_before moment place None rest = rest
+
+  -- the clients of so many places from one on, in their order
+  abbrev pub all_shown : Slab (Seat K) → ℕ → ℕ → ℕ → List Shown
+  all_shown seats moment place zero = []
+  all_shown seats moment place (suc count) =
+      shown_before moment place (get seats place) (all_shown seats moment (place + 1) count)
+
+-- the place of the first, if there is one
+abbrev pub place_of : List Shown → Option ℕ
+place_of [] = None
+place_of (shown ∷ rest) = Some shown.place

@@ -1,0 +1,424 @@
+//! The clients of a host, who of them goes on, and who is idle.
+ghost use Rattle.std.specs.Prelude.{◌≡◌, ◌-◌, ◌<◌, ◌^◌, IfOk, drop, map, take};
+ghost use Rattle.mc_net.specs.Lists.{all_shown, count_after, known_of, place_of, shown_of};
+
+use crate::acceptors::Backlog;
+use crate::conns::{Known, LIST_LEN, Listed, Owed, conn_of};
+use crate::handlers::{Client, Handler};
+use crate::inputs::Edge;
+use crate::limits::KEPT_ROOM;
+use crate::reports::Report;
+use crate::steps::Step;
+use crate::strangers::{Refusal, opening};
+use mc_program::{EprintSeldom, Pace, Said, Seldom, earlier};
+use mc_stranger::{FirstLine, Opening, Stranger};
+use mc_stream::Tally;
+use mio::event::Event;
+use mio::net::TcpStream;
+use mio::{Interest, Registry, Token};
+use slab::Slab;
+use std::alloc::{AllocError, Global};
+use std::mem;
+
+/// A client, and what is known of its rounds.
+#[derive(Drop)]
+struct Seat<K> {
+    client: Client<K>,
+    /// Whether its first bytes are known not to be a stranger's.
+    known: bool,
+    /// Whether it goes on in the next round, though nothing happens.
+    queued: bool,
+    /// Whether anything has happened since the last rest.
+    busy: bool,
+    /// In which second its socket was reported last, or it was owed something.
+    used: u64,
+    /// In which second it came.
+    since: u64,
+    /// Bytes that were read from it.
+    read: u64,
+    /// Bytes that were written to it.
+    written: u64,
+}
+
+impl<K: Drop> Seat<K> {
+    /// Notes what passed of it, of what passed of all clients before and after its turn.
+    #[inline(always)]
+    fn pass(&mut self, before: Tally, after: Tally)
+        ensures { self.new ≡ record self.old {
+          read = count_after self.old.read before.read after.read;
+          written = count_after self.old.written before.written after.written;
+        } }
+    {
+        let read = after.read.wrapping_sub(before.read);
+        let written = after.written.wrapping_sub(before.written);
+        self.read = self.read.wrapping_add(read);
+        self.written = self.written.wrapping_add(written);
+    }
+
+    /// What is known of it at a moment, at a place.
+    fn known(&self, place: usize, is_owed: bool, moment: u64) -> Known
+        ensures { result ≡ known_of moment place is_owed self.now }
+    {
+        Known {
+            place,
+            is_owed,
+            quiet: moment.saturating_sub(self.used),
+            age: moment.saturating_sub(self.since),
+            read: self.read,
+            written: self.written,
+        }
+    }
+}
+
+/// The clients of a host. The token of a client's socket is its key.
+#[derive(Drop)]
+pub struct Clients<K: Drop> {
+    seats: Slab<Seat<K>>,
+    /// The most clients.
+    most: usize,
+    /// The keys of the clients that go on in the next round, though nothing happens.
+    queue: Vec<usize>,
+    /// The same of this round.
+    going_on: Vec<usize>,
+    /// Whether a client was busy since the last rest.
+    busy: bool,
+    /// After how many seconds a client is closed that sent nothing and is owed nothing; 0 for never.
+    idle: u64,
+    /// In which second a client may have been idle for too long, at the earliest.
+    due: Option<u64>,
+    /// How many clients were closed as they came.
+    refused: u64,
+    /// Strangers of whom it is to be said that they were turned away.
+    turned_away: Seldom<Refusal>,
+    /// When it may be said that no more are accepted, since the system gives no connection.
+    told_refused: Pace,
+}
+
+/// In how many seconds it is said once, at most, that the system gives no connection: this may last for hours.
+const REFUSED_EVERY: u64 = 60;
+
+impl<K: Default + Drop> Clients<K> {
+    /// Nobody, with room for so many. A client that is idle for longer than so many seconds is closed; 0 for never.
+    pub fn new(alloc: Global, most: usize, idle: u64) -> Result<Self, AllocError> {
+        Ok(Clients {
+            queue: Vec::with_capacity(alloc, most)?,
+            going_on: Vec::with_capacity(alloc, most)?,
+            seats: Slab::with_capacity(alloc, most)?,
+            most,
+            busy: false,
+            idle,
+            due: None,
+            refused: 0,
+            turned_away: Seldom::new(),
+            told_refused: Pace {
+                every: REFUSED_EVERY,
+                next: 0,
+            },
+        })
+    }
+
+    /// How many there are.
+    pub fn len(&self) -> usize {
+        self.seats.len()
+    }
+
+    /// Whether there is nobody.
+    pub fn is_empty(&self) -> bool {
+        self.seats.is_empty()
+    }
+
+    /// What was done for them, in so many seconds in which so many were accepted, and by this tally.
+    pub fn report(&self, uptime: u64, accepted: u64, tally: Tally) -> Report {
+        Report {
+            uptime,
+            connections: self.seats.len(),
+            accepted,
+            refused: self.refused,
+            tally,
+        }
+    }
+
+    /// Whether one goes on though nothing happens.
+    pub fn goes_on(&self) -> bool {
+        !self.queue.is_empty()
+    }
+
+    /// Whether there may be one that is to rest.
+    pub fn is_busy(&self) -> bool {
+        self.busy
+    }
+
+    /// In which second one may have been idle for too long, at the earliest.
+    pub fn due(&self) -> Option<u64> {
+        self.due
+    }
+
+    /// The client of a key.
+    pub fn get(&self, key: usize) -> Option<&Client<K>> {
+        self.seats.get(key).map(|seat| &seat.client)
+    }
+
+    /// The client of a key, to write to what is kept of it.
+    pub fn get_mut(&mut self, key: usize) -> Option<&mut Client<K>> {
+        self.seats.get_mut(key).map(|seat| &mut seat.client)
+    }
+
+    /// Lists clients from a place on, at most [`LIST_LEN`], at a moment. One that is owed something waits for that.
+    #[tactic(auto, using(crate::proofs::ListLemmas::list_steps))]
+    pub fn listed<H: Handler<K>>(
+        &self,
+        handler: &H,
+        alloc: Global,
+        from: usize,
+        moment: u64,
+        owed: Owed,
+    ) -> Result<Listed, AllocError>
+        ensures conns { IfOk result (λ listed. map shown_of listed.conns.items
+            ≡ take LIST_LEN (all_shown self.now.seats moment from (self.now.most - from))) }
+        ensures next { IfOk result (λ listed. listed.next
+            ≡ place_of (drop LIST_LEN (all_shown self.now.seats moment from (self.now.most - from)))) }
+    {
+        let mut conns = Vec::with_capacity(alloc, LIST_LEN)?;
+        for place in from..self.most {
+            let Some(seat) = self.seats.get(place) else {
+                continue;
+            };
+            if conns.len() == LIST_LEN {
+                return Ok(Listed {
+                    conns,
+                    next: Some(place),
+                });
+            }
+            let known = seat.known(place, handler.owes(seat.client.number), moment);
+            conns.push(conn_of(alloc, &seat.client.stream, known, owed)?)?;
+        }
+        Ok(Listed { conns, next: None })
+    }
+
+    /// Takes a client in at a moment. One for whom there is no place or no memory is closed at once.
+    pub fn admit<H: Handler<K>>(
+        &mut self,
+        handler: &mut H,
+        stream: TcpStream,
+        registry: &Registry,
+        moment: u64,
+    ) {
+        if self.try_admit(handler, stream, registry, moment) {
+            self.expect(moment);
+        } else {
+            self.refused = self.refused.saturating_add(1);
+        }
+    }
+
+    /// The same, which says whether there was a place and memory.
+    fn try_admit<H: Handler<K>>(
+        &mut self,
+        handler: &mut H,
+        mut stream: TcpStream,
+        registry: &Registry,
+        moment: u64,
+    ) -> bool {
+        let key = self.seats.vacant_key();
+        let Some(number) = handler.admit(key) else {
+            return false;
+        };
+        let both = Interest::READABLE | Interest::WRITABLE;
+        // A client whose answers may come late is served all the same.
+        let _ = stream.set_nodelay(true);
+        let registered = registry.register(&mut stream, Token(key), both);
+        let seat = Seat {
+            client: Client {
+                stream,
+                number,
+                ended: false,
+                edge: Edge::new(),
+                first: FirstLine::new(),
+                kept: K::default(),
+            },
+            known: false,
+            queued: false,
+            busy: false,
+            used: moment,
+            since: moment,
+            read: 0,
+            written: 0,
+        };
+        if registered.is_err() {
+            handler.end(number);
+            return false;
+        }
+        if self.seats.insert(seat).is_err() {
+            handler.note_refused();
+            handler.end(number);
+            return false;
+        }
+        true
+    }
+
+    /// Serves the client of an event.
+    pub fn wake<H: Handler<K>>(&mut self, handler: &mut H, event: &Event, moment: u64)
+        requires { moment < 2 ^ 63 }
+    {
+        let Token(key) = event.token();
+        if let Some(seat) = self.seats.get_mut(key) {
+            seat.client.edge.note(event);
+            seat.used = moment;
+            self.serve(handler, key, moment);
+        }
+    }
+
+    /// Serves the clients whose rounds were used up in the round before.
+    pub fn go_on<H: Handler<K>>(&mut self, handler: &mut H, moment: u64)
+        requires { moment < 2 ^ 63 }
+    {
+        mem::swap(&mut self.queue, &mut self.going_on);
+        for index in 0..self.going_on.len() {
+            let Some(key) = self.going_on.get(index).copied() else {
+                break;
+            };
+            if let Some(seat) = self.seats.get_mut(key) {
+                seat.queued = false;
+                self.serve(handler, key, moment);
+            }
+        }
+        self.going_on.clear();
+    }
+
+    /// Serves all clients.
+    pub fn serve_all<H: Handler<K>>(&mut self, handler: &mut H, moment: u64)
+        requires { moment < 2 ^ 63 }
+    {
+        for key in 0..self.most {
+            self.serve(handler, key, moment);
+        }
+    }
+
+    /// Serves the client of a key as far as it goes, once its first bytes are known. A stranger whom they show is turned away before
+    /// anything of it is read, and one whom its first line shows before that is.
+    pub fn serve<H: Handler<K>>(&mut self, handler: &mut H, key: usize, moment: u64)
+        requires { moment < 2 ^ 63 }
+    {
+        let Some(seat) = self.seats.get_mut(key) else {
+            return;
+        };
+        if !seat.known {
+            match opening(&seat.client.stream, seat.client.edge) {
+                Opening::Unsettled => return,
+                Opening::Text => seat.known = true,
+                Opening::Strange(stranger) => {
+                    self.turn_away(handler, key, stranger);
+                    return;
+                }
+            }
+        }
+        self.busy = true;
+        seat.busy = true;
+        let before = handler.tally();
+        let step = handler.serve(&mut seat.client, moment);
+        seat.pass(before, handler.tally());
+        match step {
+            Step::GoOn => {
+                let was_queued = mem::replace(&mut seat.queued, true);
+                if !was_queued && self.queue.push(key).is_err() {
+                    handler.note_refused();
+                    self.close(handler, key);
+                }
+            }
+            Step::Wait => handler.give_back(seat.client.number, KEPT_ROOM),
+            Step::Close => match seat.client.first.opening() {
+                Opening::Strange(stranger) => self.turn_away(handler, key, stranger),
+                _ => self.close(handler, key),
+            },
+        }
+    }
+
+    /// Closes a client that is a stranger, and notes whom to tell of.
+    fn turn_away<H: Handler<K>>(&mut self, handler: &mut H, key: usize, stranger: Stranger) {
+        let address = self
+            .seats
+            .get(key)
+            .and_then(|seat| seat.client.stream.peer_addr().ok());
+        self.refused = self.refused.saturating_add(1);
+        self.turned_away.note(Refusal { stranger, address });
+        self.close(handler, key);
+    }
+
+    /// Says on standard error, as the program of a name and at most once in a second, that a stranger was turned away, and how often that
+    /// was suppressed before.
+    pub fn tell<R: EprintSeldom>(&mut self, rt: &R, program: &str, second: u64) {
+        if let Some(Said { what, suppressed }) = self.turned_away.take(second) {
+            // Where it cannot be said, all are served all the same.
+            let _ = rt.eprintln_seldom(format_args!("{program}: {what}"), suppressed);
+        }
+    }
+
+    /// Says on standard error, as the program of a name and at most once in a minute, that no more clients are accepted since the system
+    /// gives no connection, and why.
+    pub fn tell_refused<R: Eprint>(
+        &mut self,
+        rt: &R,
+        program: &str,
+        backlog: Backlog,
+        second: u64,
+    ) {
+        if let Backlog::Refused(error) = backlog
+            && self.told_refused.comes(second)
+        {
+            // Where it cannot be said, all are served all the same.
+            let _ = eprintln!(rt; "{program}: no more clients: {error}");
+        }
+    }
+
+    /// Gives back the memory that is reserved for clients to whom nothing has happened since the last rest, and closes those that
+    /// have been idle for too long.
+    pub fn rest<H: Handler<K>>(&mut self, handler: &mut H, moment: u64) {
+        self.busy = false;
+        self.due = None;
+        for key in 0..self.most {
+            self.rest_one(handler, key, moment);
+        }
+    }
+
+    /// The same of the client of a key.
+    fn rest_one<H: Handler<K>>(&mut self, handler: &mut H, key: usize, moment: u64) {
+        let Some(seat) = self.seats.get_mut(key) else {
+            return;
+        };
+        let number = seat.client.number;
+        if mem::replace(&mut seat.busy, false) {
+            self.busy = true;
+        } else {
+            handler.give_back(number, 0);
+        }
+        if handler.owes(number) {
+            seat.used = moment;
+        }
+        let used = seat.used;
+        if self.is_too_idle(used, moment) {
+            self.close(handler, key);
+        } else {
+            self.expect(used);
+        }
+    }
+
+    /// Whether a client that was used in a second has been idle for too long: moments are whole seconds, so that one more has to
+    /// pass.
+    fn is_too_idle(&self, used: u64, moment: u64) -> bool {
+        self.idle > 0 && moment.saturating_sub(used) > self.idle
+    }
+
+    /// Expects a client that was used in a second to be idle for too long once so many have passed.
+    fn expect(&mut self, used: u64) {
+        if self.idle > 0 {
+            let due = used.saturating_add(self.idle).saturating_add(1);
+            self.due = earlier(self.due, Some(due));
+        }
+    }
+
+    /// Ends what a client has with the handler, and closes its socket.
+    fn close<H: Handler<K>>(&mut self, handler: &mut H, key: usize) {
+        if let Some(seat) = self.seats.try_remove(key) {
+            handler.end(seat.client.number);
+        }
+    }
+}

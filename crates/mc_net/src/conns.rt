@@ -1,0 +1,107 @@
+//! Who is connected, as operators are told.
+
+ghost use Rattle.std.specs.Prelude.{◌≡◌, IfOk};
+ghost use Rattle.mc_net.specs.Lists.{conn_state, owed_state, shown_by, shown_of, state_of};
+
+use mc_admin::{Conn, Part};
+use mio::net::TcpStream;
+use std::alloc::{AllocError, Global};
+use std::io;
+use std::net::SocketAddr;
+
+/// The most clients of a part of the list.
+pub const LIST_LEN: usize = 32;
+
+/// What stands for an address that the system does not say.
+const UNKNOWN: &str = "unknown";
+
+/// The state of a client that is owed nothing, in memcached's words.
+const WAITING: &[u8] = b"conn_waiting";
+
+/// What a client waits for that is owed something.
+#[derive(Clone, Copy)]
+pub enum Owed {
+    /// It has answers to take.
+    Answers,
+    /// It waits for a server's reply, or has answers to take.
+    Replies,
+}
+
+impl Owed {
+    /// The state of a client that waits for it, in memcached's words.
+    fn state(self) -> &'static [u8]
+        ensures { result.now ≡ owed_state self }
+    {
+        match self {
+            Owed::Answers => b"conn_mwrite",
+            Owed::Replies => b"conn_io_queue",
+        }
+    }
+}
+
+/// Some of the clients that are connected, by their places.
+#[derive(Drop)]
+pub struct Listed {
+    /// The clients.
+    pub conns: Vec<Conn>,
+    /// From which place on the others are; none if these are the last.
+    pub next: Option<usize>,
+}
+
+impl Listed {
+    /// The same, as an answer has it.
+    pub fn part(&self) -> Part<'_> {
+        Part {
+            conns: self.conns.as_slice(),
+            next: self.next,
+        }
+    }
+}
+
+/// What is known of a client beside its socket.
+#[derive(Clone, Copy, Debug)]
+pub struct Known {
+    /// Its place.
+    pub place: usize,
+    /// Whether it is owed something.
+    pub is_owed: bool,
+    /// Seconds since its socket had something, or it was owed something.
+    pub quiet: u64,
+    /// Seconds since it came.
+    pub age: u64,
+    /// Bytes that were read from it.
+    pub read: u64,
+    /// Bytes that were written to it.
+    pub written: u64,
+}
+
+/// What is told of a client: what is known of it, and its addresses, which the system is asked for now. One that is owed something waits for
+/// that.
+pub fn conn_of(
+    alloc: Global,
+    stream: &TcpStream,
+    known: Known,
+    owed: Owed,
+) -> Result<Conn, AllocError>
+    ensures shown { IfOk result (λ conn. shown_of conn ≡ shown_by known) }
+    ensures state { IfOk result (λ conn. conn_state conn ≡ state_of known.is_owed owed) }
+{
+    Ok(Conn {
+        place: known.place as u64,
+        peer: text_of(alloc, stream.peer_addr())?,
+        own: text_of(alloc, stream.local_addr())?,
+        state: if known.is_owed { owed.state() } else { WAITING },
+        quiet: known.quiet,
+        age: known.age,
+        read: known.read,
+        written: known.written,
+    })
+}
+
+/// An address as text.
+fn text_of(alloc: Global, address: io::Result<SocketAddr>) -> Result<String, AllocError> {
+    match address {
+        Ok(address) => address.to_string(alloc),
+        Err(_) => String::from_str(alloc, UNKNOWN),
+    }
+}

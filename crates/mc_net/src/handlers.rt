@@ -1,0 +1,51 @@
+//! A client, and what serves it.
+ghost use Rattle.std.specs.Prelude.{◌≡◌, ◌<◌, ◌^◌};
+
+use crate::inputs::Edge;
+use crate::steps::Step;
+use mc_stranger::FirstLine;
+use mc_stream::Tally;
+use mio::net::TcpStream;
+
+/// A client of a program on sockets: its socket, and what is known of it.
+#[derive(Drop)]
+pub struct Client<K> {
+    /// Its socket.
+    pub stream: TcpStream,
+    /// The number of its connection, or of its session.
+    pub number: u64,
+    /// Whether its input has ended.
+    pub ended: bool,
+    /// What is known of its input.
+    pub edge: Edge,
+    /// What is known of its first line.
+    pub first: FirstLine,
+    /// What its handler keeps of it beside.
+    pub kept: K,
+}
+
+/// What serves clients: a server, or a proxy.
+pub trait Handler<K> {
+    /// Admits a client that will have this key, and gives its number; none where there is no place or no memory for it.
+    fn admit(&mut self, key: usize) -> Option<u64>;
+
+    /// Notes that a client is closed since there is no memory for its place.
+    fn note_refused(&mut self) {}
+
+    /// Ends the connection or the session of a client that is closed.
+    fn end(&mut self, number: u64);
+
+    /// Carries a client's bytes at a moment, in seconds, as far as it goes, and says what is done with it then.
+    fn serve(&mut self, client: &mut Client<K>, moment: u64) -> Step
+        requires { moment < 2 ^ 63 }
+        ensures { client.new.number ≡ client.old.number };
+
+    /// Gives back the memory that is reserved for a client and holds nothing, but for so many bytes of each buffer.
+    fn give_back(&mut self, number: u64, room: usize);
+
+    /// Whether a client is owed something.
+    fn owes(&self, number: u64) -> bool;
+
+    /// What passed of all clients.
+    fn tally(&self) -> Tally;
+}

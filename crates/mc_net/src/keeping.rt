@@ -1,0 +1,83 @@
+//! Peers that are gone without a word.
+ghost use Rattle.std.specs.Prelude.{◌≡◌};
+ghost use Rattle.libc.specs.Net.{SockOption};
+ghost use Rattle.mc_net.specs.Keeping.{silence_of};
+
+use libc::net as c;
+use std::os::fd::AsRawFd;
+
+/// How the system finds that the peer of a connection is gone without a word: it asks the peer for a sign of life (keepalive).
+#[derive(Clone, Copy, Debug, PartialEq, Eq)]
+pub struct Keepalive {
+    /// After how many seconds without a byte from the peer it is asked first (TCP_KEEPIDLE): at least 1.
+    pub idle: u8,
+    /// How many seconds after a question it is asked again (TCP_KEEPINTVL): at least 1.
+    pub interval: u8,
+    /// As many questions without an answer end the connection (TCP_KEEPCNT): 1 to 127.
+    pub probes: u8,
+}
+
+/// How clients are looked for: one is gone after 60 seconds. A machine that is moved, or sleeps for a moment, keeps its connections; and
+/// what is kept for one that is gone is free within a minute, and not after the system's two hours.
+pub const CLIENT_KEEPALIVE: Keepalive = Keepalive {
+    idle: 30,
+    interval: 10,
+    probes: 3,
+};
+
+impl Keepalive {
+    /// After how many milliseconds a peer is gone that gives no sign of life.
+    fn silence(self) -> u32
+        ensures { result ≡ silence_of self }
+    {
+        let asked = u32::from(self.interval) * u32::from(self.probes);
+        (u32::from(self.idle) + asked) * 1000
+    }
+}
+
+/// Has the system look for the clients of a listener, whose connections take this over from it: [`keep_alive_by`] with
+/// [`CLIENT_KEEPALIVE`].
+pub fn keep_alive<S: AsRawFd>(listener: &S) {
+    keep_alive_by(listener, CLIENT_KEEPALIVE);
+}
+
+/// Has the system look for the peer of a socket, and end the connection if that is gone without a word. The peer is gone if it answers no
+/// question in time; if for as long it has confirmed nothing of what was sent, though all is sent again; or if for as
+/// long it took nothing of what is to be sent (TCP_USER_TIMEOUT). Where the system refuses one of these, it has its own time.
+pub fn keep_alive_by<S: AsRawFd>(socket: &S, keepalive: Keepalive) {
+    set(socket, c::SOL_SOCKET, c::SO_KEEPALIVE, 1);
+    set(
+        socket,
+        c::IPPROTO_TCP,
+        c::TCP_KEEPIDLE,
+        u32::from(keepalive.idle),
+    );
+    set(
+        socket,
+        c::IPPROTO_TCP,
+        c::TCP_KEEPINTVL,
+        u32::from(keepalive.interval),
+    );
+    set(
+        socket,
+        c::IPPROTO_TCP,
+        c::TCP_KEEPCNT,
+        u32::from(keepalive.probes),
+    );
+    set(
+        socket,
+        c::IPPROTO_TCP,
+        c::TCP_USER_TIMEOUT,
+        keepalive.silence(),
+    );
+}
+
+/// Sets an option of a socket that is a number. Where the system refuses it, nothing changes.
+fn set<S: AsRawFd>(socket: &S, level: i32, name: i32, number: u32)
+    requires option { SockOption level name }
+{
+    let mut value = [0u8; 16];
+    value[..4].copy_from_slice(&number.to_ne_bytes());
+    // The option's value is the first four bytes.
+    let _ = unsafe { c::setsockopt(socket.as_raw_fd(), level, name, &value, 4) };
+}

@@ -1,0 +1,67 @@
+//! What a program on sockets needs beside what it serves: where it listens, who waits to be accepted, what has come, how long
+//! it has served, and its clients.
+//!
+//! [`bind`] gives a listener, at the [`first_address`] of a host; [`spelled_address`] is that of a text that needs no look-up. A
+//! [`Acceptor`] is a listener and how many connections it has accepted: a poll that it is [registered](Acceptor::register) with
+//! reports it, which it is [told](Acceptor::note), and [`Acceptor::accept`] gives the connections, one by one. Where the system gives
+//! none, a [`Backlog`] says why. Of a connection's socket an [`Edge`] keeps what events say ([`Edge::note`]), and an [`Input`] is the
+//! reader over both, which asks the system for nothing that is known not to be there. [`step_after`] says what is done with a client
+//! whose pump ended, and a [`Stopwatch`] how long a program has served. [`keep_alive`] and [`keep_alive_by`] have the system look for
+//! peers that are gone without a word, and [`reset`] gives a connection up. [`PIECE_LEN`] and [`KEPT_ROOM`] are limits that all who serve
+//! sockets share.
+//!
+//! None of these calls waits but [`bind`] and [`first_address`], which look a name up. What a socket carries, and who comes, no contract
+//! says. Proved are that an address is the first IPv4 one of those that a look-up gave, how many an acceptor accepts, that an
+//! input drops and repeats no byte of its stream, what is done after a pump, and that a stopwatch never goes back.
+//!
+//! # Clients
+//!
+//! Who is admitted, who goes on, who is idle, and the rounds of a program's poll.
+//!
+//! [`serve_rounds`] is the loop of a server and of a proxy: it waits for the sockets, notes who comes to the listener, lets in
+//! as many as a round does, and has what implements [`Rounds`] do the rest. [`Clients`] are those who were let in, as
+//! [`Client`]s, with the queue of those that go on though nothing happens, and with what is known of how long each was idle.
+//! What serves them is a [`Handler`]: it admits a client, carries its bytes and says what is done with it then. [`patience`] says
+//! how long a round waits, and a [`Report`] what was done. A [`Room`] is how many clients the open files of a program allow, and a
+//! [`Listed`] who is connected, at most [`LIST_LEN`] clients at a time.
+//!
+//! A client is served once its first bytes are known not to be a stranger's ([`mc_stranger::opening_of`]), and read through a [`Guard`],
+//! which reads no line that shows a stranger ([`mc_stranger::FirstLine`]). A stranger is closed, and that is said on standard error
+//! ([`Clients::tell`]).
+//!
+//! [`serve_rounds`] waits, and may wait for ever; no other of these calls does. Proved is that they are safe, that each but [`serve_rounds`] ends, and that no read of a [`Guard`] gives the whole first line of a
+//! stranger, in whatever pieces it comes.
+#![tactic(auto)]
+
+mod acceptors;
+mod binding;
+mod clients;
+mod conns;
+mod guards;
+mod handlers;
+mod inputs;
+mod keeping;
+mod limits;
+mod reports;
+mod resets;
+mod rooms;
+mod rounds;
+mod steps;
+mod stopwatches;
+mod strangers;
+
+pub use acceptors::{Acceptor, Backlog};
+pub use binding::{bind, first_address, spelled_address};
+pub use clients::Clients;
+pub use conns::{LIST_LEN, Listed, Owed};
+pub use guards::Guard;
+pub use handlers::{Client, Handler};
+pub use inputs::{Edge, Input};
+pub use keeping::{CLIENT_KEEPALIVE, Keepalive, keep_alive, keep_alive_by};
+pub use limits::{KEPT_ROOM, PIECE_LEN};
+pub use reports::Report;
+pub use resets::reset;
+pub use rooms::Room;
+pub use rounds::{Rounds, patience, serve_rounds};
+pub use steps::{Step, step_after};
+pub use stopwatches::Stopwatch;

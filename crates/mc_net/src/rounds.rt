@@ -1,0 +1,147 @@
+//! The rounds of a program that serves the clients of a listener.
+
+use crate::acceptors::{Acceptor, Backlog};
+use mc_program::{ServeError, earlier};
+use mio::event::Event;
+use mio::net::{TcpListener, TcpStream};
+use mio::{Events, Poll, Registry, Token};
+use std::alloc::Global;
+use std::net::Net;
+use std::sync::Wait;
+use std::time::Duration;
+
+/// The token of the listener. No other socket has it.
+const LISTENER: Token = Token(usize::MAX);
+
+/// The most events of a round.
+const MAX_EVENTS: usize = 1024;
+
+/// The most clients that are let in in a round.
+const MAX_ACCEPTS: u32 = 64;
+
+/// How long a round waits at most where something is soon to be done unasked: in milliseconds.
+const PATIENCE: u64 = 1000;
+
+/// A round that waits because something is to be done unasked waits at most so many milliseconds.
+const MOST_PATIENCE: u64 = 3_600_000;
+
+/// What a program on a runtime does in the rounds of its poll, in this order, by a clock.
+pub trait Rounds<R, C> {
+    /// Is told once, before the first round, that all is reserved which the rounds need, and that the listener is registered.
+    fn ready(&mut self, _rt: &R) {}
+
+    /// Does what is to be done before a round, and says how long the round waits: for ever where it says nothing. It is told what
+    /// is known of the clients that wait at the listener.
+    fn before(&mut self, rt: &R, registry: &Registry, backlog: Backlog) -> Option<Duration>;
+
+    /// Comes to the moment of a round, once it has waited, and serves those who go on.
+    fn begin(&mut self, rt: &R, clock: &mut C);
+
+    /// Does what an event asks for, of any socket but the listener's.
+    fn wake(&mut self, event: &Event);
+
+    /// Does what the events of a round leave to be done together.
+    fn carry_on(&mut self, registry: &Registry);
+
+    /// Whether clients may come in.
+    fn is_open(&self) -> bool;
+
+    /// Lets a client in. With it, so many were accepted.
+    fn admit(&mut self, rt: &R, registry: &Registry, stream: TcpStream, accepted: u64);
+
+    /// Does what is due unasked at the end of a round. So many clients were accepted.
+    fn finish(&mut self, rt: &R, accepted: u64);
+
+    /// Whether nobody is served, and nobody waits to be.
+    fn is_empty(&self) -> bool;
+
+    /// Why it serves no longer after a round.
+    fn failed(&self) -> Option<ServeError> {
+        None
+    }
+}
+
+/// Goes round until as many clients as are to be accepted have come, and nobody is served any more; with 0 for ever, or until the host says
+/// why it serves no longer.
+pub fn serve_rounds<R: Net + Wait, C, H: Rounds<R, C>>(
+    rt: &R,
+    alloc: Global,
+    listener: TcpListener,
+    accept: u64,
+    clock: &mut C,
+    host: &mut H,
+) -> Result<(), ServeError> {
+    let mut events = Events::with_capacity(alloc, MAX_EVENTS)?;
+    let mut poll = Poll::new(rt)?;
+    let mut acceptor = Acceptor::new(listener, accept);
+    acceptor.register(poll.registry(), LISTENER)?;
+    host.ready(rt);
+    go_round(rt, &mut poll, &mut events, &mut acceptor, clock, host)
+}
+
+/// Goes round over what was made for it.
+fn go_round<R: Net + Wait, C, H: Rounds<R, C>>(
+    rt: &R,
+    poll: &mut Poll,
+    events: &mut Events,
+    acceptor: &mut Acceptor,
+    clock: &mut C,
+    host: &mut H,
+) -> Result<(), ServeError> {
+    for _ in rt.forever() {
+        let patience = host.before(rt, poll.registry(), acceptor.backlog());
+        poll.poll(events, patience)?;
+        host.begin(rt, clock);
+        wake_all::<R, C, H>(events, acceptor, host);
+        host.carry_on(poll.registry());
+        let_in::<R, C, H>(rt, poll.registry(), acceptor, host);
+        host.finish(rt, acceptor.accepted());
+        if let Some(error) = host.failed() {
+            return Err(error);
+        }
+        if acceptor.is_shut() && host.is_empty() {
+            return Ok(());
+        }
+    }
+    unreachable!()
+}
+
+/// Does what the events of a round ask for.
+#[inline(always)]
+fn wake_all<R, C, H: Rounds<R, C>>(events: &Events, acceptor: &mut Acceptor, host: &mut H) {
+    for event in events.iter() {
+        if event.token() == LISTENER {
+            acceptor.note();
+        } else {
+            host.wake(event);
+        }
+    }
+}
+
+/// Lets clients in until none waits, or as many as a round lets in.
+fn let_in<R, C, H: Rounds<R, C>>(
+    rt: &R,
+    registry: &Registry,
+    acceptor: &mut Acceptor,
+    host: &mut H,
+) {
+    for _ in 0..MAX_ACCEPTS {
+        if acceptor.backlog() == Backlog::Nobody || !host.is_open() {
+            return;
+        }
+        let Some(stream) = acceptor.accept() else {
+            return;
+        };
+        host.admit(rt, registry, stream, acceptor.accepted());
+    }
+}
+
+/// How long a round waits: not at all where somebody goes on, a second at most where something is soon to be done unasked, and
+/// else until something is due, in so many milliseconds; for ever where nothing is.
+pub fn patience(goes_on: bool, soon: bool, left: Option<u64>) -> Option<Duration> {
+    if goes_on {
+        return Some(Duration::from_millis(0));
+    }
+    let left = earlier(soon.then_some(PATIENCE), left)?;
+    Some(Duration::from_millis(left.min(MOST_PATIENCE)))
+}

@@ -1,0 +1,50 @@
+//! Strangers: clients that do not speak the text protocol, and how it is said that they are turned away.
+
+use crate::inputs::Edge;
+use mc_stranger::{OPENING_LEN, Opening, Stranger, opening_of};
+use mio::net::TcpStream;
+use std::fmt;
+use std::fmt::{Display, Formatter};
+use std::io::ErrorKind;
+use std::net::SocketAddr;
+
+/// A stranger that was turned away, as it is said: `<address> refused: <what it speaks>: <what to do>`.
+#[derive(Clone, Copy, Debug)]
+pub struct Refusal {
+    /// What it speaks.
+    pub stranger: Stranger,
+    /// Where it is, if the system still says so.
+    pub address: Option<SocketAddr>,
+}
+
+impl Display for Refusal {
+    fn fmt<W: fmt::Write>(&self, f: &mut Formatter<W>) -> fmt::Result {
+        let stranger = self.stranger;
+        match self.address {
+            Some(address) => write!(f, "{address} refused: {stranger}"),
+            None => write!(f, "client refused: {stranger}"),
+        }
+    }
+}
+
+/// What the first bytes of a client are, which stay unread. The client's events have told its edge.
+///
+/// A client that has ended or failed is no stranger: whoever reads its bytes sees the end of them.
+pub fn opening(stream: &TcpStream, edge: Edge) -> Opening {
+    if edge.is_drained() {
+        return Opening::Unsettled;
+    }
+    let mut first = [0; OPENING_LEN];
+    let opening = match stream.peek(&mut first) {
+        Ok(count) => {
+            let (came, _) = first.split_at(count);
+            opening_of(came)
+        }
+        Err(error) if error.kind() == ErrorKind::WouldBlock => Opening::Unsettled,
+        Err(_) => Opening::Text,
+    };
+    if opening == Opening::Unsettled && edge.is_to_the_end() {
+        return Opening::Text;
+    }
+    opening
+}

@@ -1,4 +1,0 @@
-pub mod Acceptors
-pub mod Bindings
-pub mod Keeping
-pub mod Steps
