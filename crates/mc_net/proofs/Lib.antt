@@ -1,2 +1,3 @@
 pub mod BindingLemmas
 pub mod ListLemmas
+pub mod ListingLemmas

@@ -3,3 +3,4 @@ pub mod Bindings
 pub mod Keeping
 pub mod Steps
 pub mod Lists
+pub mod Listings

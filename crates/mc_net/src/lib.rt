@@ -1,5 +1,5 @@
 //! What a program on sockets needs beside what it serves: where it listens, who waits to be accepted, what has come, how long
-//! it has served, and its clients.
+//! it has served, its clients, and its operators.
 //!
 //! [`bind`] gives a listener, at the [`first_address`] of a host; [`spelled_address`] is that of a text that needs no look-up. A
 //! [`Acceptor`] is a listener and how many connections it has accepted: a poll that it is [registered](Acceptor::register) with
@@ -31,10 +31,28 @@
 //!
 //! [`serve_rounds`] waits, and may wait for ever; no other of these calls does. Proved is that they are safe, that each but [`serve_rounds`] ends, and that no read of a [`Guard`] gives the whole first line of a
 //! stranger, in whatever pieces it comes.
+//!
+//! # Operators
+//!
+//! They are in the poll of a program that serves others.
+//!
+//! [`Operators`] are a listener of their own and at most [`MAX_OPERATORS`] connections. A program has them register and accept before a
+//! round ([`Operators::before`]), notes the events of their tokens ([`Operators::note`]), and serves them at the end of a round
+//! ([`Operators::serve`]), where one [is stirred](Operators::is_stirred), by what it says of itself ([`mc_admin::Sheet`]).
+//!
+//! Nobody else waits for them: all that is done for operators in a second is a bounded number of steps ([`STEPS`]), each an accept, a
+//! read, an answer or a write. What is kept of a connection is bounded. One that has sent nothing, or taken nothing, for
+//! [`PATIENCE`] seconds is closed, after [`QUIET`] seconds if another wants its place, and one that was answered for the last time is read
+//! to its end, for at most [`LINGER`] seconds.
+//!
+//! [`process_number`], [`wall_clock`] and [`resident_memory`] are what the system says of the process.
+//!
+//! None of these calls waits but [`Operators::new`], which looks a name up. What a connection is answered is that of [`mc_admin::Talk`].
 #![tactic(auto)]
 
 mod acceptors;
 mod binding;
+mod budgets;
 mod clients;
 mod conns;
 mod guards;
@@ -42,16 +60,20 @@ mod handlers;
 mod inputs;
 mod keeping;
 mod limits;
+mod operators;
+mod processes;
 mod reports;
 mod resets;
 mod rooms;
 mod rounds;
+mod seats;
 mod steps;
 mod stopwatches;
 mod strangers;
 
 pub use acceptors::{Acceptor, Backlog};
 pub use binding::{bind, first_address, spelled_address};
+pub use budgets::STEPS;
 pub use clients::Clients;
 pub use conns::{LIST_LEN, Listed, Owed};
 pub use guards::Guard;
@@ -59,9 +81,12 @@ pub use handlers::{Client, Handler};
 pub use inputs::{Edge, Input};
 pub use keeping::{CLIENT_KEEPALIVE, Keepalive, keep_alive, keep_alive_by};
 pub use limits::{KEPT_ROOM, PIECE_LEN};
+pub use operators::{MAX_OPERATORS, Operators};
+pub use processes::{process_number, resident_memory, wall_clock};
 pub use reports::Report;
 pub use resets::reset;
 pub use rooms::Room;
 pub use rounds::{Rounds, patience, serve_rounds};
+pub use seats::{LINGER, PATIENCE, QUIET};
 pub use steps::{Step, step_after};
 pub use stopwatches::Stopwatch;

@@ -5,8 +5,7 @@ use crate::settings::ProxySettings;
 use mc_admin::{
     ClientFigures, Setting, Sheet, Value, push_client_figures, push_link_figures, push_missed,
 };
-use mc_net::Listed;
-use mc_operators::Operators;
+use mc_net::{Listed, Operators};
 use mc_proxy::{Losses, MAX_SESSIONS, Proxy};
 use std::alloc::{AllocError, Global};
 

@@ -12,8 +12,10 @@ use crate::pools::Pool;
 use crate::rooms::other_files;
 use crate::settings::ProxySettings;
 use crate::woken::Woken;
-use mc_net::{Backlog, Clients, Listed, Owed, Report, Room, Rounds, Stopwatch, patience};
-use mc_operators::{Operators, process_number, resident_memory, wall_clock};
+use mc_net::{
+    Backlog, Clients, Listed, Operators, Owed, Report, Room, Rounds, Stopwatch, patience,
+    process_number, resident_memory, wall_clock,
+};
 use mc_program::{EprintSeldom, Pace, ServeError, earlier};
 use mc_proxy::MAX_SESSIONS;
 use mc_ring::{Ring, SERVER_LIMIT};

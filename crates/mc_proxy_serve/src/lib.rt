@@ -49,7 +49,7 @@ mod woken;
 mod words;
 
 pub use lists::Mistake;
-pub use mc_operators::Operators;
+pub use mc_net::Operators;
 pub use mistakes::tell_mistake;
 pub use options::{ListError, Options, PROGRAM, Place, command};
 pub use rooms::other_files;

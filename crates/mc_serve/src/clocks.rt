@@ -2,8 +2,7 @@
 ghost use Rattle.std.specs.Prelude.{◌≡◌, ◌<◌, ◌≤◌, ◌^◌, ◌/◌, ℕ};
 ghost use Rattle.mc_serve.specs.Clocks.{moment_after};
 
-use mc_net::Stopwatch;
-use mc_operators::wall_clock;
+use mc_net::{Stopwatch, wall_clock};
 use std::marker::Model;
 use std::rt::Clock;
 

@@ -1,11 +1,13 @@
 //! The listener of operators, and their connections.
 ghost use Rattle.std.specs.Prelude.{◌≡◌, ◌<◌, ◌-◌, option_map, vec_len};
-ghost use Rattle.mc_operators.specs.Listings.{first_listing, listed_by, next_listing};
+ghost use Rattle.mc_net.specs.Listings.{first_listing, listed_by, next_listing};
 
+use crate::acceptors::{Acceptor, Backlog};
+use crate::binding::bind;
 use crate::budgets::Budget;
 use crate::seats::{QUIET, Seat};
+use crate::steps::Step;
 use mc_admin::{REQUEST_LIMIT, Sheet, host_of};
-use mc_net::{Acceptor, Backlog, Step, bind};
 use mc_program::{AdminTerms, ServeError, earlier};
 use mio::event::Event;
 use mio::net::TcpStream;

@@ -1,8 +1,8 @@
 -- To which operator clients are listed next: this project's own.
 use Rattle.std.specs.Prelude.{ℕ, zero, suc, ◌+◌, ◌-◌, ◌^◌, ◌==◌, ◌&&◌, min, length, Option, Some, None, option_and_then, if◌then◌else◌}
 use Rattle.slab.specs.Slab.{Slab, get}
-use Rattle.mc_operators.specs.declared.operators.TheConstants.{MAX_OPERATORS}
-use Rattle.mc_operators.specs.declared.seats.Seat.{Seat}
+use Rattle.mc_net.specs.declared.operators.TheConstants.{MAX_OPERATORS}
+use Rattle.mc_net.specs.declared.seats.Seat.{Seat}
 
 -- from which place on clients are to be listed to a connection: it has asked, something may be done for it, and all before was sent
 abbrev pub listing_of : Seat → Option ℕ

@@ -1,10 +1,11 @@
 //! The connection of an operator.
 ghost use Rattle.std.specs.Prelude.{◌≡◌, ◌<◌, length};
-ghost use Rattle.mc_operators.specs.Listings.{listing_of};
+ghost use Rattle.mc_net.specs.Listings.{listing_of};
 
 use crate::budgets::Budget;
+use crate::inputs::{Edge, Input};
+use crate::steps::Step;
 use mc_admin::{AdminError, Asked, Hosts, REQUEST_LIMIT, Sheet, Talk};
-use mc_net::{Edge, Input, Step};
 use mc_stream::{Pumped, read_once, write_once};
 use mio::event::Event;
 use mio::net::TcpStream;

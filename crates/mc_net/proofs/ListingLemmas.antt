@@ -1,8 +1,8 @@
 -- Keys, one by one.
 use Rattle.std.proofs.Common.{◌≡◌, ℕ, suc, ◌+◌, ◌-◌, ◌<◌, option_and_then, arith, ap}
 use Rattle.slab.specs.Slab.{Slab, get}
-use Rattle.mc_operators.specs.declared.seats.Seat.{Seat}
-use Rattle.mc_operators.specs.Listings.{first_listing, listing_of, listing_or}
+use Rattle.mc_net.specs.declared.seats.Seat.{Seat}
+use Rattle.mc_net.specs.Listings.{first_listing, listing_of, listing_or}
 
 -- the first of some keys, or that of the others
 pub first_next : (seats : Slab Seat) (key end : ℕ) → key < end
