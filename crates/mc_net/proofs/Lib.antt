@@ -1,3 +1,10 @@
+pub mod SettledLemmas
+pub mod EndLemmas
+pub mod CommandLemmas
+pub mod LineLemmas
+pub mod StayLemmas
+pub mod SpaceLemmas
+pub mod OnLiterals
 pub mod BindingLemmas
 pub mod ListLemmas
 pub mod ListingLemmas

@@ -1,3 +1,7 @@
+pub mod Openings
+pub mod FirstLines
+pub mod FirstWords
+pub mod Places
 pub mod Acceptors
 pub mod Bindings
 pub mod Keeping

@@ -4,14 +4,15 @@ ghost use Rattle.mc_net.specs.Lists.{all_shown, count_after, known_of, place_of,
 
 use crate::acceptors::Backlog;
 use crate::conns::{Known, LIST_LEN, Listed, Owed, conn_of};
+use crate::first_lines::FirstLine;
 use crate::handlers::{Client, Handler};
 use crate::inputs::Edge;
 use crate::limits::KEPT_ROOM;
+use crate::openings::{Opening, Stranger};
 use crate::reports::Report;
 use crate::steps::Step;
 use crate::strangers::{Refusal, opening};
 use mc_program::{EprintSeldom, Pace, Said, Seldom, earlier};
-use mc_stranger::{FirstLine, Opening, Stranger};
 use mc_stream::Tally;
 use mio::event::Event;
 use mio::net::TcpStream;

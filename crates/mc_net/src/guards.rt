@@ -2,10 +2,11 @@
 ghost use Rattle.std.specs.Prelude.{◌≡◌, ◌≢◌, ◌++◌, None, take, IfOk};
 ghost use Rattle.std.specs.Io.{ReadsAtMost};
 ghost use Rattle.std.specs.Io.KnownBytes.{ReadConsumes};
-ghost use Rattle.mc_stranger.specs.FirstLines.{first_line_says};
-ghost use Rattle.mc_stranger.specs.Places.{SaysTheSame, kept_text};
+ghost use Rattle.mc_net.specs.FirstLines.{first_line_says};
+ghost use Rattle.mc_net.specs.Places.{SaysTheSame, kept_text};
 
-use mc_stranger::{FirstLine, Opening, Stranger};
+use crate::first_lines::FirstLine;
+use crate::openings::{Opening, Stranger};
 use mio::net::TcpStream;
 use std::io;
 use std::io::{ErrorKind, Read};

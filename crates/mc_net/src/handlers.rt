@@ -1,9 +1,9 @@
 //! A client, and what serves it.
 ghost use Rattle.std.specs.Prelude.{◌≡◌, ◌<◌, ◌^◌};
 
+use crate::first_lines::FirstLine;
 use crate::inputs::Edge;
 use crate::steps::Step;
-use mc_stranger::FirstLine;
 use mc_stream::Tally;
 use mio::net::TcpStream;
 

@@ -1,5 +1,5 @@
 //! What a program on sockets needs beside what it serves: where it listens, who waits to be accepted, what has come, how long
-//! it has served, its clients, and its operators.
+//! it has served, its clients, its operators, and who is turned away as a stranger.
 //!
 //! [`bind`] gives a listener, at the [`first_address`] of a host; [`spelled_address`] is that of a text that needs no look-up. A
 //! [`Acceptor`] is a listener and how many connections it has accepted: a poll that it is [registered](Acceptor::register) with
@@ -25,8 +25,8 @@
 //! how long a round waits, and a [`Report`] what was done. A [`Room`] is how many clients the open files of a program allow, and a
 //! [`Listed`] who is connected, at most [`LIST_LEN`] clients at a time.
 //!
-//! A client is served once its first bytes are known not to be a stranger's ([`mc_stranger::opening_of`]), and read through a [`Guard`],
-//! which reads no line that shows a stranger ([`mc_stranger::FirstLine`]). A stranger is closed, and that is said on standard error
+//! A client is served once its first bytes are known not to be a stranger's ([`opening_of`]), and read through a [`Guard`],
+//! which reads no line that shows a stranger ([`FirstLine`]). A stranger is closed, and that is said on standard error
 //! ([`Clients::tell`]).
 //!
 //! [`serve_rounds`] waits, and may wait for ever; no other of these calls does. Proved is that they are safe, that each but [`serve_rounds`] ends, and that no read of a [`Guard`] gives the whole first line of a
@@ -48,27 +48,54 @@
 //! [`process_number`], [`wall_clock`] and [`resident_memory`] are what the system says of the process.
 //!
 //! None of these calls waits but [`Operators::new`], which looks a name up. What a connection is answered is that of [`mc_admin::Talk`].
+//!
+//! # Strangers
+//!
+//! A stranger does not speak the text protocol: the first bytes of a connection say so.
+//!
+//! [`opening_of`] says of the bytes that have come first whether a stranger sends them ([`Stranger`]: HTTP, memcached's binary
+//! protocol, TLS), whether they are the text protocol, or that more must come before that is known ([`Opening`]). A stranger's bytes
+//! are none of the text protocol: a line of HTTP after the first could be a command that nobody meant. `specs/Openings.antt` says
+//! exactly which bytes are whose.
+//!
+//! A request of HTTP by another method has no such beginning, and one may stand behind empty lines. So [`FirstLine`] looks at the first
+//! line that is not empty, in whatever pieces it comes: a line that is no command and ends in a version of HTTP is a stranger's.
+//! `specs/FirstLines.antt` says which lines these are. Empty lines, spaces and long words are passed many bytes at a time, so that a client
+//! costs little more before its line is known than after.
+//!
+//! [`what_is_settled_stays`], [`first_lines_stay`], [`openings_are_settled`], [`small_letters_are_text`] and [`commands_are_text`] are
+//! laws: where a stream is cut plays no part, after [`OPENING_LEN`] bytes its opening is known, a command in small letters has none of a
+//! stranger's, and a line that begins with a command is text once that has ended. [`openings_of_strangers`], [`openings_of_text`],
+//! [`first_lines_of_strangers`] and [`first_lines_of_text`] are examples. None of them does anything, and none of these calls takes memory.
 #![tactic(auto)]
 
 mod acceptors;
 mod binding;
 mod budgets;
 mod clients;
+mod commands;
 mod conns;
+mod endings;
+mod first_lines;
+mod first_words;
 mod guards;
 mod handlers;
 mod inputs;
 mod keeping;
 mod limits;
+mod openings;
 mod operators;
+mod places;
 mod processes;
 mod reports;
 mod resets;
 mod rooms;
 mod rounds;
 mod seats;
+mod spaces;
 mod steps;
 mod stopwatches;
+mod stranger_laws;
 mod strangers;
 
 pub use acceptors::{Acceptor, Backlog};
@@ -76,11 +103,13 @@ pub use binding::{bind, first_address, spelled_address};
 pub use budgets::STEPS;
 pub use clients::Clients;
 pub use conns::{LIST_LEN, Listed, Owed};
+pub use first_lines::FirstLine;
 pub use guards::Guard;
 pub use handlers::{Client, Handler};
 pub use inputs::{Edge, Input};
 pub use keeping::{CLIENT_KEEPALIVE, Keepalive, keep_alive, keep_alive_by};
 pub use limits::{KEPT_ROOM, PIECE_LEN};
+pub use openings::{OPENING_LEN, Opening, Stranger, opening_of};
 pub use operators::{MAX_OPERATORS, Operators};
 pub use processes::{process_number, resident_memory, wall_clock};
 pub use reports::Report;
@@ -90,3 +119,8 @@ pub use rounds::{Rounds, patience, serve_rounds};
 pub use seats::{LINGER, PATIENCE, QUIET};
 pub use steps::{Step, step_after};
 pub use stopwatches::Stopwatch;
+pub use stranger_laws::{
+    commands_are_text, first_lines_of_strangers, first_lines_of_text, first_lines_stay,
+    openings_are_settled, openings_of_strangers, openings_of_text, small_letters_are_text,
+    what_is_settled_stays,
+};

@@ -1,7 +1,7 @@
 //! Strangers: clients that do not speak the text protocol, and how it is said that they are turned away.
 
 use crate::inputs::Edge;
-use mc_stranger::{OPENING_LEN, Opening, Stranger, opening_of};
+use crate::openings::{OPENING_LEN, Opening, Stranger, opening_of};
 use mio::net::TcpStream;
 use std::fmt;
 use std::fmt::{Display, Formatter};

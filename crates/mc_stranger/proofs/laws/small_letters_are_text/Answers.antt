@@ -1,5 +1,0 @@
-use Rattle.mc_stranger.proofs.SettledLemmas.{small_is_text}
-use Rattle.mc_stranger.proofs.laws.small_letters_are_text.Goals as goal
-
-pub returns : goal.returns
-returns c = λ byte rest least most. small_is_text byte rest least most

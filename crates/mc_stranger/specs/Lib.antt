@@ -1,4 +1,0 @@
-pub mod Openings
-pub mod FirstLines
-pub mod FirstWords
-pub mod Places
