@@ -10,7 +10,7 @@ use Rattle.mc_route.specs.declared.outcomes.Outcome.{Outcome}
 use Rattle.mc_route.specs.declared.outcomes.Outcome.TheVariants.{Awaited, Lost, Reply}
 use Rattle.mc_route.specs.declared.routes.Routed.{Routed}
 use Rattle.mc_reply.specs.declared.replies.Reply.{Reply as AReply}
-use Rattle.mc_spelling.specs.Spellings.{spelling_of_atom}
+use Rattle.mc_codec.specs.Spellings.{spelling_of_atom}
 use Rattle.mc_link.specs.LinkState.{LinkState, Waiting, down_link, sent}
 use Rattle.mc_link.specs.declared.turns.Tag.{Tag}
 use Rattle.mc_session.specs.Emits.{is_told}

@@ -14,7 +14,7 @@ use Rattle.mc_route.specs.Routes.{route_of_taken}
 use Rattle.mc_route.specs.declared.outcomes.Outcome.{Outcome}
 use Rattle.mc_route.specs.declared.outcomes.Outcome.TheVariants.{Awaited, Reply}
 use Rattle.mc_route.specs.declared.routes.Routed.{Routed}
-use Rattle.mc_spelling.specs.Spellings.{spelling_of_atom}
+use Rattle.mc_codec.specs.Spellings.{spelling_of_atom}
 use Rattle.mc_link.specs.LinkState.{LinkState, Waiting, down_link, up_link}
 use Rattle.mc_link.specs.Turns.{Takes as LinkTakes}
 use Rattle.mc_link.specs.declared.turns.Tag.{Tag}

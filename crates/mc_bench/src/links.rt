@@ -1,12 +1,12 @@
 //! How fast the parts of a proxy carry gets: from a client's bytes to what a server is sent, and from its bytes to the answer.
 
 use anyhow::Context;
+use mc_codec::spelled_len;
 use mc_link::{Link, LinkTurn, Tag};
 use mc_request::Taken;
 use mc_request_reader::{Peek, Reader};
 use mc_ring::{Address, Ring};
 use mc_route::{Outcome, Routed, join, route};
-use mc_spelling::spelled_len;
 use std::alloc::{AllocError, Global};
 use std::collections::VecDeque;
 

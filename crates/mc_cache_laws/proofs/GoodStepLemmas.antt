@@ -31,8 +31,8 @@ use Rattle.mc_reply.specs.Replies.{nothing_shown}
 use Rattle.mc_reply.specs.declared.replies.Marks.{Marks}
 use Rattle.mc_reply.specs.declared.replies.Marks.TheVariants.{Plain, Won}
 use Rattle.mc_reply.specs.declared.replies.Reply.TheVariants.{Stored, Exists, Number}
-use Rattle.mc_spelling.specs.Spellings.{is_askable, is_byte_key, is_classic, is_good_atom}
-use Rattle.mc_spelling.proofs.GoodPartLemmas.{store_parts, count_parts, get_parts}
+use Rattle.mc_codec.specs.Spellings.{is_askable, is_byte_key, is_classic, is_good_atom}
+use Rattle.mc_codec.proofs.GoodPartLemmas.{store_parts, count_parts, get_parts}
 use Rattle.mc_store.specs.Items.{body_at, brought}
 use Rattle.mc_cache.specs.CacheState.{CacheState, opening_cache}
 use Rattle.mc_cache.specs.Replay.{Command, command_step}

@@ -6,7 +6,7 @@ use Rattle.mc_item.specs.declared.bodies.Body.{Body}
 use Rattle.mc_request.specs.declared.parts.Atom.{Atom}
 use Rattle.mc_reply.specs.declared.replies.Reply.{Reply}
 use Rattle.mc_reply.specs.CanHave.{can_have}
-use Rattle.mc_spelling.specs.Spellings.{is_good_atom}
+use Rattle.mc_codec.specs.Spellings.{is_good_atom}
 use Rattle.mc_cache.specs.CacheState.{CacheState}
 use Rattle.mc_cache.specs.Replay.{Command, replay, replies}
 use Rattle.mc_cache.specs.Step.{step_of}

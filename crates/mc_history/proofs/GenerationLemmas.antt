@@ -11,10 +11,10 @@ use Rattle.mc_request_reader.specs.Reader.{rest_of}
 use Rattle.mc_reply.specs.CanHave.{can_have}
 use Rattle.mc_reply.specs.Spelling.{spelling_of}
 use Rattle.mc_reply.specs.declared.replies.Reply.{Reply as AReply}
-use Rattle.mc_reply_reader.specs.NextReply.{IsBegun}
-use Rattle.mc_reply_reader.proofs.HeadLemmas.{atom_begins, replies_apart}
-use Rattle.mc_spelling.specs.Spellings.{spelling_of_atom}
-use Rattle.mc_spelling.proofs.SpelledTextLemmas.{requests-spelled}
+use Rattle.mc_codec.specs.NextReply.{IsBegun}
+use Rattle.mc_codec.proofs.HeadLemmas.{atom_begins, replies_apart}
+use Rattle.mc_codec.specs.Spellings.{spelling_of_atom}
+use Rattle.mc_codec.proofs.SpelledTextLemmas.{requests-spelled}
 use Rattle.mc_link.specs.LinkState.{LinkState, Waiting}
 use Rattle.mc_link.specs.Turns.{HasStrange}
 use Rattle.mc_server.specs.ServerState.{ConnectionState}

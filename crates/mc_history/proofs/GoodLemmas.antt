@@ -13,8 +13,8 @@ use Rattle.mc_request.specs.declared.parts.Taken.TheVariants.{Whole, Faulty}
 use Rattle.mc_request.specs.declared.parts.Update.TheVariants.{Store, Touch, Delete, Count, FlushAll}
 use Rattle.mc_request_reader.specs.Reader.{rest_of}
 use Rattle.mc_request_reader.specs.Peeks.{IsFirst}
-use Rattle.mc_spelling.specs.Spellings.{can_be_spelled, is_good_atom}
-use Rattle.mc_spelling.proofs.SayLemmas.{requests_can_be_spelled}
+use Rattle.mc_codec.specs.Spellings.{can_be_spelled, is_good_atom}
+use Rattle.mc_codec.proofs.SayLemmas.{requests_can_be_spelled}
 use Rattle.mc_ring.specs.Rings.{RingState}
 use Rattle.mc_route.specs.Routes.{route_of_gets, route_of_taken, to_each}
 use Rattle.mc_route.specs.declared.routes.Routed.{Routed}

@@ -9,9 +9,9 @@ use Rattle.mc_request.specs.declared.parts.Update.TheVariants.{Store, Touch, Del
 use Rattle.mc_reply.specs.CanHave.{can_have}
 use Rattle.mc_reply.specs.Spelling.{answer_of, spelling_of}
 use Rattle.mc_reply.specs.declared.replies.Reply.{Reply as AReply}
-use Rattle.mc_spelling.specs.Spellings.{request_of}
-use Rattle.mc_spelling.proofs.CanonicalLemmas.{answer_of-spelled}
-use Rattle.mc_spelling.proofs.SpelledTextLemmas.{one_atom}
+use Rattle.mc_codec.specs.Spellings.{request_of}
+use Rattle.mc_codec.proofs.CanonicalLemmas.{answer_of-spelled}
+use Rattle.mc_codec.proofs.SpelledTextLemmas.{one_atom}
 use Rattle.mc_cache.specs.CacheState.{CacheState}
 use Rattle.mc_cache.specs.Replay.{Command, replay, replies}
 use Rattle.mc_cache.specs.Step.{step_of}

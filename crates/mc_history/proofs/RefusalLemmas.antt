@@ -15,10 +15,10 @@ use Rattle.mc_reply.specs.MetaSpelling.{meta_spelling}
 use Rattle.mc_reply.specs.Spelling.{answer, end_line, key_onto, reply_line, spelling_of}
 use Rattle.mc_reply.specs.declared.replies.Reply.{Reply as AReply}
 use Rattle.mc_reply.specs.declared.replies.Reply.TheVariants.{Stored, NotStored, Exists, NotFound, Deleted, Touched, Flushed, Number, Miss, Hit, Meta, Fault}
-use Rattle.mc_reply_reader.proofs.HeadLemmas.{replies_apart}
-use Rattle.mc_spelling.specs.Spellings.{is_good_atom, request_of}
-use Rattle.mc_spelling.proofs.CanonicalLemmas.{answer_of-spelled}
-use Rattle.mc_spelling.proofs.SpelledTextLemmas.{one_atom}
+use Rattle.mc_codec.proofs.HeadLemmas.{replies_apart}
+use Rattle.mc_codec.specs.Spellings.{is_good_atom, request_of}
+use Rattle.mc_codec.proofs.CanonicalLemmas.{answer_of-spelled}
+use Rattle.mc_codec.proofs.SpelledTextLemmas.{one_atom}
 use Rattle.mc_cache.specs.CacheState.{CacheState}
 use Rattle.mc_cache.specs.Refusals.{is_refusal}
 use Rattle.mc_cache.specs.Replay.{Command, replies}

@@ -4,7 +4,7 @@ use Rattle.std.specs.List.{list_all}
 use Rattle.mc_request.specs.Requests.{requests_of}
 use Rattle.mc_request_reader.specs.Reader.{rest_of}
 use Rattle.mc_reply.specs.declared.replies.Reply.{Reply as AReply}
-use Rattle.mc_spelling.specs.Spellings.{is_good_atom}
+use Rattle.mc_codec.specs.Spellings.{is_good_atom}
 use Rattle.mc_link.specs.LinkState.{LinkState}
 use Rattle.mc_link.specs.Turns.{HasStrange}
 use Rattle.mc_server.specs.ServerState.{ConnectionState}

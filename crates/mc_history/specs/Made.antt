@@ -5,7 +5,7 @@ use Rattle.mc_request.specs.declared.parts.Taken.TheVariants.{Whole}
 use Rattle.mc_reply.specs.CanHave.{can_have}
 use Rattle.mc_reply.specs.Spelling.{spelling_of}
 use Rattle.mc_reply.specs.declared.replies.Reply.{Reply as AReply}
-use Rattle.mc_spelling.specs.Spellings.{is_good_atom, request_of}
+use Rattle.mc_codec.specs.Spellings.{is_good_atom, request_of}
 use Rattle.mc_cache.specs.CacheState.{CacheState}
 use Rattle.mc_cache.specs.Memory.{may_refuse}
 use Rattle.mc_cache.specs.Refusals.{is_refusal}

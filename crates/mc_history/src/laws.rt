@@ -5,7 +5,7 @@ ghost use Rattle.mc_request.specs.declared.faults.Fault.TheVariants.{OutOfMemory
 ghost use Rattle.mc_request.specs.declared.parts.Atom.{Atom};
 ghost use Rattle.mc_request.specs.declared.parts.Taken.TheVariants.{Whole};
 ghost use Rattle.mc_reply.specs.CanHave.{can_have};
-ghost use Rattle.mc_spelling.specs.Spellings.{is_good_atom, request_of};
+ghost use Rattle.mc_codec.specs.Spellings.{is_good_atom, request_of};
 ghost use Rattle.mc_link.specs.LinkState.{LinkState};
 ghost use Rattle.mc_cache.specs.CacheState.{CacheState};
 ghost use Rattle.mc_cache.specs.Step.{step_of};

@@ -3,7 +3,7 @@ use Rattle.std.proofs.Common.{ℕ, ◌≡◌, ◌∙◌, ◌*◌, ◌≤◌, Lis
 use Rattle.mc_request.specs.declared.parts.Atom.{Atom}
 use Rattle.std.specs.Prelude.{◌↔◌, ◌<◌, slice_index_or}
 use Rattle.std.proofs.lemmas.Bool.{cases_lt}
-use Rattle.mc_reply_reader.specs.NextReply.{HasReply as IsNext}
+use Rattle.mc_codec.specs.NextReply.{HasReply as IsNext}
 use Rattle.mc_link.specs.LinkState.{LinkState, Waiting}
 use Rattle.mc_link.specs.LinkFields.{IsShortOf}
 use Rattle.mc_link.specs.Turns.{HasReply}

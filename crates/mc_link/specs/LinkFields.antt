@@ -1,7 +1,7 @@
 -- How a link is kept.
 use Rattle.std.specs.Prelude.{ℕ, ◌-◌, ◌*◌, ◌≡◌, ◌<◌, ◌≤◌, false, List, [], ◌∷◌, ◌++◌, length, drop, vec_len, vec_capacity}
 use Rattle.std.specs.VecDeque.{deque_len, deque_capacity}
-use Rattle.mc_reply_reader.specs.NextReply.{IsBegun}
+use Rattle.mc_codec.specs.NextReply.{IsBegun}
 use Rattle.mc_link.specs.declared.links.Link.TheInside.{Inside}
 use Rattle.mc_link.specs.LinkState.{RoomyLink, Waiting}
 

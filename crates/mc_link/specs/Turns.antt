@@ -4,7 +4,7 @@ use Rattle.mc_request.specs.declared.parts.Atom.{Atom}
 use Rattle.mc_reply.specs.declared.replies.Reply.{Reply}
 use Rattle.mc_reply.specs.CanHave.{can_have}
 use Rattle.mc_reply.specs.Spelling.{spelling_of}
-use Rattle.mc_reply_reader.specs.NextReply.{IsBegun, IsStrange}
+use Rattle.mc_codec.specs.NextReply.{IsBegun, IsStrange}
 use Rattle.mc_link.specs.declared.turns.Tag.{Tag}
 use Rattle.mc_link.specs.declared.turns.LinkTurn.{LinkTurn}
 use Rattle.mc_link.specs.declared.turns.LinkTurn.TheVariants.{Took, Idle, Strange}

@@ -3,9 +3,8 @@ ghost use Rattle.std.specs.Prelude.{◌≡◌, ◌+◌, ◌-◌, ◌^◌, ◌<�
 ghost use Rattle.std.specs.Bool.{OnFalse};
 
 use crate::turns::{LinkError, LinkTurn, LostLink, Tag};
-use mc_reply_reader::{NextReply, ReplyReader};
+use mc_codec::{LentStore, NextReply, ReplyReader, write_atom, write_store};
 use mc_request::{Atom, Head, Update};
-use mc_spelling::{LentStore, write_atom, write_store};
 use mc_text::{Block, drop_front, give_back, let_go};
 use std::alloc::Global;
 use std::collections::VecDeque;
@@ -41,8 +40,8 @@ impl Model for Link {
 
 impl Link {
     ghost use Rattle.mc_request.specs.Atoms.{head_of};
-    ghost use Rattle.mc_spelling.specs.LentStores.{atom_of};
-    ghost use Rattle.mc_spelling.specs.Spellings.{spelling_of_atom};
+    ghost use Rattle.mc_codec.specs.LentStores.{atom_of};
+    ghost use Rattle.mc_codec.specs.Spellings.{spelling_of_atom};
     ghost use Rattle.mc_link.specs.LinkState.{LinkState, KeepsRoom, down_link, up_link, sent, can_come_back};
     ghost use Rattle.mc_link.specs.Turns.{HasReply, IsLinkTurn};
 

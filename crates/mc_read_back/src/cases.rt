@@ -1,12 +1,11 @@
 //! A case: a command, and what comes in answer to it.
 
 use anyhow::{Context, Result};
+use mc_codec::{NextReply, ReplyReader, write_atom};
 use mc_reply::Reply;
-use mc_reply_reader::{NextReply, ReplyReader};
 use mc_request::{Atom, Head, Request};
 use mc_request_reader::{Next, Reader};
 use mc_route::{Outcome, join};
-use mc_spelling::write_atom;
 use mc_text::Block;
 use std::alloc::Global;
 

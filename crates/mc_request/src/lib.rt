@@ -11,7 +11,7 @@
 //!
 //! `specs/Meanings.antt` says what a line asks for by its words, and `specs/Requests.antt` what the requests of a text are. The
 //! reader that gives these, however the text comes, is in the crate `mc_request_reader`; the spelling of a command, the one
-//! text that a proxy sends for it, is in `mc_spelling`.
+//! text that a proxy sends for it, is in `mc_codec`.
 //!
 //! Of the calls, `atoms`, those of `Keys` that make room or put a key after, and those that make a copy of what is lent take
 //! memory; all others take none, and cannot fail.

@@ -3,7 +3,7 @@ use Rattle.std.proofs.Common.{◌≡◌, ℕ, zero, suc, true, ◌+◌, ◌<◌,
 use Rattle.std.proofs.lemmas.List.{get_or_default, map-set}
 use Rattle.std.proofs.Math.Seq.{map-set_same}
 use Rattle.mc_request.specs.declared.parts.Atom.{Atom}
-use Rattle.mc_spelling.specs.Spellings.{spelling_of_atom}
+use Rattle.mc_codec.specs.Spellings.{spelling_of_atom}
 use Rattle.mc_route.specs.declared.routes.Routed.{Routed}
 use Rattle.mc_link.specs.declared.turns.Tag.{Tag}
 use Rattle.mc_link.specs.LinkState.{LinkState, RoomyLink, down_link, sent}

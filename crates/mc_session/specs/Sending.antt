@@ -5,7 +5,7 @@ use Rattle.mc_request.specs.declared.parts.Atom.{Atom}
 use Rattle.mc_route.specs.declared.routes.Routed.{Routed}
 use Rattle.mc_route.specs.declared.outcomes.Outcome.{Outcome}
 use Rattle.mc_route.specs.declared.outcomes.Outcome.TheVariants.{Awaited, Lost}
-use Rattle.mc_spelling.specs.Spellings.{spelling_of_atom}
+use Rattle.mc_codec.specs.Spellings.{spelling_of_atom}
 use Rattle.mc_link.specs.LinkState.{LinkState, RoomyLink, down_link, sent}
 use Rattle.mc_link.specs.declared.turns.Tag.{Tag}
 use Rattle.mc_session.specs.SessionState.{SessionState, link_at, with_link}

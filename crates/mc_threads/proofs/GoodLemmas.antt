@@ -5,8 +5,8 @@ use Rattle.std.specs.List.{list_all}
 use Rattle.std.proofs.lemmas.Bool.{and_parts}
 use Rattle.mc_request.specs.Requests.{requests_of}
 use Rattle.mc_request.specs.declared.parts.Taken.{Taken}
-use Rattle.mc_spelling.specs.Spellings.{can_be_spelled}
-use Rattle.mc_spelling.proofs.SayLemmas.{requests_can_be_spelled}
+use Rattle.mc_codec.specs.Spellings.{can_be_spelled}
+use Rattle.mc_codec.proofs.SayLemmas.{requests_can_be_spelled}
 use Rattle.mc_account.specs.Orders.{Entry as Asked, Order, commands_in, commands_to, entries_of, taken_of}
 use Rattle.mc_account.proofs.OrderLemmas.{passes_joined}
 use Rattle.mc_account.proofs.OpenSessions.{own_number}

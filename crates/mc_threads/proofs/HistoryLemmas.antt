@@ -9,7 +9,7 @@ use Rattle.mc_request.specs.declared.parts.Request.TheVariants.{Quit}
 use Rattle.mc_request.specs.declared.parts.Taken.{Taken}
 use Rattle.mc_request.specs.declared.parts.Taken.TheVariants.{Whole}
 use Rattle.mc_reply.specs.declared.replies.Reply.{Reply as AReply}
-use Rattle.mc_spelling.proofs.SpelledTextLemmas.{quit_after}
+use Rattle.mc_codec.proofs.SpelledTextLemmas.{quit_after}
 use Rattle.mc_cache.specs.CacheState.{CacheState}
 use Rattle.mc_cache.specs.Replay.{Command, IsLegal as AreAllowed}
 use Rattle.mc_cache.specs.Step.{step_of}

@@ -9,7 +9,7 @@ use Rattle.std.proofs.lemmas.Option.{none-some, same_Some, slice_get-get_or}
 use Rattle.mc_request.specs.declared.parts.Taken.{Taken}
 use Rattle.mc_request_reader.specs.Reader.{ReaderState, rest_from, rest_of}
 use Rattle.mc_reply.specs.declared.replies.Reply.{Reply as AReply}
-use Rattle.mc_reply_reader.proofs.HeadLemmas.{begun_is_not_whole}
+use Rattle.mc_codec.proofs.HeadLemmas.{begun_is_not_whole}
 use Rattle.mc_route.specs.Routes.{route_of_taken}
 use Rattle.mc_link.specs.LinkState.{LinkState, Waiting, can_come_back, up_link}
 use Rattle.mc_link.specs.Turns.{HasReply, HasStrange, IsIdle, Takes}

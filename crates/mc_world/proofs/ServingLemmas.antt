@@ -9,7 +9,7 @@ use Rattle.mc_request.specs.declared.faults.Fault.{Fault}
 use Rattle.mc_request.proofs.RequestLemmas.{goes_on}
 use Rattle.mc_request_reader.specs.Reader.{rest_from, rest_of}
 use Rattle.mc_reply.specs.declared.replies.Reply.{Reply as AReply}
-use Rattle.mc_reply_reader.proofs.HeadLemmas.{atom_begins}
+use Rattle.mc_codec.proofs.HeadLemmas.{atom_begins}
 use Rattle.mc_ring.specs.Rings.{RingState}
 use Rattle.mc_link.specs.LinkState.{LinkState, Waiting}
 use Rattle.mc_link.specs.Turns.{HasStrange, Takes}

@@ -6,7 +6,7 @@ use Rattle.mc_request.specs.declared.parts.Taken.TheVariants.{Whole}
 use Rattle.mc_request_reader.specs.Peeks.{IsFirst}
 use Rattle.mc_request_reader.specs.Reader.{ReaderState}
 use Rattle.mc_reply.specs.declared.replies.Reply.{Reply as AReply}
-use Rattle.mc_spelling.specs.Spellings.{is_good_atom, request_of}
+use Rattle.mc_codec.specs.Spellings.{is_good_atom, request_of}
 use Rattle.mc_link.specs.LinkState.{LinkState}
 use Rattle.mc_link.specs.Turns.{HasStrange, Takes}
 use Rattle.mc_link.specs.declared.turns.Tag.{Tag}

@@ -1,6 +1,6 @@
 use Rattle.std.proofs.Common.{◌≡◌, ◌<◌, ◌∙◌, true, length, get_or, sym, ap}
 use Rattle.mc_link.specs.LinkState.{LinkState, sent}
-use Rattle.mc_spelling.specs.LentStores.{atom_of}
+use Rattle.mc_codec.specs.LentStores.{atom_of}
 use Rattle.mc_session.specs.SessionState.{link_at, states, with_link}
 use Rattle.mc_session.specs.Sending.{handed_to}
 use Rattle.mc_session.proofs.LinkLemmas.{handed_to_up, link_is_there, states_set}

@@ -1,5 +1,5 @@
 use Rattle.std.proofs.Common.{◌<◌, length, drop, refl, arith}
-use Rattle.mc_reply_reader.specs.NextReply.{HasReply as IsNext}
+use Rattle.mc_codec.specs.NextReply.{HasReply as IsNext}
 use Rattle.mc_link.specs.contracts.links.Link.{the_view}
 use Rattle.mc_link.proofs.LinkLemmas.{front_is, next_if}
 use Rattle.mc_link.proofs.links.Link.turn.Goals as goal

@@ -1,5 +1,0 @@
-use Rattle.mc_reply_reader.proofs.HeadLemmas.{not_nothing}
-use Rattle.mc_reply_reader.proofs.laws.spellings_are_not_empty.Goals as goal
-
-pub returns : goal.returns
-returns c = not_nothing

@@ -1,9 +1,0 @@
-use Rattle.std.proofs.Common.{refl, codes}
-use Rattle.mc_text.specs.Forms.{text_at, digits_at, number_at, block_at}
-use Rattle.mc_reply_reader.specs.Examples.{incr_of_a}
-use Rattle.mc_reply_reader.proofs.HeadLemmas.{strange_from}
-use Rattle.mc_reply_reader.proofs.rows.number_too_large.Goals as goal
-
-pub returns : goal.returns
-unfolding text_at digits_at number_at block_at
-returns c = strange_from incr_of_a 20 (codes "18446744073709551616") refl refl

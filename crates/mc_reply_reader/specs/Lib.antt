@@ -1,4 +1,0 @@
-pub mod NextReply
-pub mod ReplyForms
-pub mod MetaForms
-pub mod Examples

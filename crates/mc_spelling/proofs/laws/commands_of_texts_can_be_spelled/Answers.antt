@@ -1,5 +1,0 @@
-use Rattle.mc_spelling.proofs.SayLemmas.{requests_can_be_spelled}
-use Rattle.mc_spelling.proofs.laws.commands_of_texts_can_be_spelled.Goals as goal
-
-pub returns : goal.returns
-returns c = requests_can_be_spelled

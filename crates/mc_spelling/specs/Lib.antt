@@ -1,3 +1,0 @@
-pub mod Spellings
-pub mod SpelledPieces
-pub mod LentStores
