@@ -4,7 +4,7 @@ use Rattle.std.specs.List.{list_all}
 use Rattle.std.proofs.lemmas.List.{length-append, length-map}
 use Rattle.std.proofs.Math.Seq.{take-append_seam}
 use Rattle.mc_proxy.specs.ProxyState.{ProxyState, session_at}
-use Rattle.mc_session.specs.SessionState.{SessionState, Unanswered, answered}
+use Rattle.mc_proxy.specs.SessionState.{SessionState, Unanswered, answered}
 use Rattle.mc_account.specs.Answered.{AreAnswers, WasAnswered}
 use Rattle.mc_account.specs.Lanes.{Lane}
 use Rattle.mc_account.specs.Orders.{Order, answers_of, entries_of, is_complete, unanswered_of}

@@ -11,13 +11,13 @@ use Rattle.mc_route.specs.declared.outcomes.Outcome.TheVariants.{Lost, Reply}
 use Rattle.mc_route.specs.declared.losses.Losses.{Losses}
 use Rattle.mc_link.specs.LinkState.{LinkState, Waiting}
 use Rattle.mc_link.specs.declared.turns.Tag.{Tag}
-use Rattle.mc_session.specs.Emits.{IsEmit, answer_of_one, emitted_from, is_known}
-use Rattle.mc_session.specs.Noting.{noted_at, noted_in}
-use Rattle.mc_session.specs.SessionState.{SessionState, Unanswered, answered, link_at}
-use Rattle.mc_session.specs.Turns.{IsFed, IsTurn}
-use Rattle.mc_session.specs.declared.turns.Emit.TheVariants as emits
-use Rattle.mc_session.specs.declared.turns.Turn.{Turn}
-use Rattle.mc_session.specs.declared.turns.Turn.TheVariants as turns
+use Rattle.mc_proxy.specs.Emits.{IsEmit, answer_of_one, emitted_from, is_known}
+use Rattle.mc_proxy.specs.SessionNoting.{noted_at, noted_in}
+use Rattle.mc_proxy.specs.SessionState.{SessionState, Unanswered, answered, link_at}
+use Rattle.mc_proxy.specs.SessionTurns.{IsFed, IsTurn}
+use Rattle.mc_proxy.specs.declared.session_turns.Emit.TheVariants as emits
+use Rattle.mc_proxy.specs.declared.session_turns.Turn.{Turn}
+use Rattle.mc_proxy.specs.declared.session_turns.Turn.TheVariants as turns
 use Rattle.mc_proxy.specs.LinkTurns.{Answers, lost_at}
 use Rattle.mc_proxy.specs.Noting.{all_lost, noted}
 use Rattle.mc_proxy.specs.ProxyState.{ProxyState, Sessions, sent_by, session_at, session_in, updated}

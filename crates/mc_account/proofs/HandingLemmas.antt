@@ -13,9 +13,9 @@ use Rattle.mc_reply.specs.declared.replies.Reply.{Reply as AReply}
 use Rattle.mc_codec.specs.Spellings.{spelling_of_atom}
 use Rattle.mc_link.specs.LinkState.{LinkState, Waiting, down_link, sent}
 use Rattle.mc_link.specs.declared.turns.Tag.{Tag}
-use Rattle.mc_session.specs.Emits.{is_told}
-use Rattle.mc_session.specs.Sending.{at_once, handed, handed_to, tag_of}
-use Rattle.mc_session.specs.SessionState.{link_at, with_link}
+use Rattle.mc_proxy.specs.Emits.{is_told}
+use Rattle.mc_proxy.specs.Sending.{at_once, handed, handed_to, tag_of}
+use Rattle.mc_proxy.specs.SessionState.{link_at, with_link}
 use Rattle.mc_account.specs.Orders.{Entry, Order, Tagged, commands_from, commands_in, commands_to, outcomes_from, outcomes_in, outcomes_to}
 use Rattle.mc_account.specs.Lanes.{CanHave, Lane, LaneHolds, LinkHolds, as_waiting, spelled, told}
 use Rattle.mc_account.proofs.OpenSessions.{own_number}

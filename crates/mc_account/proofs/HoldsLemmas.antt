@@ -10,13 +10,13 @@ use Rattle.mc_ring.specs.Rings.{RingState}
 use Rattle.mc_route.specs.Routes.{route_of_taken}
 use Rattle.mc_route.specs.declared.losses.Losses.{Losses}
 use Rattle.mc_link.specs.LinkState.{LinkState}
-use Rattle.mc_session.specs.Emits.{IsEmit}
-use Rattle.mc_session.specs.Sending.{at_once}
-use Rattle.mc_session.specs.SessionState.{SessionState, fresh_session, link_at}
-use Rattle.mc_session.specs.Turns.{IsFed, IsTurn, IsUnchanged}
-use Rattle.mc_session.specs.declared.turns.Emit.TheVariants as emits
-use Rattle.mc_session.specs.declared.turns.Turn.{Turn}
-use Rattle.mc_session.specs.declared.turns.Turn.TheVariants as turns
+use Rattle.mc_proxy.specs.Emits.{IsEmit}
+use Rattle.mc_proxy.specs.Sending.{at_once}
+use Rattle.mc_proxy.specs.SessionState.{SessionState, fresh_session, link_at}
+use Rattle.mc_proxy.specs.SessionTurns.{IsFed, IsTurn, IsUnchanged}
+use Rattle.mc_proxy.specs.declared.session_turns.Emit.TheVariants as emits
+use Rattle.mc_proxy.specs.declared.session_turns.Turn.{Turn}
+use Rattle.mc_proxy.specs.declared.session_turns.Turn.TheVariants as turns
 use Rattle.mc_proxy.specs.ProxyState.{ProxyState, Sessions, output_of, sent_by, session_at, session_in, updated, with_fresh, without}
 use Rattle.mc_proxy.specs.Turns.{Alone, Steps}
 use Rattle.mc_account.specs.Lanes.{Lane, LinkHolds}

@@ -18,8 +18,8 @@ use Rattle.mc_codec.specs.Spellings.{spelling_of_atom}
 use Rattle.mc_link.specs.LinkState.{LinkState, Waiting, down_link, up_link}
 use Rattle.mc_link.specs.Turns.{Takes as LinkTakes}
 use Rattle.mc_link.specs.declared.turns.Tag.{Tag}
-use Rattle.mc_session.specs.Emits.{is_told}
-use Rattle.mc_session.specs.SessionState.{link_at, with_link}
+use Rattle.mc_proxy.specs.Emits.{is_told}
+use Rattle.mc_proxy.specs.SessionState.{link_at, with_link}
 use Rattle.mc_account.specs.Orders.{Order, Tagged, IsSized, commands_to, is_complete, note, note_in, outcomes_from, outcomes_in, outcomes_to}
 use Rattle.mc_account.specs.Lanes.{CanHave, IsDown, Lane, LaneHolds, LinkHolds, as_waiting, fresh_lane, spelled, told}
 use Rattle.mc_account.proofs.OpenSessions.{own_number}

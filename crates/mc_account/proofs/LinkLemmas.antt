@@ -12,9 +12,9 @@ use Rattle.mc_route.specs.declared.outcomes.Outcome.TheVariants.{Lost, Reply}
 use Rattle.mc_route.specs.declared.losses.Losses.{Losses}
 use Rattle.mc_link.specs.LinkState.{LinkState, Waiting, down_link}
 use Rattle.mc_link.specs.declared.turns.Tag.{Tag}
-use Rattle.mc_session.specs.Emits.{is_told}
-use Rattle.mc_session.specs.Noting.{noted_in}
-use Rattle.mc_session.specs.SessionState.{SessionState, link_at, with_link}
+use Rattle.mc_proxy.specs.Emits.{is_told}
+use Rattle.mc_proxy.specs.SessionNoting.{noted_in}
+use Rattle.mc_proxy.specs.SessionState.{SessionState, link_at, with_link}
 use Rattle.mc_proxy.specs.Joins.{JoinsServer, joined_link}
 use Rattle.mc_proxy.specs.LinkTurns.{Answers, lost_at}
 use Rattle.mc_proxy.specs.Noting.{all_lost, noted}

@@ -8,9 +8,9 @@ use Rattle.mc_route.specs.Routes.{route_of_taken}
 use Rattle.mc_route.specs.declared.outcomes.Outcome.{Outcome}
 use Rattle.mc_route.specs.declared.routes.Routed.{Routed}
 use Rattle.mc_link.specs.declared.turns.Tag.{Tag}
-use Rattle.mc_session.specs.Emits.{is_told}
-use Rattle.mc_session.specs.Noting.{with_outcome}
-use Rattle.mc_session.specs.Sending.{tag_of}
+use Rattle.mc_proxy.specs.Emits.{is_told}
+use Rattle.mc_proxy.specs.SessionNoting.{with_outcome}
+use Rattle.mc_proxy.specs.Sending.{tag_of}
 use Rattle.mc_account.specs.Orders.{Entry, Order, Tagged, IsSized, commands_from, commands_in, commands_to, note, note_in, outcomes_from, outcomes_in, outcomes_to, owns}
 use Rattle.mc_account.proofs.OpenSessions.{other_number}
 use Rattle.mc_account.proofs.OrderLemmas.{lengths_from, lengths_in}

@@ -5,8 +5,8 @@ use Rattle.std.proofs.lemmas.Bool.Decides.{eqb_tells, nat_tests}
 pub use Rattle.mc_table.proofs.NumberedEntryLemmas.{fresh_other, fresh_own, other_number, own_number, updated_other, updated_own, without_other}
 use Rattle.mc_route.specs.declared.outcomes.Outcome.{Outcome}
 use Rattle.mc_link.specs.declared.turns.Tag.{Tag}
-use Rattle.mc_session.specs.SessionState.{SessionState}
-use Rattle.mc_session.specs.Noting.{noted_in}
+use Rattle.mc_proxy.specs.SessionState.{SessionState}
+use Rattle.mc_proxy.specs.SessionNoting.{noted_in}
 use Rattle.mc_proxy.specs.ProxyState.{Sessions, session_in, updated}
 use Rattle.mc_proxy.specs.Noting.{noted}
 

@@ -12,8 +12,8 @@ use Rattle.mc_route.specs.declared.outcomes.Outcome.{Outcome}
 use Rattle.mc_route.specs.declared.routes.Routed.{Routed}
 use Rattle.mc_route.specs.declared.losses.Losses.{Losses}
 use Rattle.mc_link.specs.declared.turns.Tag.{Tag}
-use Rattle.mc_session.specs.Emits.{answer_by, is_told}
-use Rattle.mc_session.specs.Noting.{with_outcome}
+use Rattle.mc_proxy.specs.Emits.{answer_by, is_told}
+use Rattle.mc_proxy.specs.SessionNoting.{with_outcome}
 use Rattle.mc_account.specs.Orders.{Entry, Order, Tagged, AreInOrder, IsSized, answers_of, commands_from, commands_in, commands_to, entries_of, note, note_in, numbers_from, outcomes_from, outcomes_in, outcomes_to, owns, IsToldAs}
 use Rattle.mc_account.proofs.OpenSessions.{own_number, other_number}
 

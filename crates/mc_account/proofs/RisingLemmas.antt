@@ -10,9 +10,9 @@ use Rattle.mc_route.specs.declared.outcomes.Outcome.TheVariants.{Awaited, Reply}
 use Rattle.mc_route.specs.declared.routes.Routed.{Routed}
 use Rattle.mc_link.specs.LinkState.{Waiting}
 use Rattle.mc_link.specs.declared.turns.Tag.{Tag}
-use Rattle.mc_session.specs.Emits.{is_told}
-use Rattle.mc_session.specs.Sending.{tag_of}
-use Rattle.mc_session.specs.SessionState.{link_at}
+use Rattle.mc_proxy.specs.Emits.{is_told}
+use Rattle.mc_proxy.specs.Sending.{tag_of}
+use Rattle.mc_proxy.specs.SessionState.{link_at}
 use Rattle.mc_proxy.specs.ProxyState.{ProxyState}
 use Rattle.mc_account.specs.Lanes.{Lane, as_waiting}
 use Rattle.mc_account.specs.Lookups.{IsBefore, outcome_at}

@@ -16,11 +16,11 @@ use Rattle.mc_route.proofs.KeptLemmas.{with-kept}
 use Rattle.mc_route.specs.declared.losses.Losses.{Losses}
 use Rattle.mc_link.specs.LinkState.{LinkState}
 use Rattle.mc_link.specs.declared.turns.Tag.{Tag}
-use Rattle.mc_session.specs.Emits.{answer_by, answer_of_one, emitted, emitted_from}
-use Rattle.mc_session.specs.Noting.{noted_at, noted_in, with_outcome}
-use Rattle.mc_session.specs.Sending.{at_once}
-use Rattle.mc_session.specs.SessionState.{SessionState, Unanswered, answered, fresh_session}
-use Rattle.mc_session.specs.Turns.{IsFed, Takes}
+use Rattle.mc_proxy.specs.Emits.{answer_by, answer_of_one, emitted, emitted_from}
+use Rattle.mc_proxy.specs.SessionNoting.{noted_at, noted_in, with_outcome}
+use Rattle.mc_proxy.specs.Sending.{at_once}
+use Rattle.mc_proxy.specs.SessionState.{SessionState, Unanswered, answered, fresh_session}
+use Rattle.mc_proxy.specs.SessionTurns.{IsFed, Takes}
 use Rattle.mc_account.specs.Orders.{Entry, Order, AreInOrder, entries_of, is_complete, note, note_in, numbers_from, owns, taken_of, unanswered_of}
 use Rattle.mc_account.specs.Holds.{SessionLeft, SessionHolds, SessionHoldsAt}
 use Rattle.mc_account.proofs.OpenSessions.{other_number}

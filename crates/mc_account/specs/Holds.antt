@@ -4,7 +4,7 @@ use Rattle.std.specs.List.{list_all}
 use Rattle.mc_request_reader.specs.Reader.{rest_of}
 use Rattle.mc_request.specs.Requests.{requests_of}
 use Rattle.mc_request.specs.declared.parts.Taken.{Taken}
-use Rattle.mc_session.specs.SessionState.{SessionState, link_at}
+use Rattle.mc_proxy.specs.SessionState.{SessionState, link_at}
 use Rattle.mc_proxy.specs.ProxyState.{ProxyState, session_at}
 use Rattle.mc_account.specs.Orders.{Order, AreInOrder, IsSized, IsToldAs, answers_of, entries_of, is_complete, taken_of, unanswered_of}
 use Rattle.mc_account.specs.Lanes.{Lane, LinkHolds}

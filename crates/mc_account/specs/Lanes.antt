@@ -8,7 +8,7 @@ use Rattle.mc_reply.specs.declared.replies.Reply.{Reply as AReply}
 use Rattle.mc_route.specs.declared.outcomes.Outcome.TheVariants.{Awaited, Reply}
 use Rattle.mc_codec.specs.Spellings.{spelling_of_atom}
 use Rattle.mc_link.specs.LinkState.{LinkState, Waiting, down_link}
-use Rattle.mc_session.specs.Emits.{is_told}
+use Rattle.mc_proxy.specs.Emits.{is_told}
 use Rattle.mc_account.specs.Orders.{Order, Tagged, commands_to, outcomes_to}
 
 -- since a link came up: how many requests had been taken then, the replies that were taken, the bytes that were taken out for its

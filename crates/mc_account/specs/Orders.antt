@@ -10,10 +10,10 @@ use Rattle.mc_route.specs.declared.losses.Losses.{Losses}
 use Rattle.mc_route.specs.declared.outcomes.Outcome.{Outcome}
 use Rattle.mc_route.specs.declared.routes.Routed.{Routed}
 use Rattle.mc_link.specs.declared.turns.Tag.{Tag}
-use Rattle.mc_session.specs.Emits.{answer_by, is_told}
-use Rattle.mc_session.specs.Noting.{with_outcome}
-use Rattle.mc_session.specs.Sending.{tag_of}
-use Rattle.mc_session.specs.SessionState.{Unanswered}
+use Rattle.mc_proxy.specs.Emits.{answer_by, is_told}
+use Rattle.mc_proxy.specs.SessionNoting.{with_outcome}
+use Rattle.mc_proxy.specs.Sending.{tag_of}
+use Rattle.mc_proxy.specs.SessionState.{Unanswered}
 
 -- a request or fault that was taken: of which session, its number there, what it was, the ring by which it was routed, the
 -- choice for its lost commands, and what became of its commands so far

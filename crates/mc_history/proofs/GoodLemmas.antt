@@ -18,7 +18,7 @@ use Rattle.mc_codec.proofs.SayLemmas.{requests_can_be_spelled}
 use Rattle.mc_ring.specs.Rings.{RingState}
 use Rattle.mc_route.specs.Routes.{route_of_gets, route_of_taken, to_each}
 use Rattle.mc_route.specs.declared.routes.Routed.{Routed}
-use Rattle.mc_session.specs.SessionState.{SessionState}
+use Rattle.mc_proxy.specs.SessionState.{SessionState}
 use Rattle.mc_account.specs.Orders.{Entry as Asked, Order, commands_from, commands_in, taken_of}
 use Rattle.mc_account.specs.Holds.{SessionHolds}
 use Rattle.mc_account.proofs.OrderLemmas.{passes_parts}

@@ -10,9 +10,9 @@ use Rattle.mc_route.specs.declared.outcomes.Outcome.TheVariants.{Awaited, Lost, 
 use Rattle.mc_route.specs.declared.routes.Routed.{Routed}
 use Rattle.mc_link.specs.LinkState.{LinkState}
 use Rattle.mc_link.specs.declared.turns.Tag.{Tag}
-use Rattle.mc_session.specs.Noting.{with_outcome}
-use Rattle.mc_session.specs.Sending.{at_once, tag_of}
-use Rattle.mc_session.specs.SessionState.{link_at}
+use Rattle.mc_proxy.specs.SessionNoting.{with_outcome}
+use Rattle.mc_proxy.specs.Sending.{at_once, tag_of}
+use Rattle.mc_proxy.specs.SessionState.{link_at}
 use Rattle.mc_account.specs.Orders.{Entry as Asked, Order, AreInOrder, entries_of, note, note_all, numbers_from, owns}
 use Rattle.mc_account.proofs.OrderLemmas.{entries-append, entries-note, in_order-note}
 use Rattle.mc_history.specs.declared.entries.Entry.{Entry}

@@ -4,7 +4,7 @@ use Rattle.mc_request.specs.declared.parts.Atom.{Atom}
 use Rattle.mc_reply.specs.Spelling.{spelling_of}
 use Rattle.mc_route.specs.Routes.{to_place}
 use Rattle.mc_link.specs.declared.turns.Tag.{Tag}
-use Rattle.mc_session.specs.Sending.{tag_of}
+use Rattle.mc_proxy.specs.Sending.{tag_of}
 use Rattle.mc_cache.specs.CacheState.{CacheState}
 use Rattle.mc_cache.specs.Memory.{may_refuse}
 use Rattle.mc_cache.specs.Refusals.{is_refusal}

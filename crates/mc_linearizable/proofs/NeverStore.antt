@@ -9,7 +9,7 @@ use Rattle.mc_request.specs.Requests.{next_request, requests_of, requests_within
 use Rattle.mc_ring.specs.Rings.{IsRing, RingState}
 use Rattle.mc_route.specs.declared.losses.Losses.TheVariants.{Told}
 use Rattle.mc_route.specs.declared.outcomes.Outcome.TheVariants as outcomes
-use Rattle.mc_session.specs.Sending.{tag_of}
+use Rattle.mc_proxy.specs.Sending.{tag_of}
 use Rattle.mc_cache.specs.CacheState.{opening_cache}
 use Rattle.mc_account.specs.Orders.{Entry as AskedFor, IsSized, Order}
 use Rattle.mc_history.specs.declared.entries.Entry.{Entry}

@@ -5,7 +5,7 @@ ghost use Rattle.mc_route.specs.declared.losses.Losses.{Losses};
 ghost use Rattle.mc_route.specs.declared.losses.Losses.TheVariants.{Told};
 ghost use Rattle.mc_route.specs.declared.routes.Routed.{Routed};
 ghost use Rattle.mc_link.specs.declared.turns.Tag.{Tag};
-ghost use Rattle.mc_session.specs.Sending.{tag_of};
+ghost use Rattle.mc_proxy.specs.Sending.{tag_of};
 ghost use Rattle.mc_cache.specs.CacheState.{CacheState, opening_cache};
 ghost use Rattle.mc_account.specs.Orders.{Order};
 ghost use Rattle.mc_history.specs.declared.entries.Entry.{Entry};

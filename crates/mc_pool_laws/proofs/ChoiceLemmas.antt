@@ -25,8 +25,8 @@ use Rattle.mc_route.specs.declared.outcomes.Outcome.TheVariants.{Awaited, Lost, 
 use Rattle.mc_route.specs.declared.routes.Routed.{Routed}
 use Rattle.mc_route.proofs.LossLemmas.{joined-items, joined-meta_lost, joined-unlost}
 use Rattle.mc_link.specs.declared.turns.Tag.{Tag}
-use Rattle.mc_session.specs.Emits.{answer_by}
-use Rattle.mc_session.specs.Sending.{tag_of}
+use Rattle.mc_proxy.specs.Emits.{answer_by}
+use Rattle.mc_proxy.specs.Sending.{tag_of}
 use Rattle.mc_history.specs.declared.entries.Entry.{Entry}
 use Rattle.mc_history.specs.Histories.{HasReply}
 use Rattle.mc_world.specs.Accounts.{IsToldLost}

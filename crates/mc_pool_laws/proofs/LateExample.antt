@@ -10,7 +10,7 @@ use Rattle.mc_route.specs.declared.losses.Losses.{Losses}
 use Rattle.mc_route.specs.declared.outcomes.Outcome.TheVariants as outcomes
 use Rattle.mc_route.specs.declared.routes.Routed.{Routed}
 use Rattle.mc_link.specs.declared.turns.Tag.{Tag}
-use Rattle.mc_session.specs.Sending.{tag_of}
+use Rattle.mc_proxy.specs.Sending.{tag_of}
 use Rattle.mc_account.specs.Lookups.{asked_at, command_at, outcome_at}
 use Rattle.mc_account.specs.Orders.{Entry as AskedFor, commands_to}
 use Rattle.mc_history.specs.declared.entries.Entry.{Entry}

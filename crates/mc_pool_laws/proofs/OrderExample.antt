@@ -20,7 +20,7 @@ use Rattle.mc_route.specs.declared.outcomes.Outcome.{Outcome}
 use Rattle.mc_route.specs.declared.outcomes.Outcome.TheVariants as outcomes
 use Rattle.mc_route.specs.declared.routes.Routed.{Routed}
 use Rattle.mc_link.specs.declared.turns.Tag.{Tag}
-use Rattle.mc_session.specs.Sending.{tag_of}
+use Rattle.mc_proxy.specs.Sending.{tag_of}
 use Rattle.mc_account.specs.Lookups.{IsBefore, asked_at, command_at, outcome_at}
 use Rattle.mc_account.specs.Orders.{AreInOrder, Entry as AskedFor, Order, is_complete}
 use Rattle.mc_history.specs.declared.entries.Entry.{Entry}

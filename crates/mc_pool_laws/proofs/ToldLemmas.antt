@@ -13,8 +13,8 @@ use Rattle.mc_route.specs.declared.outcomes.Outcome.{Outcome}
 use Rattle.mc_route.specs.declared.outcomes.Outcome.TheVariants.{Awaited, Lost, Reply}
 use Rattle.mc_route.specs.declared.routes.Routed.{Routed}
 use Rattle.mc_link.specs.declared.turns.Tag.{Tag}
-use Rattle.mc_session.specs.Emits.{answer_by, is_told}
-use Rattle.mc_session.specs.Sending.{tag_of}
+use Rattle.mc_proxy.specs.Emits.{answer_by, is_told}
+use Rattle.mc_proxy.specs.Sending.{tag_of}
 use Rattle.mc_cache.specs.CacheState.{CacheState}
 use Rattle.mc_account.specs.Lookups.{asked_at, command_at, command_in, outcome_at, outcome_in}
 use Rattle.mc_account.specs.Orders.{Entry as Asked, IsSized, Order, entries_of, is_complete}

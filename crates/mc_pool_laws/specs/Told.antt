@@ -9,8 +9,8 @@ use Rattle.mc_route.specs.declared.outcomes.Outcome.{Outcome}
 use Rattle.mc_route.specs.declared.outcomes.Outcome.TheVariants.{Awaited, Lost, Reply}
 use Rattle.mc_route.specs.declared.routes.Routed.{Routed}
 use Rattle.mc_link.specs.declared.turns.Tag.{Tag}
-use Rattle.mc_session.specs.Emits.{answer_by}
-use Rattle.mc_session.specs.Sending.{tag_of}
+use Rattle.mc_proxy.specs.Emits.{answer_by}
+use Rattle.mc_proxy.specs.Sending.{tag_of}
 use Rattle.mc_history.specs.declared.entries.Entry.{Entry}
 use Rattle.mc_history.specs.Histories.{HasReply, tag_in}
 use Rattle.mc_world.specs.Accounts.{IsToldLost, WasLost}

@@ -16,7 +16,7 @@ ghost use Rattle.mc_route.specs.Joins.{lost_line};
 ghost use Rattle.mc_route.specs.Losses.{is_retrieval};
 ghost use Rattle.mc_route.specs.Routes.{owner_in, route_of_taken};
 ghost use Rattle.mc_route.specs.declared.losses.Losses.TheVariants.{Missed, Told};
-ghost use Rattle.mc_session.specs.Sending.{tag_of};
+ghost use Rattle.mc_proxy.specs.Sending.{tag_of};
 ghost use Rattle.mc_cache.specs.CacheState.{opening_cache};
 ghost use Rattle.mc_history.specs.Histories.{HasReply};
 ghost use Rattle.mc_history.specs.declared.entries.Entry.{Entry};

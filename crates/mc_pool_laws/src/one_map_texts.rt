@@ -3,7 +3,7 @@
 
 ghost use Rattle.std.specs.Prelude.{◌≡◌, pos, Some, None, codes};
 ghost use Rattle.mc_route.specs.Routes.{to_place};
-ghost use Rattle.mc_session.specs.Sending.{tag_of};
+ghost use Rattle.mc_proxy.specs.Sending.{tag_of};
 ghost use Rattle.mc_cache_laws.specs.Examples.{flush_of};
 ghost use Rattle.mc_pool_laws.specs.Executions.{sent_at};
 ghost use Rattle.mc_pool_laws.specs.MergeExamples.{two_in_ring};

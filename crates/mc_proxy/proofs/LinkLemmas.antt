@@ -3,7 +3,7 @@ use Rattle.std.proofs.Common.{◌≡◌, ◌↔◌, ℕ, zero, suc, ◌+◌, ◌
 use Rattle.std.proofs.Math.Seq.{map-set_same}
 use Rattle.std.proofs.lemmas.List.{map-append, map-set, length-map, length-replicate, replicate-append-replicate}
 use Rattle.mc_link.specs.LinkState.{RoomyLink, down_link}
-use Rattle.mc_session.specs.SessionState.{states, link_at, with_link}
+use Rattle.mc_proxy.specs.SessionState.{states, link_at, with_link}
 
 -- what was read at a place is the link there
 pub read_at : (links : List RoomyLink) (place : ℕ) (own : RoomyLink) → place < length links → own ≡ get_or links place own

@@ -3,8 +3,8 @@ use Rattle.std.proofs.Common.{◌≡◌, ◌==◌, true, false, if◌then◌else
 use Rattle.mc_route.specs.declared.outcomes.Outcome.{Outcome}
 use Rattle.mc_link.specs.LinkState.{Waiting}
 use Rattle.mc_link.specs.declared.turns.Tag.{Tag}
-use Rattle.mc_session.specs.SessionState.{SessionState}
-use Rattle.mc_session.specs.Noting.{noted_in}
+use Rattle.mc_proxy.specs.SessionState.{SessionState}
+use Rattle.mc_proxy.specs.SessionNoting.{noted_in}
 use Rattle.mc_proxy.specs.ProxyState.{ProxyState, Sessions, session_in, updated}
 use Rattle.mc_proxy.specs.Noting.{noted, all_lost}
 

@@ -2,7 +2,7 @@
 use Rattle.std.proofs.Common.{◌≡◌, ◌∙◌, ℕ, List, drop, Option, Some, ap}
 use Rattle.mc_table.proofs.NumberedEntryLemmas.{updated_own, updated_same}
 use Rattle.mc_link.specs.LinkState.{LinkState}
-use Rattle.mc_session.specs.SessionState.{SessionState}
+use Rattle.mc_proxy.specs.SessionState.{SessionState}
 use Rattle.mc_proxy.specs.ProxyState.{ProxyState, Sessions, sent_by, session_at, session_in, updated}
 use Rattle.mc_proxy.specs.Turns.{Steps}
 use Rattle.mc_proxy.proofs.NotingLemmas.{same_proxy}

@@ -1,3 +1,10 @@
+pub mod SessionState
+pub mod Sending
+pub mod SessionNoting
+pub mod Emits
+pub mod SessionTurns
+pub mod Looks
+pub mod Examples
 pub mod ProxyState
 pub mod ProxyFields
 pub mod Noting

@@ -5,7 +5,7 @@ use Rattle.mc_route.specs.declared.outcomes.Outcome.TheVariants.{Reply}
 use Rattle.mc_link.specs.LinkState.{LinkState, down_link}
 use Rattle.mc_link.specs.Turns.{Takes, IsIdle, HasStrange}
 use Rattle.mc_link.specs.declared.turns.Tag.{Tag}
-use Rattle.mc_session.specs.SessionState.{link_at, with_link}
+use Rattle.mc_proxy.specs.SessionState.{link_at, with_link}
 use Rattle.mc_proxy.specs.ProxyState.{ProxyState}
 use Rattle.mc_proxy.specs.Noting.{noted, all_lost}
 use Rattle.mc_proxy.specs.declared.turns.LinkTurn.{LinkTurn}

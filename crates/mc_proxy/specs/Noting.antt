@@ -4,7 +4,7 @@ use Rattle.mc_route.specs.declared.outcomes.Outcome.{Outcome}
 use Rattle.mc_route.specs.declared.outcomes.Outcome.TheVariants.{Lost}
 use Rattle.mc_link.specs.declared.turns.Tag.{Tag}
 use Rattle.mc_link.specs.LinkState.{Waiting}
-use Rattle.mc_session.specs.Noting.{noted_in}
+use Rattle.mc_proxy.specs.SessionNoting.{noted_in}
 use Rattle.mc_proxy.specs.ProxyState.{Sessions}
 
 -- what became of a command, noted in its session; for one that is gone it is dropped

@@ -4,7 +4,7 @@ use Rattle.mc_table.specs.Entries.{entry_of, updated as with_entry, without as w
 use Rattle.mc_ring.specs.Rings.{RingState}
 use Rattle.mc_route.specs.declared.losses.Losses.{Losses}
 use Rattle.mc_link.specs.LinkState.{LinkState, down_link}
-use Rattle.mc_session.specs.SessionState.{SessionState, fresh_session}
+use Rattle.mc_proxy.specs.SessionState.{SessionState, fresh_session}
 
 -- the open sessions, by their numbers
 abbrev pub Sessions : Type 0

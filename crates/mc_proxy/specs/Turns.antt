@@ -3,9 +3,9 @@ use Rattle.std.specs.Prelude.{ℕ, ◌≡◌, ◌≢◌, Bool, false, List, [], 
 use Rattle.mc_request.specs.declared.parts.Taken.{Taken}
 use Rattle.mc_request_reader.specs.Reader.{rest_of}
 use Rattle.mc_link.specs.LinkState.{LinkState}
-use Rattle.mc_session.specs.Emits.{emitted, hides_loss_first}
-use Rattle.mc_session.specs.Looks.{IsReady}
-use Rattle.mc_session.specs.SessionState.{SessionState}
+use Rattle.mc_proxy.specs.Emits.{emitted, hides_loss_first}
+use Rattle.mc_proxy.specs.Looks.{IsReady}
+use Rattle.mc_proxy.specs.SessionState.{SessionState}
 use Rattle.mc_proxy.specs.ProxyState.{ProxyState, session_at, updated}
 
 -- what a session has for its turns to take, if nothing more comes: nothing where it is not open

@@ -3,9 +3,9 @@ ghost use Rattle.std.specs.Prelude.{◌≡◌};
 ghost use Rattle.mc_proxy.specs.declared.errors.ProxyError.TheVariants.{Memory};
 ghost use Rattle.mc_proxy.specs.Causes.{of_link, of_ring};
 
+use crate::session_errors::SessionError;
 use mc_link::LinkError;
 use mc_ring::RingError;
-use mc_session::SessionError;
 use std::alloc::{AllocError, AllocFailed};
 use thiserror::Error;
 

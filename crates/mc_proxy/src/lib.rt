@@ -1,4 +1,4 @@
-//! A proxy: clients' requests over links to servers.
+//! A proxy: clients' requests over links to servers, and a session for each client.
 //!
 //! A [`Proxy`] is made over a ring ([`Proxy::new`]), with a link to each of its servers, all of them down at first. A link
 //! that is up again ([`Proxy::back`]) takes commands, until it is lost ([`Proxy::lost`]). What a request is answered if a command of it was
@@ -18,8 +18,26 @@
 //! room again, or is lost.
 //!
 //! `specs/Turns.antt` says what a turn does, and `specs/LinkTurns.antt` what a turn of a link and its loss do. How an answer
-//! is put out is `mc_session`'s `specs/Emits.antt`. A step that leaves its session and the links as they were changes nothing
+//! is put out is `specs/Emits.antt`. A step that leaves its session and the links as they were changes nothing
 //! ([`steps_that_change_nothing_are_still`]). No call waits.
+//!
+//! # Sessions
+//!
+//! A session is one client's requests, over links to servers.
+//!
+//! A [`Session`] is fed the bytes that its client sends in whatever pieces they come ([`Session::feed`]), and takes a request
+//! a turn ([`Session::turn`]): each of the request's commands goes to the link of its key's owner, under a tag that says whose
+//! it is, or is lost at once if that link is down. They pass through a queue that the caller keeps, empty between turns; a storage
+//! command of a classic line does not, and its data block goes to its link at once. What became of a command is noted under its tag
+//! ([`Session::note`]). Once it is known of each command of the oldest unanswered request, its answer is put out ([`Session::emit`]), by the
+//! choice for lost commands that its turn was given ([`mc_route::Losses`]), and the caller takes it out ([`Session::output`],
+//! [`Session::taken_out`]). So answers are in the order of the requests, in whatever order replies come. [`Session::unanswered`],
+//! [`Session::is_finished`], [`Session::ready`] and [`Session::waits_for`] say what state it is in, and [`Session::give_back`] gives large
+//! empty buffers back.
+//!
+//! A turn waits where a mark is reached: [`MAX_UNANSWERED`], [`UNSENT_MARK`] or [`LINK_MARK`]. `specs/SessionState.antt` says
+//! what a session is, `specs/SessionTurns.antt` what a turn does, `specs/Sending.antt` how commands are sent, `specs/SessionNoting.antt` and
+//! `specs/Emits.antt` how they are answered. At an error nothing has changed.
 #![tactic(auto)]
 
 mod errors;
@@ -27,12 +45,24 @@ mod laws;
 mod limits;
 mod linked;
 mod proxies;
+mod rows;
+mod sending;
+mod session_errors;
+mod session_limits;
+mod session_turns;
+mod sessions;
+mod stores;
 mod turns;
+mod unanswered;
 
 pub use errors::ProxyError;
 pub use laws::steps_that_change_nothing_are_still;
 pub use limits::MAX_SESSIONS;
 pub use mc_route::Losses;
-pub use mc_session::{Emit, LINK_MARK, MAX_UNANSWERED, Turn, UNSENT_MARK};
 pub use proxies::Proxy;
+pub use rows::lost_store_before_a_get;
+pub use session_errors::SessionError;
+pub use session_limits::{LINK_MARK, MAX_UNANSWERED, UNSENT_MARK};
+pub use session_turns::{Emit, Turn};
+pub use sessions::Session;
 pub use turns::LinkTurn;

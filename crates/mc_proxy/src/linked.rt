@@ -14,7 +14,7 @@ impl Proxy {
     ghost use Rattle.mc_link.specs.LinkState.{can_come_back, up_link};
     ghost use Rattle.mc_link.specs.Turns.{HasReply};
     ghost use Rattle.mc_ring.specs.Rings.{RingState};
-    ghost use Rattle.mc_session.specs.SessionState.{link_at, with_link};
+    ghost use Rattle.mc_proxy.specs.SessionState.{link_at, with_link};
     ghost use Rattle.mc_proxy.specs.Joins.{JoinsServer, has_server};
     ghost use Rattle.mc_proxy.specs.LinkTurns.{IsLinkTurn, lost_at};
     ghost use Rattle.mc_proxy.specs.Noting.{noted};

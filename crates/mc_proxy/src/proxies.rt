@@ -3,10 +3,11 @@ ghost use Rattle.std.specs.Prelude.{◌≡◌, ◌≢◌, ◌+◌, ◌-◌, ◌^
 
 use crate::errors::ProxyError;
 use crate::limits::MAX_SESSIONS;
+use crate::session_turns::{Emit, Turn};
+use crate::sessions::Session;
 use mc_link::Link;
 use mc_ring::Ring;
 use mc_route::{Losses, Routed};
-use mc_session::{Emit, Session, Turn};
 use mc_table::Numbered;
 use std::alloc::Global;
 use std::collections::VecDeque;
@@ -29,7 +30,7 @@ pub struct Proxy {
 }
 
 impl Model for Proxy {
-    ghost use Rattle.mc_session.specs.SessionState.{states};
+    ghost use Rattle.mc_proxy.specs.SessionState.{states};
     ghost use Rattle.mc_proxy.specs.ProxyState.{ProxyState};
     ghost use Rattle.mc_proxy.specs.ProxyFields.{IsProxy};
 
@@ -41,11 +42,11 @@ impl Model for Proxy {
 }
 
 impl Proxy {
-    ghost use Rattle.mc_session.specs.Emits.{IsEmit, emitted};
-    ghost use Rattle.mc_session.specs.SessionState.{fresh_session};
-    ghost use Rattle.mc_session.specs.Looks.{IsReady, waits_for};
-    ghost use Rattle.mc_session.specs.Turns.{IsFed, IsTurn};
     ghost use Rattle.mc_route.specs.declared.losses.Losses.TheVariants.{Told};
+    ghost use Rattle.mc_proxy.specs.Emits.{IsEmit, emitted};
+    ghost use Rattle.mc_proxy.specs.SessionState.{fresh_session};
+    ghost use Rattle.mc_proxy.specs.Looks.{IsReady, waits_for};
+    ghost use Rattle.mc_proxy.specs.SessionTurns.{IsFed, IsTurn};
     ghost use Rattle.mc_proxy.specs.ProxyState.{is_finished, opened, output_of, sent_by, session_at, unanswered_of, with_fresh, without};
     ghost use Rattle.mc_proxy.specs.Turns.{Alone, CanTurn, HasAnswer, Steps, hides_loss_at, waiting_of};
 

@@ -1,6 +1,6 @@
 -- A session that is owed something, and what sending it its answers does.
 use Rattle.std.proofs.Common.{◌≡◌, refl, ℕ, Bool, true, false, List, [], Option, Some, None, IsSome, Result, Ok, Err}
-use Rattle.mc_session.specs.SessionState.{SessionState}
+use Rattle.mc_proxy.specs.SessionState.{SessionState}
 use Rattle.mc_proxy.specs.ProxyState.{ProxyState}
 use Rattle.mc_stream.specs.declared.outcomes.Pumped.{Pumped}
 use Rattle.mc_stream.specs.declared.outcomes.Pumped.TheVariants.{Again}

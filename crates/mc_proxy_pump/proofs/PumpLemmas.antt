@@ -1,6 +1,6 @@
 -- Pumps of a session: one after another, and what each part of a round adds.
 use Rattle.std.proofs.Common.{◌≡◌, ℕ, Bool, false, Ok, Err, List, [], ◌++◌, Option, IsSome}
-use Rattle.mc_session.specs.SessionState.{SessionState}
+use Rattle.mc_proxy.specs.SessionState.{SessionState}
 use Rattle.mc_proxy.specs.ProxyState.{ProxyState, session_at}
 use Rattle.mc_stream.specs.Sides.{IsStopOfSide}
 use Rattle.mc_stream.specs.declared.outcomes.Pumped.{Pumped}

@@ -9,22 +9,22 @@ use Rattle.mc_request_reader.specs.Reader.{ReaderState, rest_of}
 use Rattle.mc_ring.specs.Rings.{RingState}
 use Rattle.mc_route.specs.declared.losses.Losses.{Losses}
 use Rattle.mc_link.specs.LinkState.{LinkState}
-use Rattle.mc_session.specs.Emits.{IsEmit, emitted, emitted_from, is_known, answer_of_one}
-use Rattle.mc_session.specs.SessionState.{SessionState, Unanswered}
-use Rattle.mc_session.specs.Turns.{IsFed, IsHeldUp, IsTurn, Takes}
-use Rattle.mc_session.specs.declared.limits.TheConstants.{UNSENT_MARK}
-use Rattle.mc_session.specs.declared.turns.Emit.TheVariants as emits
-use Rattle.mc_session.specs.declared.turns.Turn.{Turn}
-use Rattle.mc_session.specs.declared.turns.Turn.TheVariants as turns
+use Rattle.mc_proxy.specs.Emits.{IsEmit, emitted, emitted_from, is_known, answer_of_one}
+use Rattle.mc_proxy.specs.SessionState.{SessionState, Unanswered}
+use Rattle.mc_proxy.specs.SessionTurns.{IsFed, IsHeldUp, IsTurn, Takes}
+use Rattle.mc_proxy.specs.declared.session_limits.TheConstants.{UNSENT_MARK}
+use Rattle.mc_proxy.specs.declared.session_turns.Emit.TheVariants as emits
+use Rattle.mc_proxy.specs.declared.session_turns.Turn.{Turn}
+use Rattle.mc_proxy.specs.declared.session_turns.Turn.TheVariants as turns
 use Rattle.mc_proxy.specs.ProxyState.{ProxyState, output_of, sent_by, session_at, unanswered_of}
 use Rattle.mc_proxy.specs.Turns.{Alone, HasAnswer, Steps, hides_loss_at, waiting_of}
+use Rattle.mc_proxy.proofs.StepLemmas.{sent_at, steps_at, steps_still}
 use Rattle.mc_stream.specs.Sides.{HowItCame, HowItWent}
 use Rattle.mc_stream.specs.declared.outcomes.Pumped.{Pumped}
 use Rattle.mc_proxy_pump.specs.Calls.{Fed, Turned, Emitted, Rested, Sent, Stretch}
 use Rattle.mc_proxy_pump.specs.Clients.{IsHeldUpAt, IsOver, IsStuck, emitted_at, is_closed_at}
 use Rattle.mc_proxy_pump.specs.Tallies.{counted}
 use Rattle.mc_proxy_pump.specs.Rounds.{HasAnswered, HowMany, IsSentOf, Receives, Sends, StopsAt, ends_by, reads_by, work_of}
-use Rattle.mc_proxy.proofs.StepLemmas.{sent_at, steps_at, steps_still}
 use Rattle.mc_proxy_pump.proofs.StretchLemmas.{is_open, stretch_none, stretch_one, the_open}
 
 -- a turn is a call

@@ -1,7 +1,7 @@
 -- Calls for a session: none, one, and one after another.
 use Rattle.std.proofs.Common.{◌≡◌, ◌∙◌, ℕ, true, false, List, [], ◌∷◌, ◌++◌, Option, Some, None, IsSome, refl, sym, ap, subst, append_assoc}
 use Rattle.std.proofs.lemmas.List.{append-nil}
-use Rattle.mc_session.specs.SessionState.{SessionState}
+use Rattle.mc_proxy.specs.SessionState.{SessionState}
 use Rattle.mc_proxy.specs.ProxyState.{ProxyState, session_at}
 use Rattle.mc_proxy_pump.specs.Calls.{Call, Calls, Fed, Turned, Emitted, Rested, Sent, IsCall, Stretch, came_by, came_of, missed_by, went_by, went_of}
 use Rattle.mc_proxy_pump.specs.Tallies.{counted}

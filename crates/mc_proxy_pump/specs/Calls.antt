@@ -1,10 +1,10 @@
 -- Calls for one session of a proxy, one after another: this project's own.
 use Rattle.std.specs.Prelude.{◌≡◌, ℕ, ◌<◌, ◌≤◌, Bool, List, [], ◌∷◌, ◌++◌, length, take, Option, IsSome}
-use Rattle.mc_session.specs.Emits.{IsEmit}
-use Rattle.mc_session.specs.Turns.{IsFed, IsTurn}
-use Rattle.mc_session.specs.declared.limits.TheConstants.{UNSENT_MARK}
-use Rattle.mc_session.specs.declared.turns.Emit.TheVariants.{Done, Idle}
-use Rattle.mc_session.specs.declared.turns.Turn.{Turn}
+use Rattle.mc_proxy.specs.Emits.{IsEmit}
+use Rattle.mc_proxy.specs.SessionTurns.{IsFed, IsTurn}
+use Rattle.mc_proxy.specs.declared.session_limits.TheConstants.{UNSENT_MARK}
+use Rattle.mc_proxy.specs.declared.session_turns.Emit.TheVariants.{Done, Idle}
+use Rattle.mc_proxy.specs.declared.session_turns.Turn.{Turn}
 use Rattle.mc_proxy.specs.ProxyState.{ProxyState, output_of, sent_by, session_at}
 use Rattle.mc_proxy.specs.Turns.{Alone, Steps, hides_loss_at, waiting_of}
 use Rattle.mc_proxy_pump.specs.Tallies.{counted}

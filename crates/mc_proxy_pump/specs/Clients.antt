@@ -2,10 +2,10 @@
 use Rattle.std.specs.Prelude.{◌≡◌, ℕ, ◌≤◌, ◌⊎◌, ◌||◌, nat_lt, Bool, true, false, List, [], length, Option, Some, None}
 use Rattle.mc_ring.specs.Rings.{RingState}
 use Rattle.mc_link.specs.LinkState.{LinkState}
-use Rattle.mc_session.specs.Emits.{emitted}
-use Rattle.mc_session.specs.SessionState.{SessionState}
-use Rattle.mc_session.specs.Turns.{IsHeldUp}
-use Rattle.mc_session.specs.declared.limits.TheConstants.{UNSENT_MARK}
+use Rattle.mc_proxy.specs.Emits.{emitted}
+use Rattle.mc_proxy.specs.SessionState.{SessionState}
+use Rattle.mc_proxy.specs.SessionTurns.{IsHeldUp}
+use Rattle.mc_proxy.specs.declared.session_limits.TheConstants.{UNSENT_MARK}
 use Rattle.mc_proxy.specs.ProxyState.{ProxyState, output_of, session_at, unanswered_of}
 use Rattle.mc_proxy.specs.Turns.{waiting_of}
 use Rattle.mc_stream.specs.Sides.{CarriesBy}

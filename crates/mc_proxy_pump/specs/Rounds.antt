@@ -1,9 +1,9 @@
 -- What the parts of a round of a session's pump do.
 use Rattle.std.specs.Prelude.{◌≡◌, ℕ, ◌+◌, ◌*◌, ◌<◌, ◌≤◌, ◌⊎◌, Bool, true, false, not, ◌&&◌, List, [], length, Option, None, Result}
-use Rattle.mc_session.specs.SessionState.{SessionState}
-use Rattle.mc_session.specs.declared.limits.TheConstants.{UNSENT_MARK}
-use Rattle.mc_session.specs.declared.turns.Turn.{Turn}
-use Rattle.mc_session.specs.declared.turns.Turn.TheVariants as turns
+use Rattle.mc_proxy.specs.SessionState.{SessionState}
+use Rattle.mc_proxy.specs.declared.session_limits.TheConstants.{UNSENT_MARK}
+use Rattle.mc_proxy.specs.declared.session_turns.Turn.{Turn}
+use Rattle.mc_proxy.specs.declared.session_turns.Turn.TheVariants as turns
 use Rattle.mc_proxy.specs.ProxyState.{ProxyState, output_of, session_at, unanswered_of}
 use Rattle.mc_proxy.specs.Turns.{waiting_of}
 use Rattle.mc_stream.specs.Sides.{HowItCame, HowItWent}

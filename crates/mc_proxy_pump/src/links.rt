@@ -1,6 +1,6 @@
 //! The body of a link: commands out, replies in.
 ghost use Rattle.std.specs.Prelude.{◌≡◌, ◌<◌, true, false, length, vec_len, vec_capacity};
-ghost use Rattle.mc_session.specs.SessionState.{link_at};
+ghost use Rattle.mc_proxy.specs.SessionState.{link_at};
 ghost use Rattle.mc_proxy_pump.specs.LinkCalls.{with_woken};
 ghost use Rattle.mc_proxy_pump.specs.Links.{PumpsLink};
 ghost use Rattle.mc_proxy_pump.specs.LinkRounds.{ReceivesLink, SendsLink, TakesReplies, TakesReply};

@@ -5,9 +5,8 @@ use crate::tallies::Tally;
 use anyhow::bail;
 use mc_cache::Cache;
 use mc_item::CasCounter;
-use mc_proxy::{LinkTurn, Proxy, ProxyError};
+use mc_proxy::{Emit, LinkTurn, Proxy, ProxyError, Turn as ClientTurn};
 use mc_server::{Server, ServerError, Turn};
-use mc_session::{Emit, Turn as ClientTurn};
 use mc_store::{FixedHasher, LruStore};
 use std::alloc::{AllocError, Global};
 

@@ -21,7 +21,7 @@ use Rattle.mc_cache.specs.CacheState.{CacheState}
 use Rattle.mc_cache.specs.Step.{step_of}
 use Rattle.mc_cache_laws.specs.GoodCaches.{IsGoodCache}
 use Rattle.mc_server.specs.Served.{Entry as Taking}
-use Rattle.mc_session.specs.SessionState.{SessionState, link_at}
+use Rattle.mc_proxy.specs.SessionState.{SessionState, link_at}
 use Rattle.mc_proxy.specs.ProxyState.{ProxyState, output_of, session_at, unanswered_of}
 use Rattle.mc_proxy.specs.Turns.{waiting_of}
 use Rattle.mc_account.specs.Lanes.{CanHave, Lane, LaneHolds, as_waiting, spelled, told}

@@ -6,7 +6,7 @@ use Rattle.mc_request.specs.Requests.{requests_of, requests_within}
 use Rattle.mc_ring.specs.Rings.{IsRing, RingState}
 use Rattle.mc_route.specs.declared.losses.Losses.TheVariants.{Told}
 use Rattle.mc_link.specs.LinkState.{LinkState, down_link, up_link}
-use Rattle.mc_session.specs.SessionState.{link_at, with_link}
+use Rattle.mc_proxy.specs.SessionState.{link_at, with_link}
 use Rattle.mc_account.specs.Lanes.{LinkHolds, fresh_lane}
 use Rattle.mc_account.specs.Orders.{IsToldAs, Entry, IsSized}
 use Rattle.mc_account.proofs.LaneLemmas.{lane_fresh}

@@ -14,15 +14,15 @@ use Rattle.mc_route.specs.declared.outcomes.Outcome.TheVariants.{Reply}
 use Rattle.mc_route.specs.declared.losses.Losses.{Losses}
 use Rattle.mc_link.specs.LinkState.{LinkState}
 use Rattle.mc_link.specs.declared.turns.Tag.{Tag}
-use Rattle.mc_session.specs.Emits.{IsEmit}
-use Rattle.mc_session.specs.Noting.{noted_in}
-use Rattle.mc_session.specs.Sending.{handed}
-use Rattle.mc_session.specs.SessionState.{SessionState, fresh_session, link_at, with_link}
-use Rattle.mc_session.specs.Turns.{IsFed, IsTurn, IsUnchanged}
-use Rattle.mc_session.specs.declared.turns.Emit.{Emit}
-use Rattle.mc_session.specs.declared.turns.Emit.TheVariants as emits
-use Rattle.mc_session.specs.declared.turns.Turn.{Turn}
-use Rattle.mc_session.specs.declared.turns.Turn.TheVariants as turns
+use Rattle.mc_proxy.specs.Emits.{IsEmit}
+use Rattle.mc_proxy.specs.SessionNoting.{noted_in}
+use Rattle.mc_proxy.specs.Sending.{handed}
+use Rattle.mc_proxy.specs.SessionState.{SessionState, fresh_session, link_at, with_link}
+use Rattle.mc_proxy.specs.SessionTurns.{IsFed, IsTurn, IsUnchanged}
+use Rattle.mc_proxy.specs.declared.session_turns.Emit.{Emit}
+use Rattle.mc_proxy.specs.declared.session_turns.Emit.TheVariants as emits
+use Rattle.mc_proxy.specs.declared.session_turns.Turn.{Turn}
+use Rattle.mc_proxy.specs.declared.session_turns.Turn.TheVariants as turns
 use Rattle.mc_proxy.specs.LinkTurns.{Answers}
 use Rattle.mc_proxy.specs.Noting.{noted}
 use Rattle.mc_proxy.specs.ProxyState.{ProxyState, Sessions, output_of, sent_by, session_at, session_in, updated, with_fresh}

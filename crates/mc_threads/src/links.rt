@@ -5,8 +5,7 @@ ghost use Rattle.mc_threads.specs.Links.{Carries, IsMoved, SameEnds};
 ghost use Rattle.mc_threads.specs.Talks.{HasReplied, StillTalks};
 
 use crate::errors::Ended;
-use mc_proxy::{LinkTurn, Proxy};
-use mc_session::{Emit, Turn};
+use mc_proxy::{Emit, LinkTurn, Proxy, Turn};
 use rtrb::{Consumer, Producer};
 
 /// The most requests of a client, answers to it, or replies of a server that are taken in one round.

@@ -15,12 +15,12 @@ use Rattle.mc_link.specs.LinkState.{LinkState, Waiting, can_come_back, up_link}
 use Rattle.mc_link.specs.Turns.{HasReply, HasStrange, IsIdle, Takes}
 use Rattle.mc_link.specs.declared.turns.Tag.{Tag}
 use Rattle.mc_server.specs.ServerState.{ConnectionState, ServerState, connection_at, output_of, sent_by}
-use Rattle.mc_session.specs.Looks.{IsReady}
-use Rattle.mc_session.specs.Sending.{is_marked}
-use Rattle.mc_session.specs.SessionState.{SessionState, link_at, with_link}
-use Rattle.mc_session.specs.Turns.{IsTurn}
-use Rattle.mc_session.specs.declared.turns.Turn.{Turn}
-use Rattle.mc_session.specs.declared.turns.Turn.TheVariants as turns
+use Rattle.mc_proxy.specs.Looks.{IsReady}
+use Rattle.mc_proxy.specs.Sending.{is_marked}
+use Rattle.mc_proxy.specs.SessionState.{SessionState, link_at, with_link}
+use Rattle.mc_proxy.specs.SessionTurns.{IsTurn}
+use Rattle.mc_proxy.specs.declared.session_turns.Turn.{Turn}
+use Rattle.mc_proxy.specs.declared.session_turns.Turn.TheVariants as turns
 use Rattle.mc_proxy.specs.LinkTurns.{IsLinkTurn}
 use Rattle.mc_proxy.specs.ProxyState.{ProxyState, session_at}
 use Rattle.mc_proxy.specs.Turns.{Steps}

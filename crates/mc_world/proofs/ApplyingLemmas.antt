@@ -8,7 +8,7 @@ use Rattle.std.proofs.lemmas.Option.{none-some, same_Some}
 use Rattle.mc_link.specs.LinkState.{can_come_back}
 use Rattle.mc_server.specs.ServerState.{connection_at, output_of}
 use Rattle.mc_server.specs.Turns.{waiting_of}
-use Rattle.mc_session.specs.SessionState.{link_at}
+use Rattle.mc_proxy.specs.SessionState.{link_at}
 use Rattle.mc_world.specs.Applies.{CanAdmit, CanReachLate, CanReachProxy, CanReturn, CanServe, CanServeLate, HasLost, IsUp, Lives, way_of}
 use Rattle.mc_world.specs.Courses.{ByWay}
 use Rattle.mc_world.specs.Refusals.{restart_refusal_of}

@@ -4,7 +4,7 @@ use Rattle.mc_ring.specs.Rings.{RingState}
 use Rattle.mc_cache.specs.CacheState.{CacheState}
 use Rattle.mc_link.specs.LinkState.{LinkState, can_come_back}
 use Rattle.mc_server.specs.ServerState.{ConnectionState, ServerState, connection_at, sent_by}
-use Rattle.mc_session.specs.SessionState.{link_at}
+use Rattle.mc_proxy.specs.SessionState.{link_at}
 use Rattle.mc_world.specs.Bare.{bare}
 use Rattle.mc_world.specs.declared.events.Event.{Event}
 use Rattle.mc_world.specs.declared.events.Event.TheVariants.{ClientBytes, ClientGone, ClientTakes, Emit, LinkBack, LinkLost, ProxyTurn, ReplyTurn, ServerSeesEnd, ServerTurn, ToProxy, ToServer}

@@ -11,11 +11,11 @@ use Rattle.mc_link.specs.LinkState.{Waiting}
 use Rattle.mc_link.specs.declared.turns.Tag.{Tag}
 use Rattle.mc_route.specs.declared.outcomes.Outcome.TheVariants.{Lost, Reply}
 use Rattle.mc_server.specs.ServerState.{connection_at, output_of as connection_output}
-use Rattle.mc_session.specs.Emits.{IsEmit}
-use Rattle.mc_session.specs.SessionState.{SessionState, link_at}
-use Rattle.mc_session.specs.Turns.{IsFed, IsTurn}
-use Rattle.mc_session.specs.declared.turns.Emit.TheVariants as emits
-use Rattle.mc_session.specs.declared.turns.Turn.TheVariants as turns
+use Rattle.mc_proxy.specs.Emits.{IsEmit}
+use Rattle.mc_proxy.specs.SessionState.{SessionState, link_at}
+use Rattle.mc_proxy.specs.SessionTurns.{IsFed, IsTurn}
+use Rattle.mc_proxy.specs.declared.session_turns.Emit.TheVariants as emits
+use Rattle.mc_proxy.specs.declared.session_turns.Turn.TheVariants as turns
 use Rattle.mc_proxy.specs.ProxyState.{ProxyState, Sessions, output_of, sent_by, session_at}
 use Rattle.mc_proxy.specs.Turns.{Alone}
 use Rattle.mc_account.specs.Lanes.{Lane, fresh_lane}

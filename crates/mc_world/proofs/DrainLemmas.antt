@@ -5,7 +5,7 @@ use Rattle.std.proofs.lemmas.Bool.{and_from, and_parts, ltb-false, ltb-true}
 use Rattle.mc_ring.specs.Rings.{RingState}
 use Rattle.mc_link.specs.LinkState.{LinkState}
 use Rattle.mc_cache.specs.CacheState.{CacheState}
-use Rattle.mc_session.specs.SessionState.{link_at}
+use Rattle.mc_proxy.specs.SessionState.{link_at}
 use Rattle.mc_proxy.specs.ProxyState.{output_of as output_at, session_at}
 use Rattle.mc_account.proofs.OpenSessions.{own_number}
 use Rattle.mc_world.specs.Acts.{GoesOn, HasDrained, IsIdle, IsOver, coming_of, event_of, generation_of}

@@ -16,8 +16,8 @@ use Rattle.mc_link.specs.LinkState.{LinkState}
 use Rattle.mc_link.specs.declared.turns.Tag.{Tag}
 use Rattle.mc_cache.specs.CacheState.{CacheState}
 use Rattle.mc_server.specs.Histories.{taken_of}
-use Rattle.mc_session.specs.Emits.{is_told}
-use Rattle.mc_session.specs.SessionState.{link_at}
+use Rattle.mc_proxy.specs.Emits.{is_told}
+use Rattle.mc_proxy.specs.SessionState.{link_at}
 use Rattle.mc_account.specs.Lanes.{Lane, LaneHolds}
 use Rattle.mc_account.specs.Lookups.{command_at, outcome_at}
 use Rattle.mc_account.specs.Orders.{AreInOrder, IsSized, Order, Tagged, commands_to, entries_of, outcomes_to}

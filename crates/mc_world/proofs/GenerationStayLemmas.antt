@@ -8,8 +8,8 @@ use Rattle.mc_link.specs.LinkState.{LinkState, Waiting, down_link, sent, up_link
 use Rattle.mc_link.specs.declared.turns.Tag.{Tag}
 use Rattle.mc_cache.specs.CacheState.{CacheState}
 use Rattle.mc_server.specs.ServerState.{connection_at, output_of}
-use Rattle.mc_session.specs.Sending.{handed_to}
-use Rattle.mc_session.specs.SessionState.{link_at, with_link}
+use Rattle.mc_proxy.specs.Sending.{handed_to}
+use Rattle.mc_proxy.specs.SessionState.{link_at, with_link}
 use Rattle.mc_proxy.specs.ProxyState.{ProxyState, session_at}
 use Rattle.mc_account.specs.Orders.{Tagged, commands_from}
 use Rattle.mc_account.proofs.HandingLemmas.{handed_at, received}

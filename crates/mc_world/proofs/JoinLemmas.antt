@@ -15,8 +15,8 @@ use Rattle.mc_link.specs.LinkState.{LinkState, down_link, up_link}
 use Rattle.mc_link.specs.declared.turns.Tag.{Tag}
 use Rattle.mc_cache.specs.CacheState.{CacheState}
 use Rattle.mc_cache_laws.specs.GoodCaches.{IsGoodCache}
-use Rattle.mc_session.specs.Sending.{tag_of}
-use Rattle.mc_session.specs.SessionState.{link_at}
+use Rattle.mc_proxy.specs.Sending.{tag_of}
+use Rattle.mc_proxy.specs.SessionState.{link_at}
 use Rattle.mc_proxy.specs.ProxyState.{Sessions, session_in}
 use Rattle.mc_account.specs.Lanes.{Lane, fresh_lane}
 use Rattle.mc_account.specs.Lookups.{IsRoutedWithin}

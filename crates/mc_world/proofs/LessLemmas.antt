@@ -12,8 +12,8 @@ use Rattle.mc_cache.specs.CacheState.{CacheState}
 use Rattle.mc_server.specs.ServerState.{ConnectionState, Connections, ServerState, closed, connection_at, connection_in, output_of, sent_by}
 use Rattle.mc_server.specs.Turns.{Steps}
 use Rattle.mc_server.proofs.ConnectionLemmas.{closed_other, updated_own}
-use Rattle.mc_session.specs.Sending.{at_once, handed}
-use Rattle.mc_session.specs.SessionState.{SessionState, Unanswered, link_at, with_link}
+use Rattle.mc_proxy.specs.Sending.{at_once, handed}
+use Rattle.mc_proxy.specs.SessionState.{SessionState, Unanswered, link_at, with_link}
 use Rattle.mc_proxy.specs.Noting.{noted}
 use Rattle.mc_proxy.specs.ProxyState.{ProxyState, output_of as output_at, sent_by as taken_by, session_at, updated}
 use Rattle.mc_world.specs.Pools.{EndSeen, LateTurn, PutsAnswer, ReachesProxy, ReachesServer, ServerTakes, TakesBytes, TakesReply, TakesRequest}

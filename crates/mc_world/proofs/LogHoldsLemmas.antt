@@ -7,7 +7,7 @@ use Rattle.mc_ring.specs.Rings.{RingState}
 use Rattle.mc_route.specs.declared.outcomes.Outcome.TheVariants.{Lost, Reply}
 use Rattle.mc_link.specs.LinkState.{LinkState, Waiting, down_link, up_link}
 use Rattle.mc_server.specs.ServerState.{connection_at, output_of}
-use Rattle.mc_session.specs.SessionState.{link_at, with_link}
+use Rattle.mc_proxy.specs.SessionState.{link_at, with_link}
 use Rattle.mc_proxy.specs.ProxyState.{ProxyState, session_at}
 use Rattle.mc_account.specs.Answered.{answered_at}
 use Rattle.mc_account.specs.Lanes.{Lane}

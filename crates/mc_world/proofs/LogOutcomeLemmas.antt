@@ -6,7 +6,7 @@ use Rattle.std.proofs.lemmas.Option.{none-some, same_Some}
 use Rattle.mc_route.specs.declared.outcomes.Outcome.{Outcome}
 use Rattle.mc_route.specs.declared.outcomes.Outcome.TheVariants.{Awaited, Lost}
 use Rattle.mc_link.specs.declared.turns.Tag.{Tag}
-use Rattle.mc_session.specs.Noting.{with_outcome}
+use Rattle.mc_proxy.specs.SessionNoting.{with_outcome}
 use Rattle.mc_account.specs.Answered.{AreAnswers}
 use Rattle.mc_account.specs.Lookups.{AreAwaited, IsRoutedWithin, asked_at, command_at, outcome_at, outcome_in}
 use Rattle.mc_account.specs.Orders.{AreInOrder, Entry as Asked, Order, entries_of, note, note_all, note_in, numbers_from, owns}

@@ -7,9 +7,9 @@ use Rattle.std.proofs.lemmas.List.{map-append}
 use Rattle.std.proofs.lemmas.List.Elements.{All-push}
 use Rattle.std.proofs.lemmas.Option.{same_Some}
 use Rattle.mc_ring.specs.Rings.{RingState}
-use Rattle.mc_session.specs.Emits.{IsEmit}
-use Rattle.mc_session.specs.SessionState.{SessionState, answered}
-use Rattle.mc_session.specs.declared.turns.Emit.TheVariants as emits
+use Rattle.mc_proxy.specs.Emits.{IsEmit}
+use Rattle.mc_proxy.specs.SessionState.{SessionState, answered}
+use Rattle.mc_proxy.specs.declared.session_turns.Emit.TheVariants as emits
 use Rattle.mc_proxy.specs.ProxyState.{ProxyState, session_at}
 use Rattle.mc_proxy.specs.Turns.{Alone, Steps}
 use Rattle.mc_account.specs.Answered.{AreAnswers}

@@ -1,7 +1,7 @@
 -- The ring and the links of a pool after an event that is logged.
 use Rattle.std.proofs.Common.{◌≡◌, ◌∙◌, ℕ, ◌<◌, ◌≤◌, Bool, true, [], ◌∷◌, ◌++◌, length, sym, ap, subst, arith}
 use Rattle.mc_ring.specs.Rings.{IsRing, RingState}
-use Rattle.mc_session.specs.SessionState.{link_at}
+use Rattle.mc_proxy.specs.SessionState.{link_at}
 use Rattle.mc_world.specs.LogHolds.{ServersHold}
 use Rattle.mc_world.specs.Logs.{IsRingAfter, Log, up_by}
 use Rattle.mc_world.specs.WorldState.{PoolState}

@@ -7,7 +7,7 @@ use Rattle.std.proofs.lemmas.Option.{none-some}
 use Rattle.mc_ring.specs.Rings.{RingState}
 use Rattle.mc_link.specs.LinkState.{LinkState}
 use Rattle.mc_link.specs.declared.turns.Tag.{Tag}
-use Rattle.mc_session.specs.SessionState.{SessionState, link_at, with_link}
+use Rattle.mc_proxy.specs.SessionState.{SessionState, link_at, with_link}
 use Rattle.mc_proxy.specs.ProxyState.{ProxyState, sent_by, session_at, without}
 use Rattle.mc_account.specs.Answered.{answered_at}
 use Rattle.mc_account.specs.Orders.{Order}

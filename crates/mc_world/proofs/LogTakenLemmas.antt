@@ -8,8 +8,8 @@ use Rattle.mc_route.specs.declared.outcomes.Outcome.TheVariants.{Awaited, Lost}
 use Rattle.mc_route.specs.declared.routes.Routed.{Routed}
 use Rattle.mc_link.specs.LinkState.{LinkState}
 use Rattle.mc_link.specs.declared.turns.Tag.{Tag}
-use Rattle.mc_session.specs.Sending.{at_once, outcome_by}
-use Rattle.mc_session.specs.SessionState.{link_at}
+use Rattle.mc_proxy.specs.Sending.{at_once, outcome_by}
+use Rattle.mc_proxy.specs.SessionState.{link_at}
 use Rattle.mc_account.specs.Lookups.{IsRoutedWithin, asked_at, command_in, outcome_in}
 use Rattle.mc_account.specs.Orders.{Entry as Asked, Order, entries_of}
 use Rattle.mc_account.proofs.OrderLemmas.{entries-append}

@@ -9,9 +9,9 @@ use Rattle.mc_route.specs.declared.routes.Routed.{Routed}
 use Rattle.mc_link.specs.LinkState.{LinkState, Waiting}
 use Rattle.mc_link.specs.declared.turns.Tag.{Tag}
 use Rattle.mc_cache.specs.CacheState.{CacheState}
-use Rattle.mc_session.specs.Sending.{handed}
-use Rattle.mc_session.specs.SessionState.{link_at}
-use Rattle.mc_session.specs.declared.turns.Turn.TheVariants as turns
+use Rattle.mc_proxy.specs.Sending.{handed}
+use Rattle.mc_proxy.specs.SessionState.{link_at}
+use Rattle.mc_proxy.specs.declared.session_turns.Turn.TheVariants as turns
 use Rattle.mc_proxy.specs.ProxyState.{ProxyState}
 use Rattle.mc_account.specs.Answered.{answered_at}
 use Rattle.mc_account.specs.Lanes.{Lane}

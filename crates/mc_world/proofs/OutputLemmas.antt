@@ -7,8 +7,8 @@ use Rattle.mc_route.specs.declared.outcomes.Outcome.{Outcome}
 use Rattle.mc_route.specs.declared.outcomes.Outcome.TheVariants.{Lost}
 use Rattle.mc_link.specs.LinkState.{LinkState, Waiting}
 use Rattle.mc_link.specs.declared.turns.Tag.{Tag}
-use Rattle.mc_session.specs.Noting.{noted_at, noted_in}
-use Rattle.mc_session.specs.SessionState.{SessionState, answered}
+use Rattle.mc_proxy.specs.SessionNoting.{noted_at, noted_in}
+use Rattle.mc_proxy.specs.SessionState.{SessionState, answered}
 use Rattle.mc_proxy.specs.Noting.{all_lost, noted}
 use Rattle.mc_proxy.specs.ProxyState.{ProxyState, Sessions, output_of, sent_by, session_at, session_in, updated, without}
 use Rattle.mc_proxy.specs.Turns.{Steps}

@@ -3,7 +3,7 @@ use Rattle.std.proofs.Common.{◌≡◌, ◌∙◌, ℕ, zero, suc, ◌==◌, in
 use Rattle.std.specs.Prelude.{All}
 use Rattle.std.proofs.lemmas.List.Elements.{All-cons, All-head, All-nil, All-tail}
 use Rattle.mc_route.specs.declared.losses.Losses.{Losses}
-use Rattle.mc_session.specs.Emits.{answer_by}
+use Rattle.mc_proxy.specs.Emits.{answer_by}
 use Rattle.mc_proxy.specs.ProxyState.{ProxyState, sent_by, session_at}
 use Rattle.mc_account.specs.Orders.{Entry as Asked, IsToldAs, Order, answers_of, entries_of}
 use Rattle.mc_cache.specs.CacheState.{CacheState}

@@ -14,9 +14,10 @@ use Rattle.mc_link.specs.declared.turns.Tag.{Tag}
 use Rattle.mc_cache.specs.CacheState.{CacheState}
 use Rattle.mc_cache_laws.specs.GoodCaches.{IsGoodCache}
 use Rattle.mc_server.specs.ServerState.{connection_at, output_of, with_fresh}
-use Rattle.mc_session.specs.Sending.{handed}
-use Rattle.mc_session.specs.SessionState.{SessionState, link_at, with_link}
+use Rattle.mc_proxy.specs.Sending.{handed}
+use Rattle.mc_proxy.specs.SessionState.{SessionState, link_at, with_link}
 use Rattle.mc_proxy.specs.ProxyState.{ProxyState, output_of as output_at, sent_by, session_at}
+use Rattle.mc_proxy.specs.Sending.{at_once}
 use Rattle.mc_account.specs.Lanes.{Lane, LaneHolds, LinkHolds, told, fresh_lane}
 use Rattle.mc_account.specs.Orders.{Entry as Asked, Order, commands_to, note, note_all, note_in}
 use Rattle.mc_account.specs.Holds.{ProxyHolds, SessionHolds, SessionHoldsAt, changed, grown}
@@ -35,7 +36,6 @@ use Rattle.mc_world.proofs.LateLemmas.{site_ended, site_late_fed, site_late_turn
 use Rattle.mc_world.proofs.LossLemmas.{site_back, site_lost, site_restarted}
 use Rattle.mc_world.proofs.MoveLemmas.{site_asked, site_kept, site_replied, site_returned}
 use Rattle.mc_request.specs.declared.parts.Atom.{Atom}
-use Rattle.mc_session.specs.Sending.{at_once}
 use Rattle.mc_route.specs.Routes.{to_place}
 use Rattle.mc_history.proofs.OutcomeLemmas.{NoNews, command_note, news_all_lost, news_elsewhere, note_back, taken_fresh}
 use Rattle.mc_history.proofs.NamedLemmas.{Keeps, keeps_note, keeps_note_all}

@@ -17,8 +17,8 @@ use Rattle.mc_cache.specs.CacheState.{CacheState, IsWithinBounds, opening_cache}
 use Rattle.mc_cache_laws.proofs.GoodStepLemmas.{opening_is_good}
 use Rattle.mc_server.specs.ServerState.{connection_at, output_of}
 use Rattle.mc_server.specs.Turns.{waiting_of}
-use Rattle.mc_session.specs.Emits.{is_told}
-use Rattle.mc_session.specs.SessionState.{SessionState, Unanswered, link_at}
+use Rattle.mc_proxy.specs.Emits.{is_told}
+use Rattle.mc_proxy.specs.SessionState.{SessionState, Unanswered, link_at}
 use Rattle.mc_proxy.specs.ProxyState.{output_of as output_at, session_at}
 use Rattle.mc_account.specs.Orders.{Entry as Asked, Order, entries_of, is_complete, outcomes_to, taken_of, unanswered_of}
 use Rattle.mc_account.specs.Holds.{SessionHolds, SessionHoldsAt}

@@ -7,12 +7,12 @@ use Rattle.mc_ring.specs.Rings.{RingState}
 use Rattle.mc_route.specs.Routes.{route_of_taken}
 use Rattle.mc_route.specs.declared.routes.Routed.{Routed}
 use Rattle.mc_link.specs.LinkState.{LinkState}
-use Rattle.mc_session.specs.Emits.{answer_of_one, emitted, emitted_from, is_known}
-use Rattle.mc_session.specs.Looks.{IsReady}
-use Rattle.mc_session.specs.Sending.{is_link_marked, is_marked}
-use Rattle.mc_session.specs.SessionState.{SessionState, link_at}
-use Rattle.mc_session.specs.declared.limits.TheConstants.{LINK_MARK, MAX_UNANSWERED, UNSENT_MARK}
-use Rattle.mc_session.specs.SessionState.{Unanswered}
+use Rattle.mc_proxy.specs.Emits.{answer_of_one, emitted, emitted_from, is_known}
+use Rattle.mc_proxy.specs.Looks.{IsReady}
+use Rattle.mc_proxy.specs.Sending.{is_link_marked, is_marked}
+use Rattle.mc_proxy.specs.SessionState.{SessionState, link_at}
+use Rattle.mc_proxy.specs.declared.session_limits.TheConstants.{LINK_MARK, MAX_UNANSWERED, UNSENT_MARK}
+use Rattle.mc_proxy.specs.SessionState.{Unanswered}
 use Rattle.mc_account.specs.Orders.{Order, entries_of, is_complete, unanswered_of}
 
 -- the requests of one session among complete ones are

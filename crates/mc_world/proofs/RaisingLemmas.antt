@@ -2,7 +2,7 @@
 use Rattle.std.proofs.Common.{◌≡◌, ℕ, zero, suc, ◌<◌, List, [], ◌∷◌, refl, ap, arith}
 use Rattle.std.specs.Prelude.{replicate}
 use Rattle.mc_link.specs.LinkState.{LinkState, down_link, up_link}
-use Rattle.mc_session.specs.SessionState.{link_at, with_link}
+use Rattle.mc_proxy.specs.SessionState.{link_at, with_link}
 
 -- of so many links, the first are up
 abbrev pub raised : ℕ → ℕ → List LinkState

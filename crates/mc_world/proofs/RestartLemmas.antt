@@ -7,7 +7,7 @@ use Rattle.std.proofs.lemmas.Option.{none-some}
 use Rattle.mc_ring.specs.Rings.{IsRing, RingState}
 use Rattle.mc_cache.specs.CacheState.{CacheState}
 use Rattle.mc_cache_laws.specs.GoodCaches.{IsGoodCache}
-use Rattle.mc_session.specs.SessionState.{link_at}
+use Rattle.mc_proxy.specs.SessionState.{link_at}
 use Rattle.mc_proxy.specs.ProxyState.{ProxyState, session_at}
 use Rattle.mc_account.specs.Orders.{Order}
 use Rattle.mc_account.proofs.OpenSessions.{other_number, own_number}

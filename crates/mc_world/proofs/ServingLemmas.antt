@@ -19,7 +19,7 @@ use Rattle.mc_cache_laws.specs.GoodCaches.{IsGoodCache}
 use Rattle.mc_server.specs.ServerState.{ConnectionState, ServerState, connection_at}
 use Rattle.mc_server.specs.Turns.{waiting_of}
 use Rattle.mc_server.proofs.HoldsLemmas.{stood}
-use Rattle.mc_session.specs.SessionState.{link_at}
+use Rattle.mc_proxy.specs.SessionState.{link_at}
 use Rattle.mc_account.specs.Lanes.{Lane, LaneHolds, LinkHolds, as_waiting, told}
 use Rattle.mc_account.specs.Orders.{Order, Tagged}
 use Rattle.mc_account.proofs.OrderLemmas.{passes_parts}

@@ -1,13 +1,13 @@
 -- Calls of a proxy that change nothing.
 use Rattle.std.proofs.Common.{◌≡◌, ◌≢◌, ◌∙◌, ℕ, ◌==◌, true, false, if◌then◌else◌, List, [], ◌∷◌, Some, refl, sym, ap}
 use Rattle.mc_link.specs.LinkState.{LinkState}
-use Rattle.mc_session.specs.Emits.{IsEmit}
-use Rattle.mc_session.specs.SessionState.{SessionState}
-use Rattle.mc_session.specs.Turns.{IsTurn}
-use Rattle.mc_session.specs.declared.turns.Emit.{Emit}
-use Rattle.mc_session.specs.declared.turns.Emit.TheVariants as emits
-use Rattle.mc_session.specs.declared.turns.Turn.{Turn}
-use Rattle.mc_session.specs.declared.turns.Turn.TheVariants as turns
+use Rattle.mc_proxy.specs.Emits.{IsEmit}
+use Rattle.mc_proxy.specs.SessionState.{SessionState}
+use Rattle.mc_proxy.specs.SessionTurns.{IsTurn}
+use Rattle.mc_proxy.specs.declared.session_turns.Emit.{Emit}
+use Rattle.mc_proxy.specs.declared.session_turns.Emit.TheVariants as emits
+use Rattle.mc_proxy.specs.declared.session_turns.Turn.{Turn}
+use Rattle.mc_proxy.specs.declared.session_turns.Turn.TheVariants as turns
 use Rattle.mc_proxy.specs.ProxyState.{ProxyState, Sessions, session_in, updated}
 use Rattle.mc_proxy.specs.Turns.{Alone, Steps}
 use Rattle.mc_proxy.proofs.NotingLemmas.{same_proxy}

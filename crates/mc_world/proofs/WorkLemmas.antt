@@ -8,10 +8,10 @@ use Rattle.mc_route.specs.declared.outcomes.Outcome.{Outcome}
 use Rattle.mc_route.specs.declared.routes.Routed.{Routed}
 use Rattle.mc_link.specs.LinkState.{LinkState}
 use Rattle.mc_link.specs.declared.turns.Tag.{Tag}
-use Rattle.mc_session.specs.Emits.{emitted, emitted_from}
-use Rattle.mc_session.specs.Noting.{noted_at, noted_in}
-use Rattle.mc_session.specs.Sending.{handed, handed_to}
-use Rattle.mc_session.specs.SessionState.{SessionState, Unanswered, link_at, with_link}
+use Rattle.mc_proxy.specs.Emits.{emitted, emitted_from}
+use Rattle.mc_proxy.specs.SessionNoting.{noted_at, noted_in}
+use Rattle.mc_proxy.specs.Sending.{handed, handed_to}
+use Rattle.mc_proxy.specs.SessionState.{SessionState, Unanswered, link_at, with_link}
 use Rattle.mc_proxy.specs.Noting.{noted}
 use Rattle.mc_proxy.specs.ProxyState.{Sessions, session_in, updated}
 use Rattle.mc_world.specs.WorkLeft.{moves_of, work_left, work_of_link, work_of_session, work_of_sessions, work_of_site, work_of_sites, work_of_ways, work_on}

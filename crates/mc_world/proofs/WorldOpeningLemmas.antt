@@ -14,7 +14,7 @@ use Rattle.mc_cache_laws.specs.GoodCaches.{IsGoodCache}
 use Rattle.mc_cache_laws.proofs.GoodStepLemmas.{opening_is_good}
 use Rattle.mc_server.specs.ServerState.{fresh_connection}
 use Rattle.mc_server.proofs.HoldsLemmas.{ServerHolds-admitted, ServerHolds-new}
-use Rattle.mc_session.specs.SessionState.{SessionState, answered, fresh_session, link_at}
+use Rattle.mc_proxy.specs.SessionState.{SessionState, answered, fresh_session, link_at}
 use Rattle.mc_proxy.specs.ProxyState.{ProxyState, Sessions, output_of, session_in, with_fresh}
 use Rattle.mc_account.specs.Lanes.{LinkHolds, fresh_lane}
 use Rattle.mc_account.specs.Orders.{IsSized, IsToldAs, Order, Tagged, commands_to}

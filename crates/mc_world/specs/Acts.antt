@@ -1,7 +1,7 @@
 -- What a drain does at a client or at a server.
 use Rattle.std.specs.Prelude.{ℕ, ◌≡◌, ◌<◌, Bool, true, false, List, [], length, Option, None, Some, slice_get}
 use Rattle.mc_server.specs.ServerState.{connection_at, output_of}
-use Rattle.mc_session.specs.SessionState.{link_at}
+use Rattle.mc_proxy.specs.SessionState.{link_at}
 use Rattle.mc_proxy.specs.ProxyState.{output_of as output_at, session_at}
 use Rattle.mc_world.specs.Courses.{Applies}
 use Rattle.mc_world.specs.Drains.{Drains}

@@ -5,7 +5,7 @@ use Rattle.mc_link.specs.Turns.{HasReply}
 use Rattle.mc_server.specs.ServerState.{ServerState, connection_at, output_of}
 use Rattle.mc_server.specs.Turns.{waiting_of}
 use Rattle.mc_server.specs.declared.servers.TheConstants.{MAX_CONNECTIONS}
-use Rattle.mc_session.specs.SessionState.{link_at}
+use Rattle.mc_proxy.specs.SessionState.{link_at}
 use Rattle.mc_proxy.specs.ProxyState.{output_of as output_at, session_at}
 use Rattle.mc_proxy.specs.Turns.{CanTurn, HasAnswer}
 use Rattle.mc_world.specs.WorldState.{PoolState, SiteState, WayState}

@@ -1,6 +1,6 @@
 -- What an event does to the course of a world.
 use Rattle.std.specs.Prelude.{ℕ, ◌≡◌, ◌<◌, ◌^◌, ◌⊎◌, List, [], ◌∷◌, ◌++◌, length, take, Some, All}
-use Rattle.mc_session.specs.SessionState.{SessionState}
+use Rattle.mc_proxy.specs.SessionState.{SessionState}
 use Rattle.mc_proxy.specs.ProxyState.{output_of, session_at}
 use Rattle.mc_world.specs.Bare.{bare}
 use Rattle.mc_world.specs.Applies.{CanHear, CanPutAnswer, CanReachLate, CanReachProxy, CanReachServer, CanReturn, CanServe, CanServeLate, CanTakeBytes, CanTakeReply, CanTakeRequest, HasLost, IsThere, IsUp, Lives}

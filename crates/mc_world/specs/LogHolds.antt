@@ -6,7 +6,7 @@ use Rattle.mc_route.specs.Routes.{to_place}
 use Rattle.mc_route.specs.declared.outcomes.Outcome.{Outcome}
 use Rattle.mc_route.specs.declared.outcomes.Outcome.TheVariants.{Awaited, Lost, Reply}
 use Rattle.mc_link.specs.declared.turns.Tag.{Tag}
-use Rattle.mc_session.specs.SessionState.{SessionState, answered, link_at}
+use Rattle.mc_proxy.specs.SessionState.{SessionState, answered, link_at}
 use Rattle.mc_proxy.specs.ProxyState.{ProxyState, session_at}
 use Rattle.mc_account.specs.Answered.{AreAnswers}
 use Rattle.mc_account.specs.Lookups.{IsBefore, IsRoutedWithin, asked_at, command_at, outcome_at}

@@ -5,12 +5,12 @@ use Rattle.mc_link.specs.LinkState.{LinkState, can_come_back, up_link}
 use Rattle.mc_link.specs.declared.turns.Tag.{Tag}
 use Rattle.mc_cache.specs.CacheState.{CacheState}
 use Rattle.mc_server.specs.ServerState.{connection_at, output_of}
-use Rattle.mc_session.specs.Emits.{IsEmit}
-use Rattle.mc_session.specs.Sending.{at_once}
-use Rattle.mc_session.specs.SessionState.{link_at, with_link}
-use Rattle.mc_session.specs.Turns.{IsFed, IsTurn}
-use Rattle.mc_session.specs.declared.turns.Emit.TheVariants as emits
-use Rattle.mc_session.specs.declared.turns.Turn.TheVariants as turns
+use Rattle.mc_proxy.specs.Emits.{IsEmit}
+use Rattle.mc_proxy.specs.Sending.{at_once}
+use Rattle.mc_proxy.specs.SessionState.{link_at, with_link}
+use Rattle.mc_proxy.specs.SessionTurns.{IsFed, IsTurn}
+use Rattle.mc_proxy.specs.declared.session_turns.Emit.TheVariants as emits
+use Rattle.mc_proxy.specs.declared.session_turns.Turn.TheVariants as turns
 use Rattle.mc_proxy.specs.LinkTurns.{Answers, lost_at}
 use Rattle.mc_proxy.specs.ProxyState.{sent_by, session_at, without}
 use Rattle.mc_proxy.specs.Turns.{Alone, Steps}

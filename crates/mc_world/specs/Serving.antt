@@ -13,7 +13,7 @@ use Rattle.mc_link.specs.declared.turns.Tag.{Tag}
 use Rattle.mc_cache_laws.specs.GoodCaches.{IsGoodCache}
 use Rattle.mc_server.specs.ServerState.{ConnectionState, ServerState, connection_at}
 use Rattle.mc_server.specs.Turns.{waiting_of}
-use Rattle.mc_session.specs.SessionState.{link_at}
+use Rattle.mc_proxy.specs.SessionState.{link_at}
 use Rattle.mc_world.specs.WorldState.{PoolState, SiteState, WayState}
 
 -- a request is a command as a proxy spells it

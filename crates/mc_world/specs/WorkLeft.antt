@@ -6,7 +6,7 @@ use Rattle.mc_ring.specs.Rings.{RingState}
 use Rattle.mc_route.specs.Routes.{route_of_taken}
 use Rattle.mc_link.specs.LinkState.{LinkState}
 use Rattle.mc_server.specs.ServerState.{connection_at, output_of}
-use Rattle.mc_session.specs.SessionState.{SessionState}
+use Rattle.mc_proxy.specs.SessionState.{SessionState}
 use Rattle.mc_proxy.specs.ProxyState.{Sessions}
 use Rattle.mc_world.specs.WorldState.{PoolState, SiteState, WayState}
 

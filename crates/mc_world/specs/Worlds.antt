@@ -4,10 +4,10 @@ use Rattle.mc_ring.specs.Rings.{RingState}
 use Rattle.mc_route.specs.declared.losses.Losses.{Losses}
 use Rattle.mc_route.specs.declared.losses.Losses.TheVariants.{Told}
 use Rattle.mc_link.specs.LinkState.{up_link}
-use Rattle.mc_session.specs.SessionState.{fresh_session}
+use Rattle.mc_proxy.specs.SessionState.{fresh_session}
+use Rattle.mc_proxy.specs.ProxyState.{ProxyState, Sessions, output_of, session_at}
 use Rattle.mc_cache.specs.CacheState.{CacheState, opening_cache}
 use Rattle.mc_server.specs.ServerState.{with_fresh}
-use Rattle.mc_proxy.specs.ProxyState.{ProxyState, Sessions, output_of, session_at}
 use Rattle.mc_history.specs.declared.entries.Entry.{Entry}
 use Rattle.mc_world.specs.Logs.{Log}
 use Rattle.mc_world.specs.WorldState.{PoolState, SiteState, histories_of, with_server}

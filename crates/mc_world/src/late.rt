@@ -12,7 +12,7 @@ use mc_store::Store;
 impl<S: Store + Drop> Site<S> {
     ghost use Rattle.mc_server.specs.ServerState.{connection_at};
     ghost use Rattle.mc_server.specs.Turns.{waiting_of};
-    ghost use Rattle.mc_session.specs.SessionState.{link_at};
+    ghost use Rattle.mc_proxy.specs.SessionState.{link_at};
     ghost use Rattle.mc_proxy.specs.LinkTurns.{lost_at};
     ghost use Rattle.mc_world.specs.Applies.{CanAdmit, way_of};
     ghost use Rattle.mc_world.specs.Happens.{ArrivesLate, ComesBack, Does, Ends, EntersLate};

@@ -6,7 +6,7 @@ ghost use Rattle.mc_route.specs.declared.outcomes.Outcome.TheVariants.{Lost, Rep
 ghost use Rattle.mc_cache.specs.CacheState.{CacheState};
 ghost use Rattle.mc_server.specs.ServerState.{connection_at, output_of};
 ghost use Rattle.mc_proxy.specs.ProxyState.{output_of as output_at, session_at};
-ghost use Rattle.mc_session.specs.SessionState.{link_at};
+ghost use Rattle.mc_proxy.specs.SessionState.{link_at};
 ghost use Rattle.mc_account.specs.Lanes.{Lane, fresh_lane};
 ghost use Rattle.mc_account.specs.Orders.{Order, note, note_all};
 ghost use Rattle.mc_account.specs.Holds.{changed, grown};

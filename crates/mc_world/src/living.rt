@@ -7,7 +7,7 @@ use mc_proxy::LinkTurn;
 use mc_store::Store;
 
 impl<S: Store + Drop> Pool<S> {
-    ghost use Rattle.mc_session.specs.SessionState.{link_at};
+    ghost use Rattle.mc_proxy.specs.SessionState.{link_at};
     ghost use Rattle.mc_world.specs.Applies.{CanReachProxy, CanReachServer, CanReturn, CanServe, CanTakeReply, IsUp, Lives};
     ghost use Rattle.mc_world.specs.Happens.{Does};
     ghost use Rattle.mc_world.specs.Pools.{LinkReturns, LosesLink, ReachesProxy, ReachesServer, ServerTakes, TakesReply};

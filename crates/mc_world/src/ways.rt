@@ -1,6 +1,6 @@
 //! A lost generation of a link, as its server still has it.
 ghost use Rattle.std.specs.Prelude.{◌≡◌, drop, map, slice_get, take, IfOk};
-ghost use Rattle.mc_session.specs.SessionState.{link_at};
+ghost use Rattle.mc_proxy.specs.SessionState.{link_at};
 
 use mc_link::Tag;
 use mc_proxy::Proxy;

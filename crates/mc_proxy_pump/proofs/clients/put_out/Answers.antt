@@ -1,7 +1,7 @@
 use Rattle.std.proofs.Common.{◌<◌, ◌≡◌, length, inl, ap, []}
-use Rattle.mc_session.specs.Emits.{IsEmit}
-use Rattle.mc_session.specs.declared.limits.TheConstants.{UNSENT_MARK}
-use Rattle.mc_session.specs.declared.turns.Emit.TheVariants.{Done, Idle}
+use Rattle.mc_proxy.specs.Emits.{IsEmit}
+use Rattle.mc_proxy.specs.declared.session_limits.TheConstants.{UNSENT_MARK}
+use Rattle.mc_proxy.specs.declared.session_turns.Emit.TheVariants.{Done, Idle}
 use Rattle.mc_proxy.specs.ProxyState.{output_of, session_at}
 use Rattle.mc_proxy.specs.Turns.{Alone, Steps}
 use Rattle.mc_proxy_pump.specs.Tallies.{counted}

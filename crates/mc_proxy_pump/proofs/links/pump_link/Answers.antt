@@ -1,5 +1,5 @@
 use Rattle.std.proofs.Common.{◌≡◌, true, rules}
-use Rattle.mc_session.specs.SessionState.{link_at}
+use Rattle.mc_proxy.specs.SessionState.{link_at}
 use Rattle.mc_stream.specs.declared.outcomes.Pumped.TheVariants.{Again}
 use Rattle.mc_proxy_pump.proofs.LinkLemmas.{link_pumps_none, link_pumps_then}
 use Rattle.mc_proxy_pump.proofs.links.pump_link.Goals as goal

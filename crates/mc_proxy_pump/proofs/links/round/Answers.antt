@@ -1,5 +1,5 @@
 use Rattle.std.proofs.Common.{◌≡◌, rules, sym, subst, Result, Ok, Err}
-use Rattle.mc_session.specs.SessionState.{link_at}
+use Rattle.mc_proxy.specs.SessionState.{link_at}
 use Rattle.mc_stream.specs.declared.outcomes.Pumped.{Pumped}
 use Rattle.mc_stream.specs.declared.outcomes.Pumped.TheVariants.{Again, Blocked, Done}
 use Rattle.mc_proxy_pump.specs.Links.{LeavesLink, PumpsLink}

@@ -1,5 +1,5 @@
 use Rattle.std.proofs.Common.{◌≡◌, true, [], length}
-use Rattle.mc_session.specs.SessionState.{link_at}
+use Rattle.mc_proxy.specs.SessionState.{link_at}
 use Rattle.mc_proxy_pump.specs.LinkCalls.{LinkStretch}
 use Rattle.mc_proxy_pump.proofs.links.take_replies.Given as goal
 

@@ -3,7 +3,7 @@ use Rattle.std.specs.Prelude.{replicate}
 use Rattle.mc_route.specs.declared.losses.Losses.TheVariants.{Told}
 use Rattle.mc_link.specs.LinkState.{LinkState, up_link}
 use Rattle.mc_proxy.specs.ProxyState.{ProxyState}
-use Rattle.mc_session.specs.SessionState.{link_at, with_link}
+use Rattle.mc_proxy.specs.SessionState.{link_at, with_link}
 use Rattle.mc_threads.specs.Talks.{Talks}
 use Rattle.mc_threads.proofs.OpeningLemmas.{talks_opens, raised, raised-all, raised-at, raised-next}
 use Rattle.mc_threads.proofs.opening.raised_proxy.Goals as goal

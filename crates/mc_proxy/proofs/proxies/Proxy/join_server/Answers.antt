@@ -1,7 +1,7 @@
 use Rattle.std.proofs.Common.{◌≡◌, ◌++◌, ◌∷◌, [], length, refl, arith}
 use Rattle.std.proofs.lemmas.List.{map-append}
 use Rattle.mc_link.specs.LinkState.{RoomyLink}
-use Rattle.mc_session.specs.SessionState.{states}
+use Rattle.mc_proxy.specs.SessionState.{states}
 use Rattle.mc_proxy.specs.Joins.{joined_link}
 use Rattle.mc_proxy.proofs.proxies.Proxy.join_server.Goals as goal
 

@@ -1,6 +1,6 @@
 use Rattle.std.proofs.Common.{◌≡◌, length, refl, sym, ap, ◌∙◌, arith}
 use Rattle.mc_link.specs.LinkState.{LinkState}
-use Rattle.mc_session.specs.SessionState.{states, with_link}
+use Rattle.mc_proxy.specs.SessionState.{states, with_link}
 use Rattle.mc_proxy.proofs.LinkLemmas.{read_at, states-set, states-set_same, at_error}
 use Rattle.mc_proxy.proofs.NotingLemmas.{all_lost-none, same_proxy}
 use Rattle.mc_proxy.proofs.proxies.Proxy.lost.Goals as goal

@@ -1,6 +1,6 @@
 use Rattle.std.proofs.Common.{◌≡◌, replicate}
 use Rattle.mc_link.specs.LinkState.{down_link}
-use Rattle.mc_session.specs.SessionState.{states}
+use Rattle.mc_proxy.specs.SessionState.{states}
 use Rattle.mc_proxy.proofs.proxies.Proxy.with_losses.Given as goal
 
 -- so many links are there, all of them down, and none was ever up

@@ -2,7 +2,7 @@ use Rattle.std.proofs.Common.{rules, ◌≡◌, ◌∙◌, ◌<◌, true, List, 
 use Rattle.std.specs.Prelude.{◌↔◌, IsTrue, not}
 use Rattle.std.proofs.lemmas.Option.{none-some, slice_get_past, slice_get_read}
 use Rattle.mc_server.specs.ServerState.{connection_at, output_of}
-use Rattle.mc_session.specs.SessionState.{link_at}
+use Rattle.mc_proxy.specs.SessionState.{link_at}
 use Rattle.mc_world.specs.WorldState.{SiteState}
 use Rattle.mc_world.proofs.AppliesLemmas.{pool_of}
 use Rattle.mc_world.proofs.ApplyingLemmas.{comes_if, never, some_if}

@@ -1,6 +1,6 @@
 use Rattle.std.proofs.Common.{rules, ◌≡◌, ◌∙◌, true, List, Some, None, slice_get, refl, sym, ap}
 use Rattle.std.proofs.lemmas.Option.{slice_get_read}
-use Rattle.mc_session.specs.SessionState.{link_at}
+use Rattle.mc_proxy.specs.SessionState.{link_at}
 use Rattle.mc_world.specs.WorldState.{SiteState}
 use Rattle.std.proofs.lemmas.Option.{slice_get_past}
 use Rattle.mc_world.proofs.AppliesLemmas.{lives_by, lives_nowhere, pool_of}

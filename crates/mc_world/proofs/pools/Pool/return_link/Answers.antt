@@ -1,10 +1,10 @@
 use Rattle.std.proofs.Common.{rules, ◌≡◌, ◌∙◌, ◌+◌, ◌-◌, ◌^◌, ◌<◌, ℕ, true, false, Some, length, slice_get, refl, sym, subst, arith}
 use Rattle.std.proofs.lemmas.Option.{same_Some, slice_get_read}
-use Rattle.mc_session.specs.SessionState.{link_at}
+use Rattle.mc_proxy.specs.SessionState.{link_at}
+use Rattle.mc_proxy.specs.SessionState.{with_link}
 use Rattle.mc_world.specs.Serving.{PoolServes}
 use Rattle.mc_world.specs.WorldState.{SiteState}
 use Rattle.mc_link.specs.LinkState.{can_come_back, up_link}
-use Rattle.mc_session.specs.SessionState.{with_link}
 use Rattle.mc_world.specs.Applies.{CanAdmit}
 use Rattle.mc_world.specs.Happens.{ComesBack, Does}
 use Rattle.mc_world.specs.declared.errors.Step.{Step}

@@ -1,6 +1,6 @@
 use Rattle.std.proofs.Common.{rules, ◌≡◌, ◌∙◌, ◌≤◌, ℕ, true, Some, None, length, slice_get, refl, sym, ap, subst, arith}
 use Rattle.std.proofs.lemmas.Option.{slice_get_read}
-use Rattle.mc_session.specs.SessionState.{link_at}
+use Rattle.mc_proxy.specs.SessionState.{link_at}
 use Rattle.mc_world.specs.Serving.{PoolServes}
 use Rattle.mc_world.specs.Happens.{Does, Enters}
 use Rattle.mc_world.specs.declared.errors.Step.{Step}

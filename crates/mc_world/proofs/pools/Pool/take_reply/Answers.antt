@@ -1,9 +1,9 @@
 use Rattle.std.proofs.Common.{rules, ◌≡◌, ◌<◌, true, Some, length, slice_get, refl, sym, subst, arith}
 use Rattle.std.proofs.lemmas.Option.{slice_get_read}
-use Rattle.mc_session.specs.SessionState.{link_at}
-use Rattle.mc_world.specs.Serving.{PoolServes}
+use Rattle.mc_proxy.specs.SessionState.{link_at}
 use Rattle.mc_proxy.specs.LinkTurns.{Answers, IsLinkTurn}
 use Rattle.mc_proxy.specs.declared.turns.LinkTurn.{LinkTurn}
+use Rattle.mc_world.specs.Serving.{PoolServes}
 use Rattle.mc_world.proofs.AppliesLemmas.{at_error, gives_up, it_does_not, not_whole, pool_of, rests, site_there}
 use Rattle.mc_world.proofs.MoveLemmas.{get_some}
 use Rattle.mc_world.proofs.StillLemmas.{same_pool}

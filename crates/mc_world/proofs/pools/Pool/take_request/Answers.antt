@@ -1,7 +1,7 @@
 use Rattle.std.proofs.Common.{subst}
-use Rattle.mc_session.specs.Turns.{IsTurn}
-use Rattle.mc_session.specs.declared.turns.Turn.{Turn}
-use Rattle.mc_session.specs.declared.turns.Turn.TheVariants as turns
+use Rattle.mc_proxy.specs.SessionTurns.{IsTurn}
+use Rattle.mc_proxy.specs.declared.session_turns.Turn.{Turn}
+use Rattle.mc_proxy.specs.declared.session_turns.Turn.TheVariants as turns
 use Rattle.mc_proxy.specs.Turns.{Steps}
 use Rattle.mc_world.proofs.AppliesLemmas.{it_applies, it_does_not, not_ready, was_ready}
 use Rattle.mc_world.proofs.StillLemmas.{same_pool, turn_still}

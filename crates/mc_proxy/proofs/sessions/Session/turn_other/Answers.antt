@@ -1,0 +1,41 @@
+use Rattle.std.proofs.Common.{◌≡◌, ◌∙◌, true, false, refl, sym}
+use Rattle.mc_request.specs.LinesSeen.{asked_of}
+use Rattle.mc_route.specs.Routes.{route_of_taken}
+use Rattle.mc_proxy.specs.SessionState.{states}
+use Rattle.mc_proxy.specs.Sending.{is_marked}
+use Rattle.mc_proxy.proofs.TurnLemmas.{at_error, held, unheld}
+use Rattle.mc_proxy.specs.contracts.sessions.Session.{the_view}
+use Rattle.mc_proxy.proofs.sessions.Session.turn_other.Goals as goal
+
+-- a mark is reached
+pub returns-in-First-clause-turn : goal.returns-in-First-clause-turn
+returns-in-First-clause-turn c =
+    let seen = rw c.in-First.is at c.peek.ensures.seen in
+    let own = the_view c.self.inside in
+    let ring = c.args.ring.now in
+    let links = states c.args.links.now in
+    let what = asked_of c.in-First.asked in
+    let marked : is_marked own links (route_of_taken ring what) ≡ true = rw (← c.self.view_is) at (sym c.must_wait.ensures ∙ c.if-must_wait.true) in
+    (rw (← c.self.view_is) (held ring links own what c.in-First.field-1 seen marked), (refl, refl))
+
+-- none is where the request cannot be routed for want of memory
+pub returns-in_err-route-in-First-2-clause-cause : goal.returns-in_err-route-in-First-2-clause-cause
+returns-in_err-route-in-First-2-clause-cause c =
+    let seen = rw c.in-First.is at c.peek.ensures.seen in
+    let own = the_view c.self.inside in
+    let ring = c.args.ring.now in
+    let links = states c.args.links.now in
+    let what = asked_of c.in-First.asked in
+    let unmarked : is_marked own links (route_of_taken ring what) ≡ false = rw (← c.self.view_is) at (sym c.must_wait.ensures ∙ c.if-must_wait.false) in
+    at_error c.from_residual.result (rw (← c.self.view_is) (unheld ring links own what c.in-First.field-1 seen unmarked))
+
+-- nor where there is none for its commands
+pub returns-in_err-take-clause-cause : goal.returns-in_err-take-clause-cause
+returns-in_err-take-clause-cause c =
+    let seen = rw c.in-First.is at c.peek.ensures.seen in
+    let own = the_view c.self.inside in
+    let ring = c.args.ring.now in
+    let links = states c.args.links.now in
+    let what = asked_of c.in-First.asked in
+    let unmarked : is_marked own links (route_of_taken ring what) ≡ false = rw (← c.self.view_is) at (sym c.must_wait.ensures ∙ c.if-must_wait.false) in
+    at_error c.from_residual-in_err-take.result (rw (← c.self.view_is) (unheld ring links own what c.in-First.field-1 seen unmarked))

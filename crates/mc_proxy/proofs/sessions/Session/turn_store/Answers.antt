@@ -1,0 +1,32 @@
+use Rattle.std.proofs.Common.{◌≡◌, ◌∙◌, true, false, refl, sym}
+use Rattle.mc_request.specs.LinesSeen.{asked_of}
+use Rattle.mc_route.specs.Routes.{route_of_taken}
+use Rattle.mc_proxy.specs.SessionState.{states}
+use Rattle.mc_proxy.specs.Sending.{is_marked}
+use Rattle.mc_proxy.proofs.TurnLemmas.{at_error, held, marked_by_parts, unheld}
+use Rattle.mc_proxy.specs.contracts.sessions.Session.{the_view}
+use Rattle.mc_proxy.proofs.sessions.Session.turn_store.Goals as goal
+
+-- a mark is reached
+pub returns-in-First-clause-turn : goal.returns-in-First-clause-turn
+returns-in-First-clause-turn c =
+    let seen = rw c.in-First.is at c.peek.ensures.seen in
+    let own = the_view c.self.inside in
+    let ring = c.args.ring.now in
+    let links = states c.args.links.now in
+    let what = asked_of c.in-First.asked in
+    let waits = marked_by_parts ring links c.args.self.now what c.is_marked-marked.result c.is_held_up.result c.is_marked-marked.ensures c.is_held_up.ensures in
+    let marked : is_marked own links (route_of_taken ring what) ≡ true = rw (← c.self.view_is) at (sym waits ∙ c.if-is_held_up.true) in
+    (rw (← c.self.view_is) (held ring links own what c.in-First.field-1 seen marked), (refl, refl))
+
+-- none is, if there is no memory for the command
+pub returns-in_err-send_store-in-First-2-clause-cause : goal.returns-in_err-send_store-in-First-2-clause-cause
+returns-in_err-send_store-in-First-2-clause-cause c =
+    let seen = rw c.in-First.is at c.peek.ensures.seen in
+    let own = the_view c.self.inside in
+    let ring = c.args.ring.now in
+    let links = states c.args.links.now in
+    let what = asked_of c.in-First.asked in
+    let waits = marked_by_parts ring links c.args.self.now what c.is_marked-marked.result c.is_held_up.result c.is_marked-marked.ensures c.is_held_up.ensures in
+    let unmarked : is_marked own links (route_of_taken ring what) ≡ false = rw (← c.self.view_is) at (sym waits ∙ c.if-is_held_up.false) in
+    at_error c.from_residual.result (rw (← c.self.view_is) (unheld ring links own what c.in-First.field-1 seen unmarked))

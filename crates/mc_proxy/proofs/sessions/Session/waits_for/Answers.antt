@@ -1,0 +1,30 @@
+use Rattle.std.proofs.Common.{◌∷◌, [], refl}
+use Rattle.mc_request.specs.LinesSeen.{asked_of}
+use Rattle.mc_request_reader.specs.Peeks.{past}
+use Rattle.mc_request_reader.specs.Reader.{rest_of}
+use Rattle.mc_request_reader.proofs.ReaderLemmas.{rest_closed, shown_waits}
+use Rattle.mc_proxy.proofs.TurnLemmas.{waits_by}
+use Rattle.mc_proxy.specs.contracts.sessions.Session.{the_view}
+use Rattle.mc_proxy.proofs.sessions.Session.waits_for.Goals as goal
+
+-- what is shown is the first that waits
+pub returns-in-First : goal.returns-in-First
+returns-in-First c =
+    let seen = rw c.in-First.is at c.peek.ensures.seen in
+    let own = the_view c.self.inside in
+    let what = asked_of c.in-First.asked in
+    let first = shown_waits own.reader what c.in-First.field-1 seen in
+    rw (← c.self.view_is) (waits_by c.args.ring.now c.args.place (rest_of own.reader []) (what ∷ rest_of (past c.in-First.field-1 own.reader) []) c.goes_to.result first c.goes_to.ensures)
+
+-- none has come whole
+pub returns-in-More : goal.returns-in-More
+returns-in-More c =
+    let seen = rw c.in-More.is at c.peek.ensures.seen in
+    rw (← c.self.view_is, seen.none) refl
+
+-- nothing is read any more
+pub returns-in-Closed : goal.returns-in-Closed
+returns-in-Closed c =
+    let seen = rw c.in-Closed.is at c.peek.ensures.seen in
+    let own = the_view c.self.inside in
+    rw (← c.self.view_is, rest_closed own.reader [] seen) refl

@@ -1,0 +1,200 @@
+//! The commands of a request, to their links.
+ghost use Rattle.std.specs.Prelude.{◌≡◌, ◌+◌, ◌-◌, ◌<◌, ◌≤◌, ◌^◌, ◌&&◌, ◌||◌, ℕ, [], true, length, map, IfOk, IfSome, OnOk};
+ghost use Rattle.std.specs.List.{list_any};
+ghost use Rattle.std.specs.VecDeque.{deque_len, deque_capacity};
+ghost use Rattle.mc_request.specs.LinesSeen.{asked_of};
+ghost use Rattle.mc_request.specs.WellFormed.{is_well_formed};
+ghost use Rattle.mc_route.specs.Looks.{goes_to};
+ghost use Rattle.mc_route.specs.Routes.{route_of_taken};
+ghost use Rattle.mc_codec.specs.Spellings.{spelling_of_atom};
+ghost use Rattle.mc_proxy.specs.SessionState.{link_at, states, with_link};
+ghost use Rattle.mc_proxy.specs.Sending.{at_once, handed, handed_to, is_link_marked, outcome_by, roomy_at, spelled, AreRoomy, IsRoomy};
+
+use crate::session_errors::SessionError;
+use crate::session_limits::LINK_MARK;
+use crate::unanswered::Unanswered;
+use mc_codec::spelled_len as spelled_len_of;
+use mc_link::{Link, Tag};
+use mc_request::Asked;
+use mc_ring::Ring;
+use mc_route::{Outcome, Routed, goes_to};
+use std::alloc::Global;
+use std::collections::VecDeque;
+use std::mem;
+
+/// Sets the start of an empty queue to the front of its memory. It takes no memory, and gives none back.
+///
+/// A queue that is filled at its end and emptied from its start moves on through its memory. Commands that pass the memory's
+/// end are in two parts then, and to lend them as one slice each of them would be moved.
+pub fn start_at_front(alloc: Global, queue: &mut VecDeque<Routed>)
+    requires { queue.old.items ≡ [] }
+    ensures { queue.new.items ≡ [] }
+{
+    let moved_on = mem::replace(queue, VecDeque::new(alloc));
+    *queue = VecDeque::from_vec(moved_on.into_vec());
+}
+
+/// Whether a link that what is asked needs has as much unsent as its mark. It takes no memory, and looks at no key where no
+/// link has.
+pub fn is_any_marked(links: &[Link], asked: &Asked<'_>, ring: &Ring) -> bool
+    requires { is_well_formed (asked_of asked.now) ≡ true }
+    ensures { result ≡ list_any (λ command. is_link_marked (link_at (states links.now) command.server)) (route_of_taken ring.now (asked_of asked.now)) }
+{
+    for place in 0..links.len() {
+        if is_marked_for(links, asked, ring, place) {
+            return true;
+        }
+    }
+    false
+}
+
+/// Whether what is asked has to wait: its session has reached a mark of its own, or a link that it needs has. It takes no memory.
+pub fn is_held_up(marked: bool, links: &[Link], asked: &Asked<'_>, ring: &Ring) -> bool
+    requires { is_well_formed (asked_of asked.now) ≡ true }
+    ensures { result ≡ (marked
+        || list_any (λ command. is_link_marked (link_at (states links.now) command.server)) (route_of_taken ring.now (asked_of asked.now))) }
+{
+    marked || is_any_marked(links, asked, ring)
+}
+
+/// Whether the link of a place has as much unsent as its mark, and what is asked needs it.
+fn is_marked_for(links: &[Link], asked: &Asked<'_>, ring: &Ring, place: usize) -> bool
+    requires { is_well_formed (asked_of asked.now) ≡ true }
+    ensures { result
+        ≡ (is_link_marked (link_at (states links.now) place) && goes_to place (route_of_taken ring.now (asked_of asked.now))) }
+{
+    is_marked(links, place) && goes_to(asked, ring, place)
+}
+
+/// Whether the link of a place is up, and has as much unsent as its mark.
+fn is_marked(links: &[Link], place: usize) -> bool
+    ensures { result ≡ is_link_marked (link_at (states links.now) place) }
+{
+    match links.get(place) {
+        Some(link) => link.is_up() && link.output().len() >= LINK_MARK,
+        None => false,
+    }
+}
+
+/// Takes what memory a request needs: for what becomes of its commands at once, which is given, for its place among those that
+/// are not answered, and for its commands on their links.
+pub fn prepare(
+    alloc: Global,
+    unanswered: &mut VecDeque<Unanswered>,
+    links: &mut [Link],
+    commands: &[Routed],
+) -> Result<Vec<Outcome>, SessionError>
+    ensures outcomes { IfOk result (λ outcomes. outcomes.items ≡ map (at_once (states links.old)) commands.now) }
+    ensures place { OnOk result (deque_len unanswered.new < deque_capacity unanswered.new) }
+    ensures roomy { OnOk result (AreRoomy links.new commands.now) }
+    ensures unchanged { states links.new ≡ states links.old }
+    ensures unanswered_kept { unanswered.new.items ≡ unanswered.old.items }
+{
+    let outcomes = at_once(alloc, links, commands)?;
+    unanswered.reserve(1)?;
+    make_room(links, commands)?;
+    Ok(outcomes)
+}
+
+/// What becomes of each command at once.
+fn at_once(alloc: Global, links: &[Link], commands: &[Routed]) -> Result<Vec<Outcome>, SessionError>
+    ensures { IfOk result (λ outcomes. outcomes.items ≡ map (at_once (states links.now)) commands.now) }
+{
+    let mut outcomes = Vec::with_capacity(alloc, commands.len())?;
+    for command in commands {
+        outcomes.push(outcome_at_once(links, command.server))?;
+    }
+    Ok(outcomes)
+}
+
+/// What becomes of a command at once: it is lost where its link is down.
+pub fn outcome_at_once(links: &[Link], place: usize) -> Outcome
+    ensures { result ≡ outcome_by (link_at (states links.now) place) }
+{
+    if is_up_at(links, place) {
+        Outcome::Awaited
+    } else {
+        Outcome::Lost
+    }
+}
+
+/// Whether the link of a place is up. None is up where there is none.
+pub fn is_up_at(links: &[Link], place: usize) -> bool
+    ensures up { result ≡ (link_at (states links.now) place).up }
+    ensures inside { result ≡ true → place < length links.now }
+{
+    links.get(place).is_some_and(Link::is_up)
+}
+
+/// Makes room on the links of the commands that are up, so that the commands can be sent without memory.
+fn make_room(links: &mut [Link], commands: &[Routed]) -> Result<(), SessionError>
+    ensures roomy { OnOk result (AreRoomy links.new commands.now) }
+    ensures unchanged { states links.new ≡ states links.old }
+{
+    let Some(bytes) = spelled_len(commands) else {
+        return Err(SessionError::Memory);
+    };
+    for command in commands {
+        make_room_on(links, command.server, bytes, commands.len())?;
+    }
+    Ok(())
+}
+
+/// How many bytes the commands' spellings have in all, where a number has room for it.
+fn spelled_len(commands: &[Routed]) -> Option<usize>
+    ensures { IfSome result (λ bytes. bytes ≡ spelled commands.now) }
+{
+    let mut bytes: usize = 0;
+    for command in commands {
+        bytes = bytes.checked_add(spelled_len_of(&command.atom))?;
+    }
+    Some(bytes)
+}
+
+/// Makes room on the link of a place, where that is up.
+pub fn make_room_on(
+    links: &mut [Link],
+    place: usize,
+    bytes: usize,
+    heads: usize,
+) -> Result<(), SessionError>
+    ensures roomy { OnOk result (IsRoomy bytes heads (roomy_at links.new place)) }
+    ensures unchanged { states links.new ≡ states links.old }
+    ensures kept { (at b h : ℕ) → IsRoomy b h (roomy_at links.old at) → IsRoomy b h (roomy_at links.new at) }
+{
+    if is_up_at(links, place) {
+        links[place].make_room(bytes, heads)?;
+    }
+    Ok(())
+}
+
+/// Hands each command of a queue to the link of its place, in order: a link that is down drops it. Then the queue is empty. It
+/// takes no memory.
+pub fn send_all(links: &mut [Link], queue: &mut VecDeque<Routed>, session: u64, request: u64)
+    requires { AreRoomy links.old queue.old.items }
+    ensures handed { states links.new ≡ handed session request 0 queue.old.items (states links.old) }
+    ensures emptied { queue.new.items ≡ [] }
+{
+    let mut at: usize = 0;
+    while let Some(command) = queue.pop_front() {
+        let tag = Tag {
+            session,
+            request,
+            atom: at,
+        };
+        hand_over(links, command, tag);
+        at += 1;
+    }
+}
+
+/// Hands a command to the link of its place, where that is up.
+fn hand_over(links: &mut [Link], command: Routed, tag: Tag)
+    requires { IsRoomy (length (spelling_of_atom command.atom)) 1 (roomy_at links.old command.server) }
+    ensures handed { states links.new ≡ with_link command.server (handed_to tag command.atom (link_at (states links.old) command.server)) (states links.old) }
+    ensures room { (at bytes heads : ℕ) → IsRoomy (length (spelling_of_atom command.atom) + bytes) (1 + heads) (roomy_at links.old at)
+        → IsRoomy bytes heads (roomy_at links.new at) }
+{
+    if is_up_at(links, command.server) {
+        links[command.server].send(command.atom, tag).unwrap();
+    }
+}

@@ -1,0 +1,404 @@
+//! A session: what a client sends, and what it is answered.
+ghost use Rattle.std.specs.Prelude.{◌≡◌, ◌≢◌, ◌≤◌, ◌<◌, ◌+◌, ◌&&◌, ◌==◌, ◌↔◌, ◌∷◌, ◌++◌, [], None, Some, true, false, drop, length, map};
+ghost use Rattle.std.specs.Prelude.{IsTrue, IfOk, IfSome, IfNone, IsOkUnless, OnOk, OnErr};
+ghost use Rattle.mc_proxy.specs.SessionState.{states};
+
+use crate::sending::{is_any_marked, is_held_up, prepare, send_all, start_at_front};
+use crate::session_errors::SessionError;
+use crate::session_limits::{MAX_UNANSWERED, UNSENT_MARK};
+use crate::session_turns::{Emit, Turn};
+use crate::stores::{may_store, send_store};
+use crate::unanswered::Unanswered;
+use mc_link::{Link, Tag};
+use mc_request::{Asked, Taken};
+use mc_request_reader::{Front, LentGet, Peek, Reader};
+use mc_ring::Ring;
+use mc_route::{Losses, Outcome, Routed, goes_to, route};
+use mc_text::{give_back, let_go};
+use std::alloc::Global;
+use std::collections::VecDeque;
+use std::marker::Model;
+
+/// A session of a proxy.
+#[derive(Drop)]
+pub struct Session {
+    reader: Reader,
+    output: Vec<u8>,
+    /// How many bytes of the output were taken out.
+    sent: usize,
+    /// How many requests and faults were taken.
+    taken: u64,
+    /// Those of them that are not answered, the oldest first.
+    unanswered: VecDeque<Unanswered>,
+}
+
+impl Model for Session {
+    ghost use Rattle.std.specs.Prelude.{◌≤◌, ◌*◌, drop, length, vec_len};
+    ghost use Rattle.mc_proxy.specs.SessionState.{SessionState};
+
+    ghost Value = { SessionState };
+
+    ghost view = { λ s. record { reader = s.reader; output = drop s.sent s.output.items; taken = s.taken; unanswered = s.unanswered.items } };
+
+    ghost invariant = { λ s. (2 * s.sent ≤ vec_len s.output) × (length s.unanswered.items ≤ s.taken) };
+}
+
+impl Session {
+    ghost use Rattle.mc_request.specs.LinesSeen.{asked_of};
+    ghost use Rattle.mc_request.specs.WellFormed.{is_well_formed};
+    ghost use Rattle.mc_request_reader.specs.Peeks.{front_of, past};
+    ghost use Rattle.mc_request_reader.specs.Reader.{KeepsRest, rest_of};
+    ghost use Rattle.mc_route.specs.Routes.{route_of_taken};
+    ghost use Rattle.mc_proxy.specs.SessionState.{fresh_session};
+    ghost use Rattle.mc_proxy.specs.Emits.{IsEmit, emitted, hides_loss_first};
+    ghost use Rattle.mc_proxy.specs.SessionNoting.{noted_in};
+    ghost use Rattle.mc_proxy.specs.Sending.{at_once, handed, is_marked, is_session_marked};
+    ghost use Rattle.mc_proxy.specs.Looks.{IsReady, waits_for};
+    ghost use Rattle.mc_proxy.specs.SessionTurns.{IsFed, IsTurn};
+
+    /// A session to which nothing has come.
+    pub fn new(alloc: Global) -> Session
+        ensures { result ≡ fresh_session }
+    {
+        Session {
+            reader: Reader::new(alloc),
+            output: Vec::new(alloc),
+            sent: 0,
+            taken: 0,
+            unanswered: VecDeque::new(alloc),
+        }
+    }
+
+    /// Takes the next piece of the client's text.
+    pub fn feed(&mut self, piece: &[u8]) -> Result<(), SessionError>
+        ensures fed { OnOk result (IsFed piece.now self.old self.new) }
+        ensures only_memory { IsOkUnless result SessionError.Memory }
+        ensures err { OnErr result (self.new ≡ self.old) }
+    {
+        self.reader.feed(piece)?;
+        Ok(())
+    }
+
+    /// Whether the session has reached a mark of its own.
+    fn is_marked(&self) -> bool
+        ensures { result ≡ is_session_marked self.now }
+    {
+        self.unanswered.len() >= MAX_UNANSWERED
+            || self.output().len() >= UNSENT_MARK
+            || self.taken == u64::MAX
+    }
+
+    /// Takes the first request or fault that has come whole, and sends its commands, each to the link of its key's owner,
+    /// under tags with the session's number. Its lost commands are answered by this choice.
+    ///
+    /// What it may need of memory is taken before anything is. Where none has come, or the first has to wait for a mark, it
+    /// needs none. The commands go through a queue, which the caller keeps: it is empty before and after each turn, and has
+    /// room for those of the requests so far.
+    pub fn turn(
+        &mut self,
+        alloc: Global,
+        number: u64,
+        ring: &Ring,
+        losses: Losses,
+        links: &mut [Link],
+        queue: &mut VecDeque<Routed>,
+    ) -> Result<Turn, SessionError>
+        requires { queue.old.items ≡ [] }
+        ensures turn { IfOk result (λ turn. IsTurn number turn ring.now losses (states links.old) (states links.new) self.old self.new) }
+        ensures cause { OnErr result (IsReady ring.now (states links.old) self.old) }
+        ensures only_memory { IsOkUnless result SessionError.Memory }
+        ensures err { OnErr result (self.new ≡ self.old) }
+        ensures links_kept { OnErr result (states links.new ≡ states links.old) }
+        ensures emptied { queue.new.items ≡ [] }
+    {
+        if self.reader.is_short() {
+            return Ok(Turn::Idle);
+        }
+        let Some(get) = self.reader.peek_get() else {
+            return self.turn_lent(alloc, number, ring, losses, links, queue);
+        };
+        let (kept, front) = {
+            let LentGet {
+                keys,
+                with_cas,
+                front,
+            } = get;
+            let asked = Asked::Get {
+                keys,
+                exptime: None,
+                with_cas,
+            };
+            if self.must_wait(links, &asked, ring) {
+                return Ok(Turn::Waiting);
+            }
+            start_at_front(alloc, queue);
+            (route(alloc, &asked, ring, queue)?, front)
+        };
+        self.take(alloc, number, losses, links, queue, kept, front)?;
+        Ok(Turn::Took)
+    }
+
+    /// The same by [`Reader::peek`]. A turn comes here where it did not see at once that nothing is whole, or a good `get` or `gets`.
+    fn turn_lent(
+        &mut self,
+        alloc: Global,
+        number: u64,
+        ring: &Ring,
+        losses: Losses,
+        links: &mut [Link],
+        queue: &mut VecDeque<Routed>,
+    ) -> Result<Turn, SessionError>
+        requires { queue.old.items ≡ [] }
+        ensures turn { IfOk result (λ turn. IsTurn number turn ring.now losses (states links.old) (states links.new) self.old self.new) }
+        ensures cause { OnErr result (IsReady ring.now (states links.old) self.old) }
+        ensures only_memory { IsOkUnless result SessionError.Memory }
+        ensures err { OnErr result (self.new ≡ self.old) }
+        ensures links_kept { OnErr result (states links.new ≡ states links.old) }
+        ensures emptied { queue.new.items ≡ [] }
+    {
+        if !may_store(self.reader.unread()) {
+            return self.turn_other(alloc, number, ring, losses, links, queue);
+        }
+        match self.turn_store(alloc, number, ring, losses, links)? {
+            Some(turn) => Ok(turn),
+            None => self.turn_other(alloc, number, ring, losses, links, queue),
+        }
+    }
+
+    /// The same of `set`, `add`, `replace`, `append`, `prepend` and `cas`: the data block goes from the reader to the link, and is not copied
+    /// before. None if something else is first: then nothing has changed.
+    #[inline(never)]
+    fn turn_store(
+        &mut self,
+        alloc: Global,
+        number: u64,
+        ring: &Ring,
+        losses: Losses,
+        links: &mut [Link],
+    ) -> Result<Option<Turn>, SessionError>
+        ensures turn { IfOk result (λ turn. IfSome turn (λ turn. IsTurn number turn ring.now losses (states links.old) (states links.new) self.old self.new)) }
+        ensures none { IfOk result (λ turn. IfNone turn ((states links.new ≡ states links.old) × (self.new ≡ self.old))) }
+        ensures cause { OnErr result (IsReady ring.now (states links.old) self.old) }
+        ensures only_memory { IsOkUnless result SessionError.Memory }
+        ensures err { OnErr result (self.new ≡ self.old) }
+        ensures links_kept { OnErr result (states links.new ≡ states links.old) }
+    {
+        let marked = self.is_marked();
+        let taken = self.taken;
+        let front = match &self.reader.peek() {
+            Peek::Closed => return Ok(Some(Turn::Closing)),
+            Peek::More => return Ok(Some(Turn::Idle)),
+            Peek::First(asked, _) if is_held_up(marked, links, asked, ring) => {
+                return Ok(Some(Turn::Waiting));
+            }
+            Peek::First(asked, front) => {
+                let unanswered = &mut self.unanswered;
+                if !send_store(alloc, asked, number, taken, ring, losses, links, unanswered)? {
+                    return Ok(None);
+                }
+                *front
+            }
+        };
+        self.reader.consume(front);
+        self.taken += 1;
+        Ok(Some(Turn::Took))
+    }
+
+    /// The same whatever is first.
+    #[inline(never)]
+    fn turn_other(
+        &mut self,
+        alloc: Global,
+        number: u64,
+        ring: &Ring,
+        losses: Losses,
+        links: &mut [Link],
+        queue: &mut VecDeque<Routed>,
+    ) -> Result<Turn, SessionError>
+        requires { queue.old.items ≡ [] }
+        ensures turn { IfOk result (λ turn. IsTurn number turn ring.now losses (states links.old) (states links.new) self.old self.new) }
+        ensures cause { OnErr result (IsReady ring.now (states links.old) self.old) }
+        ensures only_memory { IsOkUnless result SessionError.Memory }
+        ensures err { OnErr result (self.new ≡ self.old) }
+        ensures links_kept { OnErr result (states links.new ≡ states links.old) }
+        ensures emptied { queue.new.items ≡ [] }
+    {
+        let (kept, front) = match &self.reader.peek() {
+            Peek::Closed => return Ok(Turn::Closing),
+            Peek::More => return Ok(Turn::Idle),
+            Peek::First(asked, _) if self.must_wait(links, asked, ring) => return Ok(Turn::Waiting),
+            Peek::First(asked, front) => {
+                start_at_front(alloc, queue);
+                (route(alloc, asked, ring, queue)?, *front)
+            }
+        };
+        self.take(alloc, number, losses, links, queue, kept, front)?;
+        Ok(Turn::Took)
+    }
+
+    /// Whether the session has reached a mark of its own, or a link that what is asked needs has.
+    fn must_wait(&self, links: &[Link], asked: &Asked<'_>, ring: &Ring) -> bool
+        requires { is_well_formed (asked_of asked.now) ≡ true }
+        ensures { result ≡ is_marked self.now (states links.now) (route_of_taken ring.now (asked_of asked.now)) }
+    {
+        self.is_marked() || is_any_marked(links, asked, ring)
+    }
+
+    /// Takes the request or fault that is first: its commands, which are in the queue, go each to its link, and what stays of it
+    /// waits for its answer.
+    #[inline(always)]
+    fn take(
+        &mut self,
+        alloc: Global,
+        number: u64,
+        losses: Losses,
+        links: &mut [Link],
+        queue: &mut VecDeque<Routed>,
+        kept: Taken,
+        front: Front,
+    ) -> Result<(), SessionError>
+        requires first { front_of self.old.reader ≡ Some front }
+        requires unmarked { is_session_marked self.old ≡ false }
+        ensures reader { OnOk result (KeepsRest (past front self.old.reader) self.new.reader) }
+        ensures output { OnOk result (self.new.output ≡ self.old.output) }
+        ensures taken { OnOk result (self.new.taken ≡ self.old.taken + 1) }
+        ensures unanswered { OnOk result (self.new.unanswered ≡ self.old.unanswered
+            ++ record { what = kept; losses = losses; outcomes = map (at_once (states links.old)) queue.old.items } ∷ []) }
+        ensures sent { OnOk result (states links.new ≡ handed number self.old.taken 0 queue.old.items (states links.old)) }
+        ensures only_memory { IsOkUnless result SessionError.Memory }
+        ensures err { OnErr result (self.new ≡ self.old) }
+        ensures links_kept { OnErr result (states links.new ≡ states links.old) }
+        ensures emptied { queue.new.items ≡ [] }
+    {
+        let commands = queue.make_contiguous();
+        let Ok(outcomes) = prepare(alloc, &mut self.unanswered, links, commands) else {
+            queue.clear();
+            return Err(SessionError::Memory);
+        };
+        self.reader.consume(front);
+        send_all(links, queue, number, self.taken);
+        self.unanswered
+            .push_back_reserved(Unanswered::new(kept, losses, outcomes));
+        self.taken += 1;
+        Ok(())
+    }
+
+    /// Whether a whole request or fault has come that was not taken. It takes no memory.
+    pub fn ready(&self) -> bool
+        ensures { IsTrue result ↔ (0 < length (rest_of self.now.reader [])) }
+    {
+        self.reader.ready()
+    }
+
+    /// Whether a turn would take a request or fault: one has come whole, and need not wait for a mark. It takes no memory.
+    pub fn can_turn(&self, ring: &Ring, links: &[Link]) -> bool
+        ensures { IsTrue result ↔ IsReady ring.now (states links.now) self.now }
+    {
+        match &self.reader.peek() {
+            Peek::First(asked, _) => !self.is_marked() && !is_any_marked(links, asked, ring),
+            Peek::More | Peek::Closed => false,
+        }
+    }
+
+    /// Whether the first request or fault that has come whole has a command for the server of a place of the ring. It takes no
+    /// memory.
+    pub fn waits_for(&self, ring: &Ring, place: usize) -> bool
+        ensures { result ≡ waits_for ring.now place (rest_of self.now.reader []) }
+    {
+        match &self.reader.peek() {
+            Peek::First(asked, _) => goes_to(asked, ring, place),
+            Peek::More => false,
+            Peek::Closed => false,
+        }
+    }
+
+    /// Notes what became of a command. That of a request which is answered is dropped.
+    pub fn note(&mut self, tag: Tag, outcome: Outcome)
+        ensures { self.new ≡ noted_in tag outcome self.old }
+    {
+        let answered = self.taken - self.unanswered.len() as u64;
+        let Some(place) = tag.request.checked_sub(answered) else {
+            return;
+        };
+        let place = place as usize;
+        if place < self.unanswered.len() {
+            self.unanswered[place].note(tag.atom, outcome);
+        }
+    }
+
+    /// Whether it is known of each command of the oldest request that is not answered what became of it. It takes no memory.
+    pub fn has_answer(&self) -> bool
+        ensures { IsTrue result ↔ (emitted self.now ≢ None) }
+    {
+        self.unanswered.front().is_some_and(Unanswered::is_known)
+    }
+
+    /// Whether a command of the oldest request that is not answered was lost, and its answer does not say so. It takes no memory.
+    pub fn hides_loss(&self) -> bool
+        ensures { result ≡ hides_loss_first self.now.unanswered }
+    {
+        self.unanswered.front().is_some_and(Unanswered::hides_loss)
+    }
+
+    /// Appends the answer to the oldest request that is not answered, where it is known of each of its commands what became
+    /// of it.
+    ///
+    /// At an error nothing was put out. Where no answer is known it needs no memory.
+    pub fn emit(&mut self) -> Result<Emit, SessionError>
+        ensures emit { IfOk result (λ emit. IsEmit emit self.old self.new) }
+        ensures cause { OnErr result (emitted self.old ≢ None) }
+        ensures only_memory { IsOkUnless result SessionError.Memory }
+        ensures err { OnErr result (self.new ≡ self.old) }
+    {
+        let Some(oldest) = self.unanswered.front() else {
+            return Ok(Emit::Idle);
+        };
+        if !oldest.is_known() {
+            return Ok(Emit::Idle);
+        }
+        oldest.answer(&mut self.output)?;
+        self.unanswered.pop_front();
+        Ok(Emit::Done)
+    }
+
+    /// Whether nothing is read any more and every request is answered.
+    pub fn is_finished(&self) -> bool
+        ensures { result ≡ (self.now.reader.closed && (length self.now.unanswered == 0)) }
+    {
+        self.reader.is_closed() && self.unanswered.is_empty()
+    }
+
+    /// How many requests are not answered.
+    pub fn unanswered(&self) -> usize
+        ensures { result ≡ length self.now.unanswered }
+    {
+        self.unanswered.len()
+    }
+
+    /// The answers that were not taken out.
+    pub fn output(&self) -> &[u8]
+        ensures { result.now ≡ self.now.output }
+    {
+        let (_, output) = self.output.split_at(self.sent);
+        output
+    }
+
+    /// Releases the first `count` bytes of the output, which the client was sent.
+    pub fn taken_out(&mut self, count: usize)
+        requires { count ≤ length self.old.output }
+        ensures { self.new ≡ record self.old { output = drop count self.old.output } }
+    {
+        self.sent = let_go(&mut self.output, self.sent + count);
+    }
+
+    /// Gives back the memory of what holds nothing, where there is room for more than `kept` bytes or requests.
+    pub fn give_back(&mut self, kept: usize)
+        ensures { self.new ≡ self.old }
+    {
+        self.reader.give_back(kept);
+        give_back(&mut self.output, kept);
+        if self.unanswered.is_empty() && self.unanswered.capacity() > kept {
+            self.unanswered.shrink_to_fit();
+        }
+    }
+}

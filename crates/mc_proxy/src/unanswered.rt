@@ -1,0 +1,115 @@
+//! A request that was taken and is not answered.
+ghost use Rattle.std.specs.Prelude.{◌≡◌, ◌++◌, OnOk, OnErr};
+ghost use Rattle.mc_proxy.specs.Emits.{awaited_in, count_awaited};
+
+use crate::session_errors::SessionError;
+use mc_reply::write_fault;
+use mc_request::Taken;
+use mc_route::{Losses, Outcome, hides_loss, join_with};
+use std::marker::Model;
+
+/// A request or fault that was taken, and what became of its commands so far.
+#[derive(Drop)]
+pub struct Unanswered {
+    what: Taken,
+    /// The choice for its lost commands.
+    losses: Losses,
+    outcomes: Vec<Outcome>,
+    /// How many of the replies are awaited.
+    awaited: usize,
+}
+
+impl Model for Unanswered {
+    ghost use Rattle.std.specs.Prelude.{◌≡◌};
+    ghost use Rattle.mc_proxy.specs.SessionState.{Unanswered};
+    ghost use Rattle.mc_proxy.specs.Emits.{awaited_in};
+
+    ghost Value = { Unanswered };
+
+    ghost view = { λ u. record { what = u.what; losses = u.losses; outcomes = u.outcomes.items } };
+
+    ghost invariant = { λ u. u.awaited ≡ awaited_in u.outcomes.items };
+}
+
+impl Unanswered {
+    ghost use Rattle.mc_proxy.specs.Emits.{answer_of_one, hides_loss_of, is_known};
+    ghost use Rattle.mc_proxy.specs.SessionNoting.{with_outcome};
+
+    /// A request or fault that was just taken, the choice for its lost commands, and what became of its commands at once.
+    pub fn new(what: Taken, losses: Losses, outcomes: Vec<Outcome>) -> Unanswered
+        ensures { result ≡ record { what = what; losses = losses; outcomes = outcomes.items } }
+    {
+        let awaited = awaited_in(outcomes.as_slice());
+        Unanswered {
+            what,
+            losses,
+            outcomes,
+            awaited,
+        }
+    }
+
+    /// Whether it is known of each command what became of it.
+    #[tactic(auto, using(crate::proofs::AwaitedLemmas::none_awaited))]
+    pub fn is_known(&self) -> bool
+        ensures { result ≡ is_known self.now }
+    {
+        self.awaited == 0
+    }
+
+    /// Whether a command of it was lost, and its answer does not say so. It takes no memory.
+    pub fn hides_loss(&self) -> bool
+        ensures { result ≡ hides_loss_of self.now }
+    {
+        match &self.what {
+            Taken::Whole(request) => hides_loss(self.losses, request, self.outcomes.as_slice()),
+            Taken::Faulty(_) => false,
+        }
+    }
+
+    /// Notes what became of a command, by its number. Where there is none of that number it is dropped.
+    pub fn note(&mut self, at: usize, outcome: Outcome)
+        ensures { self.new ≡ record self.old { outcomes = with_outcome at outcome self.old.outcomes } }
+    {
+        if at >= self.outcomes.len() {
+            return;
+        }
+        let before = count_awaited(&self.outcomes[at]);
+        self.awaited = self.awaited - before + count_awaited(&outcome);
+        self.outcomes[at] = outcome;
+    }
+
+    /// Appends the answer, or nothing where there is no memory.
+    pub fn answer(&self, out: &mut Vec<u8>) -> Result<(), SessionError>
+        ensures ok { OnOk result (out.new.items ≡ out.old.items ++ answer_of_one self.now) }
+        ensures err { OnErr result (out.new.items ≡ out.old.items) }
+    {
+        match &self.what {
+            Taken::Whole(request) => {
+                join_with(self.losses, request, self.outcomes.as_slice(), out)?;
+            },
+            Taken::Faulty(fault) => write_fault(*fault, out)?,
+        }
+        Ok(())
+    }
+}
+
+/// How many replies are awaited.
+fn awaited_in(outcomes: &[Outcome]) -> usize
+    ensures { result ≡ awaited_in outcomes.now }
+{
+    let mut awaited = 0;
+    for outcome in outcomes {
+        awaited += count_awaited(outcome);
+    }
+    awaited
+}
+
+/// 1 where the reply is awaited, else 0.
+fn count_awaited(outcome: &Outcome) -> usize
+    ensures { result ≡ count_awaited outcome.now }
+{
+    match outcome {
+        Outcome::Awaited => 1,
+        Outcome::Reply(_) | Outcome::Lost => 0,
+    }
+}

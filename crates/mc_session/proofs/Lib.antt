@@ -1,4 +1,0 @@
-pub mod AwaitedLemmas
-pub mod LinkLemmas
-pub mod NotingLemmas
-pub mod TurnLemmas

@@ -1,7 +1,0 @@
-use Rattle.std.proofs.Common.{◌≡◌, ◌+◌, drop}
-use Rattle.mc_session.specs.Sending.{spelled}
-use Rattle.mc_session.proofs.sending.spelled_len.Given as goal
-
--- the bytes so far and those of the commands to come are all
-abbrev pub invariant-loop-command : goal.invariant-loop-command
-invariant-loop-command l = l.bytes + spelled (drop l.command-index l.commands) ≡ spelled l.commands
