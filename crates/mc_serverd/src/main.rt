@@ -2,16 +2,54 @@
 //!
 //! The exit status is 0 where `--check` was asked for, or where as many connections as `--accept` says were served. Else it is
 //! that of [`mc_program`]. The words are read first, then `--check` is obeyed, then it listens.
+//!
+//! # How it serves
+//!
+//! Connections are accepted, read, served and written.
+//!
+//! [`serve`] serves the connections of a listener ([`bind`]) over one cache, with [`Settings`], at the moments of a clock
+//! ([`Seconds`], [`SystemSeconds`]). Its body is [`mc_pump::pump`], which carries one connection's bytes between a server
+//! and the two sides of a stream, and has the law of one connection. [`command`] and [`Options`] are the command line of
+//! the program [`PROGRAM`].
+//!
+//! [`tell_memory`] says how much memory a server with its settings may come to take. On standard error [`serve`] says, at most once
+//! in a second, that a request was refused whose answer may be too large, and, where the settings ask for it, what it has done. The
+//! store counts what it does, so that no layer between has to.
+//!
+//! [`serve`] waits for its sockets, and may wait for ever; [`bind`] looks a name up, and may wait for that; no other call waits.
+//! What a socket carries, no contract says. Proved of a client's turn are that its connection alone is pumped, at the moment that
+//! the clock tells, and what is done with it afterwards; of the system's clock, that it never goes back.
 #![tactic(auto)]
 
+mod cas_from;
+mod chosen;
+mod clocks;
+mod counted;
+mod counts;
+mod figures;
+mod groups;
+mod handlers;
+mod hosts;
+mod items;
+mod kinds;
+mod memory;
+mod options;
+mod refusals;
+mod serving;
+mod settings;
+mod sides;
+
+use clocks::SystemSeconds;
+use hosts::other_files;
+use mc_net::{Operators, bind};
 use mc_program::{
     EprintSeldom, Failure, LogOption, Logged, ServeError, exit_status, is_read, open_streams,
     read_words, tell_open_files,
 };
-use mc_serve::{
-    Operators, Options, PROGRAM, SystemSeconds, bind, command, other_files, serve, tell_memory,
-};
 use mc_server::MAX_CONNECTIONS;
+use memory::tell_memory;
+use options::{Options, PROGRAM, command};
+use serving::serve;
 use std::alloc::Global;
 use std::fs::Files;
 use std::net::Net;

@@ -1,6 +1,6 @@
 //! What a server says of itself to operators.
 ghost use Rattle.std.specs.Prelude.{◌≡◌, codes, decimal, map};
-ghost use Rattle.mc_serve.specs.Settings.{cas_from_word, settings_shown, shown, store_word};
+ghost use Rattle.mc_serverd.specs.Settings.{cas_from_word, settings_shown, shown, store_word};
 
 use crate::cas_from::CasFrom;
 use crate::counts::Counts;

@@ -1,7 +1,7 @@
 //! How much memory a server may come to take, and how that is said at its start.
 ghost use Rattle.std.specs.Prelude.{◌≡◌, ◌+◌, ◌<◌, ◌^◌};
 ghost use Rattle.mc_cache.specs.CacheState.{IsWithinBounds};
-ghost use Rattle.mc_serve.specs.Memory.{below, filled_by, lower_of, memory_of, met_limit, tenths_of};
+ghost use Rattle.mc_serverd.specs.Memory.{below, filled_by, lower_of, memory_of, met_limit, tenths_of};
 
 use crate::groups::group_limit;
 use crate::items::advice_of;

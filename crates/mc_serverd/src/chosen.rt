@@ -1,6 +1,6 @@
 //! The store that a server was asked to have.
 ghost use Rattle.std.specs.Prelude.{Some};
-ghost use Rattle.mc_serve.specs.Chosen.{held_by};
+ghost use Rattle.mc_serverd.specs.Chosen.{held_by};
 
 use mc_item::{Body, Deadline};
 use mc_store::{LruStore, Store, TableStore};

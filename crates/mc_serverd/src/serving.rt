@@ -1,8 +1,8 @@
 //! Serving a listener.
 ghost use Rattle.std.specs.Prelude.{◌≡◌, ◌+◌, [], IfOk};
 ghost use Rattle.mc_cache.specs.CacheState.{opening_cache};
-ghost use Rattle.mc_serve.specs.CasFrom.{last_number};
-ghost use Rattle.mc_serve.specs.Chosen.{held_by};
+ghost use Rattle.mc_serverd.specs.CasFrom.{last_number};
+ghost use Rattle.mc_serverd.specs.Chosen.{held_by};
 
 use crate::cas_from::last_number;
 use crate::chosen::ChosenStore;

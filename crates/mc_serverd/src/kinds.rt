@@ -1,6 +1,6 @@
 //! Kinds of stores that a server can be over.
 ghost use Rattle.std.specs.Prelude.{◌≡◌};
-ghost use Rattle.mc_serve.specs.Kinds.{kind_named};
+ghost use Rattle.mc_serverd.specs.Kinds.{kind_named};
 
 /// What a server keeps its items in.
 #[derive(Clone, Copy, Debug, PartialEq, Eq)]

@@ -3,7 +3,7 @@ ghost use Rattle.std.specs.Prelude.{◌≡◌};
 ghost use Rattle.std.specs.Io.{ReadsAtMost, WritesAtMost};
 ghost use Rattle.std.specs.Io.KnownBytes.{Keeps, ReadConsumes, WriteAppends};
 ghost use Rattle.std.specs.IoError.{error_kind};
-ghost use Rattle.mc_serve.specs.Sides.{fails_by};
+ghost use Rattle.mc_serverd.specs.Sides.{fails_by};
 
 use mc_stream::Gather;
 use mio::net::TcpStream;

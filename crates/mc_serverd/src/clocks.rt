@@ -1,6 +1,6 @@
 //! The clock of a server.
 ghost use Rattle.std.specs.Prelude.{◌≡◌, ◌<◌, ◌≤◌, ◌^◌, ◌/◌, ℕ};
-ghost use Rattle.mc_serve.specs.Clocks.{moment_after};
+ghost use Rattle.mc_serverd.specs.Clocks.{moment_after};
 
 use mc_net::{Stopwatch, wall_clock};
 use std::marker::Model;

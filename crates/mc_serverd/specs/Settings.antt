@@ -5,11 +5,11 @@ use Rattle.mc_admin.specs.Pages.{value_text}
 use Rattle.mc_admin.specs.declared.figures.Setting.{Setting}
 use Rattle.mc_server.specs.declared.servers.TheConstants.{MAX_CONNECTIONS}
 use Rattle.mc_text.specs.declared.blocks.TheConstants.{VALUE_LIMIT}
-use Rattle.mc_serve.specs.declared.cas_from.CasFrom.{CasFrom}
-use Rattle.mc_serve.specs.declared.cas_from.CasFrom.TheVariants.{Last, Now}
-use Rattle.mc_serve.specs.declared.kinds.StoreKind.{StoreKind}
-use Rattle.mc_serve.specs.declared.kinds.StoreKind.TheVariants.{Lru, Table}
-use Rattle.mc_serve.specs.declared.settings.Settings.{Settings}
+use Rattle.mc_serverd.specs.declared.cas_from.CasFrom.{CasFrom}
+use Rattle.mc_serverd.specs.declared.cas_from.CasFrom.TheVariants.{Last, Now}
+use Rattle.mc_serverd.specs.declared.kinds.StoreKind.{StoreKind}
+use Rattle.mc_serverd.specs.declared.kinds.StoreKind.TheVariants.{Lru, Table}
+use Rattle.mc_serverd.specs.declared.settings.Settings.{Settings}
 
 -- a setting as it is shown
 abbrev pub shown : Setting → List ℕ × List ℕ

@@ -1,6 +1,6 @@
 //! From which number on a server counts its items.
 ghost use Rattle.std.specs.Prelude.{◌≡◌};
-ghost use Rattle.mc_serve.specs.CasFrom.{cas_from_named, last_number};
+ghost use Rattle.mc_serverd.specs.CasFrom.{cas_from_named, last_number};
 
 use mc_text::read_u64;
 use std::fmt;

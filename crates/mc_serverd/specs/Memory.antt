@@ -1,7 +1,7 @@
 -- How much memory a server may come to take, by what was measured of its items (docs/RUNNING.md, "Memory"). Source: this project's own.
 use Rattle.std.specs.Prelude.{ℕ, ◌+◌, ◌*◌, ◌/◌, nat_lt, Option, Some, None, if◌then◌else◌}
-use Rattle.mc_serve.specs.declared.memory.Limit.{Limit}
-use Rattle.mc_serve.specs.declared.memory.Limit.TheVariants.{Addresses, Group}
+use Rattle.mc_serverd.specs.declared.memory.Limit.{Limit}
+use Rattle.mc_serverd.specs.declared.memory.Limit.TheVariants.{Addresses, Group}
 
 -- 1.07 of the budget, and 112 bytes for each of the most items
 abbrev pub memory_of : ℕ → ℕ → ℕ

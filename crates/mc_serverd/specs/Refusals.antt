@@ -1,8 +1,8 @@
 -- Calls of a server that are refused memory. Source: this project's own.
 use Rattle.std.specs.Prelude.{ℕ, ◌+◌, ◌-◌, ◌%◌, ◌^◌, ◌==◌, ◌&&◌, nat_lt, nat_le, Bool, false, Option, Some, None, if◌then◌else◌}
-use Rattle.mc_serve.specs.declared.refusals.Refusals.{Refusals}
-use Rattle.mc_serve.specs.declared.refusals.Row.{Row}
-use Rattle.mc_serve.specs.declared.refusals.TheConstants.{PAUSE}
+use Rattle.mc_serverd.specs.declared.refusals.Refusals.{Refusals}
+use Rattle.mc_serverd.specs.declared.refusals.Row.{Row}
+use Rattle.mc_serverd.specs.declared.refusals.TheConstants.{PAUSE}
 
 -- whether a refusal in a second, once so many items were stored, goes on a row: none was stored since its last one, and that was not long ago
 abbrev pub goes_on : Row → ℕ → ℕ → Bool

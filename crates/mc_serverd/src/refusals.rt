@@ -1,6 +1,6 @@
 //! Calls that are refused memory.
 ghost use Rattle.std.specs.Prelude.{◌≡◌, None};
-ghost use Rattle.mc_serve.specs.Refusals.{added, goes_on, has_lasted, is_over, noted, since_of};
+ghost use Rattle.mc_serverd.specs.Refusals.{added, goes_on, has_lasted, is_over, noted, since_of};
 
 /// A row of refusals ends if for more than so many seconds there is none.
 pub const PAUSE: u64 = 2;

@@ -1,7 +1,7 @@
 -- What is in a store of either kind. Source: this project's own.
 use Rattle.mc_store.specs.Items.{LimitedItems}
-use Rattle.mc_serve.specs.declared.chosen.ChosenStore.{ChosenStore}
-use Rattle.mc_serve.specs.declared.chosen.ChosenStore.TheVariants.{Lru, Table}
+use Rattle.mc_serverd.specs.declared.chosen.ChosenStore.{ChosenStore}
+use Rattle.mc_serverd.specs.declared.chosen.ChosenStore.TheVariants.{Lru, Table}
 
 -- what a store holds, and how many items it may hold
 abbrev pub held_by : ChosenStore → LimitedItems

@@ -1,6 +1,6 @@
 //! How many items a server may hold.
 ghost use Rattle.std.specs.Prelude.{◌≡◌};
-ghost use Rattle.mc_serve.specs.Bounds.{advice_of, items_for, items_named};
+ghost use Rattle.mc_serverd.specs.Bounds.{advice_of, items_for, items_named};
 
 use mc_cache::MAX_ITEMS;
 use mc_text::read_u64;

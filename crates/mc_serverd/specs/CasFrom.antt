@@ -2,8 +2,8 @@
 use Rattle.std.specs.Prelude.{ℕ, ◌^◌, ◌*◌, ◌-◌, nat_lt, min, List, codes, Option, Some, None, if◌then◌else◌}
 use Rattle.std.specs.Str.{bytes_eq}
 use Rattle.mc_text.specs.Numbers.{read_u64}
-use Rattle.mc_serve.specs.declared.cas_from.CasFrom.{CasFrom}
-use Rattle.mc_serve.specs.declared.cas_from.CasFrom.TheVariants.{Last, Now}
+use Rattle.mc_serverd.specs.declared.cas_from.CasFrom.{CasFrom}
+use Rattle.mc_serverd.specs.declared.cas_from.CasFrom.TheVariants.{Last, Now}
 
 -- a number below 2^63
 abbrev pub last_of : Option ℕ → Option CasFrom

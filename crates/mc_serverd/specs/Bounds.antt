@@ -3,11 +3,11 @@ use Rattle.std.specs.Prelude.{ℕ, ◌*◌, ◌/◌, ◌||◌, ◌&&◌, nat_le,
 use Rattle.std.specs.Str.{bytes_eq}
 use Rattle.mc_text.specs.Numbers.{read_u64}
 use Rattle.mc_cache.specs.declared.caches.TheConstants.{MAX_ITEMS}
-use Rattle.mc_serve.specs.declared.items.TheConstants.{BYTES_AN_ITEM, USUAL_ITEMS}
-use Rattle.mc_serve.specs.declared.items.Items.{Items}
-use Rattle.mc_serve.specs.declared.items.Items.TheVariants.{Auto, Most}
-use Rattle.mc_serve.specs.declared.items.Advice.{Advice}
-use Rattle.mc_serve.specs.declared.items.Advice.TheVariants.{Another, Auto as WriteAuto}
+use Rattle.mc_serverd.specs.declared.items.TheConstants.{BYTES_AN_ITEM, USUAL_ITEMS}
+use Rattle.mc_serverd.specs.declared.items.Items.{Items}
+use Rattle.mc_serverd.specs.declared.items.Items.TheVariants.{Auto, Most}
+use Rattle.mc_serverd.specs.declared.items.Advice.{Advice}
+use Rattle.mc_serverd.specs.declared.items.Advice.TheVariants.{Another, Auto as WriteAuto}
 
 -- a number of items, if a cache may have so many
 abbrev pub most_of : Option ℕ → Option Items
