@@ -3,23 +3,76 @@
 //! The exit status is 0 where `--check` was asked for, or where as many clients as `--accept` says were served. Else it is
 //! that of [`mc_program`], where a list of servers that is no ring is refused like any other word. The words are read first,
 //! then the list, then `--check` is obeyed, then it listens.
+//!
+//! # How it serves
+//!
+//! Clients and servers are on sockets, over one [`mc_proxy::Proxy`].
+//!
+//! [`serve`] serves the clients that a listener accepts, and keeps a connection to each server of the ring as far as that is
+//! there: each is tried once before the first client is accepted, and while it is down again and again, less often the longer it is.
+//! Nobody waits for a connection, nor for a look-up of a host: that has a thread of its own. A connection that is given up is reset.
+//! [`ProxySettings`] says when it ends, how long a server may be silent that owes a reply, when an idle client is closed, how often it
+//! says what it has done, where the servers are, which one joins and which file lists them. A line that is appended to that file joins,
+//! and another address behind a name is taken over. As many clients are accepted as leave each server a descriptor ([`other_files`]). Its bodies are
+//! [`mc_proxy_pump::pump_client`] and [`mc_proxy_pump::pump_link`], which have the law of a client's stream and of a
+//! server's. [`command`] and [`Options`] are the command line of [`PROGRAM`], and a [`Server`] is what a word of it names. [`tell_mistake`] says which
+//! word, or which line of the file, names none.
+//!
+//! What a request is answered if a command of it is lost is a choice of [`ProxySettings`] too, the same for all clients.
+//!
+//! On standard error it says what becomes of its servers: a line `mc_proxyd: <server> <what>` where that is another than was said
+//! of the server last, and in each second at most one of each. The line of a new address comes at once beside these. Of a server that is there at
+//! first nothing is said. One that was lost is back with its first reply.
+//!
+//! [`serve`] waits for its sockets, and may wait for ever; it and [`Options::of`] wait for the file of servers. What a socket or a file carries,
+//! what a look-up finds and that a thread begins, no contract says.
 #![tactic(auto)]
+
+mod changes;
+mod delays;
+mod figures;
+mod handlers;
+mod hosts;
+mod joining;
+mod limits;
+mod listings;
+mod lists;
+mod looks;
+mod lookups;
+mod losses;
+mod mistakes;
+mod notices;
+mod options;
+mod pools;
+mod questions;
+mod resolving;
+mod rooms;
+mod servers;
+mod serving;
+mod settings;
+mod turns;
+mod upstreams;
+mod waits;
+mod woken;
+mod words;
 
 ghost use Rattle.std.specs.Prelude.{◌≡◌};
 ghost use Rattle.mc_program.specs.Statuses.{status_of};
 
 use clap::ArgMatches;
-use mc_net::bind;
+use lists::Mistake;
+use mc_net::{Operators, bind};
 use mc_program::{
     EprintSeldom, Failure, LogOption, Logged, ServeError, exit_status, is_read, open_streams,
     read_words, tell_open_files,
 };
 use mc_proxy::{Losses, MAX_SESSIONS};
-use mc_proxy_serve::{
-    ListError, Mistake, Operators, Options, PROGRAM, Place, ProxySettings, command, other_files,
-    serve, tell_mistake,
-};
 use mc_ring::Ring;
+use mistakes::tell_mistake;
+use options::{ListError, Options, PROGRAM, Place, command};
+use rooms::other_files;
+use serving::serve;
+use settings::ProxySettings;
 use std::alloc::Global;
 use std::fs::Files;
 use std::net::{Net, TcpListener, TcpStream};

@@ -1,5 +1,0 @@
-use Rattle.std.proofs.Common.{length}
-use Rattle.mc_proxy_serve.proofs.changes.+moved_from.Given as goal
-
-abbrev pub decreases-moved_from : goal.decreases-moved_from
-decreases-moved_from l = length l.servers.now

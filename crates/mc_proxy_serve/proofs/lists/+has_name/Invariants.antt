@@ -1,5 +1,0 @@
-use Rattle.std.proofs.Common.{length}
-use Rattle.mc_proxy_serve.proofs.lists.+has_name.Given as goal
-
-abbrev pub decreases-has_name : goal.decreases-has_name
-decreases-has_name l = length l.servers.now

@@ -1,5 +1,0 @@
-use Rattle.std.proofs.Common.{length}
-use Rattle.mc_proxy_serve.proofs.words.+add_words.Given as goal
-
-abbrev pub decreases-add_words : goal.decreases-add_words
-decreases-add_words l = length l.words.now

@@ -1,0 +1,18 @@
+-- Why the words of a proxy name no pool: this project's own.
+use Rattle.mc_ring.specs.declared.errors.RingError.{RingError}
+use Rattle.mc_ring.specs.declared.errors.RingError.TheVariants as ring
+use Rattle.mc_proxyd.specs.declared.options.ListError.{ListError}
+use Rattle.mc_proxyd.specs.declared.options.ListError.TheVariants.{At, Bad, Memory}
+use Rattle.mc_proxyd.specs.declared.options.Place.{Place}
+use Rattle.mc_proxyd.specs.declared.lists.Mistake.{Mistake}
+use Rattle.mc_proxyd.specs.declared.lists.Mistake.TheVariants as lists
+
+-- what a mistake at a place is: want of memory, or that mistake there
+abbrev pub list_error_at : Place → Mistake → ListError
+list_error_at place lists.Memory = Memory
+list_error_at place mistake = At place mistake
+
+-- a ring that there is no memory for, or a list that is none of a ring
+abbrev pub list_error_by : RingError → ListError
+list_error_by ring.Memory = Memory
+list_error_by other = Bad

@@ -1,0 +1,288 @@
+//! The command line of a proxy, and the pool that its words name.
+ghost use Rattle.std.specs.Prelude.{◌≡◌, ◌⊎◌, ◌==◌, if◌then◌else◌, None, Some, Ok, OnOk, IfOk, IfErr, map};
+ghost use Rattle.std.specs.Option.{option_map};
+ghost use Rattle.mc_proxyd.specs.Lists.{list_error_at, list_error_by};
+ghost use Rattle.mc_proxyd.specs.Mistakes.{join_mistake};
+ghost use Rattle.mc_proxyd.specs.Servers.{address_of, name_of};
+ghost use Rattle.mc_proxyd.specs.declared.options.ListError.TheVariants.{Memory};
+
+use crate::lists::{Mistake, next_server, servers_in, text_of};
+use crate::losses::{losses_named, lost};
+use crate::servers::Server;
+use crate::settings::ProxySettings;
+use crate::words::servers_of;
+use clap::builder::ValueParser;
+use clap::{Arg, ArgMatches, Command};
+use mc_program::{
+    AdminTerms, LogOption, Terms, VERSION, accept, admin, admin_name, flag, idle, listen, log,
+    number, report, size, size_within,
+};
+use mc_ring::{Ring, RingError};
+use std::alloc::{AllocError, Global};
+use std::fs::Files;
+use thiserror::Error;
+
+/// The most that `--held` may be: 1 TiB.
+const MOST_HELD: u64 = 1_099_511_627_776;
+
+/// The program's name.
+pub const PROGRAM: &str = "mc_proxyd";
+
+/// What a command line asks for.
+#[derive(Drop)]
+pub struct Options<'a> {
+    /// Where to listen: `<host>:<port>`.
+    pub listen: &'a str,
+    /// The servers.
+    pub ring: Ring,
+    /// What to serve with.
+    pub settings: ProxySettings,
+    /// In which form it says on standard error what happens.
+    pub log: LogOption,
+    /// Where operators are answered.
+    pub admin: AdminTerms<'a>,
+    /// Whether to print how many servers and points there are, and end.
+    pub check: bool,
+}
+
+/// Where a list of servers has a mistake.
+#[derive(Clone, Copy, Debug, PartialEq, Eq)]
+pub enum Place {
+    /// In the file of `--servers`.
+    File,
+    /// In the words of the servers.
+    Words,
+    /// In the word of `--join`, which `--join-after` wants.
+    Join,
+}
+
+/// Why the words name no pool.
+#[derive(Clone, Copy, Debug, PartialEq, Eq, Error)]
+pub enum ListError {
+    /// 1: a word names no server, or servers make no ring. Of a list of servers [`At`](ListError::At) says which, and where.
+    #[error("bad server list")]
+    Bad,
+    /// 2: no memory.
+    #[error("out of memory")]
+    Memory,
+    /// 3: the word of `--held` is no number of bytes, or is outside its limits.
+    #[error("bad number of bytes")]
+    Held,
+    /// 4: the list of servers has this mistake, or the server that is to join.
+    #[error("{1}")]
+    At(Place, Mistake),
+}
+
+impl From<AllocError> for ListError {
+    ghost from_gives = { λ _ e. e ≡ Memory };
+
+    fn from(_e: AllocError) -> ListError {
+        ListError::Memory
+    }
+}
+
+impl From<RingError> for ListError {
+    ghost from_gives = { λ error e. e ≡ list_error_by error };
+
+    fn from(error: RingError) -> ListError {
+        match error {
+            RingError::Memory => ListError::Memory,
+            RingError::NoServer | RingError::TooMany | RingError::Doubled | RingError::BadAddress =>
+                { ListError::Bad }
+        }
+    }
+}
+
+impl<'a> Options<'a> {
+    /// What matches of [`command`] ask for. The file that they name is read.
+    pub fn of<R: Files>(
+        rt: &R,
+        alloc: Global,
+        matches: &ArgMatches<'a>,
+    ) -> Result<Options<'a>, ListError> {
+        let held = matches.get_str("held").unwrap_or("");
+        let list = matches.get_str("servers");
+        let servers = match list {
+            Some(path) => listed(rt, alloc, path)?,
+            None => named(alloc, matches.get_strs("server").unwrap_or(&[]))?,
+        };
+        let after = matches.get_one::<u64>("join-after").unwrap_or(0);
+        let join = joining(alloc, servers.as_slice(), matches.get_str("join"), after)?;
+        let mut names = Vec::with_capacity(alloc, servers.len())?;
+        let mut addresses = Vec::with_capacity(alloc, servers.len())?;
+        for Server { name, address } in servers {
+            names.push(name).map_err(|_| ListError::Memory)?;
+            addresses.push(address).map_err(|_| ListError::Memory)?;
+        }
+        let ring = Ring::new(alloc, names.as_slice())?;
+        Ok(Options {
+            listen: matches.get_str("listen").ok_or(ListError::Bad)?,
+            ring,
+            settings: ProxySettings {
+                terms: Terms::of(matches),
+                losses: losses_named(matches.get_str("lost").unwrap_or("")),
+                held: size_within(held, 1, MOST_HELD).ok_or(ListError::Held)?,
+                timeout: matches.get_one::<u64>("timeout").ok_or(ListError::Bad)?,
+                addresses,
+                list: owned(alloc, list)?,
+                join,
+            },
+            log: LogOption::of(matches),
+            admin: AdminTerms::of(matches),
+            check: matches.get_flag("check"),
+        })
+    }
+}
+
+/// The servers that a file lists. The error is its mistake.
+fn listed<R: Files>(rt: &R, alloc: Global, path: &str) -> Result<Vec<Server>, ListError> {
+    let servers = text_of(rt, alloc, path).and_then(|text| servers_in(alloc, text.as_str()));
+    servers.map_err(|mistake| list_error_at(Place::File, mistake))
+}
+
+/// The servers of words. The error is their mistake.
+fn named(alloc: Global, words: &[&str]) -> Result<Vec<Server>, ListError> {
+    servers_of(alloc, words).map_err(|mistake| list_error_at(Place::Words, mistake))
+}
+
+/// What a mistake at a place is to who asks for a pool.
+fn list_error_at(place: Place, mistake: Mistake) -> ListError
+    ensures { result ≡ list_error_at place mistake }
+{
+    match mistake {
+        Mistake::Memory => ListError::Memory,
+        _ => ListError::At(place, mistake),
+    }
+}
+
+/// A text of one's own, where there is one.
+fn owned(alloc: Global, text: Option<&str>) -> Result<Option<String>, AllocError> {
+    match text {
+        Some(text) => Ok(Some(text.to_string(alloc)?)),
+        None => Ok(None),
+    }
+}
+
+/// Which server joins the servers that there are, and with which client: none if the client's number is 0, and else that of the word. The error is
+/// the mistake of the word, or that there is no word.
+fn joining(
+    alloc: Global,
+    servers: &[Server],
+    join: Option<&str>,
+    after: u64,
+) -> Result<Option<(Server, u64)>, ListError>
+    ensures nobody { after ≡ 0 → result ≡ Ok None }
+    ensures after { IfOk result (λ joins. option_map (λ joins. joins.1) joins ≡ (if after == 0 then None else Some after)) }
+    ensures name { IfOk result (λ joins. option_map (λ joins. joins.0.name) joins
+        ≡ (if after == 0 then None else option_map (λ word. name_of word.now) join.entry)) }
+    ensures address { IfOk result (λ joins. option_map (λ joins. joins.0.address) joins
+        ≡ (if after == 0 then None else option_map (λ word. address_of word.now) join.entry)) }
+    ensures right { OnOk result ((after ≡ 0) ⊎ (join_mistake (map (λ server. server.name) servers.now) join.entry ≡ None)) }
+    ensures mistake { IfErr result (λ error. (error ≡ ListError.Memory)
+        ⊎ (option_map (λ mistake. list_error_at Place.Join mistake) (join_mistake (map (λ server. server.name) servers.now) join.entry) ≡ Some error)) }
+{
+    if after == 0 {
+        return Ok(None);
+    }
+    match joiner(alloc, servers, join) {
+        Ok(server) => Ok(Some((server, after))),
+        Err(mistake) => Err(list_error_at(Place::Join, mistake)),
+    }
+}
+
+/// The server of the word of `--join`, if there is one, which joins the servers that there are.
+fn joiner(alloc: Global, servers: &[Server], join: Option<&str>) -> Result<Server, Mistake>
+    ensures name { IfOk result (λ server. option_map (λ word. name_of word.now) join.entry ≡ Some server.name) }
+    ensures address { IfOk result (λ server. option_map (λ word. address_of word.now) join.entry ≡ Some server.address) }
+    ensures right { OnOk result (join_mistake (map (λ server. server.name) servers.now) join.entry ≡ None) }
+    ensures mistake { IfErr result (λ mistake. (mistake ≡ Mistake.Memory)
+        ⊎ (join_mistake (map (λ server. server.name) servers.now) join.entry ≡ Some mistake)) }
+{
+    let word = join.ok_or(Mistake::NoneAtAll)?;
+    next_server(alloc, servers, word, servers.len() as u64 + 1)
+}
+
+/// The command of a proxy program, with the meaning, the default and the limits of each option.
+pub fn command<'a>(alloc: Global) -> Result<Command<'a>, AllocError> {
+    Command::new(alloc, PROGRAM)
+        .version(VERSION)
+        .about("A memcached proxy: spreads keys over servers by libketama's ring")
+        .arg(listen(alloc, "127.0.0.1:11212"))?
+        .arg(held(alloc))?
+        .arg(timeout(alloc))?
+        .arg(lost(alloc))?
+        .arg(idle(alloc))?
+        .arg(report(alloc))?
+        .arg(admin(alloc))?
+        .arg(admin_name(alloc))?
+        .arg(accept(
+            alloc,
+            "End once that many clients were accepted and all are gone; 0 for never",
+        ))?
+        .arg(servers(alloc)?)?
+        .arg(join(alloc))?
+        .arg(number(
+            alloc,
+            "join-after",
+            "n",
+            "With which accepted client the server of --join joins; 0 for none",
+        ))?
+        .arg(log(
+            alloc,
+            "Say on standard error, as at a terminal or for the journal, why it cannot listen; each line with its time in UTC, or as a JSON object",
+        ))?
+        .arg(flag(
+            alloc,
+            "check",
+            "Print how many servers and points there are and end, without listening",
+        ))?
+        .arg(server(alloc)?)
+}
+
+fn held<'a>(alloc: Global) -> Arg<'a> {
+    size(
+        alloc,
+        "held",
+        "268435456",
+        "Stop reading a client for which more bytes of requests and replies are kept, until all its answers are sent; 1 to 1099511627776, or with K, M or G",
+    )
+}
+
+fn timeout<'a>(alloc: Global) -> Arg<'a> {
+    Arg::new(alloc, "timeout")
+        .long("timeout")
+        .value_name("milliseconds")
+        .value_parser(ValueParser::unsigned(0, u64::MAX))
+        .default_value("1000")
+        .help(
+            "Give up the connection to a server that has pending commands and has sent nothing for that long; 0 for never",
+        )
+}
+
+fn join<'a>(alloc: Global) -> Arg<'a> {
+    Arg::new(alloc, "join")
+        .long("join")
+        .value_name("host:port")
+        .help("A server that joins while the proxy runs: see --join-after")
+}
+
+fn servers<'a>(alloc: Global) -> Result<Arg<'a>, AllocError> {
+    Arg::new(alloc, "servers")
+        .long("servers")
+        .value_name("file")
+        .help(
+            "A file with the servers, one a line, in place of words; what is appended to it joins while the proxy runs",
+        )
+        .conflicts_with("server")?
+        .conflicts_with("join")
+}
+
+fn server<'a>(alloc: Global) -> Result<Arg<'a>, AllocError> {
+    Arg::new(alloc, "server")
+        .value_name("server")
+        .num_args(1..)
+        .help(
+            "The servers, 1 to 64, each [<name>:<port>=]<host>:<port>; keys are spread by the names, without one by the address",
+        )
+        .required_unless_present("servers")
+}

@@ -1,0 +1,77 @@
+//! What a proxy is started with.
+ghost use Rattle.std.specs.Prelude.{IfSome, IsSomeAnd, MatchBool};
+ghost use Rattle.mc_proxyd.specs.Names.{AreSpelled, HasName, HaveName, IsSpelled, MayLookUp, NeedsNoLookUp};
+
+use crate::servers::Server;
+use mc_program::Terms;
+use mc_proxy::Losses;
+use mc_ring::Address;
+use std::net::SocketAddrV4;
+
+/// What a proxy is started with, beside its ring.
+#[derive(Drop)]
+pub struct ProxySettings {
+    /// On which terms all clients are served.
+    pub terms: Terms,
+    /// What a request is answered if a command of it is lost.
+    pub losses: Losses,
+    /// If more bytes are kept for one client, its turns and reads stop until it has no pending answer.
+    pub held: u64,
+    /// After how many milliseconds a server that has pending commands and sends nothing loses its link; 0 for never.
+    pub timeout: u64,
+    /// Where the servers of the ring are: an address for each, in its order.
+    pub addresses: Vec<Address>,
+    /// The file that lists the servers while the proxy runs, if there is one.
+    pub list: Option<String>,
+    /// Which server joins, and with which client's coming: 1 is the first. Where it cannot, it is tried with each later client.
+    pub join: Option<(Server, u64)>,
+}
+
+impl ProxySettings {
+    /// Whether a host's name may have to be looked up: one of its words has it, or a file, which may have another one later.
+    pub fn may_look_up(&self) -> bool
+        ensures { MatchBool result (MayLookUp self.now.list self.now.join self.now.addresses.items)
+            (NeedsNoLookUp self.now.list self.now.join self.now.addresses.items) }
+    {
+        if self.list.is_some() {
+            return true;
+        }
+        if joins_by_name(&self.join) {
+            return true;
+        }
+        have_name(self.addresses.as_slice())
+    }
+}
+
+/// Whether the server that joins, if one does, has a host's name.
+fn joins_by_name(join: &Option<(Server, u64)>) -> bool
+    ensures { MatchBool result (IsSomeAnd join.now (λ joins. HasName joins.0.address)) (IfSome join.now (λ joins. IsSpelled joins.0.address)) }
+{
+    match join {
+        Some((server, _)) => has_name(&server.address),
+        None => false,
+    }
+}
+
+/// Whether one of these addresses has a host's name.
+fn have_name(addresses: &[Address]) -> bool
+    ensures { MatchBool result (HaveName addresses.now) (AreSpelled addresses.now) }
+{
+    let [address, addresses @ ..] = addresses else {
+        return false;
+    };
+    if has_name(address) {
+        return true;
+    }
+    have_name(addresses)
+}
+
+/// Whether an address has a host's name, and no IPv4 address.
+fn has_name(address: &Address) -> bool
+    ensures { MatchBool result (HasName address.now) (IsSpelled address.now) }
+{
+    match SocketAddrV4::parse_ascii(address.as_bytes()) {
+        Ok(_) => false,
+        Err(_) => true,
+    }
+}

@@ -1,0 +1,55 @@
+//! What is done for the connection to a server at a moment.
+ghost use Rattle.std.specs.Prelude.{◌≡◌};
+ghost use Rattle.mc_proxyd.specs.Turns.{turn_by, until_late};
+
+use crate::limits::CONNECT_MILLIS;
+use crate::notices::Cause;
+
+/// How far the connection to a server is.
+#[derive(Clone, Copy, Debug, PartialEq, Eq)]
+pub enum Stage {
+    /// There is none, and none is tried.
+    Down,
+    /// A try waits for the look-up of its host.
+    Asking,
+    /// It was begun, and no event has said whether it is established.
+    Connecting,
+    /// It is there.
+    Up,
+}
+
+/// What is done for it.
+#[derive(Clone, Copy, Debug, PartialEq, Eq)]
+pub enum Turn {
+    /// Nothing.
+    Rest,
+    /// A try is begun.
+    Begin,
+    /// The try that is under way goes on with what is known of the look-up.
+    GoOn,
+    /// The try has failed.
+    GiveUp(Cause),
+}
+
+/// What is done at a moment, where the last try was begun at another, and the next may begin at a third: all in milliseconds.
+pub fn turn_by(stage: Stage, begun: u64, next: u64, now: u64) -> Turn
+    ensures { result ≡ turn_by stage begun next now }
+{
+    match stage {
+        Stage::Down if now >= next => Turn::Begin,
+        Stage::Down | Stage::Up => Turn::Rest,
+        Stage::Asking => until_late(begun, now, Cause::LookUp, Turn::GoOn),
+        Stage::Connecting => until_late(begun, now, Cause::TimedOut, Turn::Rest),
+    }
+}
+
+/// That a try is given up for a cause if it has taken too long, and else another turn.
+fn until_late(begun: u64, now: u64, cause: Cause, turn: Turn) -> Turn
+    ensures { result ≡ until_late begun now cause turn }
+{
+    if now >= begun.saturating_add(CONNECT_MILLIS) {
+        Turn::GiveUp(cause)
+    } else {
+        turn
+    }
+}
