@@ -54,11 +54,11 @@ add tests/gate/chart.py tests/examples/pool/pool_late_bytes_are_served.txt docs/
 add tests/gate/pools.py --worlds 100
 add tests/gate/pool_mistakes.py 150
 add tests/gate/spellings.py 5
-add tests/gate/refused.py crates/mc_rows/out/mc_rows_tests refusals::clients_are_answered_all_the_same
-add tests/gate/refused.py crates/mc_rows/out/mc_rows_tests refusals::clients_are_answered_all_the_same_over_lru 1
-add tests/gate/refused.py crates/mc_rows/out/mc_rows_tests refusals::clients_are_answered_all_the_same_over_a_table
-add tests/gate/refused.py crates/mc_rows/out/mc_rows_tests large::large_values_are_stored_all_the_same
-add tests/gate/refused.py crates/mc_rows/out/mc_rows_tests large::a_reserve_serves_what_is_refused 1
+add tests/gate/refused.py crates/mc_server_tests/out/mc_server_tests_tests refusals::clients_are_answered_all_the_same
+add tests/gate/refused.py crates/mc_server_tests/out/mc_server_tests_tests refusals::clients_are_answered_all_the_same_over_lru 1
+add tests/gate/refused.py crates/mc_server_tests/out/mc_server_tests_tests refusals::clients_are_answered_all_the_same_over_a_table
+add tests/gate/refused.py crates/mc_server_tests/out/mc_server_tests_tests large::large_values_are_stored_all_the_same
+add tests/gate/refused.py crates/mc_server_tests/out/mc_server_tests_tests large::a_reserve_serves_what_is_refused 1
 add tests/gate/refused.py crates/mc_pool_rows/out/mc_pool_rows_tests pools::dialogues_of_a_pool_go_so
 add tests/gate/refused.py crates/mc_pool_rows/out/mc_pool_rows_tests pools::dialogues_with_missed_losses_go_so
 add tests/gate/refused.py crates/mc_pool_rows/out/mc_pool_rows_tests worlds::links_are_lost_and_back

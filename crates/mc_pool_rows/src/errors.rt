@@ -1,6 +1,5 @@
 //! How errors read.
 
-use mc_fixtures::read_so;
 use mc_link::LinkError;
 use mc_proxy::ProxyError;
 use mc_reply::ReplyError;
@@ -8,6 +7,7 @@ use mc_request::ReadError;
 use mc_ring::RingError;
 use mc_route::RouteError;
 use mc_server::ServerError;
+use mc_server_tests::read_so;
 use mc_store::StoreError;
 use mc_text::KeyError;
 use std::test::Fail;

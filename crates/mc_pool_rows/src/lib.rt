@@ -1,6 +1,6 @@
 //! Tests of rings, links, proxies and worlds, of what no clause says and no script can bring about.
 //!
-//! `mc_rows` has those of servers. What is expected is worked out by hand from the protocol's rules, or is another program's
+//! `mc_server_tests` has those of servers. What is expected is worked out by hand from the protocol's rules, or is another program's
 //! figure, and is never taken from what the program wrote.
 #![tactic(auto)]
 

@@ -1,8 +1,8 @@
 //! The marks at which a session's turns wait, to the byte.
 
 use crate::pools::{ONE, pool};
-use mc_fixtures::with_value;
 use mc_proxy::{Emit, LINK_MARK, LinkTurn, MAX_UNANSWERED, Proxy, ProxyError, Turn, UNSENT_MARK};
+use mc_server_tests::with_value;
 use std::test::Fail;
 
 const GET: &[u8] = b"get a\r\n";

@@ -3,10 +3,10 @@
 //! A call that is refused memory is made again. So a dialogue goes the same way whichever allocation of it is refused, and
 //! `tests/gate/refused.py` refuses each of them in turn.
 
-use mc_fixtures::again;
 use mc_proxy::LinkTurn::{self, Idle, Strange, Took};
 use mc_proxy::{Emit, Losses, Proxy, ProxyError, Turn};
 use mc_ring::{Address, Point, Ring, RingError};
+use mc_server_tests::again;
 use std::alloc::Global;
 use std::test::Fail;
 

@@ -2,11 +2,11 @@
 //! interrupted and fail.
 
 use crate::pools::{ONE, pool};
-use mc_fixtures::Call::{Fails, Moves};
-use mc_fixtures::{Call, MANY, MOMENT, MeagreStore, SCRIPTS, Sides, Stream, WIDE, new_server};
 use mc_proxy::Proxy;
 use mc_proxy_pump::{ClientTally, Pumped, pump_client, pump_link};
 use mc_server::Server;
+use mc_server_tests::Call::{Fails, Moves};
+use mc_server_tests::{Call, MANY, MOMENT, MeagreStore, SCRIPTS, Sides, Stream, WIDE, new_server};
 use mc_stream::Tally;
 use std::alloc::{AllocError, Global};
 use std::test::Fail;

@@ -5,9 +5,9 @@
 ghost use Rattle.std.specs.Prelude.{◌<◌, ◌^◌};
 ghost use Rattle.mc_pool_script.specs.PoolLines.{HasMoment};
 
-use mc_fixtures::again;
 use mc_pool_script::{PoolLine, PoolScript, read_pool_script};
 use mc_script::SimError;
+use mc_server_tests::again;
 use mc_store::ListStore;
 use mc_text::Block;
 use mc_world::{Event, Step, World, WorldError};

@@ -3,7 +3,9 @@
 //! Without memory in reserve a call that is refused is made again. With it no call of the server has to be. `tests/gate/refused.py` refuses
 //! each allocation in turn.
 
-use mc_fixtures::{MOMENT, MeagreStore, WIDE, again, new_server, with_value};
+use crate::fixture_texts::with_value;
+use crate::meagre::MeagreStore;
+use crate::servers::{MOMENT, WIDE, new_server};
 use mc_server::{AnswerLimit, Limited, Server, ServerError, Turn};
 use mc_stream::NoWriter;
 use std::alloc::{AllocError, Global};

@@ -1,10 +1,10 @@
 //! A pump between a server and streams in memory, which move few bytes a call, block, are interrupted and fail.
 
-use mc_fixtures::Call::{Blocks, Fails, Interrupts, Moves};
-use mc_fixtures::{
-    Call, Calls, MANY, MOMENT, MeagreStore, SCRIPTS, Sides, Sink, Stream, WIDE, new_server,
-    with_value,
-};
+use crate::fixture_texts::with_value;
+use crate::meagre::MeagreStore;
+use crate::servers::{MOMENT, WIDE, new_server};
+use crate::streams::Call::{Blocks, Fails, Interrupts, Moves};
+use crate::streams::{Call, Calls, MANY, SCRIPTS, Sides, Sink, Stream};
 use mc_pump::{MAX_ROUNDS, Pumped, UNSENT_MARK, Watch, pump};
 use mc_server::{AnswerLimit, Server};
 use std::alloc::Global;

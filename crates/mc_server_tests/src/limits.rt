@@ -1,6 +1,6 @@
 //! Turns whose answers are within a limit.
 
-use mc_fixtures::{MOMENT, WIDE, new_server};
+use crate::servers::{MOMENT, WIDE, new_server};
 use mc_server::Limited::{self, Refused, Turned};
 use mc_server::Turn::{Idle, Took};
 use mc_server::{AnswerLimit, Server};

@@ -1,6 +1,6 @@
 //! What a reader keeps of a block that is refused, and what it hands out of a large one.
 
-use mc_fixtures::with_value;
+use crate::fixture_texts::with_value;
 use mc_request_reader::{ApartReader, Next, Peek, REQUEST_LIMIT, Reader, TakenSet};
 use std::test::Fail;
 

@@ -1,6 +1,7 @@
 //! What a client is answered where a server has no number or no memory left.
 
-use mc_fixtures::{MOMENT, MeagreStore, Setup, WIDE, new_server};
+use crate::meagre::MeagreStore;
+use crate::servers::{MOMENT, Setup, WIDE, new_server};
 use mc_server::{Server, ServerError};
 use std::test::Fail;
 

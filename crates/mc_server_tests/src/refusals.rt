@@ -4,7 +4,7 @@
 //! whichever allocation is refused: `tests/gate/refused.py` refuses each of them in turn.
 ghost use Rattle.std.specs.Prelude.{◌≡◌, ◌+◌, [], IfOk};
 
-use mc_fixtures::{Setup, WIDE, again, new_server, server_over};
+use crate::servers::{Setup, WIDE, new_server, server_over};
 use mc_server::{Server, ServerError, Turn};
 use mc_store::{FixedHasher, LruStore, Store, StoreError, TableStore};
 use std::alloc::{AllocError, Global};

@@ -1,8 +1,11 @@
 //! A pump whose large values go to a stream in memory from where they are.
 
+use crate::fixture_texts::with_value;
+use crate::meagre::MeagreStore;
 use crate::pumps::{ALL, SIXTEENS, server_with_value};
-use mc_fixtures::Call::{Blocks, Fails, Interrupts, Moves};
-use mc_fixtures::{Call, MANY, MOMENT, MeagreStore, Sides, Stream, WIDE, new_server, with_value};
+use crate::servers::{MOMENT, WIDE, new_server};
+use crate::streams::Call::{Blocks, Fails, Interrupts, Moves};
+use crate::streams::{Call, MANY, Sides, Stream};
 use mc_pump::{Pumped, Watch, pump_gathering};
 use mc_server::{AnswerLimit, Server};
 use std::alloc::Global;
