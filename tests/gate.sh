@@ -59,9 +59,9 @@ add tests/gate/refused.py crates/mc_server_tests/out/mc_server_tests_tests refus
 add tests/gate/refused.py crates/mc_server_tests/out/mc_server_tests_tests refusals::clients_are_answered_all_the_same_over_a_table
 add tests/gate/refused.py crates/mc_server_tests/out/mc_server_tests_tests large::large_values_are_stored_all_the_same
 add tests/gate/refused.py crates/mc_server_tests/out/mc_server_tests_tests large::a_reserve_serves_what_is_refused 1
-add tests/gate/refused.py crates/mc_pool_rows/out/mc_pool_rows_tests pools::dialogues_of_a_pool_go_so
-add tests/gate/refused.py crates/mc_pool_rows/out/mc_pool_rows_tests pools::dialogues_with_missed_losses_go_so
-add tests/gate/refused.py crates/mc_pool_rows/out/mc_pool_rows_tests worlds::links_are_lost_and_back
+add tests/gate/refused.py crates/mc_pool_tests/out/mc_pool_tests_tests pools::dialogues_of_a_pool_go_so
+add tests/gate/refused.py crates/mc_pool_tests/out/mc_pool_tests_tests pools::dialogues_with_missed_losses_go_so
+add tests/gate/refused.py crates/mc_pool_tests/out/mc_pool_tests_tests worlds::links_are_lost_and_back
 add tests/gate/refused_scripts.py
 add tests/gate/serverd.py crates/mc_serverd/out/mc_serverd
 add tests/gate/looks.py crates/mc_serverd/out/mc_serverd

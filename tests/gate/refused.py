@@ -1,7 +1,7 @@
 #!/usr/bin/env python3
 """Refuses each allocation of a test in turn, and sees that the test passes all the same.
 
-Usage: refused.py PROGRAM TEST [COUNT ..]     (crates/mc_server_tests/out/mc_server_tests_tests or crates/mc_pool_rows/out/mc_pool_rows_tests, as `rt ci`
+Usage: refused.py PROGRAM TEST [COUNT ..]     (crates/mc_server_tests/out/mc_server_tests_tests or crates/mc_pool_tests/out/mc_pool_tests_tests, as `rt ci`
 or `rt test` built it, a test's name, and how many in a row are refused: once 1 and once 3, if none is given)
 
 The program is run again and again with a library in front of the C library, which refuses the Nth allocation, for N from 1

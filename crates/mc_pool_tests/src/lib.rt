@@ -2,10 +2,18 @@
 //!
 //! `mc_server_tests` has those of servers. What is expected is worked out by hand from the protocol's rules, or is another program's
 //! figure, and is never taken from what the program wrote.
+//!
+//! # Threads
+//!
+//! Tests of a pool on threads: worked rows over several servers, and that their threads run at the same time.
+//!
+//! No clause says that threads run side by side: here a gate lets no server go on before each other server has taken a request.
 #![tactic(auto)]
 
 #[cfg(test)]
 mod errors;
+#[cfg(test)]
+mod lent;
 #[cfg(test)]
 mod marks;
 #[cfg(test)]
@@ -16,5 +24,7 @@ mod proxy_pumps;
 mod requests;
 #[cfg(test)]
 mod rings;
+#[cfg(test)]
+mod runs;
 #[cfg(test)]
 mod worlds;
