@@ -1,19 +1,19 @@
 #!/usr/bin/env bash
-# Counts the instructions that a request costs, by valgrind's callgrind: the difference of two runs of `mc_bench case` of
+# Counts the instructions that a request costs, by valgrind's callgrind: the difference of two runs of `mc_tools bench case` of
 # different size, less that of two runs that only make what the client sends. It does not change with the machine's load.
 #
-# Usage: instructions.sh [PROGRAM]      (crates/mc_bench/out/mc_bench, which is built where it is missing)
+# Usage: instructions.sh [PROGRAM]      (crates/mc_tools/out/mc_tools, which is built where it is missing)
 set -eu
 program=$(realpath "${1:-/}")
 if [ $# -eq 0 ]; then
-    cd "$(dirname "$0")/../crates/mc_bench"
-    [ -x out/mc_bench ] || rt run > /dev/null
-    program=$PWD/out/mc_bench
+    cd "$(dirname "$0")/../crates/mc_tools"
+    [ -x out/mc_tools ] || rt run > /dev/null
+    program=$PWD/out/mc_tools
 fi
 
 # The instructions of a run.
 instructions() {
-    valgrind --tool=callgrind --callgrind-out-file=/dev/null "$program" "$@" 2>&1 > /dev/null | awk '/Collected/ { print $NF }'
+    valgrind --tool=callgrind --callgrind-out-file=/dev/null "$program" bench "$@" 2>&1 > /dev/null | awk '/Collected/ { print $NF }'
 }
 
 # What one more costs, of the sizes of a kind, in these pieces.

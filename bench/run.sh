@@ -3,8 +3,8 @@
 # Each case is run at full size and at a tenth of it: the time per byte is to be the same. Then it prints how fast a ring
 # finds the owners of keys, and how fast a cache answers over each store.
 set -e
-cd "$(dirname "$0")/../crates/mc_bench"
+cd "$(dirname "$0")/../crates/mc_tools"
 rt run > /dev/null
-./out/mc_bench measure
-./out/mc_bench ring
-exec ./out/mc_bench store
+./out/mc_tools bench measure
+./out/mc_tools bench ring
+exec ./out/mc_tools bench store

@@ -3,7 +3,7 @@
 
 Usage: threads.py PROGRAM [--requests N] [--servers N,N ..] [--rounds N]
 
-PROGRAM is the built mc_thread_bench. It plays N gets and sets of 8 clients over 1, 2 and 4 servers: `threads` with a thread for each
+PROGRAM is the built mc_tools, of which `threads` plays N gets and sets of 8 clients over 1, 2 and 4 servers: `threads` with a thread for each
 server and one for the proxy, `one` with all of them on one thread, and `load`, which only makes what the clients send. The three take
 turns within each round.
 
@@ -36,7 +36,7 @@ class Run(NamedTuple):
 def run_of(program, how, servers, requests):
     """One run: the seconds from start to end, and those of a processor. All requests are to be answered."""
     start = time.perf_counter()
-    process = subprocess.Popen([program, how, str(servers), str(requests)], stdout=subprocess.PIPE)
+    process = subprocess.Popen([program, "threads", how, str(servers), str(requests)], stdout=subprocess.PIPE)
     told = process.stdout.read().decode()
     _, status, usage = os.wait4(process.pid, 0)
     seconds = time.perf_counter() - start

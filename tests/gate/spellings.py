@@ -1,7 +1,7 @@
 #!/usr/bin/env python3
-"""Compares mc_read_back with plain lists of spellings: what a proxy sends for a command, and which bytes are a reply to it.
+"""Compares `mc_tools read_back` with plain lists of spellings: what a proxy sends for a command, and which bytes are a reply to it.
 
-Usage: spellings.py [SEEDS [CASES [PROGRAM]]]      (seeds 1 to 100, 1,000 cases each, mc_read_back as it was built)
+Usage: spellings.py [SEEDS [CASES [PROGRAM]]]      (seeds 1 to 100, 1,000 cases each, mc_tools as it was built)
 
 A case is a random command as some client writes it, and bytes that come in answer: a reply or several, spelled from the
 tables below, whole or with one byte changed, taken out or added, or cut off, in random pieces. Nothing here is taken
@@ -308,7 +308,7 @@ def play(program, seed, count):
     dice = random.Random(seed)
     cases = [case(dice) for _ in range(count)]
     lines = "".join(line + "\n" for line, _ in cases)
-    played = subprocess.run([program], input=lines.encode(), capture_output=True)
+    played = subprocess.run([program, "read_back"], input=lines.encode(), capture_output=True)
     printed = played.stdout.decode().split("\n")[:-1]
     wrong = [(line, wanted, got) for (line, wanted), got in zip(cases, printed) if wanted != got]
     for line, wanted, got in wrong[:3]:
@@ -321,7 +321,7 @@ def play(program, seed, count):
 def main():
     seeds = int(sys.argv[1]) if len(sys.argv) > 1 else 100
     count = int(sys.argv[2]) if len(sys.argv) > 2 else 1000
-    program = sys.argv[3] if len(sys.argv) > 3 else built("mc_read_back")
+    program = sys.argv[3] if len(sys.argv) > 3 else built("mc_tools")
     sys.exit(counted(play(program, seed, count) for seed in range(1, seeds + 1)) if are_built(program) else 1)
 
 

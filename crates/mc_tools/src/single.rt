@@ -1,7 +1,7 @@
 //! The same pool on one thread.
 
-use crate::loads::{BUDGET, CLIENTS, ITEMS, MOMENT, ring_of};
 use crate::tallies::Tally;
+use crate::thread_loads::{BUDGET, CLIENTS, ITEMS, MOMENT, ring_of};
 use anyhow::bail;
 use mc_cache::Cache;
 use mc_item::CasCounter;

@@ -1,6 +1,6 @@
 //! Measures how fast a server takes bytes that come in pieces.
 //!
-//! With no argument each case runs at a thousandth of its size, and its line tells how many bytes were fed and how
+//! With no argument more each case runs at a thousandth of its size, and its line tells how many bytes were fed and how
 //! many answered. With the argument `measure` each case runs at full size, and its line tells the speed too. After
 //! each case is the same at a tenth of the size: the time for a byte is to be the same. With the argument `ring`
 //! it is measured how fast a ring finds the owners of keys, and with `store` how fast a cache answers over each store.
@@ -9,43 +9,39 @@
 //! that counts instructions tells what a request costs: the difference of two sizes of the one, less that of the other.
 //! `link GETS SIZE PIECE` carries so many gets over one link, whose values have so many bytes, and hears the server in pieces.
 //! `hold ITEMS` makes a cache that holds so many items and no more: the memory that two such runs took tells what an item takes.
-#![tactic(auto)]
 
-mod cases;
-mod figures;
-mod links;
-mod loads;
-mod rings;
-mod served;
-mod stores;
-
+use crate::cases::{CASES, Case, Kind};
+use crate::figures::Figures;
+use crate::{links, rings, stores};
 use anyhow::{Context, bail};
-use cases::{CASES, Case, Kind};
-use figures::Figures;
-use std::env::{self, Args};
+use std::env::Args;
 use std::time::Instant;
 
 /// What a run without an argument divides the sizes by.
 const QUICK: u64 = 1_000;
 
-fn main(rt: HostRuntime) -> anyhow::Result<()> {
-    let mut arguments = env::args(&rt)?;
-    let _program = arguments.next();
+/// Measures what the arguments say.
+pub fn measure(rt: &HostRuntime, arguments: &mut Args) -> anyhow::Result<()> {
     let Some(mode) = arguments.next() else {
-        return run_all(&rt, QUICK, false);
+        return measure_little(rt);
     };
     match mode.as_str() {
-        "ring" => rings::measure(&rt),
-        "store" => stores::measure(&rt),
-        "link" => play_link(&rt, &mut arguments),
-        "hold" => stores::hold(&rt, number(&mut arguments, "no items")?),
-        "measure" => run_all(&rt, 1, true),
-        "case" => run(&rt, &case_of(&mut arguments)?, 1, false),
-        "load" => load(&rt, &case_of(&mut arguments)?),
+        "ring" => rings::measure(rt),
+        "store" => stores::measure(rt),
+        "link" => play_link(rt, arguments),
+        "hold" => stores::hold(rt, number(arguments, "no items")?),
+        "measure" => run_all(rt, 1, true),
+        "case" => run(rt, &case_of(arguments)?, 1, false),
+        "load" => load(rt, &case_of(arguments)?),
         _ => bail!(
-            "usage: mc_bench [measure | ring | store | hold ITEMS | link GETS SIZE PIECE | case KIND SIZE PIECE | load KIND SIZE PIECE]"
+            "usage: mc_tools bench [measure | ring | store | hold ITEMS | link GETS SIZE PIECE | case KIND SIZE PIECE | load KIND SIZE PIECE]"
         ),
     }
+}
+
+/// Runs each case at a thousandth of its size.
+pub fn measure_little(rt: &HostRuntime) -> anyhow::Result<()> {
+    run_all(rt, QUICK, false)
 }
 
 /// The next argument, which is a number.

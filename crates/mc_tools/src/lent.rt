@@ -1,6 +1,6 @@
 //! What is lent to a run on threads: clocks, and a gate.
 
-use crate::loads::MOMENT;
+use crate::thread_loads::MOMENT;
 use mc_threads::{Clock, Gate};
 
 /// A clock that gives one moment again and again.

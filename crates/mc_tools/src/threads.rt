@@ -4,41 +4,31 @@
 //! and servers on one thread. `load SERVERS REQUESTS` only makes what the clients send. A tool that tells the time of a process tells
 //! what a request costs: that of one of the first two, less that of the last.
 //!
-//! With no argument each of both plays [`FEW`] requests over 1, 2 and 4 servers. A line tells how many answers came and how
+//! With no argument more each of both plays [`FEW`] requests over 1, 2 and 4 servers. A line tells how many answers came and how
 //! many gets found their key: no client uses another's keys, so both are the same in any order of the threads.
-#![tactic(auto)]
 
-mod lent;
-mod loads;
-mod single;
-mod tallies;
-mod threaded;
-
+use crate::tallies::Tally;
+use crate::thread_loads::{CLIENTS, inputs};
+use crate::{single, threaded};
 use anyhow::{Context, bail};
-use loads::{CLIENTS, inputs};
-use std::env::{self, Args};
-use std::rt::Env;
+use std::env::Args;
 use std::sync::Wait;
 use std::thread::Threads;
 use std::time::Clock;
-use tallies::Tally;
 
 /// How many requests a run without arguments has.
 const FEW: u64 = 800;
 
-fn main(rt: HostRuntime) -> anyhow::Result<()> {
-    run(&rt)
-}
-
 /// Plays what the arguments say.
-fn run<R: Env + Print + Threads + Wait + Clock + Sync + AllocGlobal>(rt: &R) -> anyhow::Result<()> {
-    let mut arguments = env::args(rt)?;
-    let _program = arguments.next();
+pub fn play_as_asked<R: Print + Threads + Wait + Clock + Sync + AllocGlobal>(
+    rt: &R,
+    arguments: &mut Args,
+) -> anyhow::Result<()> {
     let Some(how) = arguments.next() else {
-        return play_all(rt);
+        return play_little(rt);
     };
-    let servers = number(&mut arguments, "no servers")?;
-    let requests = number(&mut arguments, "no requests")?;
+    let servers = number(arguments, "no servers")?;
+    let requests = number(arguments, "no requests")?;
     play(rt, how.as_str(), servers, requests)
 }
 
@@ -48,7 +38,9 @@ fn number(arguments: &mut Args, missing: &'static str) -> anyhow::Result<u64> {
 }
 
 /// Plays few requests, on threads and on one thread.
-fn play_all<R: Print + Threads + Wait + Clock + Sync + AllocGlobal>(rt: &R) -> anyhow::Result<()> {
+pub fn play_little<R: Print + Threads + Wait + Clock + Sync + AllocGlobal>(
+    rt: &R,
+) -> anyhow::Result<()> {
     for servers in [1, 2, 4] {
         play(rt, "threads", servers, FEW)?;
         play(rt, "one", servers, FEW)?;
@@ -69,7 +61,7 @@ fn play<R: Print + Threads + Wait + Clock + Sync + AllocGlobal>(
         "threads" => threaded::play(rt, alloc, servers, inputs.as_slice())?,
         "one" => single::play(alloc, servers, inputs.as_slice())?,
         "load" => Tally::of(&[]),
-        _ => bail!("usage: mc_thread_bench [threads | one | load] SERVERS REQUESTS"),
+        _ => bail!("usage: mc_tools threads [threads | one | load] SERVERS REQUESTS"),
     };
     println!(rt;
         "{how}: servers {servers}, clients {CLIENTS}, requests {requests}, answers {}, hits {}",

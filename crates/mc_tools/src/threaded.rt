@@ -1,8 +1,8 @@
 //! A pool on threads.
 
 use crate::lent::{Open, Ticks};
-use crate::loads::{BUDGET, ITEMS, ring_of};
 use crate::tallies::Tally;
+use crate::thread_loads::{BUDGET, ITEMS, ring_of};
 use mc_threads::{PoolConfig, run_threads};
 use std::alloc::{AllocError, Global};
 use std::sync::Wait;

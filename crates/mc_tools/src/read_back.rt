@@ -6,14 +6,12 @@
 //! reply by its spelling, and last `more` or `strange`. A text whose first is no request with a command is `none`.
 //!
 //! So a model of spellings and replies that was written by itself can be compared with this project's.
-#![tactic(auto)]
 
-mod cases;
-
-use cases::play_line;
+use crate::spelled_cases::play_line;
 use std::io::{self, Read, Write};
 
-fn main(rt: HostRuntime) -> anyhow::Result<()> {
+/// Plays all lines of standard input.
+pub fn play(rt: &HostRuntime) -> anyhow::Result<()> {
     let mut input = Vec::new(rt.alloc());
     let mut reader = rt.reader();
     reader.read_to_end(&mut input)?;
@@ -24,6 +22,6 @@ fn main(rt: HostRuntime) -> anyhow::Result<()> {
             output.push(b'\n')?;
         }
     }
-    io::writer(&rt).write_all(output.as_slice())?;
+    io::writer(rt).write_all(output.as_slice())?;
     Ok(())
 }

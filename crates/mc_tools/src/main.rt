@@ -1,0 +1,42 @@
+//! Tools: what measures speed, and what tests compare with models of their own. No program uses them.
+//!
+//! `bench ..` measures how fast a server takes bytes (`bench.rt`), `threads ..` plays a load over a pool on threads and on one thread
+//! (`threads.rt`), and `read_back` spells commands and reads replies back (`read_back.rt`). With no argument each of them does the
+//! least that it does, the last one first.
+#![tactic(auto)]
+
+mod bench;
+mod cases;
+mod figures;
+mod lent;
+mod links;
+mod loads;
+mod read_back;
+mod rings;
+mod served;
+mod single;
+mod spelled_cases;
+mod stores;
+mod tallies;
+mod thread_loads;
+mod threaded;
+mod threads;
+
+use anyhow::bail;
+use std::env;
+
+fn main(rt: HostRuntime) -> anyhow::Result<()> {
+    let mut arguments = env::args(&rt)?;
+    let _program = arguments.next();
+    let Some(tool) = arguments.next() else {
+        read_back::play(&rt)?;
+        bench::measure_little(&rt)?;
+        return threads::play_little(&rt);
+    };
+    match tool.as_str() {
+        "bench" => bench::measure(&rt, &mut arguments),
+        "threads" => threads::play_as_asked(&rt, &mut arguments),
+        "read_back" => read_back::play(&rt),
+        _ => bail!("usage: mc_tools [bench .. | threads .. | read_back]"),
+    }
+}
