@@ -4,10 +4,10 @@ what a lost server costs, connections, memory, processors and machines.
 
 Usage: scale.py [--write | --check | --beside MC_SIM]
 
-It prints the tables of docs/SCALE.md. With --write each is put there in place of the table that begins with the same row, and the
-picture docs/scale_shares.svg is drawn. With --check it is seen that both are what would be written, and that the shares agree with
-the owners of single keys. With --beside, MC_SIM is the built mc_sim: it plays pools in which 2,000 keys are set, and its account has to
-name the owners that the model names. The last line of both is 'N passed, M failed'.
+It prints its tables. Those of ON_THE_PAGE are in docs/RUNNING.md: with --write each replaces the table there that begins with the same
+row, and the picture docs/scale_shares.svg is drawn. With --check it is seen that both are what would be written, and that the shares agree
+with the owners of single keys. With --beside, MC_SIM is the built mc_sim: it plays pools in which 2,000 keys are set, and its account has
+to name the owners that the model names. The last line of both is 'N passed, M failed'.
 
 The ring is the model of tests/lib/rings.py. A server's share of the keys is the part of the circle before its points: it is exact for a
 great many keys. Its share of the requests is that of 1,000,000 keys by Zipf's law. Both depend on the addresses of the pool. So a
@@ -33,7 +33,7 @@ import scale_picture
 from checks import Wrong, tally, want
 from rings import Ring, hash_of
 
-DOCUMENT, PICTURE = TOP / "docs" / "SCALE.md", TOP / "docs" / "scale_shares.svg"
+DOCUMENT, PICTURE = TOP / "docs" / "RUNNING.md", TOP / "docs" / "scale_shares.svg"
 
 SIZES = (2, 4, 8, 16, 32, 64)
 MOST_SERVERS = 64
@@ -58,8 +58,8 @@ def nine_gets_to_a_set(get, put):
     return get * 0.9 + put * 0.1
 
 
-# What a request costs. The source is bench/RESULTS.md, "A server on a socket" and "A proxy on a socket", what is said of 2026-11-23: a
-# get and a set, one at a time and 32 at a time, with keys of 20 bytes and values of 100.
+# What a request costs, by bench/serve.py on 2026-11-23: a get and a set, one at a time and 32 at a time, with keys of 20 bytes and values
+# of 100. docs/RUNNING.md, "Planning for many servers", names these figures.
 COSTS_OF_A_POOL = {
     "one at a time": Cost(nine_gets_to_a_set(5_348, 5_681), nine_gets_to_a_set(10_305, 12_523)),
     "32 at a time": Cost(nine_gets_to_a_set(861, 1_118), nine_gets_to_a_set(2_423, 2_188)),
@@ -70,7 +70,7 @@ COSTS_OF_A_POOL = {
 FEW_TOGETHER = {"one at a time": Cost(3.0, 1.7), "32 at a time": Cost(4.8, 2.3)}
 
 # Bytes that a proxy has resident: at its start and for each link under load by bench/scale_load.py; for each client that sends 8 gets
-# at a time by bench/RESULTS.md (500 clients), and for each that sends 100 sets at a time by bench/scale_load.py.
+# at a time by bench/serve.py (500 clients), and for each that sends 100 sets at a time by bench/scale_load.py.
 START_OF_A_PROXY, LINK_OF_A_PROXY = 2_000_000, 6_500
 CLIENTS_OF_A_PROXY = {"8 gets at a time": 9_400, "100 sets at a time": 96_000}
 
@@ -247,12 +247,16 @@ def table_of_moves(pools):
     return table(["Servers without and with it", "Even share", "Keys that move", "Another server grows at most by"], rows)
 
 
+def part_with_a_lost_key(count):
+    """The part of the gets of many keys that name a key of one lost server."""
+    return 1 - (1 - 1 / count) ** KEYS_OF_A_GET
+
+
 def table_of_losses(pools):
     rows = []
     for count in SIZES:
         fullest = [share / count for share in pools.each(pools.greatest, count)]
-        of_many = 1 - (1 - 1 / count) ** KEYS_OF_A_GET
-        rows.append([str(count), percent(1 / count), middle(fullest, percent, max), percent(of_many)])
+        rows.append([str(count), percent(1 / count), middle(fullest, percent, max), percent(part_with_a_lost_key(count))])
     head = ["Servers, one of them lost", "Keys that fail", "If it is the fullest", f"Gets of {KEYS_OF_A_GET} keys that fail"]
     return table(head, rows)
 
@@ -297,10 +301,21 @@ def to_two_digits(rate):
 def table_of_pools(pools):
     rows = []
     for count in SIZES:
+        fullest = [share / count for share in pools.each(pools.greatest, count)]
         even, zipf = pools.ratio(count) / count, pools.hottest_ratio(count) / count
         rates = [carried(cost, share) for cost in COSTS_OF_A_POOL.values() for share in (even, zipf)]
-        rows.append([str(count), *map(to_two_digits, rates)])
-    head = ["Servers", *(f"{keys}, {way}" for way in COSTS_OF_A_POOL for keys in ("Even keys", "Zipf's law"))]
+        rows.append([
+            str(count),
+            middle(fullest, percent, max),
+            middle(pools.each(pools.busiest, count), percent, max),
+            percent(statistics.median(pools.each(pools.moved, count))),
+            percent(part_with_a_lost_key(count)),
+            *map(to_two_digits, rates),
+        ])
+    head = [
+        "Servers", "Fullest: keys", "Busiest: requests", "Join: keys that move", f"Loss: gets of {KEYS_OF_A_GET} that fail",
+        *(f"{keys}, {way}" for way in COSTS_OF_A_POOL for keys in ("Even", "Zipf")),
+    ]
     return table(head, rows)
 
 
@@ -327,18 +342,15 @@ def table_of_machines(pools):
         rows.append([
             f"{rate:,}",
             way,
-            f"{rate * cost.server / 1e9:,.1f}",
-            f"{rate * cost.proxy / 1e9:,.1f}",
             f"{servers:,}",
-            f"{math.ceil(servers / SIZES[-1])}",
             f"{proxies:,}",
             f"{math.ceil((servers + proxies) / PROCESSORS_OF_A_MACHINE):,}",
             f"{math.ceil(sum(dear) / PROCESSORS_OF_A_MACHINE):,}",
             f"{rate * BYTES_OF_A_REQUEST * 8 / 1e9:,.1f}",
         ])
     head = [
-        "Requests a second", "A client asks", "Work of servers, processors", "Work of proxies", "Servers", "Pools", "Proxies",
-        f"Machines of {PROCESSORS_OF_A_MACHINE} processors", "Where few come together", "Gbit a second",
+        "Requests a second", "A client asks", "Servers", "Proxies", f"Machines of {PROCESSORS_OF_A_MACHINE} processors",
+        "Machines, if few come together", "Gbit a second",
     ]
     return table(head, rows)
 
@@ -349,9 +361,10 @@ TABLES = {
     "a server joins or leaves": table_of_moves,
     "a lost server": table_of_losses,
     "connections and memory": table_of_connections,
-    "what a pool carries": table_of_pools,
-    "processors and machines": table_of_machines,
+    "pools": table_of_pools,
+    "machines": table_of_machines,
 }
+ON_THE_PAGE = "hot keys", "pools", "machines"
 
 
 # The document and the picture.
@@ -390,8 +403,8 @@ def picture_is_as_drawn(pools):
 
 def write(pools):
     lines = DOCUMENT.read_text().splitlines()
-    for make in TABLES.values():
-        made = make(pools)
+    for name in ON_THE_PAGE:
+        made = TABLES[name](pools)
         start, end = place_of(lines, made)
         lines[start:end] = made
     DOCUMENT.write_text("\n".join(lines) + "\n")
@@ -417,8 +430,8 @@ def shares_are_those_of_single_keys(pools, count):
 
 
 def checks(pools):
-    for name, make in TABLES.items():
-        yield name, table_is_as_computed, (pools, make)
+    for name in ON_THE_PAGE:
+        yield name, table_is_as_computed, (pools, TABLES[name])
     yield "picture", picture_is_as_drawn, (pools,)
     for count in SIZES:
         yield f"single keys of {count} servers", shares_are_those_of_single_keys, (pools, count)
