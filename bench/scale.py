@@ -78,7 +78,7 @@ BUSY = 0.6  # as busy a processor is to be at most
 PROCESSORS_OF_A_MACHINE = 16
 MOST_CONNECTIONS = 1_024  # of a server, and clients of a proxy
 BYTES_OF_A_REQUEST = nine_gets_to_a_set(167, 144)  # with its answer, without what the network adds
-RATES = (1_000_000, 10_000_000)
+RATES = (1_000_000,)
 POOLS_OF_PROXIES = ((1, 8), (8, 64), (64, 64), (256, 64), (1_024, 64))
 
 
