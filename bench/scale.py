@@ -206,8 +206,8 @@ def range_of(values, form):
 
 
 def table(head, rows):
-    lines = [head, ["---"] * len(head), *rows]
-    return [f"| {' | '.join(line)} |" for line in lines]
+    first, *others = (f"| {' | '.join(line)} |" for line in (head, *rows))
+    return [first, "|" + "---|" * len(head), *others]
 
 
 def table_of_shares(pools):

@@ -1,5 +1,5 @@
 #!/usr/bin/env python3
-"""Tries which settings of nutcracker keep a site's keys where mc_proxyd looks for them (docs/MOVING.md has the counts).
+"""Tries which settings of nutcracker keep a site's keys where mc_proxyd looks for them (docs/RUNNING.md has the counts).
 
 Usage: moving.py SERVER [PROXY]      (SERVER is the built mc_serverd, PROXY mc_proxyd; nutcracker is Debian's)
 

@@ -5,8 +5,8 @@ with the proxy.
 Usage: ended.py SERVER PROXY      (SERVER is the built mc_serverd, PROXY mc_proxyd)
 
 mc_proxyd is in front of two servers, with each of its choices of --lost. Each client stores through it. Then the second server ends, and each
-client asks again, for keys of the living server and for those of the other one. What it is to show is what docs/MOVING.md says ("A server that
-dies"). Before the end libmemcached's clients ask both servers themselves, without the proxy ("Clients"). Then the second server is stopped in
+client asks again, for keys of the living server and for those of the other one. What it is to show is what docs/RUNNING.md says
+("Clients"). Before the end libmemcached's clients ask both servers themselves, without the proxy. Then the second server is stopped in
 another pool: with a --timeout below Django's, Django finds all keys of the living one; without it the proxy is given up, and it finds none.
 
 Which server owns a key is known from a model of the ring (tests/lib/rings.py). It prints a line for each call that gives something else;

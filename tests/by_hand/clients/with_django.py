@@ -1,7 +1,7 @@
 #!/usr/bin/env python3
 """Tries Django's cache and its sessions on a server (Debian: python3-django, python3-pymemcache, python3-pylibmc).
 
-Each call of the cache is made with each of Django's two classes for memcached, without OPTIONS, with those that docs/MOVING.md names, and with
+Each call of the cache is made with each of Django's two classes for memcached, without OPTIONS, with those that docs/RUNNING.md names, and with
 those that Django's own page shows (a pool of pymemcache; pylibmc's ketama over two servers). Sessions are kept in the cache alone, or in a
 database too. ended.py has what they show for a server that has ended.
 """
