@@ -1,5 +1,5 @@
 #!/usr/bin/env python3
-"""Fills a server in a control group of memory, and says what becomes of it (docs/TESTING.md has the figures).
+"""Fills a server in a control group of memory, and says what becomes of it (docs/DEVELOPING.md has the figures).
 
 Usage: control_group.py SERVER [--budget MEGABYTES]      (SERVER is the built mc_serverd; 128 MiB unless it is given)
 

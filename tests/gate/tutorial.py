@@ -1,9 +1,9 @@
 #!/usr/bin/env python3
-"""Makes the change that CONTRIBUTING.md teaches, in a scratch copy, and sees that its commands pass.
+"""Makes the change that docs/DEVELOPING.md teaches, in a scratch copy, and sees that its commands pass.
 
 Usage: tutorial.py
 
-The texts, the files that they go to and the commands are read from CONTRIBUTING.md, steps 1 to 5. The copy has the crate, the crates that
+The texts, the files that they go to and the commands are read from docs/DEVELOPING.md, steps 1 to 5. The copy has the crate, the crates that
 it uses, what is built of them, and `prove.py` and `tests/`; it is removed at the end. The change is a definition at the end of a file of
 specs/, a method at the end of a file of src/, whose last `ghost use` line gets a name, and a wrong body that the prover must refuse. `rt fmt` may
 change nothing of it. Where nothing is built, as after `rt ci`, the crates are proved from nothing: that takes one and a half minutes.
@@ -39,7 +39,7 @@ class Step:
 
 def steps():
     """The steps of the page, by their numbers."""
-    parts = STEP.split((TOP / "CONTRIBUTING.md").read_text())
+    parts = STEP.split((TOP / "docs" / "DEVELOPING.md").read_text())
     return {int(number): Step(text) for number, text in zip(parts[1::2], parts[2::2])}
 
 
