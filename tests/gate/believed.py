@@ -5,14 +5,17 @@ of, and what one server answers.
 Usage: believed.py [--check]
 
 From the clauses of a function's contract it follows the names of definitions, as they are imported (`ghost use` in a source, `use` in
-specs/), from one definition to the next, and the types of the sources that these name. It writes docs/BELIEVED.md: the definitions by
-crate and file, how many there are, and their lines, without comments and empty ones. What Rattle's own libraries define is not listed,
-nor are helpers that only proofs cite. Of the first headline it lists the grammar of lines, flags and replies apart, and how calls of a
-`World` read it; it prints all the rest whole, with its comments, as docs/LINEARIZABLE.md.
+specs/), from one definition to the next, and the types of the sources that these name. What Rattle's own libraries define is not listed,
+nor are helpers that only proofs cite. It writes
 
-With --check nothing is written: it is seen that docs/BELIEVED.md and docs/LINEARIZABLE.md are these lists, that README.md tells their
-figures, and that docs/DEFINITIONS.md names each definition. The last line is 'N passed, M failed': one for each definition, and one for
-each file.
+- docs/definitions.txt: each definition by crate and file, with its lines, without comments and empty ones, and which headlines need it;
+- docs/DEFINITIONS.md, between two marks: how many definitions and lines each headline needs;
+- docs/LINEARIZABLE.md: the first headline whole, with its comments, except the grammar of lines, flags and replies, and how calls of a
+  `World` read it.
+
+With --check it writes nothing, and sees that all three are as it would write them, that README.md has the counts of lines, and that
+docs/DEFINITIONS.md explains each of these definitions, in the first column of a table of definitions, and no other. The last line is
+'N passed, M failed': one for each definition, one for each file, and one for each count.
 """
 
 import argparse
@@ -26,8 +29,9 @@ sys.path.insert(0, str(pathlib.Path(__file__).resolve().parents[1] / "lib"))
 
 from suite import CRATES, TOP, counted
 
-LIST, EXPLAINED, README = TOP / "docs" / "BELIEVED.md", TOP / "docs" / "DEFINITIONS.md", TOP / "README.md"
+LIST, EXPLAINED, README = TOP / "docs" / "definitions.txt", TOP / "docs" / "DEFINITIONS.md", TOP / "README.md"
 WHOLE = TOP / "docs" / "LINEARIZABLE.md"
+BEGIN, END = "<!-- tests/gate/believed.py writes from here -->\n", "<!-- to here -->\n"
 
 HEAD = re.compile(r"(?:abbrev|unfoldable|pub|abstract)(?: pub)?(?: (?:record|data))? (\S+)")
 IMPORT = re.compile(r"use Rattle\.(\w+)\.specs\.([\w.]+?)(?:\.\{([^}]*)\}| as (\w+))[ \t]*;?\s*$", re.M)
@@ -37,61 +41,49 @@ RUST_USE = re.compile(r"(?m)^(?:pub )?use (\w+)(?:::\w+)*::(?:\{([^}]*)\}|(\w+))
 
 
 class Root(NamedTuple):
-    """A theorem: its title, the function whose contract it is, the clauses that state it, what it says, and lists of its own for some of
-    the definitions: their title, their crate, file and names, and what is said of them."""
+    """A theorem: its title, its letter in the list, the function whose contract it is, its name on pages, the clauses that state it, and
+    lists of its own for some of the definitions: their title, their letter, and their crate, file and names."""
 
     title: str
+    letter: str
     crate: str
     file: str
     function: str
+    called: str
     clauses: tuple
-    says: str
     apart: tuple = ()
 
 
 GRAMMAR = (
-    "The grammar of lines, flags and replies",
+    "the grammar of lines, flags and replies",
+    "G",
     (
         ("mc_request", "Requests.antt", "requests_of"),
         ("mc_request", "Faults.antt", "fault_line"),
         ("mc_reply", "Spelling.antt", "spelling_of"),
         ("mc_reply", "Spelling.antt", "answer_of"),
     ),
-    "Which requests a text is, and how replies and answers are spelled. Scripts and the Python model of `tests/lib/model.py` try the same.",
 )
 
 READINGS = (
-    "How a world is read",
+    "how a world is read",
+    "W",
     tuple(("mc_world", "Worlds.antt", name) for name in ("WorldState", "text_of", "put_out_of", "history_of")),
-    "`World::text`, `put_out`, `history` and `log` give what these definitions say.",
 )
 
 ROOTS = [
     Root(
-        "Each key of a pool",
+        "Each key of a pool is linearizable",
+        "K",
         "mc_linearizable",
         "worlds.rt",
         "worlds_are_linearizable",
+        "worlds_are_linearizable",
         ("linearizable",),
-        "Whatever is done to a pool, each client gets the answers to its own requests, in order, and each key is linearizable, as a register that may forget.",
         (GRAMMAR, READINGS),
     ),
-    Root(
-        "The account of a pool",
-        "mc_world",
-        "worlds.rt",
-        "step",
-        ("account",),
-        "Whatever is done to a pool, it gives account of each client's bytes and of each server's commands.",
-    ),
-    Root(
-        "One server",
-        "mc_script",
-        "texts.rt",
-        "text_of_script",
-        ("text",),
-        "What is printed for a script is the answers of one history of the server, and they answer the script.",
-    ),
+    Root("The account of a pool", "A", "mc_world", "worlds.rt", "step", "World::step", ("account",)),
+    Root("One server", "S", "mc_script", "texts.rt", "text_of_script", "text_of_script", ("text",)),
 ]
 
 
@@ -276,7 +268,7 @@ def reached(root):
 
 def parted(root):
     """What is read for a theorem alone, and then each list of its own: of the definitions there, and of what they lead to beside."""
-    lists = [{Definition(*it) for it in names} for _, names, _ in root.apart]
+    lists = [{Definition(*it) for it in names} for _, _, names in root.apart]
     alone = led_to(named(*contract_of(root)), set().union(*lists))
     parts = [led_to(names) for names in lists[:1]]
     alone -= set().union(*parts)
@@ -285,7 +277,7 @@ def parted(root):
     return alone, parts
 
 
-# The list.
+# The counts.
 
 
 def sizes(found):
@@ -293,11 +285,46 @@ def sizes(found):
     return len(found), sum(len(lines_of(it)) for it in found)
 
 
+def sizes_by_kind(found):
+    """The sizes of definitions, and of types of the sources."""
+    return [sizes([it for it in found if it.is_type() is kind]) for kind in (False, True)]
+
+
 def told(found):
-    definitions = sizes([it for it in found if not it.is_type()])
-    types = sizes([it for it in found if it.is_type()])
+    definitions, types = sizes_by_kind(found)
     last = f"; {types[0]:,} types of the sources, {types[1]:,} lines" if types[0] else ""
     return f"{definitions[0]:,} definitions, {definitions[1]:,} lines{last}"
+
+
+def row(title, found):
+    definitions, types = sizes_by_kind(found)
+    numbers = (f"{number:,}" if number else "" for number in (*definitions, *types))
+    return f"| {title} | {' | '.join(numbers)} |"
+
+
+def counts():
+    """A table of how much each headline needs."""
+    yield "| Headline | Definitions | Lines | Types | Lines |"
+    yield "|---|---|---|---|---|"
+    for root in ROOTS:
+        alone, parts = parted(root)
+        yield row(f"**{root.title}**: `{root.clauses[0]}` of `{root.crate}::{root.called}`", alone)
+        if parts:
+            yield row(f"of these the register, `{REGISTER.name}`", led_to([REGISTER]) & alone)
+        yield from (row(f"beside these {title}", part) for (title, *_), part in zip(root.apart, parts))
+    yield row("In common to the last two", reached(ROOTS[1]) & reached(ROOTS[2]))
+
+
+def with_counts(page):
+    """The page that explains definitions, with the table between its marks."""
+    before, begin, rest = page.partition(BEGIN)
+    _, end, after = rest.partition(END)
+    if not begin or not end:
+        sys.exit(f"believed.py: {EXPLAINED.relative_to(TOP)} has not both marks")
+    return "".join([before, begin, "\n", *(f"{line}\n" for line in counts()), "\n", end, after])
+
+
+# The list.
 
 
 def order():
@@ -305,51 +332,31 @@ def order():
     return [line.split(":")[0].split()[0] for line in (TOP / "crates.txt").read_text().splitlines() if line.strip() and not line.startswith("#")]
 
 
-def rows(found, place):
-    """A row for each file, lowest crate first."""
-    crates = order()
-    files = sorted({(it.crate, it.file) for it in found}, key=lambda it: (crates.index(it[0]), it[1]))
-    for crate, file in files:
+def lettered():
+    """Each list with its letter."""
+    for root in ROOTS:
+        alone, parts = parted(root)
+        yield root.letter, alone
+        yield from ((letter, part) for (_, letter, _), part in zip(root.apart, parts))
+
+
+def listed():
+    """The list: of each file, lowest crate first, its definitions or types, with the letters of the headlines that need them."""
+    lists, crates = list(lettered()), order()
+    found = set().union(*(part for _, part in lists))
+    yield "What one must believe to believe the headlines of README.md: definitions, and types of the sources, with their lines without comments"
+    yield "and empty ones. docs/DEFINITIONS.md explains them. tests/gate/believed.py writes this list."
+    yield ""
+    for root in ROOTS:
+        yield f"{root.letter}  {root.title[0].lower()}{root.title[1:]}"
+        yield from (f"{letter}  {title}, which {root.letter} needs too" for title, letter, _ in root.apart)
+    for crate, is_type, file in sorted({(it.crate, it.is_type(), it.file) for it in found}, key=lambda it: (crates.index(it[0]), *it[1:])):
         here = {it for it in found if (it.crate, it.file) == (crate, file)}
-        lines = list(definitions_of(crate, file)) if place == "specs" else list(types_of(crate))
-        names = sorted((it.name for it in here), key=lines.index)
-        yield f"| `{crate}/{place}/{file}` | {len(names)} | {sizes(here)[1]} | {', '.join(f'`{name}`' for name in names)} |"
-
-
-def tables(found):
-    """Tables of definitions and of types."""
-    for head, place, kind in (("Definitions", "specs", False), ("Types", "src", True)):
-        here = {it for it in found if it.is_type() is kind}
-        if here:
-            yield from (f"| File | {head} | Lines | Names |", "|---|---|---|---|")
-            yield from rows(here, place)
-            yield ""
-
-
-def section(root):
-    alone, parts = parted(root)
-    clauses = " and ".join(f"`{it}`" for it in root.clauses)
-    of = "World::step" if root.function == "step" else root.function
-    yield from (f"## {root.title}", "", root.says)
-    yield from (f"That is the clause {clauses} of `{root.crate}::{of}`. To believe it, read {told(alone)}.", *beside(root, parts), "")
-    yield from tables(alone)
-    for (title, _, says), part in zip(root.apart, parts):
-        yield from (f"### {title}", "", says, "")
-        yield from tables(part)
-
-
-def beside(root, parts):
-    """What is said of a theorem's own lists, and of its longest part."""
-    if parts:
-        longest = led_to([REGISTER]) & parted(root)[0]
-        yield f"Longest is the register, what each command does to its one item (`{REGISTER.name}`): {told(longest)}."
-        yield from (f"[LINEARIZABLE.md]({WHOLE.name}) prints all of these whole. Beside them there are, below:", "", *numbered(root, parts))
-
-
-def numbered(root, parts):
-    """How long each list of a theorem's own is."""
-    for (title, _, _), part in zip(root.apart, parts):
-        yield f"- {title[0].lower()}{title[1:]}: {told(part)}"
+        lines = list(types_of(crate) if is_type else definitions_of(crate, file))
+        yield from ("", f"{crate}/{'src' if is_type else 'specs'}/{file}")
+        for it in sorted(here, key=lambda it: lines.index(it.name)):
+            letters = "".join(letter if it in part else " " for letter, part in lists)
+            yield f"  {letters} {sizes([it])[1]:4}  {it.name}"
 
 
 # The first headline, printed.
@@ -391,12 +398,12 @@ def printed():
     lines = [
         "# Each key of a pool is linearizable",
         "",
-        f"The clause `linearizable` of `{root.crate}::{root.function}`, printed but for two lists: {told(alone)}.",
+        f"The clause `linearizable` of `{root.crate}::{root.function}`, printed except two lists: {told(alone)}.",
         "Comments and empty lines are not counted. The highest crate is first, and each file is in its own order.",
         "",
-        "Not printed, and listed in [BELIEVED.md](BELIEVED.md):",
+        f"Not printed, and listed in [{LIST.name}]({LIST.name}):",
         "",
-        *numbered(root, parts),
+        *(f"- {title}: {told(part)}" for (title, *_), part in zip(root.apart, parts)),
         "",
         "What Rattle's own libraries define is trusted. [LAWS.md](LAWS.md) says the clause in words, and [DEFINITIONS.md](DEFINITIONS.md) has the",
         "source of each definition. `tests/gate/believed.py` writes this page.",
@@ -405,33 +412,33 @@ def printed():
     return "\n".join([*lines, *whole(root)]).rstrip() + "\n"
 
 
-# The list.
+# The pages.
 
 
-def document():
-    lines = [
-        "# What must be believed",
-        "",
-        "A theorem says no more than the definitions that it names. These are all of them, for the headlines of the README: what their",
-        "clauses name, and what that names in turn, down to Rattle's own libraries, which are trusted. All other definitions of `specs/`",
-        "serve proofs and other calls. Lines are counted without comments and empty ones. [DEFINITIONS.md](DEFINITIONS.md) explains each.",
-        "How a type of the sources is seen by contracts is in its `impl Model`, which is not counted. `tests/gate/believed.py` writes this list.",
-        "",
-    ]
-    for root in ROOTS:
-        lines += section(root)
-    both = reached(ROOTS[1]) & reached(ROOTS[2])
-    return "\n".join([*lines, f"The account and one server have in common {told(both)}.", ""])
+def pages():
+    """What each file is to be."""
+    return {LIST: "".join(f"{line}\n" for line in listed()), EXPLAINED: with_counts(EXPLAINED.read_text()), WHOLE: printed()}
+
+
+def explained():
+    """The names in the first column of each table of definitions."""
+    names, head = set(), ""
+    for line, before in zip(lines := EXPLAINED.read_text().splitlines(), ["", *lines]):
+        head = line if line.startswith("|") and not before.startswith("|") else head
+        if line.startswith("| `") and head.startswith("| Definition |"):
+            names.update(it.strip("◌") for it in re.findall(r"`([^`]+)`", line.split(" | ")[0]))
+    return names
 
 
 def checks():
-    """Whether each thing is right, and what is said where it is not."""
-    explained = set(re.findall(r"[\w'?!]+|>>=", EXPLAINED.read_text()))
-    for it in sorted(set().union(*map(reached, ROOTS))):
-        if not it.is_type():
-            yield it.name in explained, f"docs/DEFINITIONS.md does not name {it.name} of {it.crate}/specs/{it.file}"
-    yield LIST.is_file() and LIST.read_text() == document(), "docs/BELIEVED.md is stale: run tests/gate/believed.py"
-    yield WHOLE.is_file() and WHOLE.read_text() == printed(), "docs/LINEARIZABLE.md is stale: run tests/gate/believed.py"
+    """Whether each thing is right, and what is said if it is not."""
+    names, believed = explained(), {it for it in set().union(*map(reached, ROOTS)) if not it.is_type()}
+    for it in sorted(believed):
+        yield it.name in names, f"docs/DEFINITIONS.md does not explain {it.name} of {it.crate}/specs/{it.file}"
+    more = sorted(names - {it.name for it in believed})
+    yield not more, f"docs/DEFINITIONS.md explains what no headline needs: {', '.join(more)}"
+    for page, text in pages().items():
+        yield page.is_file() and page.read_text() == text, f"{page.relative_to(TOP)} is stale: run tests/gate/believed.py"
     for root in ROOTS:
         count = f"{sizes([it for it in parted(root)[0] if not it.is_type()])[1]:,} lines"
         yield count in README.read_text(), f"README.md does not say that {root.title.lower()} takes {count}"
@@ -442,8 +449,8 @@ def main():
     words.add_argument("--check", action="store_true")
     asked = words.parse_args()
     if not asked.check:
-        LIST.write_text(document())
-        WHOLE.write_text(printed())
+        for page, text in pages().items():
+            page.write_text(text)
         return 0
     found = list(checks())
     for is_right, why in found:
