@@ -58,8 +58,8 @@ def nine_gets_to_a_set(get, put):
     return get * 0.9 + put * 0.1
 
 
-# What a request costs. The source is bench/RESULTS.md, "A server on a socket" and "A proxy on a socket", what is said of 2026-11-23: a
-# get and a set, one at a time and 32 at a time, with keys of 20 bytes and values of 100.
+# What a request cost by bench/serve.py on 2026-11-23, with 50 connections: a get and a set, one at a time and 32 at a time, with keys of
+# 20 bytes and values of 100.
 COSTS_OF_A_POOL = {
     "one at a time": Cost(nine_gets_to_a_set(5_348, 5_681), nine_gets_to_a_set(10_305, 12_523)),
     "32 at a time": Cost(nine_gets_to_a_set(861, 1_118), nine_gets_to_a_set(2_423, 2_188)),
@@ -70,7 +70,7 @@ COSTS_OF_A_POOL = {
 FEW_TOGETHER = {"one at a time": Cost(3.0, 1.7), "32 at a time": Cost(4.8, 2.3)}
 
 # Bytes that a proxy has resident: at its start and for each link under load by bench/scale_load.py; for each client that sends 8 gets
-# at a time by bench/RESULTS.md (500 clients), and for each that sends 100 sets at a time by bench/scale_load.py.
+# at a time by bench/serve.py (500 clients, docs/PERF.md), and for each that sends 100 sets at a time by bench/scale_load.py.
 START_OF_A_PROXY, LINK_OF_A_PROXY = 2_000_000, 6_500
 CLIENTS_OF_A_PROXY = {"8 gets at a time": 9_400, "100 sets at a time": 96_000}
 
