@@ -9,7 +9,7 @@ after it. Told are the milliseconds until the answer of that get, at the median 
 store costs the server while it is filled, by the clock of its process, for the first time and after a flush; and what it has
 resident when it is filled for the first time and for the last.
 
-It prints a table in Markdown, as it is in RESULTS.md.
+It prints a table in Markdown.
 """
 
 import argparse

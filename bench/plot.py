@@ -1,12 +1,12 @@
 #!/usr/bin/env python3
-"""Draws the figures of RESULTS.md beside memcached and nutcracker, as one SVG picture: docs/figures.svg.
+"""Draws the figures of docs/PERF.md beside memcached and nutcracker, as one SVG picture: docs/figures.svg.
 
 Usage: plot.py [--check]
 
 A bar is a ratio, Wiersbol's figure over the other program's: of the processor time of a request, by case, and of memory. The thin line
-over its end is what the middle half of the rounds lie between, and the ring is a later run, where there was one. The figures
-themselves are beside it. The picture has colours for light and for dark pages. With --check nothing is written: it is seen that the
-picture is what the figures give, and the last line is 'N passed, M failed'.
+over its end is what the middle half of the rounds lie between. The figures themselves are beside it, and below them the dates on which
+they were measured, from the tables' column "Measured". The picture has colours for light and for dark pages. With --check nothing is
+written: the picture must be what the figures give, and the last line is 'N passed, M failed'.
 """
 
 import argparse
@@ -16,9 +16,8 @@ import re
 import sys
 from typing import NamedTuple
 
-HERE = pathlib.Path(__file__).resolve().parent
-RESULTS = HERE / "RESULTS.md"
-PICTURE = HERE.parent / "docs" / "figures.svg"
+DOCS = pathlib.Path(__file__).resolve().parent.parent / "docs"
+PAGE, PICTURE = DOCS / "PERF.md", DOCS / "figures.svg"
 
 WIDTH, MARGIN, ROW = 800, 20, 24
 BARS, UNIT, MOST = 262, 190, 1.5  # where bars begin, how long a ratio of 1 is, and the longest that is drawn
@@ -34,7 +33,6 @@ text { font: 13px system-ui, 'Segoe UI', 'DejaVu Sans', sans-serif; fill: #1f232
 .one { stroke: #59636e; stroke-width: 1.4 }
 .grid { stroke: #d8dee4; stroke-width: 1 }
 .spread { stroke: #1f2328; stroke-width: 1.6 }
-.later { stroke: #1f2328; stroke-width: 1.6; fill: none }
 @media (prefers-color-scheme: dark) {
   text { fill: #e6edf3 }
   .faint { fill: #9198a1 }
@@ -42,7 +40,7 @@ text { font: 13px system-ui, 'Segoe UI', 'DejaVu Sans', sans-serif; fill: #1f232
   .bar { fill: #2f6fb8 }
   .one { stroke: #9198a1 }
   .grid { stroke: #2a313c }
-  .spread, .later { stroke: #e6edf3 }
+  .spread { stroke: #e6edf3 }
 }
 """
 DATE = re.compile(r"\d{4}-\d{2}-\d{2}")
@@ -55,14 +53,13 @@ class Row(NamedTuple):
     ours: str
     theirs: str
     ratio: float
+    dates: list
     spread: tuple | None = None
-    later: float | None = None
 
 
 class Table(NamedTuple):
-    """A table of a document, and the text of its section."""
+    """A table of a document."""
 
-    section: str
     head: list
     rows: list
 
@@ -72,17 +69,16 @@ class Table(NamedTuple):
 
 def tables(text):
     """The tables of a document in Markdown."""
-    for section in re.split(r"(?m)^(?=## )", text):
-        for found in re.findall(r"(?m)(?:^\|.*\n)+", section):
-            head, _, *rows = ([cell.strip() for cell in line.strip("|").split("|")] for line in found.splitlines())
-            yield Table(section, head, rows)
+    for found in re.findall(r"(?m)(?:^\|.*\n)+", text):
+        head, _, *rows = ([cell.strip() for cell in line.strip("|").split("|")] for line in found.splitlines())
+        yield Table(head, rows)
 
 
 def table_of(text, *words):
     """The table whose head begins its first columns with these words."""
     found = [it for it in tables(text) if len(it.head) >= len(words) and all(map(str.startswith, it.head, words))]
     if len(found) != 1:
-        sys.exit(f"plot.py: {RESULTS.name} has {len(found)} tables of {' | '.join(words)}")
+        sys.exit(f"plot.py: {PAGE.name} has {len(found)} tables of {' | '.join(words)}")
     return found[0]
 
 
@@ -96,33 +92,30 @@ def first(cell):
 
 
 def times(table):
-    """The rows of a table of processor time: a case, both programs, the ratio and its spread, and perhaps a later run."""
-    has_later = DATE.fullmatch(table.head[-1])
-    for case, ours, theirs, ratio, *more in table.rows:
+    """The rows of a table of processor time: a case, both programs, the ratio and its spread, and last when it was measured."""
+    for case, ours, theirs, ratio, *_, measured in table.rows:
         value, *spread = numbers(ratio)
-        later = numbers(more[-1])[0] if has_later else None
-        yield Row(case.replace("`", ""), f"{first(ours)} ns", f"{first(theirs)} ns", value, tuple(spread), later)
+        yield Row(case.replace("`", ""), f"{first(ours)} ns", f"{first(theirs)} ns", value, DATE.findall(measured), tuple(spread))
 
 
-def memory(table, name, column, unit):
-    """The row of a table of memory, whose first row is ours and whose second the other's."""
-    place = table.head.index(column)
-    ours, theirs = table.rows[0][place], table.rows[1][place]
-    return Row(name, f"{ours} {unit}", f"{theirs} {unit}", round(numbers(ours)[0] / numbers(theirs)[0], 2))
+def memory(table, name, column, unit, programs):
+    """The row of a table of memory, whose rows begin with the names of programs: ours and the other."""
+    place, rows = table.head.index(column), {row[0]: row for row in table.rows}
+    ours, theirs = (rows[program][place] for program in programs)
+    dates = [date for program in programs for date in DATE.findall(rows[program][-1])]
+    return Row(name, f"{ours} {unit}", f"{theirs} {unit}", round(numbers(ours)[0] / numbers(theirs)[0], 2), dates)
 
 
 def groups(text):
-    """What is drawn: of each group its name, what it is beside, its rows, and its dates."""
+    """What is drawn: of each group its name, what it is beside, and its rows."""
     server = table_of(text, "Case", "mc_serverd, ns", "memcached, ns", "Ratio")
     proxy = table_of(text, "Case", "mc_proxyd, ns", "nutcracker, ns", "Ratio")
     items = table_of(text, "1,000,000 items", "MB when empty")
     clients = table_of(text, "500 clients", "MB at the start")
-    for name, other, table, last in (
-        ("Server", "memcached", server, memory(items, "memory of an item of 120 bytes", "bytes an item", "bytes")),
-        ("Proxy", "nutcracker", proxy, memory(clients, "memory with 500 clients", "MB under load", "MB")),
-    ):
-        later = table.head[-1] if DATE.fullmatch(table.head[-1]) else None
-        yield name, other, [*times(table), last], DATE.search(table.section)[0], later
+    of_items = memory(items, "memory of an item of 120 bytes", "bytes an item", "bytes", ("mc_serverd", "memcached"))
+    of_clients = memory(clients, "memory with 500 clients", "MB under load", "MB", ("mc_proxyd", "nutcracker"))
+    yield "Server", "memcached", [*times(server), of_items]
+    yield "Proxy", "nutcracker", [*times(proxy), of_clients]
 
 
 # The picture.
@@ -145,7 +138,7 @@ class Picture:
             self.write(x, words, "end faint")
 
     def row(self, row):
-        """A bar with its spread and its later run, and the figures."""
+        """A bar with its spread, and the figures."""
         self.y += ROW
         middle = self.y - 4.5
         self.write(BARS - 10, row.name, "end")
@@ -154,12 +147,10 @@ class Picture:
             low, high = (BARS + min(it, MOST) * UNIT for it in row.spread)
             ends = f"M {low:.1f} {middle - 3} v 6 M {high:.1f} {middle - 3} v 6"
             self.parts.append(f'<path class="spread" d="M {low:.1f} {middle} H {high:.1f} {ends}"/>')
-        if row.later is not None:
-            self.parts.append(f'<circle class="later" cx="{BARS + min(row.later, MOST) * UNIT:.1f}" cy="{middle}" r="4"/>')
         for x, words, kind in ((RATIOS, f"{row.ratio:.2f}", "end head"), (OURS, row.ours, "end"), (THEIRS, row.theirs, "end faint")):
             self.write(x, words, kind)
 
-    def group(self, name, other, rows, date, later):
+    def group(self, name, other, rows):
         self.head(name, other)
         top, place = self.y + 8, len(self.parts)
         for row in rows:
@@ -172,8 +163,9 @@ class Picture:
         for tenths in range(0, 16, 5):
             self.write(BARS + tenths / 10 * UNIT, f"{tenths / 10:g}", "middle faint")
         self.y += 22
-        more = f"; ring: the run of {later}" if later else ""
-        self.write(BARS, f"{date}; thin line: the middle half of the rounds{more}", "faint")
+        dates = sorted({date for row in rows for date in row.dates})
+        when = " to ".join(dates[:1] + dates[1:][-1:])
+        self.write(BARS, f"{when}; thin line: the middle half of the rounds", "faint")
         self.y += 14
 
     def text(self):
@@ -198,13 +190,13 @@ def main():
     words = argparse.ArgumentParser(description=__doc__, formatter_class=argparse.RawDescriptionHelpFormatter)
     words.add_argument("--check", action="store_true")
     asked = words.parse_args()
-    picture = drawn(RESULTS.read_text())
+    picture = drawn(PAGE.read_text())
     if not asked.check:
         PICTURE.write_text(picture)
         return 0
     same = PICTURE.is_file() and PICTURE.read_text() == picture
     if not same:
-        print(f"docs/{PICTURE.name} is not what bench/{RESULTS.name} gives: run bench/plot.py")
+        print(f"docs/{PICTURE.name} is not what docs/{PAGE.name} gives: run bench/plot.py")
     print(f"{int(same)} passed, {int(not same)} failed")
     return 0 if same else 1
 

@@ -27,7 +27,7 @@ median of all rounds, and between what the middle half of them lie. Some cases a
 million items take, or what a proxy has resident with 500 clients, and `flush` how long a `flush_all` of a million items holds
 up the other connections.
 
-It prints tables in Markdown, as they are in RESULTS.md.
+It prints tables in Markdown; docs/PERF.md has their rows.
 """
 
 import argparse

@@ -11,7 +11,7 @@ A cost is the processor time of the process, its own code and the kernel's work 
 is of the time from start to end, less that of `load`. Both are medians of all rounds; a ratio is that of both costs of a round, and told is
 the median, and between what the middle half of them lie.
 
-It prints a table in Markdown, as it is in RESULTS.md.
+It prints a table in Markdown.
 """
 
 import argparse

@@ -1,7 +1,7 @@
 #!/usr/bin/env python3
 """Sees that each file and folder that the documents and the crates' own comments cite is there, and that the toolchain is named right.
 
-Usage: cited.py      (README.md, docs/*.md, bench/RESULTS.md, and the `//!` and `///` comments of crates/*/src)
+Usage: cited.py      (README.md, docs/*.md, and the `//!` and `///` comments of crates/*/src)
 
 A word in backquotes is a path where it has a slash, or ends as a source, a script or a document does (`.rt`, `.antt`, `.edit`,
 `.py`, `.sh`, `.md`). It is looked for from the top, among the crates, and beside the document. What is cited as `src/..` or
@@ -124,7 +124,7 @@ def names_the_toolchain(documents):
 
 
 def main():
-    documents = [README, *sorted(TOP.glob("docs/*.md")), TOP / "bench" / "RESULTS.md"]
+    documents = [README, *sorted(TOP.glob("docs/*.md"))]
     told = [is_right(document, document.read_text().splitlines()) for document in documents]
     for crate in sorted(path for path in CRATES.iterdir() if (path / "src").is_dir()):
         sources = sorted(crate.glob("src/**/*.rt"))
