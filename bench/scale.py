@@ -189,7 +189,12 @@ class Pools:
 
 
 def percent(part, digits=1):
-    return f"{part * 100:.{digits}f} %"
+    return f"{in_percent(part, digits)} %"
+
+
+def in_percent(part, digits=1):
+    """A part in a column whose head says that it is in percent."""
+    return f"{part * 100:.{digits}f}"
 
 
 def times(ratio):
@@ -231,8 +236,8 @@ def table_of_shares(pools):
 
 
 def table_of_hot_keys(pools):
-    rows = [[f"{count:,}", percent(pools.requests.of_the_hottest(count))] for count in HOTTEST]
-    return table(["The hottest keys", "Of all requests"], rows)
+    rows = [[f"{count:,}", in_percent(pools.requests.of_the_hottest(count))] for count in HOTTEST]
+    return table(["The hottest keys", "% of all requests"], rows)
 
 
 def table_of_moves(pools):
@@ -306,15 +311,15 @@ def table_of_pools(pools):
         rates = [carried(COSTS_OF_A_POOL["one at a time"], share) for share in (even, zipf)]
         rows.append([
             str(count),
-            middle(fullest, percent, max),
-            middle(pools.each(pools.busiest, count), percent, max),
-            percent(statistics.median(pools.each(pools.moved, count))),
-            percent(part_with_a_lost_key(count)),
+            middle(fullest, in_percent, max),
+            middle(pools.each(pools.busiest, count), in_percent, max),
+            in_percent(statistics.median(pools.each(pools.moved, count))),
+            in_percent(part_with_a_lost_key(count)),
             *map(to_two_digits, rates),
         ])
     head = [
-        "Servers", "Fullest: keys", "Busiest: requests", "Join: keys that move", f"Loss: gets of {KEYS_OF_A_GET} keys that fail",
-        "Requests a second, even keys", "By Zipf's law",
+        "Servers", "Fullest: % of keys", "Busiest: % of requests", "Join of the last: % of keys that move",
+        f"Loss: % of gets of {KEYS_OF_A_GET} keys that fail", "Requests a second, even keys", "By Zipf's law",
     ]
     return table(head, rows)
 
