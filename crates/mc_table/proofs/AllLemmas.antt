@@ -107,7 +107,7 @@ last_held ps p all held =
     let bounds = UpTo-member (length ps) p ps all.within held in
     grind arith
 
--- what is left where another than the last is taken out falls apart at the last
+-- if another than the last is removed, what is left splits at the last
 pub split_last : (p : ℕ) (ps : List ℕ) → AreAll ps → SplitAt p ps → (p ≡ length ps → ⊥) → SplitAt (length ps) (left_out p ps)
 split_last p ps all cut differ =
     let all2 : AreAll (cut.front ++ p ∷ cut.back) = subst (λ (l : List ℕ). AreAll l) cut.is all in

@@ -74,7 +74,7 @@ Member-out p q [] ys other (inr held) = held
 Member-out p q (x ∷ xs) ys other (inl here) = inl here
 Member-out p q (x ∷ xs) ys other (inr held) = inr (Member-out p q xs ys other held)
 
--- and the other way
+-- and conversely
 pub Member-in : (p q : ℕ) (xs ys : List ℕ) → Member q (xs ++ ys) → Member q (xs ++ p ∷ ys)
 Member-in p q [] ys held = inr held
 Member-in p q (x ∷ xs) ys (inl here) = inl here

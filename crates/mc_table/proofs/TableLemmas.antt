@@ -27,7 +27,7 @@ got-values [] i e is = absurd cc
 got-values {K} {V} (x ∷ es) zero e is = let same : x ≡ e = cc in ap (λ (y : K × V). Some y.1) same
 got-values (x ∷ es) (suc i) e is = got-values es i e is
 
--- what a look-up gives
+-- what a look-up returns
 pub peek_found : {K V : Type 0} (test : K → Bool) (es : List (K × V)) (ps : List ℕ) (i : ℕ) (value : V) → IsTable es ps → IsAt test es i
     → slice_get (values_of es) i ≡ Some value → Some value ≡ lookup test (in_order es ps)
 peek_found {K} {V} test es ps i value table at is =
