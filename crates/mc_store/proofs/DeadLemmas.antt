@@ -15,7 +15,7 @@ none_dead zero entries all = all
 none_dead (suc count) [] all = absurd (omega arith)
 none_dead (suc count) (entry ∷ entries) all = none_dead count entries (omega arith)
 
--- what is let go is let go of the dead ones
+-- what is freed is freed of the dead ones
 pub dead_let_go : (price count : ℕ) (old new : Entries) → IsLetGo price count old new → IsLetGo price 0 (drop count old) (drop count new)
 dead_let_go price count old new go = record {
   gone = go.gone;

@@ -15,7 +15,7 @@ last_is (entry ∷ entries) last found =
     let same : parts.1 ≡ last = cc in
     subst (λ (l : Entries). l ≡ take (length l - 1) l ++ last ∷ []) (sym parts.2) (rw (ends.1, same) refl)
 
--- there is none where there is no entry
+-- there is none if there is no entry
 last_none : (entries : Entries) → last_entry entries ≡ None → entries ≡ []
 last_none [] none = refl
 last_none (entry ∷ entries) none =
