@@ -1,4 +1,4 @@
--- What a cache holds: this project's own.
+-- The state of a cache: this project's own.
 use Rattle.std.specs.Prelude.{◌≡◌, ℕ, ◌≤◌, ◌<◌, IfSome, List, [], length, Option, None, unwrap_or}
 use Rattle.std.specs.Option.{option_map}
 use Rattle.mc_cache.specs.declared.caches.TheConstants.{MAX_BUDGET, MAX_ITEMS}
@@ -30,7 +30,7 @@ pub record IsHeldWithin (budget limit : ℕ) (items : Items) : Type 0 where
 abbrev pub HasRoom : ℕ → Option ℕ → Type 0
 HasRoom limit most = IfSome most (λ most. limit < most)
 
--- a cache that holds nothing yet
+-- a cache without items
 abbrev pub opening_cache : ℕ → ℕ → ℕ → CacheState
 opening_cache budget limit counter = record { items = []; counter = counter; pending = None; budget = budget; limit = limit }
 

@@ -219,7 +219,7 @@ impl<S: Store + Drop> Cache<S> {
     ///
     /// It copies the key only if it stores a key that is not stored yet, and the block only if it stores it. If
     /// there is no memory for a key that is not stored, or for a stored value that is made longer, the reply is
-    /// `Fault::OutOfMemory`, and nothing changes except what the moment causes.
+    /// `Fault::OutOfMemory`. Then nothing changes except what the moment causes.
     ///
     /// # Errors
     ///

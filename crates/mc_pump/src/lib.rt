@@ -7,8 +7,8 @@
 //! [`mc_stream::read_once`]. A [`Watch`] limits the size of an answer. It counts requests, bytes, and the stores that were refused for lack of
 //! memory.
 //!
-//! `specs/Stretches.antt` defines what a stretch of a connection does to a server, `mc_stream`'s `specs/Sides.antt` what the two sides of a stream
-//! carry, `specs/Pumps.antt` what a pump does between the two, and `specs/Counts.antt` how its watch counts what it served.
+//! `specs/Stretches.antt` defines what a stretch of a connection does to a server, and `mc_stream`'s `specs/Sides.antt` what the two sides of a
+//! stream carry. `specs/Pumps.antt` defines what a pump does between the two, and `specs/Counts.antt` how its watch counts what it served.
 //! [`servers_hold_after_a_stretch`] is a law, and does nothing: a server that is as a history leaves it is after a stretch as the longer history
 //! leaves it.
 #![tactic(auto)]

@@ -66,7 +66,7 @@ left_if : (b : Bool) (coded : Bool) (word : List ℕ) (shown : Shown) (rest : Li
 left_if true coded word shown rest h = refl
 left_if false coded word shown rest h = rw (h refl) refl
 
--- what is asked for in the canonical order is given back in it
+-- what is asked for in the canonical order is returned in it
 asked_onto : (coded : Bool) (word : List ℕ) (show : Show) (shown : Shown) (rest : List ℕ) → ShowsAsked show shown
     → flags_onto coded word shown (show_words show) rest ≡ flags_onto false [] shown canonical_flags rest
 asked_onto coded word show shown rest asked = grind (arith, codes, cas_if, flags_if, size_if, left_if)

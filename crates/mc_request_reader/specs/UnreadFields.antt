@@ -23,7 +23,7 @@ pub record IsUnread (r : Inside) : Type 0 where
   -- nothing is whole before `wanted` bytes
   pub short : IsShortOf r.wanted (drop r.start r.buffer.items)
   pub limit : r.wanted ≤ REQUEST_LIMIT
-  -- with so many it is whole, if that is known
+  -- with `wanted` bytes it is whole, if that is known
   pub whole : r.sure ≡ true → IsWholeFrom r.wanted (drop r.start r.buffer.items)
   pub empty : IsEmptyWhile r.dropping (drop r.start r.buffer.items)
   -- nothing is kept once nothing is read any more

@@ -17,10 +17,10 @@ use std::marker::Model;
 /// A [`Reader`] for callers that keep the data blocks of large `set`s. Contracts see of it what they see of a reader, and each call
 /// that a reader has promises what the reader's does.
 ///
-/// A `set` line is kept apart if it begins a piece of at least 1,024 bytes, nothing else is kept, and it announces a data block of at
-/// least 4,096 bytes. The bytes of its block are then copied once, as they arrive, into memory of its own, which
-/// [`ApartReader::take_set`] moves out. If something has arrived after the block, or the block has no line end, [`ApartReader::peek`]
-/// borrows it like any other.
+/// A `set` line is kept apart under three conditions: it begins a piece of at least 1,024 bytes, nothing else is kept, and it
+/// announces a data block of at least 4,096 bytes. The bytes of its block are then copied once, as they arrive, into memory of its
+/// own, which [`ApartReader::take_set`] moves out. If something has arrived after the block, or the block has no line end,
+/// [`ApartReader::peek`] borrows it like any other.
 #[derive(Drop)]
 pub struct ApartReader {
     alloc: Global,

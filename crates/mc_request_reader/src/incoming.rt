@@ -119,7 +119,7 @@ fn room_for(come: usize, wanted: usize) -> usize
     wanted.min(come.saturating_mul(ROOM_FOR)).max(come)
 }
 
-/// Makes room for `more` further bytes, if with them there are no more than `wanted`. If there is not so much memory, the room
+/// Makes room for `more` further bytes, if with them there are no more than `wanted`. If there is too little memory, the room
 /// stays as it was.
 fn make_room(bytes: &mut Vec<u8>, more: usize, wanted: usize)
     ensures { bytes.new.items ≡ bytes.old.items }

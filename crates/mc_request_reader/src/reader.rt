@@ -26,8 +26,8 @@ pub enum Next {
 /// Each byte is read a constant number of times, however the text is cut. The end of a line is searched for once. A line whose
 /// block has not arrived whole is read once more when it has. A refused block is dropped while it arrives. After a `feed` or a
 /// `consume` it is known whether something is whole. If nothing is, no call reads a byte until more arrive, with one exception. If
-/// a `consume` brought a short line to the front, of at most 512 bytes, each look and each [`Reader::ready`] until the next feed
-/// reads the words of it that may announce a block. If something is whole, `ready` reads no byte, and [`Reader::peek`],
+/// a `consume` brought a short line to the front, of at most 512 bytes, each look and each [`Reader::ready`] reads the words of it
+/// that may announce a block. That lasts until the next feed. If something is whole, `ready` reads no byte, and [`Reader::peek`],
 /// [`Reader::peek_get`] and [`Reader::peek_lone`] each read what is first, at each call: its line, and no more than 15 bytes behind
 /// that. If nothing is whole, a reader keeps fewer than [`REQUEST_LIMIT`](crate::REQUEST_LIMIT) bytes.
 #[derive(Drop)]

@@ -20,7 +20,7 @@ pub none_left : (keys : List (List ℕ)) (more : Bool) → more ≡ nat_lt 0 (le
 none_left [] more is ended = refl
 none_left (key ∷ keys) more is ended = let none : nat_lt 0 (length (key ∷ keys)) ≡ false = sym is ∙ ended in absurd (grind (arith, nat_tests, none))
 
--- what is left of two texts, one after the other
+-- what is left of two texts, joined
 drop-both : (count : ℕ) (xs ys : List ℕ) → drop count (xs ++ ys) ≡ drop count xs ++ drop (count - length xs) ys
 drop-both zero xs ys = let none : 0 ≡ 0 - length xs = omega arith in ap (λ (n : ℕ). xs ++ drop n ys) none
 drop-both (suc n) [] ys = let all : suc n ≡ suc n - 0 = omega arith in ap (λ (k : ℕ). drop k ys) all

@@ -219,7 +219,7 @@ update_fits s t update show coded moment refused reply front good by_front =
     let told : (step_of s (atoms.Meta (metas.Update update show)) moment refused).1 ≡ filled reply front = ap (λ (o : Outcome). o.1) by_front in
     rw told at (told_fits (update_value_room update) show moment Plain _ _ (update_step-short at update coded moment refused good))
 
--- what holds of a result that is no error
+-- what is true of a result that is no error
 pub if_ok_then : {A E : Type 0} (r : Result A E) (P Q : A → Type 0) → ((a : A) → P a → Q a) → IfOk r P → IfOk r Q
 if_ok_then (Ok a) P Q next h = next a h
 if_ok_then (Err e) P Q next h = tt

@@ -58,7 +58,7 @@ gets_tell_none s exptime with_cas moment refused (key ∷ keys) =
     let first : is_refusal (step_of s (atoms.Get key exptime with_cas) moment refused).1 ≡ false = get_tells_none t key (body_at key t.items) exptime with_cas moment in
     rw first (gets_tell_none (step_of s (atoms.Get key exptime with_cas) moment refused).0 exptime with_cas moment refused keys)
 
--- what holds of two holds of the one that is chosen
+-- what is true of two is true of the one that is chosen
 either : {A : Type 0} (P : A → Type 0) (test : Bool) (x y : A) → P x → P y → P (if test then x else y)
 either P true x y first second = first
 either P false x y first second = second

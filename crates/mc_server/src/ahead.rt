@@ -144,16 +144,16 @@ impl Ahead {
         guess.unwrap_or(0)
     }
 
-    /// Looks ahead: it prefetches the items of the keys of a retrieval that is first in a text and has `size` bytes, and of the requests
-    /// after it, if the cache finds several items faster together. It takes what the connection keeps of the last look, and returns what it
+    /// Looks ahead, if the cache finds several items faster together: it prefetches the items of the keys of a retrieval that is first in a
+    /// text and has `size` bytes, and of the requests after it. It takes what the connection keeps of the last look, and returns what it
     /// keeps of this one.
     ///
     /// A look begins behind all lines that the last one took, so at most two looks read each byte, however the text is cut. If it finds
     /// fewer than three keys, and leaves text enough for another one, the next begins 4 requests later. If no more than half of its keys
     /// have a guess, the next begins 4 requests later too, and then 8, 16, 32 and 64, as long as none finds more. Each of its refused lines
     /// beyond an eighth of its keys delays the next one by 4 requests more, and by one for 128 bytes, to 64 at most. Requests at which no
-    /// look could begin are not counted: those without a key, or with a key in base64, those that are refused, those in lines that the look
-    /// took, and those with fewer than 64 bytes from there on.
+    /// look could begin are not counted: those without a key, or with a key in base64, refused ones, those in lines that the look took, and
+    /// those with fewer than 64 bytes from there on.
     #[inline]
     pub fn look<S: Store + Drop>(
         &mut self,

@@ -24,8 +24,8 @@ const DELETE: u8 = 127;
 
 /// The keys of the first requests of a text, in their order, as many as there is room for.
 ///
-/// A line is taken only if it ends where the reader of requests ends it, and, if it is a retrieval, only if the reader would not refuse it:
-/// else it and all after it are left out. So the keys of each taken line are looked up, unless it has one key and is refused. A key in
+/// A line is taken only if it ends where the reader of requests ends it. A retrieval is taken only if the reader would not refuse it. Else
+/// the line and all after it are left out. So the keys of each taken line are looked up, unless it has one key and is refused. A key in
 /// base64 is left out if that flag is in the first 64 bytes of the flags, since its word is not what is looked up.
 #[derive(Drop)]
 pub struct FirstKeys<'a> {

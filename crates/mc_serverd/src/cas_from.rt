@@ -21,7 +21,7 @@ pub enum CasFrom {
     /// Above this one: below 2^63.
     Last(u64),
     /// Above 2^30 for each second since 1970, as the server starts. A number that was read before then is that of no item that is stored
-    /// after, if the clock was not set back, and no server stored more than 2^30 items a second since it started.
+    /// after. This needs that the clock was not set back, and that no server stored more than 2^30 items a second since it started.
     Now,
 }
 

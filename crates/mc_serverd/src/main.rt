@@ -13,8 +13,8 @@
 //! [`PROGRAM`].
 //!
 //! [`tell_memory`] reports how much memory a server with its settings may come to take. [`serve`] reports on standard error, at
-//! most once in a second, that a request was refused whose answer may be too large, and, if the settings ask for it, what it has
-//! done. The store counts its operations, so that no layer between has to.
+//! most once in a second, that a request was refused whose answer may be too large. If the settings ask for it, it also reports
+//! what it has done. The store counts its operations, so that no layer between has to.
 //!
 //! [`serve`] waits for its sockets, and may wait for ever. [`bind`] resolves a name, and may wait for that. No other call waits. No
 //! contract says what a socket carries. Proved of a client's turn are that its connection alone is pumped, at the clock's moment,

@@ -57,8 +57,8 @@ pub fn serve<R: Net + RandomSource + Wait + Files + Print + EprintSeldom, C: Sec
     serve_rounds(rt, alloc, listener, service.terms.accept, clock, &mut host)
 }
 
-/// Makes a server without a connection that starts in a second, over an empty cache whose hashes are keyed by random numbers, and whose
-/// store counts its operations. It takes the reserve.
+/// Makes a server without a connection that starts in a second, over an empty cache. Random numbers key the hashes of the cache, and
+/// its store counts its operations. It takes the reserve.
 fn new_server<R: RandomSource>(
     rt: &R,
     alloc: Global,

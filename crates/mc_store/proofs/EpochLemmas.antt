@@ -176,7 +176,7 @@ replaces key epoch count price old mid new held after parted found now still is 
       dead = subst (λ (es : Entries). IsLetGo price 0 es (drop count new)) wrote.dead (dead_let_go price count mid new go);
     }
 
--- what letting a dead entry go leaves that a look-up has promoted
+-- what freeing a dead entry leaves that a look-up has promoted
 pub lets_go : (key : List ℕ) (epoch count : ℕ) (old mid new : Entries) (held : Held) → IsParted epoch count old
     → Some held ≡ lookup (bytes_eq key) old → held.epoch ≢ epoch → mid ≡ written key old held → new ≡ drop 1 mid
     → IsParted epoch count new × (live count new ≡ live count old) × (body_at key (live count old) ≡ None)

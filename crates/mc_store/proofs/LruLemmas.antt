@@ -24,7 +24,7 @@ last_none (entry ∷ entries) none =
     let at : last_entry (parts.0 ++ parts.1 ∷ []) ≡ None = subst (λ (l : Entries). last_entry l ≡ None) parts.2 none in
     absurd cc
 
--- what is taken out from the end, and what is left
+-- what is removed from the end, and what is left
 pub pops_last : (old new : Entries) (result : Option (List ℕ × Held)) → result ≡ last_entry old → new ≡ take (length old - 1) old
     → IfSome result (λ last. old ≡ new ++ last ∷ [])
 pops_last old new None is left = tt

@@ -73,8 +73,8 @@ pub type TableStore<H> = HashStore<Table<Key, Held, H>>;
 /// each entry, except dropping the store. That of an [`LruStore`] reserves its search table alone, for 9 * 2^k items, the least such number
 /// that is enough; each new item then takes a node. The memory of dead entries stays reserved until they are freed.
 ///
-/// In the search table of an [`LruStore`] a key that is removed from a crowded part leaves a tombstone. If no free place is left, as may be
-/// after long eviction or a clear, `put_front` first rebuilds that table, which takes time for each entry but hashes none. That is done in
+/// In the search table of an [`LruStore`] a key that is removed from a crowded part leaves a tombstone. No free place may be left after
+/// long eviction or a clear. Then `put_front` first rebuilds that table, which takes time for each entry but hashes none. That is done in
 /// place if the entries, including the new one, are at most half of its capacity. Else the table is doubled, and only that takes memory;
 /// then they are at most half of it, so this happens once in a store's life. If memory is refused, so is the item, and the items are
 /// unchanged.

@@ -35,8 +35,8 @@ pub trait Store {
 
     /// Returns the body under the key, and a guess of its item. The item of the given guess is compared first. The order stays.
     ///
-    /// The guess is right until an item is inserted, replaced or removed, or a call other than [`Store::peek`], [`Store::find`]
-    /// and [`Store::guess_all`] is given a key that is not stored: each of these may move items.
+    /// The guess is right until an item is inserted, replaced or removed. Calls other than [`Store::peek`], [`Store::find`] and
+    /// [`Store::guess_all`] also end it, if their key is not stored. Each of these may move items.
     fn find(&self, key: &[u8], _guess: u32) -> Option<(u32, &Body)>
         ensures { option_map (λ found. found.1.now) result ≡ body_at key.now (items self.now) }
     {

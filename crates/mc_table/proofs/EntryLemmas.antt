@@ -1,4 +1,4 @@
--- Entries in the order of places: what is found, taken out, written and put.
+-- Entries in the order of places: what is found, removed, written and inserted.
 use Rattle.std.proofs.Common.{◌≡◌, ℕ, zero, suc, ◌-◌, ◌<◌, ◌≤◌, inl, inr, Bool, true, false, cond, eqb, List, [], ◌∷◌, ◌++◌, length, take, set, get_or, Option, Some, None, refl, ap, ◌∙◌, subst, arith}
 use Rattle.std.specs.Prelude.{slice_get}
 use Rattle.std.specs.Option.{option_map}
@@ -145,7 +145,7 @@ pub lookup_by_entry : {K V : Type 0} (test : K → Bool) (es : List (K × V)) �
 lookup_by_entry test [] = refl
 lookup_by_entry {K} {V} test (e ∷ es) = grind (arith, lookup_by_entry test es)
 
--- one taken out
+-- one removed
 
 pub length-renumbered : (from to : ℕ) (ps : List ℕ) → length (renumbered from to ps) ≡ length ps
 length-renumbered from to [] = refl

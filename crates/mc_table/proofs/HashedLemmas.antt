@@ -1,4 +1,4 @@
--- Slots in the chains of their hashes: what is found, taken out, put and written.
+-- Slots in the chains of their hashes: what is found, removed, inserted and written.
 use Rattle.std.proofs.Common.{◌≡◌, ◌≢◌, ◌⊎◌, ℕ, zero, suc, ◌+◌, ◌-◌, ◌<◌, ◌^◌, inl, inr, Bool, true, false, List, [], ◌∷◌, ◌++◌, length, map, set, get_or, get_or-set_same, Option, Some, None, refl, sym, ap, ◌∙◌, subst, arith}
 use Rattle.std.specs.Prelude.{◌==◌, if◌then◌else◌, slice_get, IfSome}
 use Rattle.std.specs.List.{swap_remove}

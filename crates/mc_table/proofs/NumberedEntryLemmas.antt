@@ -42,7 +42,7 @@ module _ {T : Type 0} where
         | false ↦ λ h. ap (λ (others : List (ℕ × T)). e ∷ others) (again h)
       ]) was
 
-  -- an entry that is taken out is not another one
+  -- an entry that is removed is not another one
   pub without_other : (number other : ℕ) (es : List (ℕ × T)) → number ≢ other → entry_of (without number es) other ≡ entry_of es other
   without_other number other [] differ = refl
   without_other number other (e ∷ es) differ =

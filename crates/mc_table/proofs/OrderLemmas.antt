@@ -175,7 +175,7 @@ dropped_last links places loop all count small =
       small = omega arith;
     }
 
--- the last place is taken out
+-- the last place is removed
 pub ring_last_out : (links : List Link) (places : List ℕ) (place : ℕ) → IsRing links places → SplitAt place places → place ≡ length places
     → IsRing (take (length (unlinked links place) - 1) (unlinked links place)) (renumbered (length places) place (left_out place places))
 ring_last_out links places place ring cut last =
@@ -188,7 +188,7 @@ ring_last_out links places place ring cut last =
     let after = dropped_last (unlinked links place) (left_out place places) loop all (omega arith) (omega arith) in
     grind (arith, renumbered-same)
 
--- another place is taken out, and the last takes its number
+-- another place is removed, and the last takes its number
 pub ring_other_out : (links : List Link) (places : List ℕ) (place next : ℕ) → IsRing links places → 0 < place → SplitAt place places → (place ≡ length places → ⊥)
     → next ≡ (link_at (unlinked links place) (length places)).after → (after : List Link) → after ≡ linked_before (unlinked (unlinked links place) (length places)) place next
     → IsRing (take (length after - 1) after) (renumbered (length places) place (left_out place places))
@@ -314,7 +314,7 @@ last_ring links one place last ring positive within is at same =
     subst (λ (l : List Link). IsRing (take (length l - 1) l) (renumbered (length (places_of links)) place (left_out place (places_of links)))) (sym is)
     (ring_last_out links (places_of links) place ring cut lastly)
 
--- what a `Vec` holds that is a ring
+-- the items of a `Vec` that are a ring
 
 pub ring_at : (items links : List Link) (places : List ℕ) → items ≡ links → IsRing links places → IsRing items (places_of items)
 ring_at items links places is ring = subst (λ (l : List Link). IsRing l (places_of l)) (sym is) (ring_own links places ring)

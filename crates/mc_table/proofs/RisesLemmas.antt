@@ -41,7 +41,7 @@ module _ {T : Type 0} where
   rises_push low [] next value rises = (rises, omega arith)
   rises_push low (e ∷ es) next value rises = (rises.0, rises_push (e.0 + 1) es next value rises.1)
 
-  -- an entry is taken out
+  -- an entry is removed
   pub rises_without : (low : ℕ) (es : List (ℕ × T)) (next number : ℕ) → Rises low es next → Rises low (without number es) next
   rises_without low [] next number rises = rises
   rises_without low (e ∷ es) next number rises =
@@ -59,7 +59,7 @@ module _ {T : Type 0} where
   rises_lent low es next place own value is rises =
       subst (λ (n : ℕ). Rises low (set es place (n, value)) next) (ap (λ (e : ℕ × T). e.0) (sym is)) (rises_set low es next place own value rises)
 
-  -- what was taken out is not there
+  -- what was removed is not among the others
   pub without_own : (low : ℕ) (es : List (ℕ × T)) (next number : ℕ) → Rises low es next → entry_of (without number es) number ≡ None
   without_own low [] next number rises = refl
   without_own low (e ∷ es) next number rises =

@@ -211,7 +211,7 @@ table_nowhere test es ps table none other e is =
 pub no_items : {X : Type 0} (es : List X) (ps : List ℕ) → IsTable es ps → last_of ps ≡ 0 → in_order es ps ≡ []
 no_items es ps table is = ap (λ (l : List ℕ). in_order es l) (table_empty es ps table is)
 
--- a place that was put in front and is taken out again
+-- a place that was put in front and is removed again
 pub undone : (n : ℕ) (ps : List ℕ) → renumbered n n (left_out n (n ∷ ps)) ≡ ps
 undone n ps = renumbered-same n (left_out n (n ∷ ps)) ∙ left_out-head n ps
 

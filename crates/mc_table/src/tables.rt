@@ -24,14 +24,14 @@ use std::mem;
 /// A call with a key hashes it once and searches once. Given a guess that is right, it does neither. `put` hashes a key that is not there
 /// twice. `put_front` and `tag` hash once and search nothing, and the other calls hash nothing. A search passes the entries of one bucket.
 /// Removing an entry passes those of two: its own, and that of the last entry, which takes its place. The constructor fixes the number of
-/// buckets: at least one for each entry that it takes room for (up to 2^31). So no call but `clear` does work that grows with the entries,
-/// as long as no more are in the table than it was made for and hashes spread. It never rehashes.
+/// buckets: at least one for each entry that it takes room for (up to 2^31). So only `clear` does work that grows with the entries, as
+/// long as the table has no more than it was made for and hashes spread. It never rehashes.
 ///
 /// # Memory
 ///
 /// The constructor reserves room for `entries` entries. A table holds fewer than 2^32: one more is refused as if there were no memory. An
-/// entry takes its key, its value, 8 bytes beside them, 8 in the order, and 4 to 8 for the heads of the buckets (4 bytes each, of which
-/// there are at least 16 and at most 2^31).
+/// entry takes its key, its value, 8 bytes beside them, 8 in the order, and 4 to 8 for the heads of the buckets. A head has 4 bytes, and
+/// there are at least 16 heads and at most 2^31.
 #[derive(Drop)]
 pub struct Table<K: Eq + Hash, V, S: BuildHasher> {
     entries: Chained<K, V, S>,

@@ -5,8 +5,8 @@
 //! number. [`Key::plain`] makes a key of a word, and [`Key::of_bytes`] if the bytes are known to be a key. [`Key::coded`] makes a key of
 //! a word in base64. [`read_coded`] decodes such a word into the caller's room, [`is_coded_key`] only says whether it is a key, and
 //! [`write_coded`] encodes a key. [`KeyBytes`] queries a map of keys by bytes: a look-up makes no key. [`Block`] is the bytes of a data
-//! block. [`let_go`] and [`drop_front`] are for buffers that are consumed from the front, [`give_back`] for a buffer that is not needed
-//! for a while, and [`append`] for a buffer that has room.
+//! block. [`let_go`] and [`drop_front`] are for buffers that are consumed from the front. [`give_back`] is for a buffer that is not
+//! needed for a while, and [`append`] for one that has room.
 //!
 //! Each call returns exactly what the definition of its name in `specs/` says of the bytes. Spaces, line ends and key bytes are searched
 //! [`LANES`] at a time, if there are as many. Only what makes a key or a block takes memory. [`coded_keys_have_one_word`] is a law, and
@@ -16,16 +16,17 @@
 //!
 //! A form says what can be spelled, field by field, and how that is read.
 //!
-//! A form (`specs/Forms.antt`) is a text, a number, a block of a given size, or one of two forms, and then the form of what follows. Each
-//! field may depend on the ones before: a block's size is the number that was read. A form defines three things: which values its fields
-//! can have (`Path`), how these are spelled (`word`) and what they stand for (`meant`). `read` reads it from bytes that arrive in pieces.
-//! It returns what was meant and the bytes after it, or says that more bytes must arrive, or that no spelling begins with these bytes.
+//! A form (`specs/Forms.antt`) is a text, a number, a block of a given size, or one of two forms. After it is the form of what follows.
+//! Each field may depend on the ones before: a block's size is the number that was read. A form defines three things: which values its
+//! fields can have (`Path`), how these are spelled (`word`) and what they stand for (`meant`). `read` reads it from bytes that arrive in
+//! pieces. It returns what was meant and the bytes after it, or says that more bytes must arrive, or that no spelling begins with these
+//! bytes.
 //!
 //! The law of forms (`proofs/FormLaws.antt`, `is_read`): if a form is clear, exactly what is spelled is read. It is read whole as soon as
 //! its spelling has arrived. The reading is More while the bytes are the beginning of a spelling, and Strange from the first byte on with
-//! which no spelling goes on. A form is clear if what follows a number does not begin with a digit, something follows each block, and no
-//! spelling of one of two forms begins one of the other. `proofs/LeadLemmas.antt` decides that by computing. `proofs/CoverLaws.antt`
-//! states the law for spellings that are defined by other means, and that a form covers.
+//! which no spelling goes on. A form is clear under three conditions: what follows a number does not begin with a digit, something
+//! follows each block, and no spelling of one of two forms begins one of the other. `proofs/LeadLemmas.antt` decides that by computing.
+//! `proofs/CoverLaws.antt` states the law for spellings that are defined by other means, and that a form covers.
 //!
 //! In code a form is a function that calls one function per field, in the form's order, with a `?` after each: [`text`], [`number`],
 //! [`number_if`] and [`block`]. Of two forms, the second is read if the first is [`Unready::Strange`]. Each function returns exactly what
