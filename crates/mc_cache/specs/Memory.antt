@@ -61,8 +61,7 @@ settled_may_refuse s (atoms.Get key exptime with_cas) = false
 settled_may_refuse s (atoms.Update update) = update_may_refuse s update
 settled_may_refuse s (atoms.Meta command) = meta_may_refuse s command
 
--- memory may be refused to a command at a moment only if it stores a key that is not stored yet, or makes a stored
--- value longer
+-- memory may be refused to a command at a moment only if it stores a key that is not stored yet, or makes a stored value longer
 abbrev pub may_refuse : CacheState → Atom (List ℕ) → ℕ → Bool
 may_refuse s atom moment = settled_may_refuse (settled s (atom_key atom) moment) atom
 

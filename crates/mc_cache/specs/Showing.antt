@@ -11,8 +11,7 @@ use Rattle.mc_reply.specs.declared.replies.Reply.{Reply}
 use Rattle.mc_reply.specs.declared.replies.Reply.TheVariants.{Stored, Number, Deleted, Meta}
 use Rattle.mc_reply.specs.Replies.{nothing_shown}
 
--- whether the seconds left are below those of a command, if it names any; what never expires has more than
--- any
+-- whether the seconds left are below a command's, if it names any; what never expires has more than any
 -- source: protocol.txt, "Meta Get", flag R
 abbrev pub is_low : Option ℕ → Option ℕ → Bool
 is_low None left = false

@@ -358,8 +358,7 @@ impl<S: Store + Drop> Cache<S> {
     ///
     /// # Errors
     ///
-    /// A whole value is to be stored under a stored key, and there is no memory for its block. Nothing has
-    /// changed.
+    /// A whole value is to be stored under a stored key, and there is no memory for its block. Nothing has changed.
     pub fn meta_update(
         &mut self,
         update: &Update<&[u8], &[u8]>,
@@ -382,8 +381,7 @@ impl<S: Store + Drop> Cache<S> {
         self.meta_update_by(update, 0, show, moment)
     }
 
-    /// Executes the meta command likewise, given a guess of the key's item ([`Cache::guess_all`]). A guess affects only the
-    /// speed.
+    /// Executes the meta command likewise, given a guess of the key's item ([`Cache::guess_all`]). A guess affects only the speed.
     ///
     /// # Errors
     ///
@@ -495,8 +493,7 @@ impl<S: Store + Drop> Cache<S> {
         self.store.longest()
     }
 
-    /// Returns the store, with the cache's items. It takes no memory, and may still hold one item more than the cache's
-    /// limit.
+    /// Returns the store, with the cache's items. It takes no memory, and may still hold one item more than the cache's limit.
     pub fn into_store(self) -> S
         ensures items { S.items result ≡ self.items }
         ensures room { HasRoom self.limit (S.most result) }

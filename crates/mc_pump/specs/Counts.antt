@@ -15,7 +15,6 @@ abbrev pub refusals_in : CacheState → List Entry → ℕ
 refusals_in s [] = 0
 refusals_in s (e ∷ es) = refusal_in (answer_after s e) + refusals_in (cache_after s e) es
 
--- a count of 64 bits goes up by one for each entry of a history that has this answer, and by nothing
--- else
+-- a count of 64 bits goes up by one for each entry of a history that has this answer, and by nothing else
 abbrev pub Counts : CacheState → List Entry → ℕ → ℕ → Type 0
 Counts s history count count' = count' % 2 ^ 64 ≡ (count + refusals_in s history) % 2 ^ 64

@@ -15,8 +15,7 @@ pub struct Watch {
     pub tally: Tally,
     /// Whether a request was refused, since its answer might have more. No pump resets it.
     pub refused: bool,
-    /// The number of requests whose answer says that there is no memory to store something. It begins again at 0 after
-    /// 2^64 - 1.
+    /// The number of requests whose answer says that there is no memory to store something. It begins again at 0 after 2^64 - 1.
     pub no_memory: u64,
 }
 

@@ -75,8 +75,7 @@ abbrev pub is_conditional : StoreMode → Bool
 is_conditional Set = false
 is_conditional mode = true
 
--- the replies to a classic update: source protocol.txt, each command's section, except the error lines, which are this
--- project's own
+-- the replies to a classic update: source protocol.txt, each command's section, except the error lines, which are this project's own
 abbrev pub can_have_update : {K B : Type 0} → Update K B → Reply (List ℕ) → Bool
 can_have_update (Store mode compare key flags exptime block) Stored = true
 can_have_update (Store mode compare key flags exptime block) NotStored = is_conditional mode

@@ -133,8 +133,7 @@ fn append_number(out: &mut Vec<u8>, letter: u8, number: u64)
     append(out, &text[start..]);
 }
 
-/// Writes a space, a letter and a number in digits at the end of the bytes, and returns where they
-/// start.
+/// Writes a space, a letter and a number in digits at the end of the bytes, and returns where they start.
 fn put_number(text: &mut [u8; NUMBER_FLAG_ROOM], letter: u8, number: u64) -> usize
     ensures put { drop result text.new ≡ 32 ∷ letter ∷ decimal number }
     ensures inside { result ≤ NUMBER_FLAG_ROOM }

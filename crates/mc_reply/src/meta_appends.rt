@@ -17,8 +17,7 @@ pub const BESIDE_FLAGS_ROOM: usize = 32;
 /// The most bytes of `VA`, a space and a number.
 const SIZE_LEN: usize = 23;
 
-/// Appends the answer to a meta command by the word of its key and its flag words. An error line contains none of
-/// them.
+/// Appends the answer to a meta command by the word of its key and its flag words. An error line contains none of them.
 pub fn append_meta(
     out: &mut Vec<u8>,
     coded: bool,

@@ -1,5 +1,4 @@
-//! Worked examples of answers to meta commands, each by its line, as laws of the definitions. The key of most of
-//! them is `a`.
+//! Worked examples of answers to meta commands, each by its line, as laws of the definitions. The key of most of them is `a`.
 #![tactic(auto, unfolding(mc_text::specs::Words::words, mc_request::specs::Names::name_of, mc_text::proofs::OnLiterals::coded_on_literals))]
 
 ghost use Rattle.std.specs.Prelude.{◌≡◌, Some, None, [], codes};

@@ -19,8 +19,7 @@ hidden_update (Delete key compare invalidate) = SuccessAndMisses
 hidden_update (Count key counting) = SuccessAndMisses
 hidden_update update = Nothing
 
--- what a meta command hides, quiet or not; `mg` that the key is not stored: source protocol.txt, "Meta Get", flag
--- q
+-- what a meta command hides, quiet or not; `mg` that the key is not stored: source protocol.txt, "Meta Get", flag q
 abbrev pub hidden_by : {K B : Type 0} → MetaCommand K B → Bool → Hides
 hidden_by command false = Nothing
 hidden_by (metas.Get key get) true = Misses

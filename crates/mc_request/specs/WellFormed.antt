@@ -110,8 +110,7 @@ is_good_storing (Classic update noreply) = is_good_update is_plain_key (λ _. tr
 is_good_storing (MetaSet update show form) =
     is_good_update (is_meta_key form.coded) (λ _. true) update && has_flags (command_name (metas.Update update show)) form.flags
 
--- what the meaning of every line satisfies: what is taken is well formed, and what swallows a block closes
--- nothing
+-- what the meaning of every line satisfies: what is taken is well formed, and what swallows a block closes nothing
 abbrev pub is_good_meaning : Meaning → Bool
 is_good_meaning (Alone taken) = is_well_formed taken
 is_good_meaning (Stores storing len) = is_good_storing storing && nat_le len VALUE_LIMIT

@@ -5,8 +5,7 @@ ghost use Rattle.mc_request.specs.Hides.{hides_of, hidden_by};
 use crate::meta::MetaCommand;
 use crate::parts::{Request, Update};
 
-/// What a request hides of its answer. It is known before the request is split into commands, and before there is
-/// a reply.
+/// What a request hides of its answer. It is known before the request is split into commands, and before there is a reply.
 #[derive(Clone, Copy, Debug, PartialEq, Eq)]
 pub enum Hides {
     /// Nothing: each reply is shown.

@@ -1,12 +1,11 @@
 //! Requests: what one line of a client asks for, with its data block.
 //!
-//! [`command_line`] reads a line, whose words it borrows. It returns an [`Asked`], a [`Storing`] that a data block follows, or a
-//! fault whose data block is swallowed. [`announced_in`] returns only the length of a line's data block. [`Asked::taken`] copies
-//! the borrowed bytes into a [`Request`] or fault of its own. A borrowed meta command has its key as a word, plain or in base64
-//! ([`key_bytes`], [`Update::said`]), and its flag words as they are in the line ([`MetaForm`]). [`flag_of`] returns the flag of
-//! a letter. [`Request::atoms`] returns the commands of a request, each an [`Atom`]. [`Atom::into_head`] makes it a [`Head`]:
-//! what a reader of its reply must know. [`Request::hides`] is what a request hides of its answer, and [`Fault::line`] the error
-//! line of a fault.
+//! [`command_line`] reads a line, whose words it borrows. It returns an [`Asked`], a [`Storing`] that a data block follows, or a fault
+//! whose data block is swallowed. [`announced_in`] returns only the length of a line's data block. [`Asked::taken`] copies the borrowed
+//! bytes into a [`Request`] or fault of its own. A borrowed meta command has its key as a word, plain or in base64 ([`key_bytes`],
+//! [`Update::said`]), and its flag words as they are in the line ([`MetaForm`]). [`flag_of`] returns the flag of a letter.
+//! [`Request::atoms`] returns the commands of a request, each an [`Atom`]. [`Atom::into_head`] makes it a [`Head`]: what a reader of
+//! its reply must know. [`Request::hides`] is what a request hides of its answer, and [`Fault::line`] the error line of a fault.
 //!
 //! `specs/Meanings.antt` defines what a line asks for by its words, and `specs/Requests.antt` what the requests of a text are.
 //! The reader that returns these, however the text arrives, is in the crate `mc_request_reader`. The spelling of a command, the

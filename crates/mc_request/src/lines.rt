@@ -11,8 +11,7 @@ use mc_text::WordIter;
 /// A borrowed request or fault: its keys and its data block are slices of the text that it was read from.
 #[derive(Drop)]
 pub enum Asked<'a> {
-    /// `get` and `gets`, or with an exptime `gat` and `gats`, with the words that are its keys: at least
-    /// one.
+    /// `get` and `gets`, or with an exptime `gat` and `gats`, with the words that are its keys: at least one.
     Get {
         keys: WordIter<'a>,
         exptime: Option<i64>,

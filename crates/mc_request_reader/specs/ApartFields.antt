@@ -19,8 +19,7 @@ pub record IsLine (line : List ℕ) : Type 0 where
 abbrev pub front_at : Taken × ℕ → Front
 front_at x = record { size = x.1; closes = ends x.0 }
 
--- a line that announces a data block: with the line end after the block, this many bytes are wanted after the
--- line
+-- a line that announces a data block: with the line end after the block, this many bytes are wanted after the line
 pub record Announces (line : List ℕ) (wanted : ℕ) : Type 0 where
   pub begins : IsLine line
   pub limit : length line + wanted ≤ REQUEST_LIMIT

@@ -10,8 +10,7 @@ pub record Comes (old new : ReaderState) (came : List ℕ) : Type 0 where
   pub closed : new.closed ≡ old.closed
   pub after_end : old.closed ≡ true → new ≡ old
 
--- A read into some piece, and what was done with the bytes that it returned, which are the first of the piece. At an error nothing
--- moved.
+-- A read into some piece, and what was done with the bytes that it returned, which are the first of the piece. At an error nothing moved.
 pub record ReadsBy {E : Type 0} (read : Result ℕ E) (unread unread' : Option (List ℕ)) (Takes : List ℕ → Type 0) (unmoved : Type 0) : Type 0 where
   pub piece : List ℕ
   pub some : 0 < length piece

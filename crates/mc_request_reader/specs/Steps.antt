@@ -37,8 +37,7 @@ pub record IsWaiting (unread : List ℕ) (known : Searched) (wanted : ℕ) (sure
   pub limit : wanted ≤ REQUEST_LIMIT
   pub whole : sure ≡ true → IsWholeFrom wanted unread
 
--- what is at the front of bytes: it is whole, it is not whole yet, or its block is dropped while it
--- arrives
+-- what is at the front of bytes: it is whole, it is not whole yet, or its block is dropped while it arrives
 abbrev pub ArrivalIs : List ℕ → Arrival → Type 0
 ArrivalIs unread (Whole searched) = IsSearched searched unread × (is_some (next_request unread) ≡ true)
 ArrivalIs unread (Waits searched wanted sure) = IsWaiting unread searched wanted sure

@@ -190,8 +190,7 @@ fn cut(piece: &[u8]) -> Option<(&[u8], &[u8], usize)>
     }
 }
 
-/// Returns whether a `set` line may announce a large block: it ends with four digits, or with a word. A wrong answer affects only the
-/// speed.
+/// Returns whether a `set` line may announce a large block: it ends with four digits, or with a word. A wrong answer affects only the speed.
 fn may_be_large(content: &[u8]) -> bool {
     match content {
         [.., first, second, third, last] if last.is_ascii_digit() => {

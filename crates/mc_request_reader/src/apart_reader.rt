@@ -137,8 +137,7 @@ impl ApartReader {
         }
     }
 
-    /// Borrows the first request that has arrived whole, if it is a good `get` or `gets` without a space in front, as [`Reader::peek_get`]
-    /// does.
+    /// Borrows the first request that has arrived whole, if it is a good `get` or `gets` without a space in front, as [`Reader::peek_get`] does.
     #[inline(always)]
     pub fn peek_get(&self) -> Option<LentGet<'_>>
         ensures seen { IfSome result (λ get. Shows self.now (get_of get) get.front) }

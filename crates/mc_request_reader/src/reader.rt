@@ -82,8 +82,7 @@ impl Reader {
         self.unread.is_fresh()
     }
 
-    /// Takes the next piece of the text. After `quit` or a line too long it is dropped. Of a refused block, what arrives is
-    /// dropped.
+    /// Takes the next piece of the text. After `quit` or a line too long it is dropped. Of a refused block, what arrives is dropped.
     ///
     /// At `Memory` no byte is consumed. A piece of which nothing is kept is never refused: an empty piece, one after the
     /// end, or one that is all of a refused block.
@@ -103,8 +102,7 @@ impl Reader {
         Ok(())
     }
 
-    /// Consumes and returns the first request or fault that has arrived whole: its keys and its block are
-    /// copied.
+    /// Consumes and returns the first request or fault that has arrived whole: its keys and its block are copied.
     ///
     /// At `Memory` it is not consumed, and nothing has changed.
     pub fn next(&mut self) -> Result<Next, ReadError>

@@ -209,8 +209,7 @@ fn asked_by<'a>(line: CommandLine<'a>, taken: usize, after: &'a [u8]) -> Option<
     }
 }
 
-/// Returns how many bytes are wanted after a line that announces a data block of at least `least` bytes, with the line end after the
-/// block.
+/// Returns how many bytes are wanted after a line that announces a data block of at least `least` bytes, with the line end after the block.
 pub fn block_after(line: &[u8], least: usize) -> Option<usize>
     requires { IsLine line.now }
     ensures { IfSome result (λ wanted. Announces line.now wanted) }
@@ -299,8 +298,7 @@ fn with_block<'a>(storing: Storing<'a>, block: &'a [u8], end: &[u8]) -> Asked<'a
 }
 
 /// Returns the keys of the first request of the bytes, which were searched this far, if it is a good `get` or `gets` without a space in
-/// front. It also returns whether it asks for numbers, and how many bytes it takes. Of a line that does not begin with `g` it reads one
-/// byte.
+/// front. It also returns whether it asks for numbers, and how many bytes it takes. Of a line that does not begin with `g` it reads one byte.
 #[inline(always)]
 pub fn first_get(unread: &[u8], searched: Searched) -> Option<(WordIter<'_>, bool, usize)>
     requires { IsSearched searched unread.now }

@@ -160,9 +160,8 @@ impl Unread {
         }
     }
 
-    /// Searches for the end of the first line, notes how far it searched, and returns whether the end is found and the line
-    /// is short. Then a look reads at most `SHORT_LINE` bytes of it before it knows whether the first request or fault is
-    /// whole.
+    /// Searches for the end of the first line, notes how far it searched, and returns whether the end is found and the line is
+    /// short. Then a look reads at most `SHORT_LINE` bytes of it before it knows whether the first request or fault is whole.
     pub fn finds_short_line(&mut self) -> bool
         ensures same { self.new ≡ self.old }
         ensures little { result ≡ true → KeepsLittle self.new }
@@ -240,8 +239,7 @@ impl Unread {
         }
     }
 
-    /// Borrows the first request that has arrived whole, if it is a good `get` or `gets` without a space in front, whose line's
-    /// end is known.
+    /// Borrows the first request that has arrived whole, if it is a good `get` or `gets` without a space in front, whose line's end is known.
     #[inline(always)]
     pub fn peek_get(&self) -> Option<LentGet<'_>>
         ensures seen { IfSome result (λ get. Shows self.now (get_of get) get.front) }

@@ -48,8 +48,7 @@ second false b h = absurd cc
 abbrev AtMost : ℕ → Option Body → Type 0
 AtMost n held = IfSome held (λ body. length body.value ≤ n)
 
--- a reply that becomes a meta reply with a value of at most n bytes, if this is stored: no reply to an update
--- is a hit
+-- a reply that becomes a meta reply with a value of at most n bytes, if this is stored: no reply to an update is a hit
 abbrev IsShort : ℕ → Option Body → Reply (List ℕ) → Type 0
 IsShort n held Stored = AtMost n held
 IsShort n held (Number number) = AtMost n held

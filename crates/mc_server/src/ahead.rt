@@ -99,9 +99,8 @@ impl Ahead {
         self.refused = 0;
     }
 
-    /// Notes that a line was refused. If a guess is left, it skips one. If more than an eighth of a look's keys are in such lines, it
-    /// delays the next look. A look takes a line with a key whether it is refused or not, and a client that sends such lines must gain
-    /// nothing by it.
+    /// Notes that a line was refused. If a guess is left, it skips one. If more than an eighth of a look's keys are in such lines, it delays
+    /// the next look. A look takes a line with a key whether it is refused or not, and a client that sends such lines must gain nothing by it.
     #[inline]
     pub fn refuse(&mut self) {
         if self.used < self.count {
@@ -144,9 +143,8 @@ impl Ahead {
         guess.unwrap_or(0)
     }
 
-    /// Looks ahead, if the cache finds several items faster together: it prefetches the items of the keys of a retrieval that is first in a
-    /// text and has `size` bytes, and of the requests after it. It takes what the connection keeps of the last look, and returns what it
-    /// keeps of this one.
+    /// Looks ahead, if the cache finds several items faster together: it prefetches the items of the keys of a retrieval that is first in a text and
+    /// has `size` bytes, and of the requests after it. It takes what the connection keeps of the last look, and returns what it keeps of this one.
     ///
     /// A look begins behind all lines that the last one took, so at most two looks read each byte, however the text is cut. If it finds
     /// fewer than three keys, and leaves text enough for another one, the next begins 4 requests later. If no more than half of its keys

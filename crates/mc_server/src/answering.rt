@@ -200,9 +200,8 @@ pub fn serve_within<S: Store + Drop>(
     Ok(true)
 }
 
-/// Serves a request at a moment, given guesses of the items of the next keys. The cache may take memory to store an item.
-/// Beside that, it takes memory only for the block of a value that is stored under a stored key, and if there is none
-/// nothing has changed.
+/// Serves a request at a moment, given guesses of the items of the next keys. The cache may take memory to store an item. Beside
+/// that, it takes memory only for the block of a value that is stored under a stored key, and if there is none nothing has changed.
 pub fn serve<S: Store + Drop>(
     asked: &Asked<'_>,
     cache: &mut Cache<S>,

@@ -134,8 +134,7 @@ impl Connection {
         }
     }
 
-    /// Takes the first request or fault that has arrived whole, and serves it at a moment, if its answer is within a
-    /// limit.
+    /// Takes the first request or fault that has arrived whole, and serves it at a moment, if its answer is within a limit.
     ///
     /// It takes the memory that it may need before it changes anything: room for the answer, and the block of a value
     /// that is stored under a stored key, unless the reader moves that out. If no request is pending it needs none.
@@ -165,9 +164,8 @@ impl Connection {
         self.turn_gathering(cache, moment, limit, ahead, &mut NoWriter, &mut went)
     }
 
-    /// Takes a [turn](Self::turn_within) whose answer may be written at once. If it shows one large value, the writer is given in one call
-    /// what is unsent, the answer, and the value without a copy. `went` is set to the number of bytes that the writer took. The others stay
-    /// in the output.
+    /// Takes a [turn](Self::turn_within) whose answer may be written at once. If it shows one large value, the writer is given in one call what is
+    /// unsent, the answer, and the value without a copy. `went` is set to the number of bytes that the writer took. The others stay in the output.
     pub fn turn_gathering<S: Store + Drop, W: Gather>(
         &mut self,
         cache: &mut Cache<S>,

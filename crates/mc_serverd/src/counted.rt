@@ -7,8 +7,7 @@ use mc_store::Store;
 use mc_text::Key;
 use std::rc::Rc;
 
-/// A store that forwards to another, and counts what it does: so no layer between has to count. No contract says what it
-/// counts.
+/// A store that forwards to another, and counts what it does: so no layer between has to count. No contract says what it counts.
 #[derive(Drop)]
 pub struct Counted<S: Store + Drop> {
     store: S,

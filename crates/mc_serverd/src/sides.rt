@@ -83,8 +83,7 @@ impl Gather for Sent<&TcpStream> {
     }
 }
 
-/// Returns whether a stream has failed whose read or write had this error. One that has no bytes now, or takes none now, has
-/// not.
+/// Returns whether a stream has failed whose read or write had this error. One that has no bytes now, or takes none now, has not.
 fn fails(error: &io::Error) -> bool
     ensures { result ≡ fails_by (error_kind error.now) }
 {

@@ -48,8 +48,7 @@ pub type LruStore<H> = HashStore<LruCache<Key, Held, H>>;
 /// The items in our own table, in one vector: it takes less memory per item than an [`LruStore`], and causes fewer cache misses.
 pub type TableStore<H> = HashStore<Table<Key, Held, H>>;
 
-/// Items in a container that finds them by a hash, in the order of their last use: an [`LruStore`] or a [`TableStore`]. It keeps sums over
-/// them.
+/// Items in a container that finds them by a hash, in the order of their last use: an [`LruStore`] or a [`TableStore`]. It keeps sums over them.
 ///
 /// Contracts see the items and the greatest number of them. What they cost together stays below 2^63.
 ///
@@ -73,11 +72,10 @@ pub type TableStore<H> = HashStore<Table<Key, Held, H>>;
 /// each entry, except dropping the store. That of an [`LruStore`] reserves its search table alone, for 9 * 2^k items, the least such number
 /// that is enough; each new item then takes a node. The memory of dead entries stays reserved until they are freed.
 ///
-/// In the search table of an [`LruStore`] a key that is removed from a crowded part leaves a tombstone. No free place may be left after
-/// long eviction or a clear. Then `put_front` first rebuilds that table, which takes time for each entry but hashes none. That is done in
-/// place if the entries, including the new one, are at most half of its capacity. Else the table is doubled, and only that takes memory;
-/// then they are at most half of it, so this happens once in a store's life. If memory is refused, so is the item, and the items are
-/// unchanged.
+/// In the search table of an [`LruStore`] a key that is removed from a crowded part leaves a tombstone. No free place may be left after long
+/// eviction or a clear. Then `put_front` first rebuilds that table, which takes time for each entry but hashes none. That is done in place
+/// if the entries, including the new one, are at most half of its capacity. Else the table is doubled, and only that takes memory; then they
+/// are at most half of it, so this happens once in a store's life. If memory is refused, so is the item, and the items are unchanged.
 #[derive(Drop)]
 pub struct HashStore<M: Recent> {
     cache: EpochCache<M>,

@@ -66,9 +66,8 @@ pub trait Recent {
         false
     }
 
-    /// Prefetches the entries of keys: writes a guess of each key's entry (0 is none). It is worth its time if [`Recent::guesses`]. A
-    /// container that never guesses leaves the guesses as they are. The returned byte is made of what was read, and only keeps the loads
-    /// alive.
+    /// Prefetches the entries of keys: writes a guess of each key's entry (0 is none). It is worth its time if [`Recent::guesses`]. A container
+    /// that never guesses leaves the guesses as they are. The returned byte is made of what was read, and only keeps the loads alive.
     fn guess_all(&self, _keys: &[&[u8]], _guesses: &mut [u32]) -> u8 {
         0
     }

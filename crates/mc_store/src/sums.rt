@@ -30,8 +30,7 @@ impl Sums {
         }
     }
 
-    /// Returns a number of bytes that no value is longer than: at most [`LONG`] if no value is
-    /// long.
+    /// Returns a number of bytes that no value is longer than: at most [`LONG`] if no value is long.
     pub fn longest(self) -> usize
         ensures bound { (items : Items) → IsSumOf self items → longest_of items ≤ result }
         ensures short { self.long ≡ 0 → result ≤ LONG }

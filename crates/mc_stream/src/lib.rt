@@ -1,5 +1,6 @@
-//! One non-blocking call on a side of a stream: [`write_once`], [`read_once`], and [`Gather::gather`], which writes three parts that
-//! are apart. [`told`] interprets a read that another caller made. A [`Tally`] counts requests, and bytes read and written.
+//! The non-blocking calls on the two sides of a stream, for the pumps of clients and links: [`write_once`], [`read_once`], and
+//! [`Gather::gather`], which writes three parts that are apart. [`told`] interprets a read that another caller made. A [`Tally`]
+//! counts requests, and bytes read and written.
 //!
 //! A pump carries bytes between a stream and what is behind it. It is made of these calls, at most [`MAX_ROUNDS`] rounds a call, and
 //! returns by [`Pumped`] how it left the stream. The stream is any reader and any writer: this crate knows no socket, and nothing of

@@ -9,7 +9,6 @@ pub enum Pumped {
     Blocked,
     /// The input has ended, or is read no further, and everything that arrived whole is answered and sent.
     Done,
-    /// The stream failed or took nothing, a call was refused memory, or nothing is behind the stream. The caller closes
-    /// it.
+    /// The stream failed or took nothing, a call was refused memory, or nothing is behind the stream. The caller closes it.
     Failed,
 }

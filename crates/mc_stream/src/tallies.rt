@@ -1,8 +1,7 @@
 //! Counts of requests and bytes.
 ghost use Rattle.std.specs.Prelude.{◌≡◌, ◌+◌, ◌%◌, ◌^◌};
 
-/// Counts of requests that were taken, bytes that were read and bytes that were written. Each count begins again at 0 after
-/// 2^64 - 1.
+/// Counts of requests that were taken, bytes that were read and bytes that were written. Each count begins again at 0 after 2^64 - 1.
 #[derive(Clone, Copy, Debug, PartialEq, Eq)]
 pub struct Tally {
     /// Requests and faults that were taken.

@@ -41,8 +41,7 @@ impl Hasher for KeyHasher {
 
 /// Returns the two halves of a product's 128 bits, joined by exclusive or after the addend is added to the low half.
 ///
-/// Without the addend the halves of a word and of its complement are often complements of each other, and so the hashes
-/// equal.
+/// Without the addend the halves of a word and of its complement are often complements of each other, and so the hashes equal.
 #[tactic(auto, unfolding(crate::specs::Hashes::folded_product))]
 fn folded_product(word: u64, factor: u64, addend: u64) -> u64
     ensures { result ≡ hashes.folded_product word factor addend }

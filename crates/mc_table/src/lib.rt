@@ -1,12 +1,11 @@
 //! Three containers: a table of entries in the order of their last use, the hasher of its keys, and a list of things under rising numbers.
 //!
-//! A [`Table`] finds an entry by its key's hash, and knows which one was used most recently. [`Table::put`] and [`Table::put_front`] insert an
-//! entry in front. [`Table::peek`] and [`Table::peek_mru`] read one, and [`Table::get_mut`] brings one to the front to change it.
-//! [`Table::pop_entry`], [`Table::pop_mru`] and [`Table::pop_lru`] remove one, and [`Table::clear`] removes all. Contracts say what each call
-//! leaves by the entries, most recent first, in std's words of a map and those of `specs/Tables.antt`. A caller that will look several keys up
-//! may prefetch them ([`Table::guess_all`]), which gives a guess of each key's entry. A caller that looks one up again has a guess from
-//! [`Table::find`]. Calls that take a guess ([`Table::get_mut_by`], [`Table::pop_entry_by`]) do what those without do, faster if the guess is
-//! right.
+//! A [`Table`] finds an entry by its key's hash, and knows which one was used most recently. [`Table::put`] and [`Table::put_front`] insert an entry
+//! in front. [`Table::peek`] and [`Table::peek_mru`] read one, and [`Table::get_mut`] brings one to the front to change it. [`Table::pop_entry`],
+//! [`Table::pop_mru`] and [`Table::pop_lru`] remove one, and [`Table::clear`] removes all. Contracts say what each call leaves by the entries, most
+//! recent first, in std's words of a map and those of `specs/Tables.antt`. A caller that will look several keys up may prefetch them
+//! ([`Table::guess_all`]), which gives a guess of each key's entry. A caller that looks one up again has a guess from [`Table::find`]. Calls that
+//! take a guess ([`Table::get_mut_by`], [`Table::pop_entry_by`]) do what those without do, faster if the guess is right.
 //!
 //! The entries are in one vector (`chained.rt`), and each is in the chain of its hash's bucket (`chains.rt`). The last entry takes the place of
 //! a removed one. Their order is in links of its own (`orders.rt`), so a use writes to three links and moves no entry. Only `put` and

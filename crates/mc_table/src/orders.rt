@@ -62,8 +62,7 @@ impl Order {
         self.links[0].before
     }
 
-    /// Prefetches the links before a place and after it. The returned byte is made of them, and only keeps the
-    /// loads alive.
+    /// Prefetches the links before a place and after it. The returned byte is made of them, and only keeps the loads alive.
     #[inline]
     pub fn around(&self, place: u32) -> u8 {
         let Some(link) = self.links.get(place as usize) else {

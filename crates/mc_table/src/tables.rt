@@ -154,8 +154,7 @@ impl<K: Eq + Hash, V, S: BuildHasher> Table<K, V, S> {
         self.get_mut_by(k, 0)
     }
 
-    /// Returns the value likewise, given a guess of the entry ([`Table::guess_all`]), which is compared first. A guess affects only
-    /// the speed.
+    /// Returns the value likewise, given a guess of the entry ([`Table::guess_all`]), which is compared first. A guess affects only the speed.
     pub fn get_mut_by<Q: Equivalent<K>>(&mut self, k: Q, guess: u32) -> Option<&mut V>
         ensures* writes_back { sem 𝓛 (lends_value K.row V.row S.row S.Hasher.row K.Hash S.BuildHasher S.Hasher.Hasher self.entry (Q.equivalent k) (promoted (Q.equivalent k) self.old) result) }
         ensures value { option_copied_mut result ≡ lookup (Q.equivalent k) self.old }

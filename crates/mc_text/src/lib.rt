@@ -16,11 +16,10 @@
 //!
 //! A form says what can be spelled, field by field, and how that is read.
 //!
-//! A form (`specs/Forms.antt`) is a text, a number, a block of a given size, or one of two forms. After it is the form of what follows.
-//! Each field may depend on the ones before: a block's size is the number that was read. A form defines three things: which values its
-//! fields can have (`Path`), how these are spelled (`word`) and what they stand for (`meant`). `read` reads it from bytes that arrive in
-//! pieces. It returns what was meant and the bytes after it, or says that more bytes must arrive, or that no spelling begins with these
-//! bytes.
+//! A form (`specs/Forms.antt`) is a text, a number, a block of a given size, or one of two forms. After it is the form of what follows. Each
+//! field may depend on the ones before: a block's size is the number that was read. A form defines three things: which values its fields can
+//! have (`Path`), how these are spelled (`word`) and what they stand for (`meant`). `read` reads it from bytes that arrive in pieces. It
+//! returns what was meant and the bytes after it, or says that more bytes must arrive, or that no spelling begins with these bytes.
 //!
 //! The law of forms (`proofs/FormLaws.antt`, `is_read`): if a form is clear, exactly what is spelled is read. It is read whole as soon as
 //! its spelling has arrived. The reading is More while the bytes are the beginning of a spelling, and Strange from the first byte on with

@@ -16,8 +16,7 @@ pub fn lines_by_their_ends()
     ensures none { first_line (codes "get a\r") ≡ Partial }
 {}
 
-/// Spaces separate words and belong to none, at the front and the end too. A tab is a byte of its
-/// word.
+/// Spaces separate words and belong to none, at the front and the end too. A tab is a byte of its word.
 pub fn words_between_spaces()
     ensures three { words (codes "  set a\tb   5 ") ≡ codes "set" ∷ codes "a\tb" ∷ codes "5" ∷ [] }
     ensures none { words (codes "  ") ≡ [] }

@@ -150,8 +150,7 @@ fn is_low(recache: Option<u64>, left: Option<u64>) -> bool
     }
 }
 
-/// Returns the marks of an item, by whether it is stale, whether a client was told to fill it, and whether it needs
-/// filling.
+/// Returns the marks of an item, by whether it is stale, whether a client was told to fill it, and whether it needs filling.
 fn marks_by(stale: bool, won: bool, needs: bool) -> Marks
     ensures { result ≡ marks_by stale won needs }
 {

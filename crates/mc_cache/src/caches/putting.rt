@@ -92,8 +92,7 @@ impl<S: Store + Drop> Cache<S> {
         }
     }
 
-    /// Stores a borrowed item, whether its key is stored or not, given a guess of the key's item, and looks the key
-    /// up only once.
+    /// Stores a borrowed item, whether its key is stored or not, given a guess of the key's item, and looks the key up only once.
     ///
     /// It returns `None` if the item is not admitted, or if there is no memory for its block: nothing has changed.
     pub(super) fn set_at_once(
@@ -200,8 +199,7 @@ impl<S: Store + Drop> Cache<S> {
         self.put_held(key, found.guess, body);
     }
 
-    /// Overwrites the stored value by a text that is no longer, with the flags and the expiry of `found`. It takes no
-    /// memory.
+    /// Overwrites the stored value by a text that is no longer, with the flags and the expiry of `found`. It takes no memory.
     pub(super) fn overwrite(&mut self, key: &[u8], text: &[u8], found: Found, cas: u64)
         requires held { is_some (body_at key.now self.old.items) ≡ true }
         requires fits { length text.now ≤ length (value_at key.now self.old.items) }

@@ -143,8 +143,7 @@ impl<S: Store + Drop> Cache<S> {
         Some(Found::of(body, guess))
     }
 
-    /// Brings the cache to a moment for a command on a key, moves the key's item to the front, given a guess of it, and returns what
-    /// it found.
+    /// Brings the cache to a moment for a command on a key, moves the key's item to the front, given a guess of it, and returns what it found.
     pub(super) fn settle_in_front(&mut self, key: &[u8], guess: u32, moment: u64) -> Option<Found>
         ensures settled { self.new ≡ fronted (settled self.old (Some key.now) moment) key.now }
         ensures found { body_at key.now (settled self.old (Some key.now) moment).items

@@ -77,8 +77,7 @@ impl Side {
 }
 
 impl<S: Store + Drop> Cache<S> {
-    /// Executes a storage command on a settled cache, in which `found` is the item of its key. The body's number is not
-    /// read.
+    /// Executes a storage command on a settled cache, in which `found` is the item of its key. The body's number is not read.
     pub(super) fn store_own(
         &mut self,
         mode: StoreMode,
