@@ -148,7 +148,7 @@ impl<S: Store + Drop> Cache<S> {
         self.get_by(key, 0, exptime, with_cas, moment)
     }
 
-    /// Executes `Get` likewise, given a guess of the key's item ([`Cache::guess_all`]). A guess affects only the speed.
+    /// Executes `Get`, as [`Cache::get`] does, given a guess of the key's item ([`Cache::guess_all`]). A guess affects only the speed.
     pub fn get_by(
         &mut self,
         key: &[u8],
@@ -242,7 +242,8 @@ impl<S: Store + Drop> Cache<S> {
         self.update_by(update, 0, moment)
     }
 
-    /// Executes `Update` likewise, given a guess of the key's item ([`Cache::guess_all`]). A guess affects only the speed.
+    /// Executes `Update`, as [`Cache::update`] does, given a guess of the key's item ([`Cache::guess_all`]). A guess
+    /// affects only the speed.
     ///
     /// # Errors
     ///
@@ -335,7 +336,7 @@ impl<S: Store + Drop> Cache<S> {
         self.meta_get_by(key, 0, get, moment)
     }
 
-    /// Executes `mg` likewise, given a guess of the key's item ([`Cache::guess_all`]). A guess affects only the speed.
+    /// Executes `mg`, as [`Cache::meta_get`] does, given a guess of the key's item ([`Cache::guess_all`]). A guess affects only the speed.
     pub fn meta_get_by(&mut self, key: &[u8], guess: u32, get: &MetaGet, moment: u64) -> Reply<()>
         requires moment { moment < 2 ^ 63 }
         requires key { is_key key.now ≡ true }
@@ -381,7 +382,8 @@ impl<S: Store + Drop> Cache<S> {
         self.meta_update_by(update, 0, show, moment)
     }
 
-    /// Executes the meta command likewise, given a guess of the key's item ([`Cache::guess_all`]). A guess affects only the speed.
+    /// Executes a meta command, as [`Cache::meta_update`] does, given a guess of the key's item ([`Cache::guess_all`]). A guess
+    /// affects only the speed.
     ///
     /// # Errors
     ///

@@ -134,7 +134,7 @@ pub fn first_asked(unread: &[u8], searched: Searched) -> Option<(Asked<'_>, usiz
     }
 }
 
-/// Borrows the first request or fault likewise, if the first line is whole and takes `taken` bytes.
+/// Borrows the first request or fault, if the first line is whole and takes `taken` bytes.
 fn asked_after<'a>(
     unread: &'a [u8],
     line: CommandLine<'a>,
@@ -184,7 +184,7 @@ pub fn asked_beside<'a>(line: &'a [u8], after: &'a [u8]) -> Option<(Asked<'a>, u
     asked_by(line_by_itself(line), line.len(), after)
 }
 
-/// Borrows it likewise, by what the line asks for and how many bytes that line takes.
+/// Borrows the first request or fault, by what its line asks for and how many bytes that line takes.
 fn asked_by<'a>(line: CommandLine<'a>, taken: usize, after: &'a [u8]) -> Option<(Asked<'a>, usize)>
     requires { taken < 2 ^ 63 }
     ensures { lent_seen result ≡ taken_by (meaning_of line.entry) taken after.now }
@@ -234,7 +234,7 @@ pub fn set_beside(alloc: Global, line: &[u8], after: &[u8]) -> Option<TakenSet>
     }
 }
 
-/// Returns that `set` by what the line asks for.
+/// Returns the plain `set` of a line by what the line asks for.
 fn set_by(alloc: Global, storing: Storing<'_>, len: u32, after: &[u8]) -> Option<TakenSet>
     requires { is_good_storing (storing_of storing) ≡ true }
     ensures long { IfSome result (λ set. length after.now ≡ len + 2) }

@@ -219,7 +219,7 @@ impl Unread {
         }
     }
 
-    /// Borrows it likewise, if no refused block is being dropped.
+    /// Borrows the first request or fault, if no refused block is being dropped.
     fn peek_unread(&self) -> Peek<'_>
         requires open { self.now.closed ≡ false }
         requires whole { self.now.dropping ≡ None }
@@ -254,7 +254,7 @@ impl Unread {
         }
     }
 
-    /// Borrows it likewise, if no refused block is being dropped.
+    /// Borrows the first `get` or `gets`, if no refused block is being dropped.
     #[inline(always)]
     fn get_unread(&self) -> Option<LentGet<'_>>
         requires open { self.now.closed ≡ false }
@@ -292,7 +292,7 @@ impl Unread {
         }
     }
 
-    /// Borrows it likewise, if no refused block is being dropped.
+    /// Borrows the first line, if no refused block is being dropped.
     #[inline(always)]
     fn lone_unread(&self) -> Option<LentLine<'_>>
         requires open { self.now.closed ≡ false }
@@ -322,7 +322,7 @@ impl Unread {
         }
     }
 
-    /// Returns it likewise, if no refused block is being dropped.
+    /// Returns whether it is known that nothing is whole, if no refused block is being dropped.
     #[inline(always)]
     fn is_unread_short(&self) -> bool
         requires open { self.now.closed ≡ false }
@@ -358,7 +358,7 @@ impl Unread {
         }
     }
 
-    /// Returns it likewise, if no refused block is being dropped.
+    /// Returns whether a whole request or fault has arrived, if no refused block is being dropped.
     fn has_whole(&self) -> bool
         ensures { result ≡ is_some (next_request self.now.unread) }
     {

@@ -167,7 +167,7 @@ impl Ahead {
         self.guess(looked, keys.again(), size, text, cache)
     }
 
-    /// Looks ahead likewise at any request or fault, if something follows it and it has a key.
+    /// Looks ahead, as [`Ahead::look`] does, at any request or fault that has a key and after which something follows.
     #[inline]
     pub fn look_past<S: Store + Drop>(
         &mut self,

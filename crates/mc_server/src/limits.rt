@@ -47,7 +47,7 @@ impl AnswerLimit {
         bound_for(asked, cache) > self.bytes
     }
 
-    /// Returns so for the answer to a `get` or `gets` of these keys.
+    /// Returns whether the answer to a `get` or `gets` of these keys may have more bytes, if `room` is room enough for it.
     #[inline]
     pub(crate) fn is_passed_by_get<S: Store + Drop>(
         self,

@@ -31,7 +31,7 @@ pub fn show<R: Files>(
     }
 }
 
-/// Serves operators likewise, and returns whether there was memory.
+/// Serves operators as [`show`] does, and returns whether there was memory.
 fn try_show<R: Files>(
     rt: &R,
     alloc: Global,

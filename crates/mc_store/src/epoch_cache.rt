@@ -104,7 +104,7 @@ impl<M: Recent> EpochCache<M> {
         self.bring_by(key, 0)
     }
 
-    /// Does so given a guess of its entry.
+    /// Does what [`EpochCache::bring`] does, given a guess of the entry.
     pub fn bring_by(&mut self, key: &[u8], guess: u32) -> bool
         ensures held { result ≡ is_some (body_at key.now self.old.items) }
         ensures items { self.new.items ≡ brought key.now (body_at key.now self.old.items) self.old.items }
@@ -144,7 +144,7 @@ impl<M: Recent> EpochCache<M> {
         self.expire_by(key, 0, expiry)
     }
 
-    /// Does so given a guess of its entry.
+    /// Does what [`EpochCache::expire`] does, given a guess of the entry.
     pub fn expire_by(&mut self, key: &[u8], guess: u32, expiry: Deadline) -> bool
         ensures held { result ≡ is_some (body_at key.now self.old.items) }
         ensures items { self.new.items ≡ brought key.now (expiring expiry (body_at key.now self.old.items)) self.old.items }
@@ -170,7 +170,7 @@ impl<M: Recent> EpochCache<M> {
         self.mark_by(key, 0, stale, won, cas)
     }
 
-    /// Does so given a guess of its entry.
+    /// Does what [`EpochCache::mark`] does, given a guess of the entry.
     pub fn mark_by(&mut self, key: &[u8], guess: u32, stale: bool, won: bool, cas: u64) -> bool
         ensures held { result ≡ is_some (body_at key.now self.old.items) }
         ensures items { self.new.items ≡ brought key.now (marking stale won cas (body_at key.now self.old.items)) self.old.items }
@@ -199,7 +199,7 @@ impl<M: Recent> EpochCache<M> {
         self.take_by(key, 0)
     }
 
-    /// Does so given a guess of its entry.
+    /// Does what [`EpochCache::take`] does, given a guess of the entry.
     pub fn take_by(&mut self, key: &[u8], guess: u32) -> Option<(Key, Body)>
         ensures item { IfSome result (λ item. (item.0 ≡ key.now) × (body_at key.now self.old.items ≡ Some item.1)) }
         ensures none { IfNone result (body_at key.now self.old.items ≡ None) }
@@ -234,7 +234,7 @@ impl<M: Recent> EpochCache<M> {
         self.replace_by(key, 0, body)
     }
 
-    /// Does so given a guess of its entry.
+    /// Does what [`EpochCache::replace`] does, given a guess of the entry.
     pub fn replace_by(&mut self, key: &[u8], guess: u32, body: Body) -> Result<Body, Body>
         ensures before { IfOk result (λ before. body_at key.now self.old.items ≡ Some before) }
         ensures ok { OnOk result (self.new.items ≡ (key.now, body) ∷ without key.now self.old.items) }

@@ -53,7 +53,8 @@ pub trait Recent {
         ensures* writes_back { sem 𝓛 (lends_held Self.row self.entry result (λ held. lent self.old key.now held)) }
         ensures value { option_copied_mut result ≡ lookup (bytes_eq key.now) (entries self.old) };
 
-    /// Does so given a guess of its entry ([`Recent::guess_all`], [`Recent::find`]). A guess affects only the speed.
+    /// Does what [`Recent::get_mut`] does, given a guess of the entry ([`Recent::guess_all`], [`Recent::find`]). A guess affects only the
+    /// speed.
     fn get_mut_by(&mut self, key: &[u8], _guess: u32) -> Option<&mut Held>
         ensures* writes_back { sem 𝓛 (lends_held Self.row self.entry result (λ held. lent self.old key.now held)) }
         ensures value { option_copied_mut result ≡ lookup (bytes_eq key.now) (entries self.old) }
@@ -78,7 +79,7 @@ pub trait Recent {
         ensures entries { entries self.new ≡ remove_entry (bytes_eq key.now) (entries self.old) }
         ensures room { room self.new ≡ room self.old };
 
-    /// Does so given a guess of the entry.
+    /// Does what [`Recent::pop_entry`] does, given a guess of the entry.
     fn pop_entry_by(&mut self, key: &[u8], _guess: u32) -> Option<(Key, Held)>
         ensures value { result ≡ lookup_entry (bytes_eq key.now) (entries self.old) }
         ensures entries { entries self.new ≡ remove_entry (bytes_eq key.now) (entries self.old) }

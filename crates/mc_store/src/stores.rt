@@ -53,7 +53,8 @@ pub trait Store {
         ensures items { items self.new ≡ brought key.now (body_at key.now (items self.old)) (items self.old) }
         ensures most { most self.new ≡ most self.old };
 
-    /// Does so given a guess of the item ([`Store::guess_all`], [`Store::find`]). A guess affects only the speed.
+    /// Does what [`Store::bring`] does, given a guess of the item ([`Store::guess_all`], [`Store::find`]). A guess affects only the
+    /// speed.
     fn bring_by(&mut self, key: &[u8], _guess: u32) -> bool
         ensures held { result ≡ is_some (body_at key.now (items self.old)) }
         ensures items { items self.new ≡ brought key.now (body_at key.now (items self.old)) (items self.old) }
@@ -81,7 +82,7 @@ pub trait Store {
             ≡ brought key.now (expiring expiry (body_at key.now (items self.old))) (items self.old) }
         ensures most { most self.new ≡ most self.old };
 
-    /// Does so given a guess of the item.
+    /// Does what [`Store::expire`] does, given a guess of the item.
     fn expire_by(&mut self, key: &[u8], _guess: u32, expiry: Deadline) -> bool
         ensures held { result ≡ is_some (body_at key.now (items self.old)) }
         ensures items { items self.new
@@ -98,7 +99,7 @@ pub trait Store {
             ≡ brought key.now (marking stale won cas (body_at key.now (items self.old))) (items self.old) }
         ensures most { most self.new ≡ most self.old };
 
-    /// Does so given a guess of the item.
+    /// Does what [`Store::mark`] does, given a guess of the item.
     fn mark_by(&mut self, key: &[u8], _guess: u32, stale: bool, won: bool, cas: u64) -> bool
         ensures held { result ≡ is_some (body_at key.now (items self.old)) }
         ensures items { items self.new
@@ -119,7 +120,7 @@ pub trait Store {
         ensures items { items self.new ≡ without key.now (items self.old) }
         ensures most { most self.new ≡ most self.old };
 
-    /// Does so given a guess of the item.
+    /// Does what [`Store::take`] does, given a guess of the item.
     fn take_by(&mut self, key: &[u8], _guess: u32) -> Option<Body>
         ensures body { result ≡ body_at key.now (items self.old) }
         ensures items { items self.new ≡ without key.now (items self.old) }
@@ -140,7 +141,7 @@ pub trait Store {
         ensures err { OnErr result (items self.new ≡ items self.old) }
         ensures most { most self.new ≡ most self.old };
 
-    /// Does so given a guess of the item.
+    /// Does what [`Store::replace`] does, given a guess of the item.
     fn replace_by(&mut self, key: &[u8], _guess: u32, body: Body) -> Result<Body, Body>
         requires { cost_sum (items self.old) + cost_of key.now body.value < 2 ^ 63 }
         ensures before { IfOk result (λ before. body_at key.now (items self.old) ≡ Some before) }

@@ -98,7 +98,7 @@ impl<T> Numbered<T> {
         }
     }
 
-    /// Returns that index by binary search.
+    /// Returns the index of a number's entry, by binary search.
     fn search(&self, number: u64) -> Option<usize>
         ensures found { IfSome result (IsAt self.now.entries number) }
         ensures absent { IfNone result (entry_of self.now.entries number ≡ None) }

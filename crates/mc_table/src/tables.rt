@@ -100,7 +100,7 @@ impl<K: Eq + Hash, V, S: BuildHasher> Table<K, V, S> {
         self.pop_entry_by(k, 0)
     }
 
-    /// Removes and returns them, given a guess of the entry.
+    /// Removes and returns the key and its value, given a guess of the entry.
     pub fn pop_entry_by<Q: Equivalent<K>>(&mut self, k: Q, guess: u32) -> Option<(K, V)>
         ensures value { result ≡ lookup_entry (Q.equivalent k) self.old }
         ensures entries { self.new ≡ remove_entry (Q.equivalent k) self.old }
@@ -154,7 +154,8 @@ impl<K: Eq + Hash, V, S: BuildHasher> Table<K, V, S> {
         self.get_mut_by(k, 0)
     }
 
-    /// Returns the value likewise, given a guess of the entry ([`Table::guess_all`]), which is compared first. A guess affects only the speed.
+    /// Returns the value of the key, as [`Table::get_mut`] does, given a guess of the entry ([`Table::guess_all`]), which is compared first. A
+    /// guess affects only the speed.
     pub fn get_mut_by<Q: Equivalent<K>>(&mut self, k: Q, guess: u32) -> Option<&mut V>
         ensures* writes_back { sem 𝓛 (lends_value K.row V.row S.row S.Hasher.row K.Hash S.BuildHasher S.Hasher.Hasher self.entry (Q.equivalent k) (promoted (Q.equivalent k) self.old) result) }
         ensures value { option_copied_mut result ≡ lookup (Q.equivalent k) self.old }

@@ -48,7 +48,8 @@ fn are_from(least: u8, text: &[u8]) -> bool
     are_lanes_from(least, last)
 }
 
-/// Tests fewer than 16 bytes likewise: the first 8 of them together, and the last 8.
+/// Returns whether each of fewer than 16 bytes is at least `least`, and not 127. The first 8 of them are tested together, and the
+/// last 8.
 fn are_few_from(least: u8, text: &[u8]) -> bool
     requires { length text.now < LANES }
     ensures { result ≡ list_all (is_from least) text.now }
@@ -60,7 +61,7 @@ fn are_few_from(least: u8, text: &[u8]) -> bool
     are_half_from(least, text) && are_half_from(least, last)
 }
 
-/// Tests the bytes likewise, one by one.
+/// Returns whether each byte is at least `least`, and not 127. The bytes are tested one by one.
 fn are_single_from(least: u8, text: &[u8]) -> bool
     ensures { result ≡ list_all (is_from least) text.now }
 {
@@ -71,7 +72,7 @@ fn are_single_from(least: u8, text: &[u8]) -> bool
     good
 }
 
-/// Tests the first 8 bytes of a text likewise.
+/// Returns whether each of the first 8 bytes is at least `least`, and not 127.
 #[inline(always)]
 fn are_half_from(least: u8, text: &[u8]) -> bool
     requires { HALF ≤ length text.now }
@@ -83,7 +84,7 @@ fn are_half_from(least: u8, text: &[u8]) -> bool
     lower == 0 && deletes == 0
 }
 
-/// Tests the first 16 bytes of a text likewise.
+/// Returns whether each of the first 16 bytes is at least `least`, and not 127.
 #[inline(always)]
 fn are_lanes_from(least: u8, text: &[u8]) -> bool
     requires { LANES ≤ length text.now }

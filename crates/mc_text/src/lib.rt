@@ -10,7 +10,7 @@
 //!
 //! Each call returns exactly what the definition of its name in `specs/` says of the bytes. Spaces, line ends and key bytes are searched
 //! [`LANES`] at a time, if there are as many. Only what makes a key or a block takes memory. [`coded_keys_have_one_word`] is a law, and
-//! the functions of `rows.rt` are worked examples: both do nothing.
+//! functions such as [`keys_by_their_bytes`] are worked examples: they do nothing.
 //!
 //! # Forms
 //!
