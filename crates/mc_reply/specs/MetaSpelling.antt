@@ -46,7 +46,7 @@ given_onto coded word shown flag (Some Key) rest = key_flag_onto coded word rest
 given_onto coded word shown flag (Some Opaque) rest = codes " " ++ (flag ++ rest)
 given_onto coded word shown flag other rest = rest
 
--- likewise by the flag's word, which begins with its letter
+-- what a flag returns by its word, which begins with its letter, and what follows
 abbrev pub flag_onto : Bool → List ℕ → Shown → List ℕ → List ℕ → List ℕ
 flag_onto coded word shown [] rest = rest
 flag_onto coded word shown (letter ∷ token) rest = given_onto coded word shown (letter ∷ token) (flag_of letter) rest

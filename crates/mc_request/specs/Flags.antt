@@ -142,7 +142,7 @@ by_flag name read token Delta = valued read.delta (read_u64 token) >>= (λ delta
 by_flag name read token Invalidate = bare read.invalidate token >>= (λ invalidate. Ok (record read { invalidate = invalidate }))
 by_flag name read token Recache = valued read.recache (read_u64 token) >>= (λ recache. Ok (record read { recache = recache }))
 
--- likewise, by the flag that the letter has, if it has one
+-- the flags with one more, by the flag that its letter has, if it has one
 abbrev pub by_letter : Name → MetaFlags → List ℕ → Option Flag → Result MetaFlags Fault
 by_letter name read token None = Err InvalidFlag
 by_letter name read token (Some flag) = by_flag name read token flag

@@ -17,7 +17,7 @@ update_map key_by block_by (Delete key compare invalidate) = Delete (key_by key)
 update_map key_by block_by (Count key counting) = Count (key_by key) counting
 update_map key_by block_by (FlushAll delay) = FlushAll delay
 
--- the meta command, likewise
+-- the meta command, with another key and another block, each made of its own
 abbrev pub meta_map : {K L B C : Type 0} → (K → L) → (B → C) → MetaCommand K B → MetaCommand L C
 meta_map key_by block_by (metas.Get key get) = metas.Get (key_by key) get
 meta_map key_by block_by (metas.Update update show) = metas.Update (update_map key_by block_by update) show
@@ -53,7 +53,7 @@ key_bytes coded word = unwrap_or (key_said coded word) []
 abbrev pub update_said : Bool → Update (Bor (List ℕ)) (Bor (List ℕ)) → Update (List ℕ) (List ℕ)
 update_said coded update = update_map (λ word. key_bytes coded word.now) (λ block. block.now) update
 
--- a borrowed meta command, likewise
+-- a borrowed meta command, with the key of its word and the bytes that it borrows
 abbrev pub meta_said : Bool → MetaCommand (Bor (List ℕ)) (Bor (List ℕ)) → MetaCommand (List ℕ) (List ℕ)
 meta_said coded command = meta_map (λ word. key_bytes coded word.now) (λ block. block.now) command
 

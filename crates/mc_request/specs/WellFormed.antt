@@ -47,7 +47,7 @@ is_good_counting counting =
 abbrev pub has_key : {B : Type 0} → Update (List ℕ) B → Bool
 has_key update = is_where_some is_key (key_in update)
 
--- a meta command, likewise
+-- a meta command that has a key, if it has one at all
 abbrev pub has_meta_key : {B : Type 0} → MetaCommand (List ℕ) B → Bool
 has_meta_key command = is_where_some is_key (key_in_meta command)
 
