@@ -92,7 +92,7 @@ where
     served.map_err(|error| Failure::at(rt, error, options.listen, is_read))
 }
 
-/// Listens, and serves. Before that it reports how much memory it may take, if its operator reads it.
+/// Listens, reports how much memory it may take if its operator reads that, and serves.
 fn listen_and_serve<R>(
     rt: &R,
     alloc: Global,

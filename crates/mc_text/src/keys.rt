@@ -206,8 +206,8 @@ pub fn are_plain_keys(words: &WordIter<'_>) -> bool
     are_line_bytes(text) && has_short_words(text)
 }
 
-/// Returns whether no word of a text is longer than a key. Most often two or three looks decide it: one of any 251 bytes must be a
-/// space, and the bytes before the last such space are short enough.
+/// Returns whether no word of a text is longer than a key. Most often two or three looks decide it: one of the next 251 bytes is a
+/// space, and what is before the last such space is short enough.
 fn has_short_words(text: &[u8]) -> bool
     ensures { result ≡ list_all is_short (words text.now) }
 {
