@@ -1,4 +1,4 @@
--- What a meta command is told of an update: the item that it shows is first.
+-- The meta reply to an update: the item that it shows is first.
 use Rattle.std.proofs.Common.{◌≡◌, ℕ, ℤ, ◌+◌, ◌^◌, ◌∙◌, nat_le, ◌==◌, Bool, true, false, cond, List, [], ◌∷◌, length, Option, Some, None, Result, Ok, Err, refl, sym, ap, subst}
 use Rattle.std.specs.Prelude.{IfSome, unwrap_or}
 use Rattle.std.specs.Option.{option_map, option_or}
@@ -32,7 +32,7 @@ stores Stored = true
 stores (Number number) = true
 stores other = false
 
--- where an outcome says so, the key's item is first
+-- if an outcome says so, the key's item is first
 abbrev IsFirst : List ℕ → Outcome → Type 0
 IsFirst key outcome = stores outcome.1 ≡ true → body_at key outcome.0.items ≡ front_body outcome.0.items
 
@@ -51,7 +51,7 @@ stored_by-first s key content refused reply (Err fault) = λ is. absurd cc
 stored_by-first s key content true reply (Ok number) = λ is. absurd cc
 stored_by-first s key content false reply (Ok number) = λ is. with_item-front s key (numbered content number)
 
--- where nothing is stored, no reply says so
+-- if nothing is stored, no reply says so
 abbrev StoresNone : Option (Reply (List ℕ)) → Type 0
 StoresNone answer = IfSome answer (λ reply. stores reply ≡ false)
 
@@ -138,7 +138,7 @@ update_step-first s (Delete key compare invalidate) moment refused = delete_step
 update_step-first s (Count key counting) moment refused = count_step-first s key (body_at key s.items) counting moment refused
 update_step-first s (FlushAll delay) moment refused = λ is. absurd cc
 
--- the same of an outcome that is known
+-- likewise of an outcome that is known
 first_of : (s : CacheState) (update : Update (List ℕ) (List ℕ)) (moment : ℕ) (refused : Bool) (after : CacheState) (reply : Reply (List ℕ))
     → update_step s update moment refused ≡ (after, reply) → stores reply ≡ true → held_under (key_in update) after ≡ front_body after.items
 first_of s update moment refused after reply is says =
@@ -149,12 +149,13 @@ value_of_held : (key : Option (List ℕ)) (s : CacheState) → held_under key s 
 value_of_held (Some key) s is = ap (λ (held : Option Body). unwrap_or (option_map (λ (b : Body). b.value) held) []) is
 value_of_held None s is = ap (λ (held : Option Body). unwrap_or (option_map (λ (b : Body). b.value) held) []) is
 
--- what is told of an outcome that is known
+-- the meta reply by an outcome that is known
 told_is : (key : Option (List ℕ)) (show : Show) (moment : ℕ) (o : Outcome) (after : CacheState) (reply answer : Reply (List ℕ)) → o ≡ (after, reply)
     → told show moment Plain (held_under key after) reply ≡ answer → outcome_told show moment Plain key o ≡ (after, answer)
 told_is key show moment o after reply answer is says = ap (outcome_told show moment Plain key) is ∙ ap (λ (r : Reply (List ℕ)). (after, r)) says
 
--- an update whose reply is told: the outcome of the meta command, and that either value fills its reply
+-- an update whose reply becomes a meta reply: the outcome of the meta command, and that either value
+-- fills its reply
 pub told_outcome : (s : CacheState) (update : Update (List ℕ) (List ℕ)) (moment : ℕ) (refused : Bool) (after : CacheState) (show : Show) (reply result : Reply (Unit {0}))
     → ((value : List ℕ) → update_step s update moment refused ≡ (after, filled reply value)) → IsTold show moment after reply result
     → outcome_told show moment Plain (key_in update) (update_step s update moment refused) ≡ (after, filled result (front_value after.items))
@@ -180,7 +181,7 @@ told_outcome s update moment refused after show (Fault fault) result is says = r
 same_by : (o : Outcome) (after : CacheState) (reply : Reply (Unit {0})) → ((value : List ℕ) → o ≡ (after, filled reply value)) → (a b : List ℕ) → filled reply a ≡ filled reply b
 same_by o after reply is a b = ap (λ (p : Outcome). p.1) (sym (is a) ∙ is b)
 
--- the value under the key fills what is told as that of the first item does
+-- the value under the key fills the meta reply as that of the first item does
 pub told_same : (s : CacheState) (update : Update (List ℕ) (List ℕ)) (moment : ℕ) (refused : Bool) (after : CacheState) (show : Show) (reply result : Reply (Unit {0}))
     → ((value : List ℕ) → update_step s update moment refused ≡ (after, filled reply value)) → IsTold show moment after reply result
     → filled result (front_value after.items) ≡ filled result (value_under (key_in update) after)

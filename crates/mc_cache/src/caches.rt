@@ -1,4 +1,4 @@
-//! Cache: the items, their numbers and their bounds.
+//! `Cache`: the items, their numbers and their bounds.
 ghost use Rattle.std.specs.Prelude.{◌≡◌, ◌↔◌, ◌<◌, ◌≤◌, ◌^◌, ℕ, List, [], length, None, IsTrue, true, false, IfOk, IfSome, IfNone, OnErr, OnSome};
 ghost use Rattle.std.specs.Option.{option_copied};
 ghost use Rattle.mc_cache.specs.CacheState.{IsWithinBounds, HasRoom};
@@ -25,14 +25,14 @@ pub const MAX_BUDGET: u64 = 1_099_511_627_776;
 /// The most items that a cache's limit allows.
 pub const MAX_ITEMS: usize = 16_777_216;
 
-/// Whether a cache may have these bounds: a budget of 1 to [`MAX_BUDGET`] bytes, and 1 to [`MAX_ITEMS`] items.
+/// Returns whether a cache may have these bounds: a budget of 1 to [`MAX_BUDGET`] bytes, and 1 to [`MAX_ITEMS`] items.
 pub fn is_within_bounds(budget: u64, limit: usize) -> bool
     ensures { IsTrue result ↔ IsWithinBounds budget limit }
 {
     budget >= 1 && budget <= MAX_BUDGET && limit >= 1 && limit <= MAX_ITEMS
 }
 
-/// A cache over a store. Contracts see its items, its counter, the flush that is still to come, and its bounds.
+/// A cache over a store. Contracts see its items, its counter, its pending flush, and its bounds.
 #[derive(Drop)]
 pub struct Cache<S: Store + Drop> {
     alloc: Global,
@@ -41,7 +41,7 @@ pub struct Cache<S: Store + Drop> {
     pending: Option<u64>,
     budget: u64,
     limit: usize,
-    /// Whether keys that are not held are refused memory.
+    /// Whether keys that are not stored are refused memory.
     is_short: bool,
 }
 
@@ -76,10 +76,10 @@ impl<S: Store + Drop> Cache<S> {
     ghost use Rattle.mc_cache.specs.Memory.{may_refuse, takes_block};
     ghost use Rattle.mc_cache.specs.Refusals.{HasKey, is_refusal, value_after};
 
-    /// A cache that holds nothing, over an empty store that may hold more items than the limit.
+    /// Makes a cache of no item, over an empty store that may hold more items than the limit.
     ///
-    /// The budget is in bytes, the limit in items, and the counter gives the items their numbers. The allocator is the
-    /// one that keys and blocks are made with.
+    /// The budget is in bytes, the limit in items, and the counter gives the items their numbers. Keys and blocks are
+    /// made with the allocator.
     pub fn new(alloc: Global, store: S, budget: u64, limit: usize, counter: CasCounter) -> Self
         requires empty { S.items store ≡ [] }
         requires bounds { IsWithinBounds budget limit }
@@ -97,18 +97,18 @@ impl<S: Store + Drop> Cache<S> {
         }
     }
 
-    /// Says whether memory is short. If it is, a key that is not held is refused memory, even if there is some.
+    /// Sets whether memory is short. If it is, a key that is not stored is refused memory, even if there is some.
     pub fn set_short(&mut self, is_short: bool)
         ensures { self.new ≡ self.old }
     {
         self.is_short = is_short;
     }
 
-    /// One command at a moment, in seconds since 1970. Its key and its block are its own.
+    /// Executes one command at a moment, in seconds since 1970. Its key and its block are owned.
     ///
-    /// It takes memory only where a key that is not held is stored, or where a held value is made longer. Where there
-    /// is none the reply is `Fault::OutOfMemory`, and nothing changes but what the moment brings: a flush that is
-    /// due, and the end of the key's dead item.
+    /// It takes memory only if it stores a key that is not stored yet, or makes a stored value longer. If there is
+    /// none the reply is `Fault::OutOfMemory`, and nothing changes except what the moment causes: a flush that is
+    /// due, and the removal of the key's expired item.
     pub fn step(&mut self, atom: Atom<Block>, moment: u64) -> Reply<()>
         requires { moment < 2 ^ 63 }
         ensures step { step_of self.old atom moment (is_refusal result)
@@ -126,7 +126,7 @@ impl<S: Store + Drop> Cache<S> {
         }
     }
 
-    /// The command `Get`, with the key lent. It takes no memory, and no value gets longer.
+    /// Executes `Get`, with the key borrowed. It takes no memory, and no value gets longer.
     ///
     /// The item that a hit shows is first: [`Cache::front_value`] is its value.
     pub fn get(
@@ -148,7 +148,7 @@ impl<S: Store + Drop> Cache<S> {
         self.get_by(key, 0, exptime, with_cas, moment)
     }
 
-    /// The same, given a guess of the key's item ([`Cache::guess_all`]). A guess changes how long it takes, and nothing else.
+    /// Executes `Get`, as [`Cache::get`] does, given a guess of the key's item ([`Cache::guess_all`]). A guess affects only the speed.
     pub fn get_by(
         &mut self,
         key: &[u8],
@@ -179,10 +179,10 @@ impl<S: Store + Drop> Cache<S> {
         }
     }
 
-    /// The command `Get` without an exptime, given a guess of the key's item: what a hit shows beside its value, which are the client
-    /// flags, and the number if it is asked for. None is a miss. [`Cache::get_by`] does the same.
+    /// Executes `Get` without an exptime, given a guess of the key's item. It returns what a hit shows beside its value: the client
+    /// flags, and the number if it is asked for. None is a miss. [`Cache::get_by`] executes the same command.
     ///
-    /// It is for values that are shown from where they are: the item that a hit shows is first, and [`Cache::front_value`] is its value.
+    /// It is for values that are sent without a copy: the item that a hit shows is first, and [`Cache::front_value`] is its value.
     pub fn get_head(
         &mut self,
         key: &[u8],
@@ -204,26 +204,26 @@ impl<S: Store + Drop> Cache<S> {
         Some((found.flags, with_cas.then_some(found.cas)))
     }
 
-    /// Whether [`Cache::guess_all`] guesses: several items are found sooner together than each by itself.
+    /// Returns whether [`Cache::guess_all`] guesses: several items are found faster together than each by itself.
     pub fn guesses(&self) -> bool {
         self.store.guesses()
     }
 
-    /// Guesses for each key which item it has, for the calls that are given a guess. It changes nothing, takes no memory, and gives a number
-    /// that says nothing ([`Store::guess_all`]).
+    /// Prefetches: loads the entries of keys, and writes a guess of each key's item (0 is none), for the calls that take a guess. It changes
+    /// nothing else, and takes no memory. The returned byte only keeps the loads alive ([`Store::guess_all`]).
     pub fn guess_all(&self, keys: &[&[u8]], guesses: &mut [u32]) -> u8 {
         self.store.guess_all(keys, guesses)
     }
 
-    /// The command `Update`, with the key and the block lent. Its reply shows no value.
+    /// Executes `Update`, with the key and the block borrowed. Its reply shows no value.
     ///
-    /// A key is made the cache's own only where one that is not held is stored, and a block only where it is stored.
-    /// Where there is no memory for a key that is not held, or for a held value that is made longer, the reply is
-    /// `Fault::OutOfMemory`, and nothing changes but what the moment brings.
+    /// It copies the key only if it stores a key that is not stored yet, and the block only if it stores it. If
+    /// there is no memory for a key that is not stored, or for a stored value that is made longer, the reply is
+    /// `Fault::OutOfMemory`. Then nothing changes except what the moment causes.
     ///
     /// # Errors
     ///
-    /// A whole value is to be stored under a held key, and there is no memory for its block. Nothing has changed.
+    /// A whole value is to be stored under a stored key, and there is no memory for its block. Nothing has changed.
     pub fn update(
         &mut self,
         update: &Update<&[u8], &[u8]>,
@@ -242,7 +242,8 @@ impl<S: Store + Drop> Cache<S> {
         self.update_by(update, 0, moment)
     }
 
-    /// The same, given a guess of the key's item ([`Cache::guess_all`]). A guess changes how long it takes, and nothing else.
+    /// Executes `Update`, as [`Cache::update`] does, given a guess of the key's item ([`Cache::guess_all`]). A guess
+    /// affects only the speed.
     ///
     /// # Errors
     ///
@@ -291,10 +292,10 @@ impl<S: Store + Drop> Cache<S> {
         }
     }
 
-    /// The command `set`, whose key and block are its own: no byte of the block is copied. Its reply shows no value.
+    /// Executes `set`, whose key and block are owned: no byte of the block is copied. Its reply shows no value.
     ///
-    /// It takes memory only if the key is not held. If there is none the reply is `Fault::OutOfMemory`, and nothing changes but what
-    /// the moment brings.
+    /// It takes memory only if the key is not stored. If there is none the reply is `Fault::OutOfMemory`, and nothing changes except
+    /// what the moment causes.
     pub fn set(
         &mut self,
         key: Key,
@@ -315,11 +316,11 @@ impl<S: Store + Drop> Cache<S> {
         self.set_own(key, body, found)
     }
 
-    /// The meta command `Get`, which is `mg`, with the key lent. No value gets longer.
+    /// Executes the meta command `Get`, which is `mg`, with the key borrowed. No value gets longer.
     ///
-    /// It takes memory only where the key is not held and an item is made: where there is none the reply is
-    /// `Fault::OutOfMemory`, and nothing changes but what the moment brings. The item whose value the reply shows is
-    /// first: [`Cache::front_value`] is its value.
+    /// It takes memory only if the key is not stored and an item is made. If there is none the reply is
+    /// `Fault::OutOfMemory`, and nothing changes except what the moment causes. The item whose value the reply shows
+    /// is first: [`Cache::front_value`] is its value.
     pub fn meta_get(&mut self, key: &[u8], get: &MetaGet, moment: u64) -> Reply<()>
         requires moment { moment < 2 ^ 63 }
         requires key { is_key key.now ≡ true }
@@ -335,7 +336,7 @@ impl<S: Store + Drop> Cache<S> {
         self.meta_get_by(key, 0, get, moment)
     }
 
-    /// The same, given a guess of the key's item ([`Cache::guess_all`]). A guess changes how long it takes, and nothing else.
+    /// Executes `mg`, as [`Cache::meta_get`] does, given a guess of the key's item ([`Cache::guess_all`]). A guess affects only the speed.
     pub fn meta_get_by(&mut self, key: &[u8], guess: u32, get: &MetaGet, moment: u64) -> Reply<()>
         requires moment { moment < 2 ^ 63 }
         requires key { is_key key.now ≡ true }
@@ -351,14 +352,14 @@ impl<S: Store + Drop> Cache<S> {
         self.show(key, guess, get, moment)
     }
 
-    /// The meta command `Update`, which is `ms`, `md` or `ma`, with the key and the block lent: the same as
-    /// [`Cache::update`], with a reply that shows what was stored.
+    /// Executes the meta command `Update`, which is `ms`, `md` or `ma`, with the key and the block borrowed. It
+    /// does what [`Cache::update`] does, with a reply that shows what was stored.
     ///
     /// The item that the reply shows is first: [`Cache::front_value`] is its value.
     ///
     /// # Errors
     ///
-    /// A whole value is to be stored under a held key, and there is no memory for its block. Nothing has changed.
+    /// A whole value is to be stored under a stored key, and there is no memory for its block. Nothing has changed.
     pub fn meta_update(
         &mut self,
         update: &Update<&[u8], &[u8]>,
@@ -381,7 +382,8 @@ impl<S: Store + Drop> Cache<S> {
         self.meta_update_by(update, 0, show, moment)
     }
 
-    /// The same, given a guess of the key's item ([`Cache::guess_all`]). A guess changes how long it takes, and nothing else.
+    /// Executes a meta command, as [`Cache::meta_update`] does, given a guess of the key's item ([`Cache::guess_all`]). A guess
+    /// affects only the speed.
     ///
     /// # Errors
     ///
@@ -410,7 +412,7 @@ impl<S: Store + Drop> Cache<S> {
         Ok(self.tell(reply, show, moment))
     }
 
-    /// A meta command whose key and block are its own.
+    /// Executes a meta command whose key and block are owned.
     fn meta_by_own(&mut self, command: MetaCommand<Key, Block>, moment: u64) -> Reply<()>
         requires { moment < 2 ^ 63 }
         ensures step { step_of self.old (AMeta command) moment (is_refusal result)
@@ -426,7 +428,7 @@ impl<S: Store + Drop> Cache<S> {
         }
     }
 
-    /// The command `Update`, whose key and block are its own. Its reply shows no value.
+    /// Executes `Update`, whose key and block are owned. Its reply shows no value.
     fn update_by_own(&mut self, update: Update<Key, Block>, moment: u64) -> Reply<()>
         requires { moment < 2 ^ 63 }
         ensures step { (value : List ℕ) → step_of self.old (AnUpdate update) moment (is_refusal result)
@@ -457,14 +459,14 @@ impl<S: Store + Drop> Cache<S> {
         }
     }
 
-    /// The value under a key.
+    /// Returns the value under a key.
     pub fn value(&self, key: &[u8]) -> Option<&[u8]>
         ensures { option_copied result ≡ held_value key.now self.now.items }
     {
         Some(self.store.peek(key)?.value.as_slice())
     }
 
-    /// The value of the first item, which has no bytes where there is none.
+    /// Returns the value of the first item, or no bytes if there is none.
     pub fn front_value(&self) -> &[u8]
         ensures { result.now ≡ front_value self.now.items }
     {
@@ -474,7 +476,7 @@ impl<S: Store + Drop> Cache<S> {
         }
     }
 
-    /// How many bytes the value under a key has: 0 where the key is not held. No value has 2^63 bytes.
+    /// Returns the length of the value under a key: 0 if the key is not stored. No value has 2^63 bytes.
     pub fn room(&self, key: &[u8]) -> usize
         ensures room { result ≡ length (value_at key.now self.now.items) }
         ensures bound { result < 2 ^ 63 }
@@ -485,16 +487,15 @@ impl<S: Store + Drop> Cache<S> {
         }
     }
 
-    /// A number of bytes that no held value is longer than, without a look at a key. It may stay larger than that once
-    /// the longest value has gone.
+    /// Returns a number of bytes that no stored value is longer than, without a look-up. It may stay larger than that
+    /// after the longest value was removed.
     pub fn longest(&self) -> usize
         ensures { longest_of self.now.items ≤ result }
     {
         self.store.longest()
     }
 
-    /// The store as it is, with the items that the cache holds. It takes no memory, and may still hold one item more than
-    /// the cache's limit.
+    /// Returns the store, with the cache's items. It takes no memory, and may still hold one item more than the cache's limit.
     pub fn into_store(self) -> S
         ensures items { S.items result ≡ self.items }
         ensures room { HasRoom self.limit (S.most result) }

@@ -2,7 +2,7 @@
 use Rattle.std.specs.Prelude.{ℕ, ◌+◌, List, length}
 use Rattle.mc_item.specs.declared.bodies.TheConstants.{OVERHEAD}
 
--- by how many bytes its key and its value have, and so many more: this project's own measure
+-- by the lengths of its key and its value, and a fixed overhead: this project's own measure
 abbrev pub cost_at : ℕ → ℕ → ℕ
 cost_at key value = key + value + OVERHEAD
 

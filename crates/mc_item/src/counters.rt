@@ -19,14 +19,15 @@ impl Model for CasCounter {
 }
 
 impl CasCounter {
-    /// A counter that gave `last` as its last number.
+    /// Makes a counter that gave `last` as its last number.
     pub fn starting_at(last: u64) -> CasCounter
         ensures { result ≡ last }
     {
         CasCounter { last }
     }
 
-    /// The next number, one above the last. `None` where it has more than 64 bits: the counter stays.
+    /// Returns the next number, one above the last. It returns `None` if that has more than 64 bits:
+    /// the counter stays.
     pub fn next(&mut self) -> Option<u64>
         ensures number { SomeIff result (self.old + 1 < 2 ^ 64) (self.old + 1) }
         ensures counter { OnSome result (self.new ≡ self.old + 1) }

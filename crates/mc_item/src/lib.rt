@@ -1,7 +1,7 @@
-//! Items: what is held under a key, what it costs, and the numbers that items get.
+//! Items: what is stored under a key, what it costs, and the numbers that items get.
 //!
-//! A cache holds a [`Body`] under each key until its [`Deadline`], counts [`cost`] against its budget, and takes each
-//! new item's number from a [`CasCounter`]. No call takes memory.
+//! A cache stores a [`Body`] under each key until its [`Deadline`], counts [`cost`] against its budget, and takes
+//! each new item's number from a [`CasCounter`]. No call takes memory.
 //!
 //! The other functions are worked examples of deadlines: they do nothing, and their contracts are the examples.
 #![tactic(auto)]

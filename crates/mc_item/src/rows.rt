@@ -11,19 +11,19 @@ pub fn thirty_days_are_from_the_moment_on()
     ensures nothing_left { left_of (deadline_of (pos 2592000) 1000000000) 1002592000 ≡ Some 0 }
 {}
 
-/// A second more is a moment by itself, which has long passed.
+/// One second more is a moment by itself, which has long passed.
 pub fn a_second_more_is_a_moment()
     ensures deadline { deadline_of (pos 2592001) 1000000000 ≡ at 2592001 }
     ensures dead { is_dead (deadline_of (pos 2592001) 1000000000) 1000000000 ≡ true }
     ensures nothing_left { left_of (deadline_of (pos 2592001) 1000000000) 1000000000 ≡ Some 0 }
 {}
 
-/// What is below 0 is dead at every moment.
+/// Below 0 it is expired at every moment.
 pub fn below_zero_is_dead_at_once()
     ensures dead { (moment : ℕ) → is_dead (deadline_of (negsuc 0) 1000000000) moment ≡ true }
 {}
 
-/// With 0 it never is.
+/// With 0 it never expires.
 pub fn zero_is_never()
     ensures live { (moment : ℕ) → is_dead (deadline_of (pos 0) 1000000000) moment ≡ false }
     ensures no_end { (moment : ℕ) → left_of (deadline_of (pos 0) 1000000000) moment ≡ None }

@@ -1,4 +1,4 @@
--- A server that is where a history leaves it, after a stretch.
+-- A server that is as a history leaves it, after a stretch.
 use Rattle.std.proofs.Common.{◌≡◌, ◌≢◌, ◌∙◌, ℕ, ◌==◌, false, List, [], ◌∷◌, ◌++◌, refl, sym, ap, subst, append_assoc}
 use Rattle.std.proofs.lemmas.List.{append-nil}
 use Rattle.mc_request.specs.declared.parts.Taken.{Taken}

@@ -1,4 +1,4 @@
--- Pumps: one after another, and what each part of a round adds.
+-- Pumps in sequence, and what each part of a round adds.
 use Rattle.std.proofs.Common.{◌≡◌, refl, ℕ, Bool, false, Ok, Err, List, [], ◌++◌, Option, Some}
 use Rattle.mc_server.specs.ServerState.{ConnectionState, ServerState, connection_at}
 use Rattle.mc_stream.specs.Sides.{IsStopOfSide}
@@ -35,7 +35,7 @@ pumps_then number moment count between count' pump a b c unread middle unread' w
   counted = counts_then number moment count between count' a b c h.came k.came h.went k.went h.stretch k.stretch h.counted k.counted;
 }
 
--- a stop of a side leaves nothing to say
+-- after a stop of a side nothing is left to prove
 left_by_side : (pump : Pumped) (ended : Bool) (connection : Option ConnectionState) → IsStopOfSide pump → Leaves pump ended connection
 left_by_side Again ended connection h = tt
 left_by_side Blocked ended connection h = absurd h

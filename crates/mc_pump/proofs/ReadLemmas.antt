@@ -13,7 +13,7 @@ use Rattle.mc_pump.specs.declared.limits.TheConstants.{UNSENT_MARK}
 use Rattle.mc_pump.proofs.RoundLemmas.{receives_still}
 use Rattle.mc_pump.proofs.StretchLemmas.{fed_takes_none, stretch_fed}
 
--- bytes came, or the end
+-- bytes arrived, or the end
 how_read : (count : ℕ) (unread unread' : Option (List ℕ)) (ended' : Bool) (came : List ℕ) (unmoved : Type 0) → ended' ≡ (count == 0) → Brings unread unread' ended' came
     → HowItCame (moved_of (Ok count) ended') unread unread' ended' came unmoved
 how_read zero unread unread' ended' came unmoved e brings =
@@ -21,7 +21,7 @@ how_read zero unread unread' ended' came unmoved e brings =
     subst P (sym e) (λ b. b) brings
 how_read (suc k) unread unread' ended' came unmoved e brings = let more : nat_lt 0 (suc k) ≡ true = grind (arith, nat_tests) in rw more brings
 
--- nothing came
+-- nothing arrived
 how_unread : (side : Result ℕ Pumped) (piece : List ℕ) (unread unread' : Option (List ℕ)) (ended' : Bool) (unmoved : Type 0) → MovesNothing side → ended' ≡ false → unmoved
     → Reads side piece ended' unread unread' → HowItCame (moved_of side ended') unread unread' ended' [] unmoved
 how_unread (Ok count) piece unread unread' ended' unmoved none e still reads =

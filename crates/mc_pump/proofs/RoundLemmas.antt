@@ -99,7 +99,7 @@ sends_some number moment count sent output old new written written' there unsent
       same = subst Q (sym c.1) (subst P (sym now) (record { waits = refl; closed = refl; fewer = fewer }));
     }
 
--- nothing came
+-- nothing arrived
 pub receives_still : (number moment count : ℕ) (side : Result Bool Pumped) (s : ServerState) (unread unread' : Option (List ℕ)) (ended' : Bool) → IsSome (connection_at s number)
     → HowItCame side unread unread' ended' [] (s ≡ s) → Receives number moment side s s unread unread' ended' count count
 receives_still number moment count side s unread unread' ended' there how =
@@ -127,7 +127,7 @@ no_more stops.Idle ended o h e = (h.0, inl e)
 no_more stops.Closing ended o h e = (h.0, inr h.1)
 no_more stops.Marked ended o h e = absurd cc
 
--- where all is sent and nothing more will come, the connection is over
+-- if all is sent and nothing more will arrive, the connection is over
 pub over : (stop : Stop) (ended answer : Bool) (a b : Option ConnectionState) → StopsAt stop a → IsSentOf a b → answer ≡ ((length (output_of b) == 0) && ends_by stop ended) → answer ≡ true → IsOver ended b
 over stop ended answer a b h same is e =
     let tests = both (length (output_of b) == 0) (ends_by stop ended) answer is e in
@@ -141,20 +141,20 @@ over stop ended answer a b h same is e =
       ];
     }
 
--- where turns stopped, none waits or too much is unsent
+-- if turns stopped, none is pending or too much is unsent
 stopped_at : (stop : Stop) (o : Option ConnectionState) → StopsAt stop o → (waiting_of o ≡ []) ⊎ (UNSENT_MARK ≤ length (output_of o))
 stopped_at stops.Idle o h = inl h.0
 stopped_at stops.Closing o h = inl h.0
 stopped_at stops.Marked o h = inr h
 
--- where nothing is unsent, and the input is read no further, it has ended
+-- if nothing is unsent, and the input is read no further, it has ended
 not_read : (stop : Stop) (ended : Bool) (o : Option ConnectionState) → StopsAt stop o → reads_by stop ended ≡ false → output_of o ≡ [] → ends_by stop ended ≡ true
 not_read stops.Idle true o h e none = refl
 not_read stops.Idle false o h e none = absurd cc
 not_read stops.Closing ended o h e none = refl
 not_read stops.Marked ended o h e none = let nothing : length (output_of o) ≡ 0 = ap (λ (bytes : List ℕ). length bytes) none in absurd (omega (arith, h, nothing))
 
--- where the connection is not over, and the input is read no further, it is stuck
+-- if the connection is not over, and the input is read no further, it is stuck
 pub stuck : (stop : Stop) (ended answer : Bool) (o : Option ConnectionState) → StopsAt stop o → answer ≡ ((length (output_of o) == 0) && ends_by stop ended) → answer ≡ false
     → reads_by stop ended ≡ false → IsStuck ended o
 stuck stop ended answer o h is e unread = record {
@@ -166,7 +166,7 @@ stuck stop ended answer o h is e unread = record {
       absurd cc;
 }
 
--- where the input is read on, no request waits, and less is unsent than the mark
+-- if the input is read on, no request is pending, and less is unsent than the mark
 pub read_on : (stop : Stop) (ended answer : Bool) (o : Option ConnectionState) → StopsAt stop o → answer ≡ reads_by stop ended → answer ≡ true → (StopsAt stops.Idle o) × (ended ≡ false)
 read_on stops.Idle true answer o h is e = let clash : true ≡ false = sym e ∙ is in absurd cc
 read_on stops.Idle false answer o h is e = (h, refl)

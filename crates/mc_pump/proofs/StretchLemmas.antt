@@ -1,4 +1,4 @@
--- Stretches of a connection: none, by one call of the server, and one after another.
+-- Stretches of a connection: none, by one call of the server, and in sequence.
 use Rattle.std.proofs.Common.{◌≡◌, ◌∙◌, ℕ, ◌==◌, ◌<◌, ◌≤◌, true, false, if◌then◌else◌, List, [], ◌∷◌, ◌++◌, length, take, drop, Option, Some, refl, sym, ap, subst, append_assoc, arith}
 use Rattle.std.proofs.lemmas.List.{append-nil, take-append-drop}
 use Rattle.mc_request.specs.declared.parts.Taken.{Taken}
@@ -129,7 +129,7 @@ pub closing_takes_none : (number moment : ℕ) (old new : ServerState) (steps : 
 unfolding stretch_closing
 closing_takes_none number moment old new steps = refl
 
--- a piece came
+-- a piece arrived
 pub stretch_fed : (number moment : ℕ) (piece : List ℕ) (old new : ServerState) → Steps number old new (Feeds piece) → length (output_of (connection_at old number)) < UNSENT_MARK → Stretch number moment old new piece []
 stretch_fed number moment piece old new steps below =
     let few : length steps.before.output < UNSENT_MARK = subst (λ (c : Option ConnectionState). length (output_of c) < UNSENT_MARK) steps.was below in
@@ -241,6 +241,6 @@ pub then_takes_both : (number moment : ℕ) (a b c : ServerState) (came more wen
 unfolding stretch_then past
 then_takes_both number moment a b c came more went yet h k = refl
 
--- where a stretch leaves its connection
+-- the state in which a stretch leaves its connection
 pub stretch_open : (number moment : ℕ) (a b : ServerState) (came went : List ℕ) (h : Stretch number moment a b came went) → connection_at b number ≡ Some h.after
 stretch_open number moment a b came went h = ap (λ (cs : Connections). connection_in cs number) h.is ∙ updated_own number h.before h.after a.connections h.was

@@ -5,7 +5,7 @@ use Rattle.mc_server.specs.ServerState.{ServerState}
 use Rattle.mc_pump.specs.Counts.{Counts}
 use Rattle.mc_pump.specs.Stretches.{Stretch}
 
--- turns, what the writer took of their answers, and how the watch counts what they are answered
+-- turns, what the writer took of their answers, and how the watch counts these answers
 pub record GathersTurns (number moment : ℕ) (old new : ServerState) (written written' : Option (List ℕ)) (count count' : ℕ) : Type 0 where
   pub went : List ℕ
   pub stretch : Stretch number moment old new [] went

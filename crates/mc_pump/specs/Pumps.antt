@@ -9,25 +9,25 @@ use Rattle.mc_pump.specs.declared.limits.TheConstants.{UNSENT_MARK}
 use Rattle.mc_stream.specs.declared.outcomes.Pumped.{Pumped}
 use Rattle.mc_stream.specs.declared.outcomes.Pumped.TheVariants.{Blocked, Done}
 
--- nothing is left to serve or to send, and nothing more will come: the input has ended, or is read no further
+-- nothing is left to serve or to send, and nothing more will arrive: the input has ended, or is read no further
 pub record IsOver (ended : Bool) (connection : Option ConnectionState) : Type 0 where
   pub none_waits : waiting_of connection ≡ []
   pub all_sent : output_of connection ≡ []
   pub no_more : (ended ≡ true) ⊎ (is_closed_at connection ≡ true)
 
--- A connection is not over, but can go no further by itself: no whole request waits, or as much is unsent as the mark.
+-- A connection is not over, but can go no further by itself: no whole request is pending, or the unsent bytes reach the mark.
 pub record IsStuck (ended : Bool) (connection : Option ConnectionState) : Type 0 where
   pub taken : (waiting_of connection ≡ []) ⊎ (UNSENT_MARK ≤ length (output_of connection))
   pub goes_on : IsOver ended connection → ⊥
 
--- how a connection is left: done where it is over, blocked where it is stuck
+-- how a connection is left: done if it is over, blocked if it is stuck
 abbrev pub Leaves : Pumped → Bool → Option ConnectionState → Type 0
 Leaves Blocked ended connection = IsStuck ended connection
 Leaves Done ended connection = IsOver ended connection
 Leaves other ended connection = Unit {0}
 
--- What a pump of the connection of a number at a moment does, and how its watch counts the stores of just this stretch that are answered that
--- there is no memory for them.
+-- What a pump of the connection of a number at a moment does, and how its watch counts the stores of just this stretch that are refused for
+-- lack of memory.
 pub record Pumps (number moment : ℕ) (pump : Pumped) (old new : ServerState) (unread unread' written written' : Option (List ℕ)) (ended ended' : Bool) (count count' : ℕ) : Type 0 where
   pub came : List ℕ
   pub went : List ℕ

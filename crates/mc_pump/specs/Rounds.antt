@@ -10,7 +10,7 @@ use Rattle.mc_stream.specs.declared.outcomes.Pumped.{Pumped}
 use Rattle.mc_pump.specs.declared.rounds.Stop.{Stop}
 use Rattle.mc_pump.specs.declared.rounds.Stop.TheVariants.{Idle, Closing, Marked}
 
--- turns, and how the watch counts what they are answered
+-- turns, and how the watch counts their answers
 pub record TakesTurns (number moment : ℕ) (old new : ServerState) (count count' : ℕ) : Type 0 where
   pub stretch : Stretch number moment old new [] []
   pub counted : Counts old.cache stretch.history count count'
@@ -21,7 +21,7 @@ StopsAt Idle connection = (waiting_of connection ≡ []) × (length (output_of c
 StopsAt Closing connection = (waiting_of connection ≡ []) × (is_closed_at connection ≡ true)
 StopsAt Marked connection = UNSENT_MARK ≤ length (output_of connection)
 
--- whether nothing more will come, where the turns stopped so: the input has ended, or is read no further
+-- whether nothing more will arrive, if the turns stopped so: the input has ended, or is read no further
 abbrev pub ends_by : Stop → (ended : Bool) → Bool
 ends_by Idle ended = ended
 ends_by Closing ended = true
@@ -32,7 +32,7 @@ abbrev pub reads_by : Stop → (ended : Bool) → Bool
 reads_by Idle ended = not ended
 reads_by other ended = false
 
--- whether a read moved anything: bytes came, or the end
+-- whether a read moved anything: bytes arrived, or the end
 abbrev pub moved_of : Result ℕ Pumped → (ended : Bool) → Result Bool Pumped
 moved_of (Ok count) ended = Ok (nat_lt 0 count || ended)
 moved_of (Err pump) ended = Err pump

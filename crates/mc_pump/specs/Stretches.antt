@@ -1,4 +1,4 @@
--- A stretch of one connection of a server: what came, what was taken and served, and what went.
+-- A stretch of one connection of a server: what arrived, what was taken and served, and what was sent.
 use Rattle.std.specs.Prelude.{◌≡◌, ℕ, ◌≤◌, List, [], ◌∷◌, ◌++◌, length, Some}
 use Rattle.mc_request_reader.specs.Reader.{rest_of}
 use Rattle.mc_server.specs.Served.{Entry}
@@ -12,10 +12,9 @@ abbrev pub AreOwn : ℕ → ℕ → List Entry → Type 0
 AreOwn number moment [] = Unit {0}
 AreOwn number moment (e ∷ es) = (e.connection ≡ number) × (e.moment ≡ moment) × AreOwn number moment es
 
--- The requests and faults taken are the first that the connection's rest has for the bytes that came, and the others stay.
--- The cache is the one after their commands, all at the moment. What went and the output that is left are the old output
--- and their answers. All else of the server is as it was. While as much is unsent as the mark, nothing comes and nothing is
--- taken.
+-- The requests and faults taken are the first that the connection's rest has for the bytes that arrived, and the others stay. The
+-- cache is the one after their commands, all at the moment. The sent bytes and the output that is left are the old output and
+-- their answers. All else of the server is as it was. While the unsent bytes reach the mark, nothing arrives and nothing is taken.
 pub record Stretch (number moment : ℕ) (old new : ServerState) (came went : List ℕ) : Type 0 where
   pub before : ConnectionState
   pub after : ConnectionState

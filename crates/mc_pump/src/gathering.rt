@@ -1,4 +1,4 @@
-//! The body of a connection whose large answers are written from where they are.
+//! The pump of a connection whose large values are written without a copy.
 ghost use Rattle.std.specs.Prelude.{◌≡◌, ◌<◌, ◌^◌, None, length, IfErr, IfOk, IfSome, IsSome};
 ghost use Rattle.mc_server.specs.ServerState.{connection_at};
 ghost use Rattle.mc_stream.specs.Sides.{pump_of};
@@ -14,10 +14,10 @@ use mc_store::Store;
 use mc_stream::{Gather, MAX_ROUNDS, Pumped};
 use std::io::Read;
 
-/// Carries a connection's bytes and serves what comes whole, as [`pump`](crate::pump) does, to a writer that takes the parts of an
-/// answer together.
+/// Carries a connection's bytes and serves each request that arrives whole, as [`pump`](crate::pump) does, to a writer that takes the
+/// parts of an answer in one call.
 ///
-/// A turn whose answer shows one large value gives the writer in one call all that is unsent, the answer, and the value from where it is
+/// A turn whose answer shows one large value gives the writer in one call all that is unsent, the answer, and the value without a copy
 /// ([`Server::turn_gathering`]). If the writer takes some of it, the round ends: each such turn has a write of its own, and a pump has at
 /// most [`MAX_ROUNDS`] of these.
 pub fn pump_gathering<S: Store + Drop, R: Read, W: Gather>(
@@ -49,8 +49,8 @@ pub fn pump_gathering<S: Store + Drop, R: Read, W: Gather>(
     Pumped::Again
 }
 
-/// One round: turns until a large answer is written; or until none waits or too much is unsent, and then one write, one read. The error is
-/// how the pump stops.
+/// Does one round: turns until a large answer is written, or until no request is pending or too much is unsent; in the latter cases then
+/// one write and one read. The error is how the pump stops.
 fn round<S: Store + Drop, R: Read, W: Gather>(
     server: &mut Server<S>,
     number: u64,
@@ -75,9 +75,9 @@ fn round<S: Store + Drop, R: Read, W: Gather>(
     }
 }
 
-/// Takes turns of a connection until none waits, or until as much is unsent as the mark, and gives the writer their large answers. None says
-/// that the writer took some of one, after which no turn is taken. The error is [`Pumped::Failed`]: a turn was refused memory, or its answer
-/// may have more bytes than the watch allows.
+/// Takes turns of a connection until no request is pending, or until the unsent bytes reach the mark, and gives the writer their large
+/// answers. None says that the writer took some of one, after which no turn is taken. The error is [`Pumped::Failed`]: a turn was refused
+/// memory, or its answer may have more bytes than the watch allows.
 fn gather_turns<S: Store + Drop, W: Gather>(
     server: &mut Server<S>,
     number: u64,

@@ -1,4 +1,4 @@
-//! A law of stretches. The function does nothing: its contract is the law.
+//! A law of stretches (one connection's calls of a pump). The function does nothing: its contract is the law.
 ghost use Rattle.std.specs.Prelude.{ℕ, List, ◌++◌};
 ghost use Rattle.mc_cache.specs.CacheState.{CacheState};
 ghost use Rattle.mc_server.specs.Served.{Entry};
@@ -6,8 +6,8 @@ ghost use Rattle.mc_server.specs.ServerState.{ServerState};
 ghost use Rattle.mc_server.specs.Holds.{ServerHolds, grown};
 ghost use Rattle.mc_pump.specs.Stretches.{Stretch};
 
-/// A server that is where a history leaves it, is after a stretch where that history and the stretch's leave it:
-/// its connection's text has grown by what came, and the bytes it was sent by what went.
+/// A server that is as a history leaves it, is after a stretch as that history and the stretch's leave it. Its
+/// connection's text has grown by the bytes that arrived, and its sent bytes by those that the writer took.
 pub fn servers_hold_after_a_stretch()
     ensures { (opening : CacheState) (texts sent : ℕ → List ℕ) (history : List Entry) (number moment : ℕ) (old new : ServerState) (came went : List ℕ)
         → ServerHolds opening texts sent history old → (stretch : Stretch number moment old new came went)

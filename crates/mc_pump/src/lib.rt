@@ -1,16 +1,15 @@
-//! The body of a connection: bytes carried between a server and the two sides of a stream, and what comes whole served.
+//! The pump of a connection: it carries bytes between a server and the two sides of a stream, and serves the requests that arrive whole.
 //!
-//! [`pump`] is called again and again, as long as it says [`Pumped::Again`], or [`Pumped::Blocked`] and the stream then moves.
-//! Its contract is the law of one connection, from the bytes that a reader gave to the bytes that a writer took.
-//! [`MAX_ROUNDS`] and [`UNSENT_MARK`] are its limits. The stream is any reader and any writer: no socket is known here.
-//! [`pump_gathering`] does the same to a writer that takes the parts of an answer together: it copies of a large value only what the writer leaves.
-//! One call of a side of a stream is [`mc_stream::write_once`] or [`mc_stream::read_once`]. A [`Watch`] says how large an answer may
-//! be, what passed, and how many stores were answered that there is no memory for them.
+//! A caller calls [`pump`] again while it returns [`Pumped::Again`], and after [`Pumped::Blocked`] when the stream is ready. The contract of `pump`
+//! is the law of one connection, from the bytes that a reader gave to the bytes that a writer took. [`MAX_ROUNDS`] and [`UNSENT_MARK`] are its
+//! limits. The stream is any reader and any writer: this crate knows no socket. [`pump_gathering`] does what `pump` does, for a writer that takes
+//! the parts of an answer in one call: of a large value it copies only what the writer leaves. One call of a side of a stream is
+//! [`mc_stream::write_once`] or [`mc_stream::read_once`]. A [`Watch`] limits the size of an answer. It counts requests, bytes, and the stores that
+//! were refused for lack of memory.
 //!
-//! `specs/Stretches.antt` has what a stretch of a connection does to a server, `mc_stream`'s `specs/Sides.antt` what the two
-//! sides of a stream carry, `specs/Pumps.antt` what a pump does between the two, `specs/Counts.antt` how its watch counts what it served.
-//! [`servers_hold_after_a_stretch`] is a law, and does nothing: a server that is where a history leaves it is after a stretch where the
-//! longer history leaves it.
+//! `specs/Stretches.antt` defines what a stretch of a connection does to a server, and `mc_stream`'s `specs/Sides.antt` what the two sides of a stream
+//! carry. `specs/Pumps.antt` defines what a pump does between the two, and `specs/Counts.antt` how its watch counts what it served.
+//! [`servers_hold_after_a_stretch`] is a law, and does nothing: a server that is as a history leaves it is after a stretch as the longer history leaves it.
 #![tactic(auto)]
 
 mod gathering;

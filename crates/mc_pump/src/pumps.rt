@@ -1,4 +1,4 @@
-//! The body of a connection: bytes in, turns, bytes out.
+//! The pump of a connection: bytes in, turns, bytes out.
 ghost use Rattle.std.specs.Prelude.{◌≡◌, ◌<◌, ◌^◌, None, length, IsSome};
 ghost use Rattle.mc_server.specs.ServerState.{connection_at};
 ghost use Rattle.mc_pump.specs.Pumps.{Pumps};
@@ -10,17 +10,17 @@ use mc_store::Store;
 use mc_stream::{MAX_ROUNDS, Pumped};
 use std::io::{Read, Write};
 
-/// Carries a connection's bytes between a server and the two sides of a stream that do not wait, and serves what comes
-/// whole, all at a moment, in seconds since 1970.
+/// Carries a connection's bytes between a server and the two sides of a non-blocking stream, and serves each request that arrives whole.
+/// All is done at one moment, in seconds since 1970.
 ///
-/// It does at most [`MAX_ROUNDS`] rounds. A round takes turns until no whole request waits, writes what is unsent in one
-/// call, and reads once into `piece`, whose bytes before and after mean nothing. While [`UNSENT_MARK`](crate::UNSENT_MARK)
-/// bytes or more are unsent, no turn is taken and nothing is read. `ended` says whether the input has ended: the pump
-/// sets it when a read gives no byte, and then reads no more; a caller hands in `false` at first.
+/// It does at most [`MAX_ROUNDS`] rounds. A round takes turns until no whole request is pending, writes what is unsent in one call, and
+/// reads once into `piece`. The bytes of `piece` mean nothing before and after. While [`UNSENT_MARK`](crate::UNSENT_MARK) bytes or more are
+/// unsent, no turn is taken and nothing is read. `ended` says whether the input has ended. The pump sets it when a read returns no byte,
+/// and then reads no more; a caller passes `false` at first.
 ///
-/// A request whose answer may have more bytes than the watch allows is not taken: the pump says [`Pumped::Failed`], and has done
-/// nothing for it. The watch notes that, and counts the requests that are taken, those of them that are answered that there is no memory to
-/// store something, and the bytes.
+/// A request whose answer may have more bytes than the watch allows is not taken: the pump returns [`Pumped::Failed`], and has done nothing
+/// for it. The watch notes that. It counts the requests that are taken, those of them whose answer says that there is no memory to store
+/// something, and the bytes.
 pub fn pump<S: Store + Drop, R: Read, W: Write>(
     server: &mut Server<S>,
     number: u64,

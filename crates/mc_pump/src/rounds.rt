@@ -16,15 +16,15 @@ use std::io::{Read, Write};
 /// Why the turns of a round stopped.
 #[derive(Clone, Copy, Debug)]
 pub enum Stop {
-    /// No whole request waits.
+    /// No whole request is pending.
     Idle,
     /// Nothing is read any more.
     Closing,
-    /// As much is unsent as the mark.
+    /// The unsent bytes reach the mark.
     Marked,
 }
 
-/// One round: turns until none waits or too much is unsent, one write, one read. The error is how the pump stops.
+/// Does one round: turns until no request is pending or too much is unsent, one write, one read. The error is how the pump stops.
 pub fn round<S: Store + Drop, R: Read, W: Write>(
     server: &mut Server<S>,
     number: u64,
@@ -48,7 +48,7 @@ pub fn round<S: Store + Drop, R: Read, W: Write>(
     carry(server, number, ended, reader, writer, piece, stop, watch)
 }
 
-/// What a round does once its turns have stopped so: one write, one read. The error is how the pump stops.
+/// Does the rest of a round once its turns have stopped: one write, one read. The error is how the pump stops.
 pub fn carry<S: Store + Drop, R: Read, W: Write>(
     server: &mut Server<S>,
     number: u64,
@@ -80,14 +80,14 @@ pub fn carry<S: Store + Drop, R: Read, W: Write>(
     Err(Pumped::Blocked)
 }
 
-/// Whether all is sent of a connection whose turns stopped so, and nothing more will come.
+/// Returns whether everything is sent of a connection whose turns stopped so, and nothing more will arrive.
 fn is_over<S: Store + Drop>(server: &Server<S>, number: u64, stop: Stop, ended: bool) -> bool
     ensures { result ≡ ((length (output_of (connection_at server.now number)) == 0) && ends_by stop ended) }
 {
     server.output(number).is_empty() && ends(stop, ended)
 }
 
-/// Whether nothing more will come, where the turns stopped so.
+/// Returns whether nothing more will arrive, if the turns stopped so.
 fn ends(stop: Stop, ended: bool) -> bool
     ensures { result ≡ ends_by stop ended }
 {
@@ -98,15 +98,15 @@ fn ends(stop: Stop, ended: bool) -> bool
     }
 }
 
-/// Whether the input is read on, where the turns stopped so.
+/// Returns whether the input is read on, if the turns stopped so.
 fn is_read(stop: Stop, ended: bool) -> bool
     ensures { result ≡ reads_by stop ended }
 {
     matches!(stop, Stop::Idle) && !ended
 }
 
-/// Takes turns of a connection until none waits, or until as much is unsent as the mark. The error is how the pump stops: a turn
-/// was refused memory, or its answer may have more bytes than the watch allows.
+/// Takes turns of a connection until no request is pending, or until the unsent bytes reach the mark. The error is how the pump
+/// stops: a turn was refused memory, or its answer may have more bytes than the watch allows.
 fn take_turns<S: Store + Drop>(
     server: &mut Server<S>,
     number: u64,
@@ -137,7 +137,7 @@ fn take_turns<S: Store + Drop>(
     Ok(Stop::Marked)
 }
 
-/// Writes what is unsent, in one call, drops what the writer took, and says whether it took any.
+/// Writes what is unsent, in one call, drops what the writer took, and returns whether it took any.
 fn send<S: Store + Drop, W: Write>(
     server: &mut Server<S>,
     number: u64,
@@ -157,7 +157,7 @@ fn send<S: Store + Drop, W: Write>(
     Ok(true)
 }
 
-/// Reads, and says how the pump stops where nothing came and nothing more can be sent.
+/// Reads, and stops the pump as blocked if nothing arrived and nothing more can be sent.
 fn read_or_block<S: Store + Drop, R: Read>(
     server: &mut Server<S>,
     number: u64,
@@ -184,7 +184,7 @@ fn read_or_block<S: Store + Drop, R: Read>(
     Err(Pumped::Blocked)
 }
 
-/// Reads once, feeds the connection with what came, and says whether anything came, or the end.
+/// Reads once, feeds the connection with the bytes, and returns whether any arrived, or the end.
 fn receive<S: Store + Drop, R: Read>(
     server: &mut Server<S>,
     number: u64,
@@ -230,7 +230,7 @@ fn receive_apart<S: Store + Drop, R: Read>(
     Some(moved_by(side, *ended))
 }
 
-/// How many bytes a read brought: none if it stops the pump.
+/// Returns how many bytes a read returned: none if it stops the pump.
 fn count_of(side: &Result<usize, Pumped>) -> usize {
     match side {
         Ok(count) => *count,
@@ -238,7 +238,7 @@ fn count_of(side: &Result<usize, Pumped>) -> usize {
     }
 }
 
-/// Receives by a piece.
+/// Receives by a read into a piece.
 fn receive_piece<S: Store + Drop, R: Read>(
     server: &mut Server<S>,
     number: u64,
@@ -266,7 +266,7 @@ fn receive_piece<S: Store + Drop, R: Read>(
     }
 }
 
-/// Whether a read moved anything: bytes came, or the end.
+/// Returns whether a read moved anything: bytes arrived, or the end.
 fn moved_by(side: Result<usize, Pumped>, ended: bool) -> Result<bool, Pumped>
     ensures { result ≡ moved_of side ended }
 {

@@ -1,4 +1,4 @@
-//! What is watched of connections while they are pumped.
+//! The limit and the counts of connections while they are pumped.
 ghost use Rattle.std.specs.Prelude.{◌≡◌, ◌+◌, ◌%◌, ◌^◌};
 ghost use Rattle.mc_pump.specs.Counts.{refusal_in};
 
@@ -6,21 +6,21 @@ use mc_request::Fault;
 use mc_server::AnswerLimit;
 use mc_stream::Tally;
 
-/// What is watched of connections while they are pumped.
+/// The limit and the counts of connections while they are pumped.
 #[derive(Clone, Copy, Debug, PartialEq, Eq)]
 pub struct Watch {
     /// The most bytes that an answer may have: a request whose answer may have more fails the pump, and is not taken.
     pub limit: AnswerLimit,
-    /// What passed.
+    /// The requests and bytes that passed.
     pub tally: Tally,
-    /// Whether a request was refused, since its answer might have more: no pump sets it back.
+    /// Whether a request was refused, since its answer might have more. No pump resets it.
     pub refused: bool,
-    /// How many requests were answered that there is no memory to store something. It begins again at 0 after 2^64 - 1.
+    /// The number of requests whose answer says that there is no memory to store something. It begins again at 0 after 2^64 - 1.
     pub no_memory: u64,
 }
 
 impl Watch {
-    /// A watch by which nothing has passed.
+    /// Makes a watch that has counted nothing.
     pub fn new(limit: AnswerLimit) -> Watch
         ensures limit { result.limit ≡ limit }
         ensures no_memory { result.no_memory ≡ 0 }
@@ -41,7 +41,7 @@ impl Watch {
         self.no_memory = self.no_memory.wrapping_add(refusal_in(answer));
     }
 
-    /// Counts a request that was taken, by whose answer, which shows an item, so many bytes were written.
+    /// Counts a request that was taken, whose answer shows an item, and of which `count` bytes were written.
     pub(crate) fn showed(&mut self, count: usize)
         ensures { self.new.no_memory ≡ self.old.no_memory }
     {
@@ -50,7 +50,7 @@ impl Watch {
     }
 }
 
-/// How many stores an answer refuses for want of memory: one, or none.
+/// Returns how many stores an answer refuses for lack of memory: one, or none.
 fn refusal_in(answer: &[u8]) -> u64
     ensures { result ≡ refusal_in answer.now }
 {

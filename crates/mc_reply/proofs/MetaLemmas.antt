@@ -1,4 +1,4 @@
--- Answers to meta commands: the flags that they give back, and how much room these need.
+-- Answers to meta commands: what their flags return, and how much room that needs.
 use Rattle.std.proofs.Common.{◌≡◌, ℕ, ◌<◌, ◌≤◌, Bool, true, false, List, [], ◌∷◌, ◌++◌, length, codes, filter, Option, Some, None, refl, ap, ◌∙◌, if◌then◌else◌, slice_index, arith}
 use Rattle.std.specs.Option.{unwrap_or}
 use Rattle.std.proofs.lemmas.Bool.{cases_lt}
@@ -19,7 +19,7 @@ use Rattle.mc_reply.specs.Replies.{nothing_shown}
 use Rattle.mc_reply.specs.Canonical.{is_given, gives_back, word_if, show_words, ShowsAsked, RepliesAsked}
 use Rattle.mc_reply.specs.MetaSpelling.{key_word, number_flag_onto, left_onto, given_onto, flag_onto, flags_onto, marks_onto, meta_line, canonical_flags, meta_spelling}
 
--- a flag that gives nothing back
+-- a flag that returns nothing
 not_given : (coded : Bool) (word : List ℕ) (shown : Shown) (own : List ℕ) (flag : Option Flag) (rest : List ℕ)
     → is_given flag ≡ false → given_onto coded word shown own flag rest ≡ rest
 not_given coded word shown own (Some Cas) rest h = absurd cc
@@ -30,7 +30,7 @@ not_given coded word shown own (Some Key) rest h = absurd cc
 not_given coded word shown own (Some Opaque) rest h = absurd cc
 not_given coded word shown own other rest h = refl
 
--- words that give nothing back may be left out
+-- words that return nothing may be left out
 left_out : (coded : Bool) (word : List ℕ) (shown : Shown) (own : List ℕ) (flags kept : List (List ℕ)) (rest : List ℕ) (b : Bool)
     → gives_back own ≡ b → flags_onto coded word shown flags rest ≡ flags_onto coded word shown kept rest
     → flags_onto coded word shown (own ∷ flags) rest ≡ flags_onto coded word shown (if b then own ∷ kept else kept) rest
@@ -45,7 +45,7 @@ flags_onto-filter coded word shown [] rest = refl
 flags_onto-filter coded word shown (own ∷ flags) rest =
     left_out coded word shown own flags (filter gives_back flags) rest (gives_back own) refl (flags_onto-filter coded word shown flags rest)
 
--- a flag that is shown only where it is asked for
+-- a flag that is shown only if it is asked for
 cas_if : (b : Bool) (coded : Bool) (word : List ℕ) (shown : Shown) (more : List (List ℕ)) (rest : List ℕ) → (b ≡ false → shown.cas ≡ None)
     → flags_onto coded word shown (word_if b (codes "c") ++ more) rest ≡ number_flag_onto (codes " c") shown.cas (flags_onto coded word shown more rest)
 cas_if true coded word shown more rest h = refl
@@ -66,7 +66,7 @@ left_if : (b : Bool) (coded : Bool) (word : List ℕ) (shown : Shown) (rest : Li
 left_if true coded word shown rest h = refl
 left_if false coded word shown rest h = rw (h refl) refl
 
--- what is asked for in the canonical order is given back in it
+-- what is asked for in the canonical order is returned in it
 asked_onto : (coded : Bool) (word : List ℕ) (show : Show) (shown : Shown) (rest : List ℕ) → ShowsAsked show shown
     → flags_onto coded word shown (show_words show) rest ≡ flags_onto false [] shown canonical_flags rest
 asked_onto coded word show shown rest asked = grind (arith, codes, cas_if, flags_if, size_if, left_if)
@@ -101,7 +101,7 @@ AreBytes word = (i : ℕ) → slice_index word i < 256
 key_length : (key : List ℕ) → is_key key ≡ true → length key ≤ 250
 key_length key h = grind (arith, nat_tests)
 
--- a plain word is the key that it says
+-- a plain word is the key that it stands for
 plain_word : (word : List ℕ) (b : Bool) → is_plain_key word ≡ b → is_key (unwrap_or (if b then Some word else None) []) ≡ true
     → (unwrap_or (if b then Some word else None) [] ≡ word) × (length word ≤ 336)
 plain_word word true e h = grind (arith, key_length)
@@ -113,7 +113,7 @@ coded_word : (word : List ℕ) (said : Option (List ℕ)) → AreBytes word → 
 coded_word word None are e h = absurd cc
 coded_word word (Some key) are e h = grind (arith, cases_lt, coded_of-said, said_key, coded_key-too_long)
 
--- the word of a key that a word says is that word, and it is not too long
+-- the word of the key that a word stands for is that word, and it is not too long
 pub word_of-said : (coded : Bool) (word : List ℕ) → AreBytes word → is_key (key_bytes coded word) ≡ true
     → (key_word coded (key_bytes coded word) ≡ word) × (length word ≤ 336)
 word_of-said false word are h = plain_word word (is_plain_key word) refl h

@@ -1,4 +1,4 @@
--- Flag words that a reader takes give back few bytes.
+-- Flag words that a reader takes return few bytes.
 use Rattle.std.proofs.Common.{max, ◌≡◌, ℕ, suc, ◌+◌, ◌≤◌, ◌&&◌, Bool, true, false, List, [], ◌∷◌, length, nat_lt, Option, Some, None, is_ok, Result, Ok, Err, refl, if◌then◌else◌, arith}
 use Rattle.std.proofs.lemmas.Bool.Decides.{nat_tests}
 use Rattle.mc_text.specs.Numbers.{read_u64, read_i64, read_flags}
@@ -18,7 +18,7 @@ use Rattle.mc_request.specs.Flags.{letters_of, is_one_of, flag_of, bare, valued,
 use Rattle.mc_request.specs.WellFormed.{is_good_meta, is_meta_key, is_good_block, is_good_request, has_flags, command_name}
 use Rattle.mc_reply.specs.MetaRooms.{given_room, word_room, flags_room, part_room}
 
--- what a flag that was not read yet may still give back
+-- what a flag that was not read yet may still return
 abbrev room_if : Bool → ℕ → ℕ
 room_if true room = 0
 room_if false room = room
@@ -27,7 +27,7 @@ abbrev left_room : MetaFlags → ℕ
 left_room read =
     room_if read.show.cas 22 + room_if read.show.flags 22 + room_if read.show.size 22 + room_if read.show.left 22 + room_if read.key 340 + room_if read.opaque 34
 
--- what a word gives back is taken from it
+-- what a word returns is taken from it
 abbrev Fits : ℕ → MetaFlags → Result MetaFlags Fault → Type 0
 Fits room read (Ok next) = room + left_room next ≤ left_room read
 Fits room read (Err fault) = Unit {0}
@@ -119,7 +119,7 @@ second : (a b : Bool) → (a && b) ≡ true → b ≡ true
 second true b h = h
 second false b h = absurd cc
 
--- the flag words of a request that keeps to what every one does
+-- the flag words of a request that satisfies what every one does
 pub flags_room-good : (command : MetaCommand (List ℕ) (List ℕ)) (form : MetaForm (List (List ℕ))) → is_good_request (requests.Meta command form) ≡ true
     → flags_room form.flags ≤ 480
 flags_room-good command form h =

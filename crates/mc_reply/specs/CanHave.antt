@@ -1,4 +1,4 @@
--- The replies that a command can have, as far as its head tells.
+-- The replies that a command can have, as far as its head decides.
 use Rattle.std.specs.Prelude.{ℕ, ◌^◌, ◌&&◌, nat_lt, nat_le, Bool, true, false, List, Option, Some, None}
 use Rattle.std.specs.Option.{is_some}
 use Rattle.mc_text.specs.declared.blocks.TheConstants.{VALUE_LIMIT}
@@ -20,7 +20,7 @@ use Rattle.mc_reply.specs.declared.replies.Shown.{Shown}
 use Rattle.mc_reply.specs.declared.replies.Reply.{Reply}
 use Rattle.mc_reply.specs.declared.replies.Reply.TheVariants.{Stored, NotStored, Exists, NotFound, Deleted, Touched, Flushed, Number, Miss, Hit, Meta, Fault}
 
--- a part is exactly where it is asked for, and passes a test
+-- a part is present exactly if it is asked for, and passes a test
 abbrev pub is_as_asked : {A : Type 0} → (A → Bool) → Bool → Option A → Bool
 is_as_asked test true (Some part) = test part
 is_as_asked test true None = false
@@ -70,13 +70,12 @@ abbrev pub is_cas_fault : AFault → Bool
 is_cas_fault CasUsedUp = true
 is_cas_fault fault = false
 
--- whether a mode asks that its key be held, or that it be not
+-- whether a mode requires that its key be stored, or that it be not
 abbrev pub is_conditional : StoreMode → Bool
 is_conditional Set = false
 is_conditional mode = true
 
--- the replies to a classic update: source protocol.txt, each command's section, but for the error lines, which are this
--- project's own
+-- the replies to a classic update: source protocol.txt, each command's section, except the error lines, which are this project's own
 abbrev pub can_have_update : {K B : Type 0} → Update K B → Reply (List ℕ) → Bool
 can_have_update (Store mode compare key flags exptime block) Stored = true
 can_have_update (Store mode compare key flags exptime block) NotStored = is_conditional mode

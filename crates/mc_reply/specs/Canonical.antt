@@ -12,7 +12,7 @@ use Rattle.mc_reply.specs.declared.replies.Shown.{Shown}
 use Rattle.mc_reply.specs.declared.replies.Reply.{Reply}
 use Rattle.mc_reply.specs.declared.replies.Reply.TheVariants.{Meta}
 
--- whether a flag gives something back: source protocol.txt, "Meta Commands"
+-- whether a flag returns something: source protocol.txt, "Meta Commands"
 abbrev pub is_given : Option Flag → Bool
 is_given (Some Cas) = true
 is_given (Some ClientFlags) = true
@@ -31,7 +31,7 @@ abbrev pub show_of : {K B : Type 0} → MetaCommand K B → Show
 show_of (metas.Get key get) = get.show
 show_of (metas.Update update show) = show
 
--- a word, where it is asked for
+-- a word, if it is asked for
 abbrev pub word_if : Bool → List ℕ → List (List ℕ)
 word_if true word = word ∷ []
 word_if false word = []
@@ -52,8 +52,8 @@ abbrev pub RepliesAsked : Show → Reply (List ℕ) → Type 0
 RepliesAsked show (Meta shown value) = ShowsAsked show shown
 RepliesAsked show other = Unit {0}
 
--- a request whose answer by this reply is a canonical spelling: a meta command gives back neither its key nor an opaque,
--- and what it shows it asks for in the canonical order. Every other request of one command is one
+-- a request whose answer by this reply is a canonical spelling: a meta command returns neither its key nor an opaque,
+-- and asks for what it shows in the canonical order. Every other request of one command is one
 -- source: this project's own
 abbrev pub IsCanonical : Request → Reply (List ℕ) → Type 0
 IsCanonical (requests.Meta command form) reply = (filter gives_back form.flags ≡ show_words (show_of command)) × RepliesAsked (show_of command) reply

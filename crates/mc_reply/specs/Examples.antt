@@ -11,7 +11,7 @@ use Rattle.mc_reply.specs.declared.replies.Reply.TheVariants.{Meta}
 use Rattle.mc_reply.specs.Replies.{nothing_shown}
 use Rattle.mc_reply.specs.Spelling.{answer}
 
--- what a line is taken as, with a data block of `x` where one follows
+-- what a line is taken as, with a data block of `x` if one follows
 abbrev pub taken_with : Meaning → Taken
 taken_with (Alone taken) = taken
 taken_with (Stores storing len) = Whole (stored storing (codes "x"))
@@ -25,11 +25,11 @@ answer_to line reply = answer (taken_with (meaning (words line))) (reply ∷ [])
 abbrev pub done : Reply (List ℕ)
 done = Meta nothing_shown None
 
--- the same, with these marks
+-- a meta command was done, and shows these marks
 abbrev pub marked : Marks → Reply (List ℕ)
 marked marks = Meta (record nothing_shown { marks = marks }) None
 
--- the same, with this number of its item and these marks
+-- a meta command was done, and shows the number of its item and these marks
 abbrev pub numbered : ℕ → Marks → Reply (List ℕ)
 numbered cas marks = Meta (record nothing_shown { cas = Some cas; marks = marks }) None
 

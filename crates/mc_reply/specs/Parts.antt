@@ -10,7 +10,8 @@ use Rattle.mc_reply.specs.Spelling.{end_line, key_part, shown_line, shown_meta, 
 abbrev pub end_after : List (List ℕ) → ℕ → List ℕ
 end_after keys at = if at + 1 == length keys then end_line else []
 
--- what the reply to the command of this number adds to a request's answer; where no reply comes, the answer itself
+-- what the reply to the command of this number adds to a request's answer; without a reply, the answer that the
+-- request gets without replies
 abbrev pub part_of : Request → ℕ → Option (Reply (List ℕ)) → List ℕ
 part_of request at None = answer_of request []
 part_of (Get keys exptime with_cas) at (Some reply) = key_part (slice_index_or keys at []) reply ++ end_after keys at

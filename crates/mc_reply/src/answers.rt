@@ -1,4 +1,4 @@
-//! What is appended to the bytes that a client is sent.
+//! The answers to clients, appended to the bytes that are still to be sent.
 ghost use Rattle.std.specs.Prelude.{◌≡◌, ◌+◌, ◌-◌, ◌^◌, ◌<◌, ◌≤◌, ◌++◌, [], true, min, max, length, vec_len, vec_capacity, IsOk, OnOk, OnErr};
 ghost use Rattle.std.specs.Option.{ForSome};
 ghost use Rattle.mc_request.specs.Atoms.{atoms_of};
@@ -21,19 +21,19 @@ use mc_text::{Block, CODED_LIMIT, KEY_LIMIT, Key, WordIter, append, write_coded}
 use std::alloc::AllocError;
 use thiserror::Error;
 
-/// The most bytes that [`write_key`] appends beside a value's bytes. Where a vector has so much room left, and that of
-/// the value, the call takes no memory.
+/// The most bytes that [`write_key`] appends beside a value's bytes. If a vector has room left for these and the
+/// value, the call takes no memory.
 pub const KEY_ROOM: usize = 384;
 
-/// The most bytes that [`write_meta`] appends beside a value's bytes. Where a vector has so much room left, and that of
-/// the value, the call takes no memory.
+/// The most bytes that [`write_meta`] appends beside a value's bytes. If a vector has room left for these and the
+/// value, the call takes no memory.
 pub const META_ROOM: usize = 512;
 
-/// The most bytes that the flag words of a meta command give back, as a reader takes them.
+/// The most bytes that the flag words of a meta command return in its answer, if a reader accepted them.
 pub const FLAGS_ROOM: usize = 480;
 
-/// The most bytes that [`write_part`] appends beside a value's bytes; [`part_room`] says it of a request. Where a vector
-/// has so much room left, and that of the value, the call takes no memory.
+/// The most bytes that [`write_part`] appends beside a value's bytes; [`part_room`] returns the bound of one request. If
+/// a vector has room left for these and the value, the call takes no memory.
 pub const PART_ROOM: usize = 512;
 
 /// Why a call of this crate gave up.
@@ -60,15 +60,14 @@ impl From<ReplyError> for AllocError {
 
 ghost use Rattle.mc_reply.specs.declared.answers.ReplyError.TheVariants.{Memory};
 
-/// Whether the reply to a command of this request is shown. What hides a reply of an update by `noreply` never hides an
-/// error line.
+/// Returns whether the reply to a command of this request is shown. `noreply` never hides an error line.
 pub fn shown(request: &Request, reply: &Reply<&[u8]>) -> bool
     ensures { result ≡ is_shown request.now reply.now }
 {
     !reply.is_hidden(request.hides())
 }
 
-/// Appends what a key of a retrieval command adds by its reply: the item where it is found, and nothing where it is not.
+/// Appends what a key of a retrieval command adds by its reply: the item if it is found, and nothing if it is not.
 pub fn write_key(key: &[u8], reply: &Reply<&[u8]>, out: &mut Vec<u8>) -> Result<(), ReplyError>
     requires { length key.now ≤ KEY_LIMIT }
     ensures ok { OnOk result (out.new.items ≡ out.old.items ++ key_part key.now (bytes_seen reply.now)) }
@@ -82,8 +81,8 @@ pub fn write_key(key: &[u8], reply: &Reply<&[u8]>, out: &mut Vec<u8>) -> Result<
     Ok(())
 }
 
-/// Appends what is in front of the value of a found item, by how many bytes that has: [`write_key`] without the value and the line
-/// end after it. It is for who sends the value from where it is.
+/// Appends what is in front of the value of a found item, by the value's length: [`write_key`] without the value and the line end
+/// after it. It is for a caller that sends the value without copying it.
 #[inline(never)]
 pub fn write_head(
     key: &[u8],
@@ -137,7 +136,7 @@ pub fn write_meta(
     write_meta_by(form.coded, word, form.flags.again(), META_ROOM, reply, out)
 }
 
-/// Appends the answer to a meta command, for which so much room is made. An error line is as it is anywhere.
+/// Appends the answer to a meta command, and makes room for this many bytes first. An error line is the same as for any command.
 fn write_meta_by(
     coded: bool,
     word: &[u8],
@@ -189,7 +188,7 @@ pub fn write_version(out: &mut Vec<u8>) -> Result<(), ReplyError>
     Ok(())
 }
 
-/// Appends the line that a reply is by itself: what a command that shows no item is answered. A found item has none.
+/// Appends the line of a reply: the answer to a command that shows no item. A found item has no such line.
 pub fn write_line(reply: &Reply<&[u8]>, out: &mut Vec<u8>) -> Result<(), ReplyError>
     ensures ok { OnOk result (out.new.items ≡ out.old.items ++ reply_line (bytes_seen reply.now)) }
     ensures len { vec_len out.new ≤ vec_len out.old + LINE_ROOM }
@@ -202,7 +201,7 @@ pub fn write_line(reply: &Reply<&[u8]>, out: &mut Vec<u8>) -> Result<(), ReplyEr
     Ok(())
 }
 
-/// Appends the answer to what is no request: the line of its fault.
+/// Appends the answer to a text that is no request: the line of its fault.
 pub fn write_fault(fault: Fault, out: &mut Vec<u8>) -> Result<(), ReplyError>
     ensures ok { OnOk result (out.new.items ≡ out.old.items ++ fault_line fault) }
     ensures len { vec_len out.new ≤ vec_len out.old + LINE_ROOM }
@@ -216,7 +215,7 @@ pub fn write_fault(fault: Fault, out: &mut Vec<u8>) -> Result<(), ReplyError>
 }
 
 /// Appends what the reply to the command number `at` of a request adds to the request's answer. Commands are counted
-/// from 0. Without a reply it appends what the request is answered where none comes.
+/// from 0. Without a reply it appends the answer that the request gets without replies.
 pub fn write_part(
     request: &Request,
     at: usize,
@@ -252,8 +251,8 @@ pub fn write_part(
     Ok(())
 }
 
-/// How many bytes a reply adds to the answer to a request at most, beside the value that it shows: [`PART_ROOM`], for a
-/// request that a reader took; [`usize::MAX`] where it is more.
+/// Returns how many bytes a reply adds at most to the answer to a request, beside the value that it shows:
+/// [`PART_ROOM`], for a request that a reader took; [`usize::MAX`] if it is more.
 pub fn part_room(request: &Request) -> usize
     ensures { result ≡ min (part_room request.now) (2 ^ 64 - 1) }
 {
@@ -263,7 +262,7 @@ pub fn part_room(request: &Request) -> usize
     }
 }
 
-/// How many bytes the answer to a meta command has at most, beside the value that it shows.
+/// Returns how many bytes the answer to a meta command has at most, beside the value that it shows.
 fn meta_room(form: &MetaForm<FlagWords>) -> usize
     ensures { result ≡ min (max PART_ROOM (flags_room form.now.flags + BESIDE_FLAGS_ROOM)) (2 ^ 64 - 1) }
 {
@@ -272,7 +271,7 @@ fn meta_room(form: &MetaForm<FlagWords>) -> usize
         .max(PART_ROOM)
 }
 
-/// Appends the answer to a meta command that is kept by itself. A key in base64 gets its word again.
+/// Appends the answer to an owned meta command. A key in base64 is encoded again.
 fn write_owned_meta(
     command: &MetaCommand<Key, Block>,
     form: &MetaForm<FlagWords>,
@@ -300,7 +299,7 @@ fn write_owned_meta(
     )
 }
 
-/// The bytes of a meta command's key. It takes no memory.
+/// Returns the bytes of a meta command's key. It takes no memory.
 pub fn key_of(command: &MetaCommand<Key, Block>) -> &[u8]
     ensures key { result.now ≡ meta_key command.now }
     ensures size { length result.now ≤ KEY_LIMIT }
@@ -318,7 +317,7 @@ pub fn key_of(command: &MetaCommand<Key, Block>) -> &[u8]
     }
 }
 
-/// The word of a key: itself, or what is written into the room.
+/// Returns the word of a key: the key itself, or its encoding, which is written into the room.
 fn word_of<'a>(coded: bool, key: &'a [u8], room: &'a mut [u8; CODED_LIMIT]) -> &'a [u8]
     requires { length key.now ≤ KEY_LIMIT }
     ensures word { result.now ≡ key_word coded key.now }
@@ -327,7 +326,7 @@ fn word_of<'a>(coded: bool, key: &'a [u8], room: &'a mut [u8; CODED_LIMIT]) -> &
     if coded { write_coded(key, room) } else { key }
 }
 
-/// Appends what a request is answered where no reply comes.
+/// Appends the answer that a request gets without replies.
 fn write_alone(request: &Request, out: &mut Vec<u8>) -> Result<(), ReplyError>
     ensures ok { OnOk result (out.new.items ≡ out.old.items ++ answer_of request.now []) }
     ensures len { vec_len out.new ≤ vec_len out.old + LINE_ROOM }
@@ -343,7 +342,7 @@ fn write_alone(request: &Request, out: &mut Vec<u8>) -> Result<(), ReplyError>
     }
 }
 
-/// How many bytes of a value a reply shows: fewer than 2^63. It takes no memory.
+/// Returns how many bytes of a value a reply shows: fewer than 2^63. It takes no memory.
 pub fn value_len(reply: &Reply<&[u8]>) -> usize
     ensures len { result ≡ value_len (bytes_seen reply.now) }
     ensures bound { result < 2 ^ 63 }

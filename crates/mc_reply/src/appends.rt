@@ -1,4 +1,4 @@
-//! Bytes that are appended where there is room for them.
+//! Appending the parts of an answer to a vector that has room for them.
 ghost use Rattle.std.specs.Prelude.{◌≡◌, ◌+◌, ◌≤◌, ◌++◌, length, drop, vec_len, vec_capacity, codes};
 ghost use Rattle.std.specs.Fmt.{decimal};
 ghost use Rattle.mc_request.specs.Faults.{fault_line};
@@ -58,7 +58,7 @@ fn append_number_line(out: &mut Vec<u8>, number: u64)
     append(out, b"\r\n");
 }
 
-/// A fault's line, which is short.
+/// Returns a fault's line, which is short.
 pub fn short_line(fault: Fault) -> &'static [u8]
     ensures line { result.now ≡ fault_line fault }
     ensures short { length result.now ≤ LINE_ROOM }
@@ -66,7 +66,7 @@ pub fn short_line(fault: Fault) -> &'static [u8]
     fault.line()
 }
 
-/// Appends what a key of a retrieval command adds: the item where it is found, and nothing where it is not.
+/// Appends what a key of a retrieval command adds: the item if it is found, and nothing if it is not.
 pub fn append_key_part(out: &mut Vec<u8>, key: &[u8], reply: &Reply<&[u8]>)
     requires { vec_len out.old + length key.now + value_len (bytes_seen reply.now) + BLOCK_ROOM ≤ vec_capacity out.old }
     ensures items { out.new.items ≡ out.old.items ++ key_part key.now (bytes_seen reply.now) }
@@ -82,7 +82,7 @@ pub fn append_key_part(out: &mut Vec<u8>, key: &[u8], reply: &Reply<&[u8]>)
     append(out, b"\r\n");
 }
 
-/// Appends the line of a found item, which is in front of its value, by how many bytes that has.
+/// Appends the line of a found item, which is in front of its value, by the value's length.
 #[inline(always)]
 pub fn append_head(out: &mut Vec<u8>, key: &[u8], flags: u32, bytes: usize, cas: Option<u64>)
     requires { vec_len out.old + length key.now + HEAD_ROOM ≤ vec_capacity out.old }
@@ -97,7 +97,7 @@ pub fn append_head(out: &mut Vec<u8>, key: &[u8], flags: u32, bytes: usize, cas:
     append(out, &numbers[start..]);
 }
 
-/// Puts the numbers of a value line, and its end, at the end of the bytes, and gives where they start.
+/// Writes the numbers of a value line, and its end, at the end of the bytes, and returns where they start.
 #[inline(always)]
 fn put_numbers(numbers: &mut [u8; NUMBERS_LEN], flags: u32, bytes: usize, cas: Option<u64>) -> usize
     ensures put { drop result numbers.new
@@ -110,7 +110,7 @@ fn put_numbers(numbers: &mut [u8; NUMBERS_LEN], flags: u32, bytes: usize, cas: O
     put_number(numbers, u64::from(flags), bytes_start)
 }
 
-/// Puts a line end at the end of the bytes, and gives where it starts.
+/// Writes a line end at the end of the bytes, and returns where it starts.
 #[inline(always)]
 fn put_line_end(numbers: &mut [u8; NUMBERS_LEN]) -> usize
     ensures put { drop result numbers.new ≡ codes "\r\n" }
@@ -121,7 +121,7 @@ fn put_line_end(numbers: &mut [u8; NUMBERS_LEN]) -> usize
     NUMBERS_LEN - 2
 }
 
-/// Puts an item's number, where it was asked for, before what is from `end` on, and gives where it starts.
+/// Writes an item's number, if it was asked for, so that it ends at `end`, and returns where it starts.
 #[inline(always)]
 fn put_cas(numbers: &mut [u8; NUMBERS_LEN], cas: Option<u64>, end: usize) -> usize
     requires { (NUMBER_LEN ≤ end) × (end ≤ NUMBERS_LEN) }
@@ -135,7 +135,7 @@ fn put_cas(numbers: &mut [u8; NUMBERS_LEN], cas: Option<u64>, end: usize) -> usi
     }
 }
 
-/// Puts a space and a number in digits before what is from `end` on, and gives where they start.
+/// Writes a space and a number in digits, so that they end at `end`, and returns where they start.
 fn put_number(numbers: &mut [u8; NUMBERS_LEN], number: u64, end: usize) -> usize
     requires { (NUMBER_LEN ≤ end) × (end ≤ NUMBERS_LEN) }
     ensures put { drop result numbers.new ≡ number_onto number (drop end numbers.old) }

@@ -1,4 +1,4 @@
-//! What the flag words of a meta command give back, appended where there is room for it.
+//! What the flag words of a meta command return in its answer, appended to a vector that has room.
 ghost use Rattle.std.specs.Prelude.{◌≡◌, ◌+◌, ◌-◌, ◌^◌, ◌≤◌, ◌++◌, [], ◌∷◌, ℕ, List, min, length, drop, vec_len, vec_capacity};
 ghost use Rattle.std.specs.Fmt.{decimal};
 ghost use Rattle.mc_reply.specs.MetaSpelling.{key_flag_onto, number_flag_onto, left_onto, flag_onto, flags_onto};
@@ -9,13 +9,13 @@ use itoa::write_digits;
 use mc_request::{Flag, flag_of};
 use mc_text::{CODED_LIMIT, WordIter, append};
 
-/// The most bytes that a number gives back, with a space and its letter.
+/// The most bytes that a number takes, with a space and its letter.
 pub const NUMBER_FLAG_ROOM: usize = 22;
 
-/// The most bytes that a key gives back, with its spaces, its letter and a `b`.
+/// The most bytes that a key takes, with its spaces, its letter and a `b`.
 pub const KEY_FLAG_ROOM: usize = 340;
 
-/// How many bytes flag words give back at most; [`usize::MAX`] where that is more.
+/// Returns how many bytes flag words return in an answer at most; [`usize::MAX`] if that is more.
 pub fn flags_room(flags: WordIter<'_>) -> usize
     ensures { result ≡ min (flags_room flags.entry) (2 ^ 64 - 1) }
 {
@@ -26,7 +26,7 @@ pub fn flags_room(flags: WordIter<'_>) -> usize
     room
 }
 
-/// How many bytes a flag word gives back at most.
+/// Returns how many bytes a flag word returns in an answer at most.
 fn word_room(flag: &[u8]) -> usize
     ensures { result ≡ word_room flag.now }
 {
@@ -41,7 +41,7 @@ fn word_room(flag: &[u8]) -> usize
     }
 }
 
-/// Appends what the flag words give back, in their order.
+/// Appends what the flag words return, in their order.
 pub fn append_flags(out: &mut Vec<u8>, coded: bool, word: &[u8], flags: WordIter<'_>, shown: &Shown)
     requires room { vec_len out.old + flags_room flags ≤ vec_capacity out.old }
     requires word { length word.now ≤ CODED_LIMIT }
@@ -55,7 +55,7 @@ pub fn append_flags(out: &mut Vec<u8>, coded: bool, word: &[u8], flags: WordIter
     }
 }
 
-/// Appends what a flag word gives back.
+/// Appends what a flag word returns.
 fn append_flag(out: &mut Vec<u8>, coded: bool, word: &[u8], flag: &[u8], shown: &Shown)
     requires room { vec_len out.old + word_room flag.now ≤ vec_capacity out.old }
     requires word { length word.now ≤ CODED_LIMIT }
@@ -81,7 +81,7 @@ fn append_flag(out: &mut Vec<u8>, coded: bool, word: &[u8], flag: &[u8], shown: 
     }
 }
 
-/// Appends a key that is given back.
+/// Appends a key that a flag returns.
 fn append_key(out: &mut Vec<u8>, coded: bool, word: &[u8])
     requires { vec_len out.old + length word.now + 4 ≤ vec_capacity out.old }
     ensures items { (rest : List ℕ) → out.new.items ++ rest ≡ out.old.items ++ key_flag_onto coded word.now rest }
@@ -95,7 +95,7 @@ fn append_key(out: &mut Vec<u8>, coded: bool, word: &[u8])
     }
 }
 
-/// Appends the seconds left, where they are shown.
+/// Appends the seconds until expiry, if they are shown.
 fn append_left(out: &mut Vec<u8>, left: Option<Option<u64>>)
     requires { vec_len out.old + NUMBER_FLAG_ROOM ≤ vec_capacity out.old }
     ensures items { (rest : List ℕ) → out.new.items ++ rest ≡ out.old.items ++ left_onto left rest }
@@ -109,7 +109,7 @@ fn append_left(out: &mut Vec<u8>, left: Option<Option<u64>>)
     }
 }
 
-/// Appends a number after a space and its letter, where it is shown.
+/// Appends a number after a space and its letter, if it is shown.
 fn append_if(out: &mut Vec<u8>, letter: u8, number: Option<u64>)
     requires { vec_len out.old + NUMBER_FLAG_ROOM ≤ vec_capacity out.old }
     ensures items { (rest : List ℕ) → out.new.items ++ rest ≡ out.old.items ++ number_flag_onto (32 ∷ letter ∷ []) number rest }
@@ -133,7 +133,7 @@ fn append_number(out: &mut Vec<u8>, letter: u8, number: u64)
     append(out, &text[start..]);
 }
 
-/// Puts a space, a letter and a number in digits at the end of the bytes, and gives where they start.
+/// Writes a space, a letter and a number in digits at the end of the bytes, and returns where they start.
 fn put_number(text: &mut [u8; NUMBER_FLAG_ROOM], letter: u8, number: u64) -> usize
     ensures put { drop result text.new ≡ 32 ∷ letter ∷ decimal number }
     ensures inside { result ≤ NUMBER_FLAG_ROOM }

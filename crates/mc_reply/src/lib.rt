@@ -1,17 +1,15 @@
-//! Replies, and what a client is answered.
+//! Replies, and the answers to clients.
 //!
-//! A cache answers each command by a [`Reply`]. A retrieval command is answered by what its keys add ([`write_key`]) and by the end
-//! ([`write_end`]); [`write_head`] writes what a key adds in front of its value. An update is answered by the line of its reply
-//! ([`write_line`]), if that is not hidden ([`Reply::is_hidden`], by what the request hides; [`shown`] says it of a whole request); a meta command by what its
-//! flag words ask to be given back ([`write_meta`]), where that is not hidden; `mn` and `version` by lines of their own
-//! ([`write_noop`], [`write_version`]); and what is no request by the line of its fault ([`write_fault`]). Who keeps the
-//! request beside its replies appends what each adds by [`write_part`], for which [`part_room`] is room enough. Each of
-//! these appends to bytes that are still to be sent, or gives up and appends nothing. [`key_of`] gives the bytes of a
+//! A cache answers each command by a [`Reply`]. The answer to a retrieval command is what its keys add ([`write_key`]), and then the end ([`write_end`]).
+//! [`write_head`] writes what a key adds in front of its value. The answer to an update is the line of its reply ([`write_line`]), if that is not hidden
+//! ([`Reply::is_hidden`], by what the request hides; [`shown`] returns it for a whole request). The answer to a meta command has what its flag words ask for
+//! ([`write_meta`]), if it is not hidden. `mn` and `version` have lines of their own ([`write_noop`], [`write_version`]). The answer to a text that is no
+//! request is the line of its fault ([`write_fault`]). A caller that keeps the request beside its replies appends what each adds by [`write_part`], for which
+//! [`part_room`] is room enough. Each of these appends to bytes that are still to be sent, or gives up and appends nothing. [`key_of`] returns the bytes of a
 //! meta command's key, and [`value_len`] how many bytes of a value a reply shows.
 //!
-//! `specs/Spelling.antt` says how a reply to one command is spelled (`spelling_of`) and what a client is answered
-//! (`answer_of`), `specs/MetaSpelling.antt` the same of a meta command by its flag words (`meta_line`), and
-//! `specs/Parts.antt` what one reply adds to an answer (`part_of`).
+//! `specs/Spelling.antt` defines how a reply to one command is spelled (`spelling_of`) and what a client is answered (`answer_of`). `specs/MetaSpelling.antt`
+//! does so for a meta command by its flag words (`meta_line`), and `specs/Parts.antt` defines what one reply adds to an answer (`part_of`).
 #![tactic(auto)]
 
 mod answers;

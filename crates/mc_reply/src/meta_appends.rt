@@ -1,4 +1,4 @@
-//! The answer to a meta command, appended where there is room for it.
+//! The answer to a meta command, appended to a vector that has room for it.
 ghost use Rattle.std.specs.Prelude.{◌≡◌, ◌+◌, ◌≤◌, ◌++◌, false, length, drop, vec_len, vec_capacity, codes};
 ghost use Rattle.std.specs.Fmt.{decimal};
 ghost use Rattle.mc_reply.specs.Spelling.{is_fault};
@@ -11,13 +11,13 @@ use crate::replies::{Marks, Reply, Shown};
 use itoa::write_digits;
 use mc_text::{CODED_LIMIT, WordIter, append};
 
-/// The most bytes that an answer has beside what its flag words give back and its value. It has 31.
+/// The most bytes that an answer has beside what its flag words return and its value. It has 31.
 pub const BESIDE_FLAGS_ROOM: usize = 32;
 
 /// The most bytes of `VA`, a space and a number.
 const SIZE_LEN: usize = 23;
 
-/// Appends the answer to a meta command by the word of its key and its flag words. An error line has none of them.
+/// Appends the answer to a meta command by the word of its key and its flag words. An error line contains none of them.
 pub fn append_meta(
     out: &mut Vec<u8>,
     coded: bool,
@@ -47,7 +47,7 @@ pub fn append_meta(
     }
 }
 
-/// Appends a line: a code, what the flag words give back, the marks.
+/// Appends a line: a code, what the flag words return, the marks.
 fn append_line(
     out: &mut Vec<u8>,
     code: &[u8],
@@ -103,7 +103,7 @@ fn append_size(out: &mut Vec<u8>, size: usize)
     append(out, &text[start..]);
 }
 
-/// Puts `VA` and a number in digits at the end of the bytes, and gives where they start.
+/// Writes `VA` and a number in digits at the end of the bytes, and returns where they start.
 fn put_size(text: &mut [u8; SIZE_LEN], size: usize) -> usize
     ensures put { drop result text.new ≡ codes "VA " ++ decimal size }
     ensures inside { result ≤ SIZE_LEN }
@@ -115,7 +115,7 @@ fn put_size(text: &mut [u8; SIZE_LEN], size: usize) -> usize
     start
 }
 
-/// The marks, and the end of the line after them.
+/// Returns the marks, and the end of the line after them.
 fn marks_end(marks: Marks) -> &'static [u8]
     ensures end { result.now ≡ marks_onto marks (codes "\r\n") }
     ensures short { length result.now ≤ 6 }

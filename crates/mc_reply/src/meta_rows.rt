@@ -1,5 +1,4 @@
-//! Answers to meta commands worked by hand, each by its line, as laws of the definitions. The key of most of them is
-//! `a`.
+//! Worked examples of answers to meta commands, each by its line, as laws of the definitions. The key of most of them is `a`.
 #![tactic(auto, unfolding(mc_text::specs::Words::words, mc_request::specs::Names::name_of, mc_text::proofs::OnLiterals::coded_on_literals))]
 
 ghost use Rattle.std.specs.Prelude.{◌≡◌, Some, None, [], codes};
@@ -9,7 +8,7 @@ ghost use Rattle.mc_reply.specs.declared.replies.Reply.TheVariants.{NotStored, E
 ghost use Rattle.mc_reply.specs.Replies.{nothing_shown};
 ghost use Rattle.mc_reply.specs.Examples.{answer_to, done, marked, numbered, shows_x};
 
-/// What is asked to be given back is in the order asked. An opaque is given back as it came.
+/// An answer has what was asked for, in the order of the request. An opaque is returned unchanged.
 pub fn flags_as_asked()
     ensures all { answer_to (codes "mg a t s f c O7 k v")
         (Meta (record { cas = Some 1; flags = Some 0; size = Some 1; left = Some (Some 10); marks = Plain }) (Some (codes "x")))
@@ -18,14 +17,14 @@ pub fn flags_as_asked()
     ensures empty { answer_to (codes "mg a v q") (Meta nothing_shown (Some [])) ≡ codes "VA 0\r\n\r\n" }
 {}
 
-/// A key is given back as it was asked for: by itself, or in base64 with a `b` after it.
+/// A key is returned as it was asked for: by itself, or in base64 with a `b` after it.
 pub fn keys_as_asked()
     ensures coded { answer_to (codes "mg YWJj b k") done ≡ codes "HD kYWJj b\r\n" }
     ensures plain { answer_to (codes "md a k O1") done ≡ codes "HD ka O1\r\n" }
 {}
 
-/// A miss of `mg` gives nothing back. What else was not done gives back the key and the opaque alone, and an error line
-/// is as it is anywhere.
+/// A miss of `mg` returns no flags. Other failures return the key and the opaque alone, and an error line is the same
+/// as for any command.
 pub fn what_was_not_done()
     ensures miss { answer_to (codes "mg a k O7 c") Miss ≡ codes "EN\r\n" }
     ensures not_stored { answer_to (codes "ms a 1 c O7 ME") NotStored ≡ codes "NS O7\r\n" }
@@ -43,8 +42,7 @@ pub fn marks_are_last()
     ensures sent { answer_to (codes "mg a R30 O2") (marked Sent) ≡ codes "HD O2 Z\r\n" }
 {}
 
-/// A quiet `mg` hides that there is no item; a quiet `ms` that it was done; a quiet `md` or `ma` both. Nothing else is
-/// hidden.
+/// A quiet `mg` hides a miss, a quiet `ms` hides success, and a quiet `md` or `ma` hides both. Nothing else is hidden.
 pub fn quiet_answers()
     ensures miss { answer_to (codes "mg a v q") Miss ≡ [] }
     ensures hit { answer_to (codes "mg a q") done ≡ codes "HD\r\n" }

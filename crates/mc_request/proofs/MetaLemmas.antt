@@ -128,7 +128,7 @@ part_good : {A : Type 0} (p : A → Bool) (o : Option A) → is_where_some p o �
 part_good p (Some a) h = h
 part_good p None h = refl
 
--- what is where nothing is said
+-- a default, if nothing is given
 or_good : {A : Type 0} (p : A → Bool) (o : Option A) (other : A) → is_where_some p o ≡ true → p other ≡ true → p (unwrap_or o other) ≡ true
 or_good p (Some a) other h k = h
 or_good p None other h k = k

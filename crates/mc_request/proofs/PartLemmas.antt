@@ -33,7 +33,7 @@ pub tested : {A : Type 0} (p : A → Bool) (a : A) (b : Bool) (fault : Fault) �
 tested p a true fault is ok = is
 tested p a false fault is ok = rw ok refl
 
--- a part that may be read, and holds where it is
+-- a part that may be read, and satisfies the test if it is
 pub some_good : {A : Type 0} (p : A → Bool) (o : Option A) (fault : Fault) → closes fault ≡ false → is_where_some p o ≡ true → holds p (ok_or o fault) ≡ true
 some_good p (Some a) fault ok h = h
 some_good p None fault ok h = rw ok refl
@@ -76,7 +76,7 @@ pub same_block : (o : Option ℕ) → block_is o o ≡ true
 same_block None = refl
 same_block (Some n) = grind (arith, nat_tests)
 
--- what a line keeps to that announces this block
+-- what a line that announces this block satisfies
 abbrev pub is_good_line : Option ℕ → Line → Bool
 is_good_line block (Lone request) = is_good_request request && block_is block None
 is_good_line block (Storage storing len) = is_good_storing storing && nat_le len 1048576 && block_is block (Some len)
@@ -105,7 +105,7 @@ pub right : (a b : Bool) → (a && b) ≡ true → b ≡ true
 right true b h = h
 right false b h = absurd cc
 
--- the same as a fact
+-- likewise as a fact
 abbrev pub Holds : {A : Type 0} → (A → Type 0) → Result A Fault → Type 0
 Holds P (Ok part) = P part
 Holds P (Err fault) = closes fault ≡ false
@@ -120,7 +120,7 @@ pub not_true : (b : Bool) → not b ≡ true → b ≡ false
 not_true true h = absurd cc
 not_true false h = refl
 
--- the same by a test
+-- likewise by a test
 pub by_test : {A : Type 0} (q : A → Bool) (r : Result A Fault) → Holds (λ a. q a ≡ true) r → holds q r ≡ true
 by_test q (Ok a) h = h
 by_test q (Err fault) h = rw h refl

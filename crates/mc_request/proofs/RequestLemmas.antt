@@ -107,7 +107,7 @@ next_by-more (lines.Whole content line) u more x h e =
     next_from (u ++ more) (lines.Whole content line) (first_line_whole-more u more content line h)
     ∙ rw (drop-append-le line u more here.1) (taken_by-more (meaning (words content)) line (drop line u) more x e)
 
--- what comes later changes no whole request
+-- bytes that arrive later change no whole request
 pub next_request-more : (u more : List ℕ) (x : Taken × ℕ) → next_request u ≡ Some x → next_request (u ++ more) ≡ Some x
 unfolding next_request
 next_request-more u more x e = next_by-more (first_line u) u more x refl e

@@ -1,4 +1,4 @@
--- What every line keeps to, part by part.
+-- What every line satisfies, part by part.
 use Rattle.std.proofs.Common.{◌≡◌, ℕ, zero, suc, ◌+◌, ◌≤◌, ◌^◌, ◌&&◌, Bool, true, false, not, cond, nat_lt, nat_le, if◌then◌else◌, ℤ, List, [], ◌∷◌, length, take, drop, Option, Some, None, Result, Ok, Err, refl, ap, arith}
 use Rattle.std.proofs.lemmas.Bool.Decides.{nat_tests}
 use Rattle.std.proofs.lemmas.List.{length-take}
@@ -103,7 +103,7 @@ keys_tested exptime with_cas key keys true e is =
     let some : nat_lt 0 (length (key ∷ keys)) ≡ true = grind (arith, nat_tests) in rw is (rw (some, is, e) refl)
 keys_tested exptime with_cas key keys false e is = rw is refl
 
--- where there is a key
+-- if there is a key
 keys_good : (exptime : Option ℤ) (with_cas : Bool) (keys : List (List ℕ)) → is_where_some is_i64 exptime ≡ true → at_least 1 keys ≡ true
     → holds (is_good_line None) (keys_line exptime with_cas keys) ≡ true
 keys_good exptime with_cas [] e some = absurd cc
@@ -161,7 +161,7 @@ store_good mode compares (key ∷ flags ∷ exptime ∷ len ∷ more) =
     and_then (λ (rest : Option ℕ × Bool). is_where_some is_u64 rest.0) (is_good_line (read_len len)) (after_length compares more) _ (after_length_good compares more) (λ rest c.
     storing_good mode rest.0 key flags exptime (read_len len) rest.1 c)
 
--- a line that has so many words as its command has
+-- a line that has as many words as its command
 named_good : (name : Name) (words : List (List ℕ)) → has_arity name words ≡ true → holds (is_good_line (announced name words)) (line_named name words) ≡ true
 named_good names.Set words h = store_good Set false words
 named_good names.Add words h = store_good Add false words
@@ -193,7 +193,7 @@ counted name words false h = refl
 line_good : (name : Name) (words : List (List ℕ)) → holds (is_good_line (announced name words)) (line_of name words) ≡ true
 line_good name words = counted name words (has_arity name words) refl
 
--- the block that is to come after a line
+-- the block that follows a line
 abbrev pub block_in : Meaning → Option ℕ
 block_in (Alone taken) = None
 block_in (Stores storing len) = Some len
@@ -232,7 +232,7 @@ meaning_announces words = (both_of_meaning words).1
 pub refuses_nothing_closed : (fault : Fault) → not (closes fault) ≡ true → closes fault ≡ false
 refuses_nothing_closed fault h = not_true (closes fault) h
 
--- a block that is to come is one that may be stored
+-- a block that follows is one that may be stored
 pub stores_little : (s : Storing) (len : ℕ) → is_good_meaning (Stores s len) ≡ true → len ≤ 1048576
 stores_little s len h = let small = right (is_good_storing s) (nat_le len 1048576) h in grind (arith, nat_tests, small)
 

@@ -83,7 +83,7 @@ bare true token = Err InvalidFlag
 bare false [] = Ok true
 bare false (b ∷ bs) = Err InvalidFlag
 
--- a flag with a token, which says a value: twice it is invalid, and a token that says none is a bad one
+-- a flag with a token that stands for a value: twice it is invalid, and a token that stands for none is a bad one
 abbrev pub valued : {A : Type 0} → Option A → Option A → Result (Option A) Fault
 valued (Some given) said = Err InvalidFlag
 valued None None = Err BadToken
@@ -98,7 +98,7 @@ opaque_of false token = if nat_lt OPAQUE_LIMIT (length token) then Err BadToken 
 abbrev pub is_either : List ℕ → List ℕ → List ℕ → Bool
 is_either token capital small = bytes_eq token capital || bytes_eq token small
 
--- the mode of `ms` that a token says: source protocol.txt, "Meta Set", flag M
+-- the mode of `ms` that a token names: source protocol.txt, "Meta Set", flag M
 abbrev pub mode_of : List ℕ → Option StoreMode
 mode_of token =
     if is_either token (codes "E") (codes "e") then Some Add
@@ -108,7 +108,7 @@ mode_of token =
     else if is_either token (codes "S") (codes "s") then Some Set
     else None
 
--- the mode of `ma` that a token says: source protocol.txt, "Meta Arithmetic", flag M
+-- the mode of `ma` that a token names: source protocol.txt, "Meta Arithmetic", flag M
 abbrev pub direction_of : List ℕ → Option Direction
 direction_of token =
     if is_either token (codes "I") (codes "i") || bytes_eq token (codes "+") then Some Up
@@ -142,7 +142,7 @@ by_flag name read token Delta = valued read.delta (read_u64 token) >>= (λ delta
 by_flag name read token Invalidate = bare read.invalidate token >>= (λ invalidate. Ok (record read { invalidate = invalidate }))
 by_flag name read token Recache = valued read.recache (read_u64 token) >>= (λ recache. Ok (record read { recache = recache }))
 
--- the same where the letter has a flag
+-- the flags with one more, by the flag that its letter has, if it has one
 abbrev pub by_letter : Name → MetaFlags → List ℕ → Option Flag → Result MetaFlags Fault
 by_letter name read token None = Err InvalidFlag
 by_letter name read token (Some flag) = by_flag name read token flag
@@ -159,7 +159,7 @@ abbrev pub flags_from : Name → MetaFlags → List (List ℕ) → Result MetaFl
 flags_from name read [] = Ok read
 flags_from name read (word ∷ words) = with_flag name read word >>= (λ read. flags_from name read words)
 
--- whether a command takes flag words: each is one of its flags and is once, with a token that may be read
+-- whether a command takes flag words: each is one of its flags and occurs once, with a token that may be read
 abbrev pub takes_flags : Name → List (List ℕ) → Bool
 takes_flags name words = is_ok (flags_from name fresh_flags words)
 
@@ -167,7 +167,7 @@ takes_flags name words = is_ok (flags_from name fresh_flags words)
 abbrev pub get_by : MetaFlags → MetaGet
 get_by read = record { show = read.show; exptime = read.exptime; create = read.create; recache = read.recache }
 
--- how an `ma` of these flags counts: up by 1 where nothing is said; without `N` nothing is made, whatever `J` is
+-- how an `ma` of these flags counts: up by 1 if nothing is given; without `N` nothing is made, whatever `J` is
 -- source: protocol.txt, "Meta Arithmetic"
 abbrev pub counting_by : MetaFlags → Counting
 counting_by read = record {

@@ -11,7 +11,7 @@ use Rattle.mc_request.specs.declared.parts.Request.TheVariants.{Update, Meta}
 use Rattle.mc_request.specs.declared.parts.Taken.{Taken}
 use Rattle.mc_request.specs.declared.parts.Taken.TheVariants.{Whole, Faulty}
 
--- what a quiet update hides: that it was done, and for `md` and `ma` that the key is not held
+-- what a quiet update hides: that it was done, and for `md` and `ma` that the key is not stored
 -- source: protocol.txt, "Meta Set", "Meta Delete", "Meta Arithmetic", flag q
 abbrev pub hidden_update : {K B : Type 0} → AnUpdate K B → Hides
 hidden_update (Store mode compare key flags exptime block) = Success
@@ -19,7 +19,7 @@ hidden_update (Delete key compare invalidate) = SuccessAndMisses
 hidden_update (Count key counting) = SuccessAndMisses
 hidden_update update = Nothing
 
--- what a meta command hides, quiet or not; `mg` that the key is not held: source protocol.txt, "Meta Get", flag q
+-- what a meta command hides, quiet or not; `mg` that the key is not stored: source protocol.txt, "Meta Get", flag q
 abbrev pub hidden_by : {K B : Type 0} → MetaCommand K B → Bool → Hides
 hidden_by command false = Nothing
 hidden_by (metas.Get key get) true = Misses

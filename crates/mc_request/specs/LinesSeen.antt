@@ -13,7 +13,7 @@ use Rattle.mc_request.specs.declared.lines.CommandLine.TheVariants as lines
 use Rattle.mc_request.specs.Parts.{update_map, update_seen, meta_said, key_bytes}
 use Rattle.mc_request.specs.Meanings.{Line, Lone, Meaning, Storing, Classic, MetaSet, Alone, Stores, Refuses}
 
--- what is lent, as the request or fault that it is
+-- what is borrowed, as the request or fault that it is
 abbrev pub asked_of : Asked → Taken
 asked_of (asked.Get keys exptime with_cas) = Whole (Get keys exptime with_cas)
 asked_of (asked.Update update noreply) = Whole (Update (update_seen update) noreply)

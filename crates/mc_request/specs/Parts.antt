@@ -1,4 +1,4 @@
--- Commands: their keys and blocks, whatever these are kept as.
+-- Commands: their keys and blocks, whatever the types of these.
 use Rattle.std.specs.Prelude.{ℕ, Bool, true, false, List, [], Option, Some, None, if◌then◌else◌}
 use Rattle.std.specs.Borrow.{Bor}
 use Rattle.std.specs.Option.{option_map_or, unwrap_or}
@@ -9,7 +9,7 @@ use Rattle.mc_request.specs.declared.meta.MetaCommand.TheVariants as metas
 use Rattle.mc_request.specs.declared.parts.Update.{Update}
 use Rattle.mc_request.specs.declared.parts.Update.TheVariants.{Store, Touch, Delete, Count, FlushAll}
 
--- the same update, with another key and another block made of its own
+-- the update, with another key and another block, each made of its own
 abbrev pub update_map : {K L B C : Type 0} → (K → L) → (B → C) → Update K B → Update L C
 update_map key_by block_by (Store mode compare key flags exptime block) = Store mode compare (key_by key) flags exptime (block_by block)
 update_map key_by block_by (Touch key exptime) = Touch (key_by key) exptime
@@ -17,7 +17,7 @@ update_map key_by block_by (Delete key compare invalidate) = Delete (key_by key)
 update_map key_by block_by (Count key counting) = Count (key_by key) counting
 update_map key_by block_by (FlushAll delay) = FlushAll delay
 
--- the same meta command, likewise
+-- the meta command, with another key and another block, each made of its own
 abbrev pub meta_map : {K L B C : Type 0} → (K → L) → (B → C) → MetaCommand K B → MetaCommand L C
 meta_map key_by block_by (metas.Get key get) = metas.Get (key_by key) get
 meta_map key_by block_by (metas.Update update show) = metas.Update (update_map key_by block_by update) show
@@ -35,11 +35,11 @@ abbrev pub key_in_meta : {K B : Type 0} → MetaCommand K B → Option K
 key_in_meta (metas.Get key get) = Some key
 key_in_meta (metas.Update update show) = key_in update
 
--- a lent update, with the bytes that it is lent
+-- a borrowed update, with the bytes that it borrows
 abbrev pub update_seen : Update (Bor (List ℕ)) (Bor (List ℕ)) → Update (List ℕ) (List ℕ)
 update_seen update = update_map (λ key. key.now) (λ block. block.now) update
 
--- the key that a word of a meta command says, if it says one: itself, or what it is the base64 of
+-- the key of a meta command's word, if it has one: the word itself, or what it is the base64 of
 -- source: protocol.txt, "Meta Commands", flag b
 abbrev pub key_said : Bool → List ℕ → Option (List ℕ)
 key_said false word = if is_plain_key word then Some word else None
@@ -49,18 +49,18 @@ key_said true word = coded_key word
 abbrev pub key_bytes : Bool → List ℕ → List ℕ
 key_bytes coded word = unwrap_or (key_said coded word) []
 
--- a lent update of a meta command, with the key that its word says and the bytes that it is lent
+-- a borrowed update of a meta command, with the key of its word and the bytes that it borrows
 abbrev pub update_said : Bool → Update (Bor (List ℕ)) (Bor (List ℕ)) → Update (List ℕ) (List ℕ)
 update_said coded update = update_map (λ word. key_bytes coded word.now) (λ block. block.now) update
 
--- a lent meta command, likewise
+-- a borrowed meta command, with the key of its word and the bytes that it borrows
 abbrev pub meta_said : Bool → MetaCommand (Bor (List ℕ)) (Bor (List ℕ)) → MetaCommand (List ℕ) (List ℕ)
 meta_said coded command = meta_map (λ word. key_bytes coded word.now) (λ block. block.now) command
 
--- the word of its key, and none of its bytes where it has none
+-- the word of its key, or no bytes if it has none
 abbrev pub word_in_meta : MetaCommand (Bor (List ℕ)) (Bor (List ℕ)) → List ℕ
 word_in_meta command = option_map_or (λ word. word.now) (key_in_meta command) []
 
--- a storage command with this data block in the place of its own
+-- a storage command with this data block in place of its own
 abbrev pub with_block : {K B C : Type 0} → Update K B → C → Update K C
 with_block update block = update_map (λ key. key) (λ _. block) update

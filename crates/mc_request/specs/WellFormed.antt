@@ -1,4 +1,4 @@
--- What every request keeps to, however its bytes came.
+-- What every request satisfies, however its bytes arrived.
 use Rattle.std.specs.Prelude.{ℕ, ◌^◌, ◌&&◌, nat_lt, nat_le, Bool, not, true, false, ℤ, pos, negsuc, List, length, Option, Some, None}
 use Rattle.std.specs.List.{list_all}
 use Rattle.std.specs.Option.{option_map_or}
@@ -47,7 +47,7 @@ is_good_counting counting =
 abbrev pub has_key : {B : Type 0} → Update (List ℕ) B → Bool
 has_key update = is_where_some is_key (key_in update)
 
--- a meta command, likewise
+-- a meta command that has a key, if it has one at all
 abbrev pub has_meta_key : {B : Type 0} → MetaCommand (List ℕ) B → Bool
 has_meta_key command = is_where_some is_key (key_in_meta command)
 
@@ -104,13 +104,13 @@ abbrev pub is_well_formed : Taken → Bool
 is_well_formed (Whole request) = is_good_request request
 is_well_formed (Faulty fault) = true
 
--- what a storage command keeps to before its data block has come
+-- what a storage command satisfies before its data block has arrived
 abbrev pub is_good_storing : Storing → Bool
 is_good_storing (Classic update noreply) = is_good_update is_plain_key (λ _. true) update
 is_good_storing (MetaSet update show form) =
     is_good_update (is_meta_key form.coded) (λ _. true) update && has_flags (command_name (metas.Update update show)) form.flags
 
--- what every line asks for keeps to: what is taken is well formed, and what swallows a block closes nothing
+-- what the meaning of every line satisfies: what is taken is well formed, and what swallows a block closes nothing
 abbrev pub is_good_meaning : Meaning → Bool
 is_good_meaning (Alone taken) = is_well_formed taken
 is_good_meaning (Stores storing len) = is_good_storing storing && nat_le len VALUE_LIMIT

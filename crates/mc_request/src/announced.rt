@@ -6,8 +6,8 @@ ghost use Rattle.mc_request.specs.Meanings.{announced, announced_in, second_len,
 use crate::names::{Name, name_of};
 use mc_text::{WordIter, read_len, words};
 
-/// The length of the data block that a line announces, in bytes, however faulty the line is; none where it announces
-/// none, or where the length cannot be read. Of the line no more is read than that takes.
+/// Returns the length of the data block that a line announces, in bytes, however faulty the line is. It returns none
+/// if the line announces no block, or if the length cannot be read. It reads no more of the line than that takes.
 pub fn announced_in(content: &[u8]) -> Option<u32>
     ensures { result ≡ announced_in (words content.now) }
 {
@@ -15,7 +15,7 @@ pub fn announced_in(content: &[u8]) -> Option<u32>
     announced(name_of(words.next()?)?, words)
 }
 
-/// The same by the name of its command and the words after that.
+/// Returns the length by the name of the line's command and the words after that.
 fn announced(name: Name, words: WordIter<'_>) -> Option<u32>
     ensures { result ≡ announced name words.entry }
 {
@@ -28,7 +28,7 @@ fn announced(name: Name, words: WordIter<'_>) -> Option<u32>
     }
 }
 
-/// The length that the fourth word of a storage command says.
+/// Reads the length in the fourth word of a storage command.
 fn fourth_len(mut words: WordIter<'_>) -> Option<u32>
     ensures { result ≡ fourth_len words.entry }
 {
@@ -38,7 +38,7 @@ fn fourth_len(mut words: WordIter<'_>) -> Option<u32>
     read_len(words.next()?)
 }
 
-/// The length that the second word of an `ms` says.
+/// Reads the length in the second word of an `ms`.
 fn second_len(mut words: WordIter<'_>) -> Option<u32>
     ensures { result ≡ second_len words.entry }
 {

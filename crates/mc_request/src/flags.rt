@@ -11,7 +11,7 @@ use mc_text::{WordIter, read_flags, read_i64, read_u64};
 /// The most bytes that an opaque has, beside its letter.
 pub const OPAQUE_LIMIT: usize = 32;
 
-/// A flag of a meta command. Which command has it, and what its token is, says `specs/Flags.antt`.
+/// A flag of a meta command. `specs/Flags.antt` says which command has it, and what its token is.
 #[derive(Clone, Copy, Debug, PartialEq, Eq)]
 pub enum Flag {
     /// `b`: the key is base64.
@@ -22,13 +22,13 @@ pub enum Flag {
     ClientFlags,
     /// `k`: the key is shown.
     Key,
-    /// `O`: a token that is given back.
+    /// `O`: a token that is echoed.
     Opaque,
-    /// `q`: what is to be expected is hidden.
+    /// `q`: the expected outcome is hidden.
     Quiet,
     /// `s`: the value's size is shown.
     Size,
-    /// `t`: the seconds left are shown.
+    /// `t`: the seconds until expiry are shown.
     Left,
     /// `v`: the value is shown.
     Value,
@@ -40,7 +40,7 @@ pub enum Flag {
     StoredFlags,
     /// `M`: a mode.
     Mode,
-    /// `N`: the exptime of an item that is made where the key is not held.
+    /// `N`: the exptime of an item that is made if the key is not stored.
     Create,
     /// `J`: the number that is then stored.
     Initial,
@@ -48,11 +48,11 @@ pub enum Flag {
     Delta,
     /// `I`: the item is made stale.
     Invalidate,
-    /// `R`: the seconds left below which the item is to be filled anew.
+    /// `R`: the seconds until expiry below which the item is to be filled anew.
     Recache,
 }
 
-/// The flags that were read so far.
+/// The flags that have been read.
 #[derive(Clone, Copy)]
 pub struct MetaFlags {
     pub coded: bool,
@@ -75,7 +75,7 @@ pub struct MetaFlags {
 impl MetaFlags {
     ghost use Rattle.mc_request.specs.Flags.{get_by, counting_by};
 
-    /// None was read.
+    /// Returns the flags of no word.
     pub fn fresh() -> MetaFlags
         ensures { result ≡ fresh_flags }
     {
@@ -129,7 +129,7 @@ impl MetaFlags {
         self.put(name, flag, token)
     }
 
-    /// Takes a flag with its token, which is empty where it has none.
+    /// Stores a flag with its token, which is empty if the word has none.
     fn put(&mut self, name: Name, flag: Flag, token: &[u8]) -> Result<(), Fault>
         ensures read { IfOk result (λ _. by_flag name self.old token.now flag ≡ Ok self.new) }
         ensures refused { IfErr result (λ fault. by_flag name self.old token.now flag ≡ Err fault) }
@@ -160,7 +160,7 @@ impl MetaFlags {
         Ok(())
     }
 
-    /// What an `mg` of these flags does.
+    /// Returns what an `mg` of these flags does.
     pub fn meta_get(&self) -> MetaGet
         ensures { result ≡ get_by self.now }
     {
@@ -172,7 +172,7 @@ impl MetaFlags {
         }
     }
 
-    /// How an `ma` of these flags counts.
+    /// Returns how an `ma` of these flags counts.
     pub fn counting(&self) -> Counting
         ensures { result ≡ counting_by self.now }
     {
@@ -189,7 +189,7 @@ impl MetaFlags {
     }
 }
 
-/// Whether a letter is one of a command's flags.
+/// Returns whether a letter is one of a command's flags.
 fn has_letter(name: Name, letter: u8) -> bool
     ensures { result ≡ is_one_of (letters_of name) letter }
 {
@@ -202,7 +202,7 @@ fn has_letter(name: Name, letter: u8) -> bool
     }
 }
 
-/// Whether it is one of `mg`.
+/// Returns whether a letter is a flag of `mg`.
 fn is_get_letter(letter: u8) -> bool
     ensures { result ≡ is_one_of (codes "bcfkOqstvTNR") letter }
 {
@@ -212,7 +212,7 @@ fn is_get_letter(letter: u8) -> bool
     )
 }
 
-/// Whether it is one of `ms`.
+/// Returns whether a letter is a flag of `ms`.
 fn is_set_letter(letter: u8) -> bool
     ensures { result ≡ is_one_of (codes "bckOqsTCFM") letter }
 {
@@ -222,14 +222,14 @@ fn is_set_letter(letter: u8) -> bool
     )
 }
 
-/// Whether it is one of `md`.
+/// Returns whether a letter is a flag of `md`.
 fn is_delete_letter(letter: u8) -> bool
     ensures { result ≡ is_one_of (codes "bkOqCI") letter }
 {
     matches!(letter, b'b' | b'k' | b'O' | b'q' | b'C' | b'I')
 }
 
-/// Whether it is one of `ma`.
+/// Returns whether a letter is a flag of `ma`.
 fn is_arithmetic_letter(letter: u8) -> bool
     ensures { result ≡ is_one_of (codes "bckOqtvTCMNJD") letter }
 {
@@ -239,7 +239,7 @@ fn is_arithmetic_letter(letter: u8) -> bool
     )
 }
 
-/// The flag of a letter.
+/// Returns the flag of a letter.
 pub fn flag_of(letter: u8) -> Option<Flag>
     ensures { result ≡ flag_of letter }
 {
@@ -266,7 +266,7 @@ pub fn flag_of(letter: u8) -> Option<Flag>
     })
 }
 
-/// A flag that has no token, where it was given before or not.
+/// Takes a flag without a token. `given` says whether it was given before.
 fn bare(given: bool, token: &[u8]) -> Result<bool, Fault>
     ensures { result ≡ bare given token.now }
 {
@@ -277,7 +277,7 @@ fn bare(given: bool, token: &[u8]) -> Result<bool, Fault>
     }
 }
 
-/// A flag by what its token says, where it was given before or not.
+/// Takes a flag by what its token says. `given` is its value, if it was given before.
 fn valued<T: Copy>(given: Option<T>, said: Option<T>) -> Result<Option<T>, Fault>
     ensures { result ≡ valued given said }
 {
@@ -287,7 +287,7 @@ fn valued<T: Copy>(given: Option<T>, said: Option<T>) -> Result<Option<T>, Fault
     Ok(Some(said.ok_or(Fault::BadToken)?))
 }
 
-/// An opaque, where one was given before or not.
+/// Takes an opaque. `given` says whether one was given before.
 fn opaque_of(given: bool, token: &[u8]) -> Result<bool, Fault>
     ensures { result ≡ opaque_of given token.now }
 {
@@ -300,7 +300,7 @@ fn opaque_of(given: bool, token: &[u8]) -> Result<bool, Fault>
     }
 }
 
-/// The mode of `ms` that a token says.
+/// Returns the mode of `ms` that a token names.
 fn mode_of(token: &[u8]) -> Option<StoreMode>
     ensures { result ≡ mode_of token.now }
 {
@@ -314,7 +314,7 @@ fn mode_of(token: &[u8]) -> Option<StoreMode>
     }
 }
 
-/// The mode of `ma` that a token says.
+/// Returns the mode of `ma` that a token names.
 fn direction_of(token: &[u8]) -> Option<Direction>
     ensures { result ≡ direction_of token.now }
 {

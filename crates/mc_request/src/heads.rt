@@ -6,11 +6,11 @@ use crate::meta::MetaCommand;
 use crate::parts::Atom;
 use mc_text::Block;
 
-/// A command without its data block, which is all that a reader of its reply must know.
+/// A command without its data block. It has all that a reader of the reply must know.
 pub type Head = Atom<()>;
 
 impl Atom<Block> {
-    /// The command without its data block, which is dropped. It takes no memory.
+    /// Returns the command without its data block, which is dropped. It takes no memory.
     pub fn into_head(self) -> Head
         ensures { result ≡ head_of self }
     {

@@ -5,23 +5,23 @@ ghost use Rattle.mc_request.specs.Hides.{hides_of, hidden_by};
 use crate::meta::MetaCommand;
 use crate::parts::{Request, Update};
 
-/// What a request hides of its answer. It is known before the request is taken apart, and before there is a reply.
+/// What a request hides of its answer. It is known before the request is split into commands, and before there is a reply.
 #[derive(Clone, Copy, Debug, PartialEq, Eq)]
 pub enum Hides {
     /// Nothing: each reply is shown.
     Nothing,
     /// The line of a reply, as `noreply` asks. An error line is shown.
     ReplyLine,
-    /// That a key is not held, as `q` asks of `mg`.
+    /// A miss, as `q` asks of `mg`.
     Misses,
-    /// That it was done, as `q` asks of `ms`.
+    /// Success, as `q` asks of `ms`.
     Success,
-    /// That it was done or that the key is not held, as `q` asks of `md` and `ma`.
+    /// Success and a miss, as `q` asks of `md` and `ma`.
     SuccessAndMisses,
 }
 
 impl Request {
-    /// What the request hides of its answer.
+    /// Returns what the request hides of its answer.
     pub fn hides(&self) -> Hides
         ensures { result ≡ hides_of self.now }
     {
@@ -33,7 +33,7 @@ impl Request {
     }
 }
 
-/// What a meta command hides of its answer where it is quiet. An error line is shown.
+/// Returns what a meta command hides of its answer if `quiet` is true. An error line is shown.
 pub fn quiet_hides<K: Drop, B: Drop>(command: &MetaCommand<K, B>, quiet: bool) -> Hides
     ensures { result ≡ hidden_by command.now quiet }
 {

@@ -1,20 +1,18 @@
 //! Requests: what one line of a client asks for, with its data block.
 //!
-//! [`command_line`] reads a line, whose words it lends: it answers an [`Asked`], a [`Storing`] that a data block follows, or a
-//! fault whose data block is swallowed. [`announced_in`] says of a line only how long its data block is. [`Asked::taken`]
-//! copies what is lent, and so makes a [`Request`] of it.
-//! A meta command that is lent has its key as a word, plain or in base64 ([`key_bytes`], [`Update::said`]),
-//! and its flag words as they are in the line ([`MetaForm`]). [`flag_of`] names the flag of a letter.
-//! [`Request::atoms`] gives the commands of a request, each an [`Atom`], which [`Atom::into_head`] makes a [`Head`]: what of it a
-//! reader of its reply must know. [`Request::hides`] is what a request hides of its answer, and [`Fault::line`] the error line
-//! of a fault.
+//! [`command_line`] reads a line, whose words it borrows. It returns an [`Asked`], a [`Storing`] that a data block follows, or a fault
+//! whose data block is swallowed. [`announced_in`] returns only the length of a line's data block. [`Asked::taken`] copies the borrowed
+//! bytes into a [`Request`] or fault of its own. A borrowed meta command has its key as a word, plain or in base64 ([`key_bytes`],
+//! [`Update::said`]), and its flag words as they are in the line ([`MetaForm`]). [`flag_of`] returns the flag of a letter.
+//! [`Request::atoms`] returns the commands of a request, each an [`Atom`]. [`Atom::into_head`] makes it a [`Head`]: what a reader of
+//! its reply must know. [`Request::hides`] is what a request hides of its answer, and [`Fault::line`] the error line of a fault.
 //!
-//! `specs/Meanings.antt` says what a line asks for by its words, and `specs/Requests.antt` what the requests of a text are. The
-//! reader that gives these, however the text comes, is in the crate `mc_request_reader`; the spelling of a command, the one
-//! text that a proxy sends for it, is in `mc_codec`.
+//! `specs/Meanings.antt` defines what a line asks for by its words, and `specs/Requests.antt` what the requests of a text are.
+//! The reader that returns these, however the text arrives, is in the crate `mc_request_reader`. The spelling of a command, the
+//! one text that a proxy sends for it, is in `mc_codec`.
 //!
-//! Of the calls, `atoms`, those of `Keys` that make room or put a key after, and those that make a copy of what is lent take
-//! memory; all others take none, and cannot fail.
+//! Calls that take memory: `atoms`, those of `Keys` that make room or append a key, and those that copy borrowed bytes. All
+//! others take none, and cannot fail.
 #![tactic(auto)]
 
 mod announced;

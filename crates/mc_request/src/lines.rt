@@ -1,4 +1,4 @@
-//! What a command line asks for. Its words are lent.
+//! What a command line asks for. Its words are borrowed.
 ghost use Rattle.std.specs.Prelude.{◌≡◌};
 ghost use Rattle.mc_request.specs.Requests.{stored};
 ghost use Rattle.mc_request.specs.LinesSeen.{asked_of, storing_of};
@@ -8,21 +8,21 @@ use crate::meta::{MetaCommand, MetaForm, Show};
 use crate::parts::{Taken, Update};
 use mc_text::WordIter;
 
-/// A request or fault that is lent: its keys and its data block are bytes of the text that it was read from.
+/// A borrowed request or fault: its keys and its data block are slices of the text that it was read from.
 #[derive(Drop)]
 pub enum Asked<'a> {
-    /// `get` and `gets`, or with an exptime `gat` and `gats`, by the words that are its keys: one at least.
+    /// `get` and `gets`, or with an exptime `gat` and `gats`, with the words that are its keys: at least one.
     Get {
         keys: WordIter<'a>,
         exptime: Option<i64>,
         with_cas: bool,
     },
-    /// A command that may change what is held. With `noreply` its reply line is hidden.
+    /// A command that may change what is stored. With `noreply` its reply line is hidden.
     Update {
         update: Update<&'a [u8], &'a [u8]>,
         noreply: bool,
     },
-    /// `mg`, `ms`, `md` and `ma`, by the word of its key: the form says whether it is base64.
+    /// `mg`, `ms`, `md` and `ma`, with the word of its key: the form says whether it is base64.
     Meta {
         command: MetaCommand<&'a [u8], &'a [u8]>,
         form: MetaForm<WordIter<'a>>,
@@ -45,7 +45,7 @@ pub enum Storing<'a> {
         update: Update<&'a [u8], ()>,
         noreply: bool,
     },
-    /// `ms`, by the word of its key.
+    /// `ms`, with the word of its key.
     Meta {
         update: Update<&'a [u8], ()>,
         show: Show,
@@ -56,16 +56,16 @@ pub enum Storing<'a> {
 /// What a command line asks for.
 #[derive(Drop)]
 pub enum CommandLine<'a> {
-    /// What is taken alone: a request that no data block follows, or a fault.
+    /// A request that no data block follows, or a fault: it is taken alone.
     Alone(Asked<'a>),
-    /// A storage command, which a data block of so many bytes follows.
+    /// A storage command, and the size in bytes of the data block that follows it.
     Stores(Storing<'a>, u32),
-    /// A faulty line whose data block of so many bytes is swallowed.
+    /// A faulty line, and the size in bytes of its data block, which is swallowed.
     Refuses(Fault, u32),
 }
 
 impl<'a> Storing<'a> {
-    /// The storage command with its data block.
+    /// Returns the storage command with its data block.
     pub fn with_block(self, block: &'a [u8]) -> Asked<'a>
         ensures { asked_of result ≡ Taken.Whole (stored (storing_of self.entry) block.now) }
     {

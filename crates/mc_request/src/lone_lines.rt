@@ -13,7 +13,7 @@ use crate::names::{is_noreply, noreply_of, noreply_word};
 use crate::parts::{Direction, Update};
 use mc_text::{WordIter, are_plain_keys, is_plain_key, read_i64, read_u64};
 
-/// `get`, and after its exptime `gat`, by the keys. One that is none refuses the line.
+/// Reads a `get`, or with an exptime a `gat`, by its keys. A word that is no key refuses the line.
 #[inline(always)]
 pub fn keys_line(exptime: Option<i64>, with_cas: bool, keys: WordIter<'_>) -> CommandLine<'_>
     ensures { meaning_of result ≡ meaning_from None (if at_least 1 keys.entry then keys_line exptime with_cas keys.entry else Err Fault.UnknownCommand) }
@@ -31,7 +31,7 @@ pub fn keys_line(exptime: Option<i64>, with_cas: bool, keys: WordIter<'_>) -> Co
     })
 }
 
-/// Whether there are words, and each is a plain key.
+/// Returns whether there are words, and each is a plain key.
 #[inline(always)]
 pub fn has_plain_keys(words: &WordIter<'_>) -> bool
     ensures { result ≡ (at_least 1 words.now && list_all is_plain_key words.now) }
@@ -39,7 +39,7 @@ pub fn has_plain_keys(words: &WordIter<'_>) -> bool
     words.has_next() && are_plain_keys(words)
 }
 
-/// `gat <exptime> <key>*`.
+/// Reads `gat <exptime> <key>*`.
 #[inline(never)]
 pub fn gat_line(with_cas: bool, mut words: WordIter<'_>) -> CommandLine<'_>
     ensures { meaning_of result ≡ meaning_from None (if at_least 2 words.entry then gat_line with_cas words.entry else Err Fault.UnknownCommand) }
@@ -56,7 +56,7 @@ pub fn gat_line(with_cas: bool, mut words: WordIter<'_>) -> CommandLine<'_>
     }
 }
 
-/// `touch <key> <exptime> [noreply]`.
+/// Reads `touch <key> <exptime> [noreply]`.
 #[inline(never)]
 pub fn touch_line(mut words: WordIter<'_>) -> CommandLine<'_>
     ensures { meaning_of result ≡ meaning_from None (if between 2 3 words.entry then touch_line words.entry else Err Fault.UnknownCommand) }
@@ -80,7 +80,7 @@ pub fn touch_line(mut words: WordIter<'_>) -> CommandLine<'_>
     })
 }
 
-/// `delete <key> [0] [noreply]`.
+/// Reads `delete <key> [0] [noreply]`.
 #[inline(never)]
 pub fn delete_line(mut words: WordIter<'_>) -> CommandLine<'_>
     ensures { meaning_of result ≡ meaning_from None (if between 1 3 words.entry then delete_line words.entry else Err Fault.UnknownCommand) }
@@ -105,7 +105,7 @@ pub fn delete_line(mut words: WordIter<'_>) -> CommandLine<'_>
     })
 }
 
-/// Whether the reply of a deletion is hidden, by what is after its key.
+/// Returns whether the reply of a deletion is hidden, by the words after its key.
 fn noreply_after_zero(mut words: WordIter<'_>) -> Result<bool, Fault>
     ensures { result ≡ (if at_most 2 words.entry then noreply_of (without_zero words.entry) else Err Fault.UnknownCommand) }
 {
@@ -125,7 +125,7 @@ fn noreply_after_zero(mut words: WordIter<'_>) -> Result<bool, Fault>
     }
 }
 
-/// `incr <key> <delta> [noreply]`, and `decr` likewise.
+/// Reads `incr <key> <delta> [noreply]`, and `decr` likewise.
 #[inline(never)]
 pub fn count_line(direction: Direction, mut words: WordIter<'_>) -> CommandLine<'_>
     ensures { meaning_of result ≡ meaning_from None (if between 2 3 words.entry then count_line direction words.entry else Err Fault.UnknownCommand) }
@@ -152,7 +152,7 @@ pub fn count_line(direction: Direction, mut words: WordIter<'_>) -> CommandLine<
     })
 }
 
-/// The amount of a count, and whether its reply is hidden.
+/// Returns the amount of a count, and whether its reply is hidden.
 fn count_parts(key: &[u8], delta: &[u8], rest: WordIter<'_>) -> Result<(u64, bool), Fault>
     ensures { result ≡ (if at_most 1 rest.entry then count_parts key.now delta.now rest.entry else Err Fault.UnknownCommand) }
 {
@@ -167,7 +167,7 @@ fn count_parts(key: &[u8], delta: &[u8], rest: WordIter<'_>) -> Result<(u64, boo
     Ok((delta, noreply?))
 }
 
-/// `flush_all [delay] [noreply]`.
+/// Reads `flush_all [delay] [noreply]`.
 #[inline(never)]
 pub fn flush_line(words: WordIter<'_>) -> CommandLine<'_>
     ensures { meaning_of result ≡ meaning_from None (if at_most 2 words.entry then flush_line words.entry else Err Fault.UnknownCommand) }
@@ -181,7 +181,7 @@ pub fn flush_line(words: WordIter<'_>) -> CommandLine<'_>
     }
 }
 
-/// The delay of a flush, and whether its reply is hidden.
+/// Returns the delay of a flush, and whether its reply is hidden.
 fn flush_parts(mut words: WordIter<'_>) -> Result<(i64, bool), Fault>
     ensures { result ≡ (if at_most 2 words.entry then flush_parts words.entry else Err Fault.UnknownCommand) }
 {
@@ -202,7 +202,7 @@ fn flush_parts(mut words: WordIter<'_>) -> Result<(i64, bool), Fault>
     Ok((delay, noreply))
 }
 
-/// `version`, `quit` and `mn`, each by what it asks for: no word is after them.
+/// Reads a line of `version`, `quit` or `mn`, after whose name there is no word.
 #[inline(never)]
 #[tactic(auto, using(crate::proofs::LineLemmas::taken_alone))]
 pub fn bare_line<'a>(asked: Asked<'a>, mut words: WordIter<'_>) -> CommandLine<'a>

@@ -9,7 +9,7 @@ use mc_text::{CODED_ROOM, WordIter, read_coded, words};
 use std::alloc::{AllocError, Global};
 use std::marker::Model;
 
-/// What a meta command asks to be shown of its item: flags `c`, `f`, `s`, `t` and `v`.
+/// What a meta command shows of its item: flags `c`, `f`, `s`, `t` and `v`.
 #[derive(Clone, Copy, Debug, PartialEq, Eq)]
 pub struct Show {
     /// `c`: its number.
@@ -18,21 +18,21 @@ pub struct Show {
     pub flags: bool,
     /// `s`: its value's size.
     pub size: bool,
-    /// `t`: how many seconds it has left.
+    /// `t`: its seconds until expiry.
     pub left: bool,
     /// `v`: its value.
     pub value: bool,
 }
 
-/// What `mg` does beside looking its key up.
+/// What `mg` does besides looking its key up.
 #[derive(Clone, Copy, Debug, PartialEq, Eq)]
 pub struct MetaGet {
     pub show: Show,
     /// `T`: the item's expiry is set.
     pub exptime: Option<i64>,
-    /// `N`: where the key is not held, an empty item with this exptime is made.
+    /// `N`: if the key is not stored, an empty item with this exptime is made.
     pub create: Option<i64>,
-    /// `R`: an item with fewer seconds left than this is to be filled anew.
+    /// `R`: an item with fewer seconds until expiry than this is to be filled anew.
     pub recache: Option<u64>,
 }
 
@@ -41,18 +41,18 @@ pub struct MetaGet {
 pub struct Counting {
     pub direction: Direction,
     pub delta: u64,
-    /// `C`: only where the item has this number.
+    /// `C`: only if the item has this number.
     pub compare: Option<u64>,
-    /// `N`, with `J`: where the key is not held, an item is made.
+    /// `N`, with `J`: if the key is not stored, this item is made.
     pub create: Option<Creation>,
     /// `T`: the item's expiry is set.
     pub exptime: Option<i64>,
 }
 
-/// The item that `ma` makes where its key is not held.
+/// The item that `ma` makes if its key is not stored.
 #[derive(Clone, Copy, Debug, PartialEq, Eq)]
 pub struct Creation {
-    /// `N`.
+    /// `N`: its exptime.
     pub exptime: i64,
     /// `J`: its value, in decimal digits.
     pub initial: u64,
@@ -72,9 +72,9 @@ pub enum MetaCommand<K, B> {
 pub struct MetaForm<F> {
     /// `b`: its key is base64.
     pub coded: bool,
-    /// `q`: what is to be expected is hidden.
+    /// `q`: the expected outcome is hidden.
     pub quiet: bool,
-    /// Its flag words, in the order asked.
+    /// Its flag words, in the order of the request.
     pub flags: F,
 }
 
@@ -94,7 +94,7 @@ impl Model for FlagWords {
 }
 
 impl FlagWords {
-    /// The words by themselves: their bytes are copied, once.
+    /// Copies the bytes of the words, once.
     pub fn of_words(alloc: Global, words: WordIter<'_>) -> Result<FlagWords, AllocError>
         ensures { IfOk result (λ flags. flags ≡ words.entry) }
     {
@@ -103,7 +103,7 @@ impl FlagWords {
         })
     }
 
-    /// The words.
+    /// Returns the words.
     pub fn words(&self) -> WordIter<'_>
         ensures { result ≡ self.now }
     {
@@ -111,8 +111,8 @@ impl FlagWords {
     }
 }
 
-/// The bytes of the key that a word of a meta command says. Those of a plain key are the word itself, and nothing is copied;
-/// what a word in base64 says is written into the caller's room, and lent from there.
+/// Returns the bytes of the key of a meta command's word. Those of a plain key are the word itself, and nothing is copied. A
+/// word in base64 is decoded into the caller's room, and the bytes are a slice of that room.
 pub fn key_bytes<'a>(coded: bool, word: &'a [u8], room: &'a mut [u8; CODED_ROOM]) -> &'a [u8]
     requires { is_key (key_bytes coded word.now) ≡ true }
     ensures { result.now ≡ key_bytes coded word.now }
@@ -124,7 +124,7 @@ pub fn key_bytes<'a>(coded: bool, word: &'a [u8], room: &'a mut [u8; CODED_ROOM]
 }
 
 impl<'a> Update<&'a [u8], &'a [u8]> {
-    /// The update of a meta command by the bytes of its key, which has its word.
+    /// Returns the update of a meta command with the bytes of its key in place of its word.
     pub fn said(&self, coded: bool, room: &'a mut [u8; CODED_ROOM]) -> Update<&'a [u8], &'a [u8]>
         requires { has_key (update_said coded self.now) ≡ true }
         ensures { update_seen result ≡ update_said coded self.now }
@@ -168,7 +168,7 @@ impl<'a> Update<&'a [u8], &'a [u8]> {
 }
 
 impl<'a> MetaCommand<&'a [u8], &'a [u8]> {
-    /// The word of its key. A flush has none, but it has no meta form.
+    /// Returns the word of its key. A flush has none, but it has no meta form.
     pub fn word(&self) -> &'a [u8]
         ensures { result.now ≡ word_in_meta self.now }
     {

@@ -13,7 +13,7 @@ use crate::names::Name;
 use crate::parts::{StoreMode, Update};
 use mc_text::{VALUE_LIMIT, WordIter, is_coded_key, is_plain_key, read_len};
 
-/// `mg <key> <flags>*`.
+/// Reads `mg <key> <flags>*`.
 #[inline(never)]
 pub fn mg_line(mut words: WordIter<'_>) -> CommandLine<'_>
     ensures { meaning_of result ≡ meaning_from None (if at_least 1 words.entry then mg_line words.entry else Err Fault.UnknownCommand) }
@@ -37,7 +37,7 @@ pub fn mg_line(mut words: WordIter<'_>) -> CommandLine<'_>
     })
 }
 
-/// `md <key> <flags>*`.
+/// Reads `md <key> <flags>*`.
 #[inline(never)]
 pub fn md_line(mut words: WordIter<'_>) -> CommandLine<'_>
     ensures { meaning_of result ≡ meaning_from None (if at_least 1 words.entry then md_line words.entry else Err Fault.UnknownCommand) }
@@ -65,7 +65,7 @@ pub fn md_line(mut words: WordIter<'_>) -> CommandLine<'_>
     })
 }
 
-/// `ma <key> <flags>*`.
+/// Reads `ma <key> <flags>*`.
 #[inline(never)]
 pub fn ma_line(mut words: WordIter<'_>) -> CommandLine<'_>
     ensures { meaning_of result ≡ meaning_from None (if at_least 1 words.entry then ma_line words.entry else Err Fault.UnknownCommand) }
@@ -92,7 +92,7 @@ pub fn ma_line(mut words: WordIter<'_>) -> CommandLine<'_>
     })
 }
 
-/// `ms <key> <bytes> <flags>*`.
+/// Reads `ms <key> <bytes> <flags>*`.
 #[inline(never)]
 pub fn ms_line(mut words: WordIter<'_>) -> CommandLine<'_>
     ensures { meaning_of result ≡ meaning_from (second_len words.entry)
@@ -117,7 +117,7 @@ pub fn ms_line(mut words: WordIter<'_>) -> CommandLine<'_>
     CommandLine::Stores(ms_storing(key, &flags, words), len)
 }
 
-/// An `ms` before its data block, by its key, its flags and their words.
+/// Returns an `ms` before its data block, by its key, its flags and their words.
 fn ms_storing<'a>(key: &'a [u8], flags: &MetaFlags, words: WordIter<'a>) -> Storing<'a>
     ensures { storing_of result ≡ ms_storing (key_bytes flags.now.coded key.now) flags.now words.entry }
 {
@@ -135,7 +135,7 @@ fn ms_storing<'a>(key: &'a [u8], flags: &MetaFlags, words: WordIter<'a>) -> Stor
     }
 }
 
-/// Whether a word says a key.
+/// Returns whether a word is a key, plain or in base64 as `coded` says.
 fn is_key(coded: bool, word: &[u8]) -> bool
     ensures { result ≡ is_some (key_said coded word.now) }
 {
@@ -146,7 +146,7 @@ fn is_key(coded: bool, word: &[u8]) -> bool
     }
 }
 
-/// How the answer to these flags is written.
+/// Returns how the answer to these flags is written.
 fn form_by<'a>(flags: &MetaFlags, words: WordIter<'a>) -> MetaForm<WordIter<'a>>
     ensures { result ≡ form_by flags.now words.entry }
 {

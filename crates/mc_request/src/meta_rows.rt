@@ -12,7 +12,7 @@ use crate::meta::MetaCommand;
 use crate::names::Name;
 use crate::parts::{Direction, Request, StoreMode, Taken, Update};
 
-/// Each flag with each command: it is taken, or is none of the command's flags. The modes of `ms` and `ma` are others.
+/// Each command takes its own flags, and no others. The modes of `ms` and `ma` differ.
 pub fn flags_of_each_command()
     ensures mg_takes { taken_alone Name.MetaGet every_flag ≡ words (codes "b c f k Oid q s t v T300 N300 R300") }
     ensures mg_refuses { invalid_alone Name.MetaGet every_flag ≡ words (codes "C300 F300 MS MI J300 D300 I") }
@@ -26,7 +26,7 @@ pub fn flags_of_each_command()
     ensures ma_refuses { invalid_alone Name.MetaArithmetic every_flag ≡ words (codes "f s F300 I R300") }
 {}
 
-/// A flag that wants a token and has none has a bad one; one that has none and has more bytes is no flag.
+/// A flag that needs a token and has none has a bad one. A flag that takes none and has more bytes is no flag.
 pub fn tokens_of_each_flag()
     ensures mg_bad { bad_alone Name.MetaGet without_tokens ≡ words (codes "T N R") }
     ensures mg_refuses { invalid_alone Name.MetaGet without_tokens ≡ words (codes "C F M J D") }
@@ -42,7 +42,7 @@ pub fn tokens_of_each_flag()
     ensures ma_longer { invalid_alone Name.MetaArithmetic longer_flags ≡ words longer_flags }
 {}
 
-/// No flag is twice, whatever it says the second time.
+/// No flag may be given twice, whatever it says the second time.
 pub fn flags_are_once()
     ensures mg { once_each Name.MetaGet every_flag ≡ true }
     ensures ms { once_each Name.MetaSet every_flag ≡ true }
@@ -65,7 +65,8 @@ pub fn modes()
     ensures unknown { map mode_of (words (codes "I X SS")) ≡ None ∷ None ∷ None ∷ [] }
 {}
 
-/// The first fault counts: the number of words, the length of `ms`, the flags from left to right, the key, the value's limit.
+/// The first fault is reported. The order is: the number of words, the length of `ms`, the flags from left to right, the key,
+/// the value's limit.
 pub fn faults_in_order()
     ensures few { meaning (words (codes "mg")) ≡ refused Fault.UnknownCommand }
     ensures few_set { meaning (words (codes "ms a")) ≡ refused Fault.UnknownCommand }
@@ -81,7 +82,7 @@ pub fn faults_in_order()
     ensures noop { meaning (words (codes "mn x")) ≡ refused Fault.UnknownCommand }
 {}
 
-/// What meta commands without a block ask for.
+/// Meta commands without a block ask for these requests.
 pub fn meta_commands()
     ensures bare { meaning (words (codes "mg a")) ≡ meta (MetaCommand.Get (codes "a") (record { show = nothing_shown; exptime = None; create = None; recache = None })) false false [] }
     ensures value { meaning (words (codes "mg a v q")) ≡ meta (MetaCommand.Get (codes "a") (record { show = (record nothing_shown { value = true }); exptime = None; create = None; recache = None })) false true (codes "v q") }
@@ -94,13 +95,13 @@ pub fn meta_commands()
     ensures noop { meaning (words (codes "mn")) ≡ Alone (Taken.Whole Request.MetaNoop) }
 {}
 
-/// What an `ms` asks for: it sets, with client flags of 0 and an exptime of 0, where nothing else is said.
+/// An `ms` asks for this: it sets, with client flags of 0 and an exptime of 0, if nothing else is given.
 pub fn meta_sets()
     ensures bare { meaning (words (codes "ms a 2")) ≡ Stores (setting StoreMode.Set None 0 (pos 0) nothing_shown []) 2 }
     ensures all { meaning (words (codes "ms a 2 MA C5 F7 T-1 s")) ≡ Stores (setting StoreMode.Append (Some 5) 7 (negsuc 0) (record nothing_shown { size = true }) (codes "MA C5 F7 T-1 s")) 2 }
 {}
 
-/// A key in base64 may be of any bytes. One that is no base64, or has a bit set after its last byte, refuses the line.
+/// A key in base64 may be of any bytes. A word that is no base64, or has a bit set after its last byte, refuses the line.
 pub fn coded_keys()
     ensures space { meaning (words (codes "mg YSBi b")) ≡ meta (MetaCommand.Get (codes "a b") (record { show = nothing_shown; exptime = None; create = None; recache = None })) true false (codes "b") }
     ensures bits { meaning (words (codes "mg YWJ= b")) ≡ refused Fault.BadFormat }

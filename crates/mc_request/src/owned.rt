@@ -1,4 +1,4 @@
-//! What is lent, made the caller's own.
+//! Borrowed requests, copied to be the caller's own.
 ghost use Rattle.std.specs.Prelude.{◌≡◌, ◌∷◌, ◌<◌, true, length, IfOk};
 ghost use Rattle.std.specs.List.{list_all};
 ghost use Rattle.mc_text.specs.Keys.{is_plain_key};
@@ -18,7 +18,7 @@ use std::alloc::Global;
 impl Asked<'_> {
     ghost use Rattle.mc_request.specs.Hides.{hides_taken};
 
-    /// Whether nothing is read after it.
+    /// Returns whether nothing is read after it.
     pub fn ends(&self) -> bool
         ensures { result ≡ ends (asked_of self.now) }
     {
@@ -29,7 +29,7 @@ impl Asked<'_> {
         }
     }
 
-    /// What it hides of its answer. A fault hides nothing.
+    /// Returns what it hides of its answer. A fault hides nothing.
     pub fn hides(&self) -> Hides
         ensures { result ≡ hides_taken (asked_of self.now) }
     {
@@ -40,7 +40,7 @@ impl Asked<'_> {
         }
     }
 
-    /// The request or fault by itself: its keys and its block are copied.
+    /// Returns an owned request or fault: its keys and its block are copied.
     pub fn taken(self, alloc: Global) -> Result<Taken, ReadError>
         requires { is_well_formed (asked_of self) ≡ true }
         ensures { IfOk result (λ taken. taken ≡ asked_of self.entry) }
@@ -72,7 +72,7 @@ impl Asked<'_> {
 }
 
 impl Update<&[u8], &[u8]> {
-    /// The update by itself: its key and its block are copied.
+    /// Returns an owned update: its key and its block are copied.
     pub fn owned(&self, alloc: Global) -> Result<Update<Key, Block>, ReadError>
         requires { has_key (update_seen self.now) ≡ true }
         ensures { IfOk result (λ update. update ≡ update_seen self.now) }
@@ -116,7 +116,7 @@ impl Update<&[u8], &[u8]> {
 }
 
 impl MetaCommand<&[u8], &[u8]> {
-    /// The meta command by itself: the bytes of the key that its word says and its block are copied.
+    /// Returns an owned meta command: the bytes of its word's key and its block are copied.
     pub fn owned(&self, alloc: Global, coded: bool) -> Result<MetaCommand<Key, Block>, ReadError>
         requires { has_meta_key (meta_said coded self.now) ≡ true }
         ensures { IfOk result (λ command. command ≡ meta_said coded self.now) }
@@ -136,7 +136,7 @@ impl MetaCommand<&[u8], &[u8]> {
 }
 
 impl MetaForm<WordIter<'_>> {
-    /// The same by itself: its flag words are copied.
+    /// Returns an owned form: its flag words are copied.
     pub fn owned(&self, alloc: Global) -> Result<MetaForm<FlagWords>, ReadError>
         ensures { IfOk result (λ form. form ≡ self.now) }
     {
@@ -148,7 +148,7 @@ impl MetaForm<WordIter<'_>> {
     }
 }
 
-/// The keys of words that are known to be plain ones: they are copied. There is room for all before the second is.
+/// Copies the keys of words that are known to be plain ones. It makes room for all before it copies the second.
 pub fn keys_of(alloc: Global, mut words: WordIter<'_>) -> Result<Keys, ReadError>
     requires some { 0 < length words }
     requires plain { list_all is_plain_key words ≡ true }

@@ -1,4 +1,4 @@
--- A line and what has come after it, kept apart.
+-- A line and what has arrived after it, kept apart.
 use Rattle.std.proofs.Common.{◌≡◌, ◌∙◌, ℕ, suc, zero, ◌+◌, ◌-◌, ◌<◌, ◌≤◌, true, false, IsTrue, nat_le, inl, inr, List, [], ◌∷◌, ◌++◌, length, take, drop, Option, Some, None, is_some, refl, sym, ap, arith, eqb, nat_lt, length-append}
 use Rattle.std.specs.Prelude.{IfSome}
 use Rattle.mc_request_reader.specs.declared.peeks.LentGet.{LentGet}
@@ -60,7 +60,7 @@ drop_whole : (line after : List ℕ) → drop (length line) line ++ after ≡ af
 drop_whole [] after = refl
 drop_whole (b ∷ bs) after = drop_whole bs after
 
--- what a line asks for, with what comes after it
+-- what a line asks for, with what arrives after it
 pub next_by_line : (line after : List ℕ) (m : Meaning) → StartsBy line m (length line) → next_request (line ++ after) ≡ taken_by m (length line) after
 next_by_line line after m h = h.next after ∙ ap (λ (rest : List ℕ). taken_by m (length line) rest) (drop_whole line after)
 
@@ -76,7 +76,7 @@ none_by : {A B : Type 0} (f : A → B) (o : Option A) (y : B) → option_map f o
 none_by f None y e none = cc
 none_by f (Some x) y e none = cc
 
--- what has come is whole as soon as so many bytes have come after the line
+-- what has arrived is whole as soon as `wanted` bytes have arrived after the line
 whole_beside : (line after : List ℕ) (wanted : ℕ) → Announces line wanted → wanted ≤ length after → is_some (next_request (line ++ after)) ≡ true
 whole_beside line after wanted h enough = some_by front_at (next_request (line ++ after)) _ (h.whole after enough)
 
@@ -89,7 +89,7 @@ few_beside line after wanted h none = elim (cases_lt (length after) wanted) [
   | inr enough ↦ absurd (whole_is_first (joined line after) refl refl (whole_beside line after wanted h enough) none)
 ]
 
--- what is kept apart is little
+-- what is kept apart is within the bound of what is kept
 pub little_beside : (line after : List ℕ) (wanted : ℕ) → Announces line wanted → KeepsLittle (joined line after)
 little_beside line after wanted h = record {
   most = omega (arith, length-append line after);
@@ -103,7 +103,7 @@ pub ready_beside : (line after : List ℕ) (wanted n : ℕ) → Announces line w
     → (IsTrue (nat_le wanted n) → 0 < length (rest_of (joined line after) [])) × (0 < length (rest_of (joined line after) []) → IsTrue (nat_le wanted n))
 ready_beside line after wanted n h n_is = ready_by (joined line after) (nat_le wanted n) refl refl (rw n_is (come_beside line after wanted h))
 
--- where the first ends that was shown
+-- the end of the first that was shown
 front_beside : (line after : List ℕ) (wanted : ℕ) (front : Front) → Announces line wanted → front_of (joined line after) ≡ Some front
     → (wanted ≤ length after) × (front ≡ record { size = length line + wanted; closes = false })
 front_beside line after wanted front h shown = elim (cases_lt (length after) wanted) [
@@ -111,7 +111,7 @@ front_beside line after wanted front h shown = elim (cases_lt (length after) wan
   | inr enough ↦ let same : Some front ≡ Some (record { size = length line + wanted; closes = false }) = sym shown ∙ h.whole after enough in (enough, cc)
 ]
 
--- what comes after it
+-- what follows it
 pub rest_beside : (line after : List ℕ) (wanted : ℕ) (front : Front) (new : ReaderState) → Announces line wanted → front_of (joined line after) ≡ Some front
     → ((text : List ℕ) → rest_of new text ≡ requests_of (drop wanted after ++ text)) → new.closed ≡ false → KeepsRest (past front (joined line after)) new
 rest_beside line after wanted front new h shown rest unclosed =
@@ -128,7 +128,7 @@ first_is (t ∷ ts) some = omega arith
 pub alone_beside : (line after : List ℕ) (wanted : ℕ) → Announces line wanted → wanted ≤ length after → 0 < length (rest_of (joined line after) [])
 alone_beside line after wanted h enough = first_is (rest_of (joined line after) []) (whole_is_first (joined line after) refl refl (whole_beside line after wanted h enough))
 
--- all that has come is taken
+-- all that has arrived is consumed
 pub first_beside : (line after : List ℕ) (x : Taken) → next_request (line ++ after) ≡ Some (x, length (line ++ after)) → ends x ≡ false → IsFirst (joined line after) x fresh_reader
 first_beside line after x e goes_on =
     let shows = shows_whole (joined line after) x (record { size = length (line ++ after); closes = false }) refl refl (sym goes_on) e in
@@ -145,7 +145,7 @@ set_known line after s len (Some set) starts long is =
     rw (len_is, size_is, ← is) (next_by_line line after (Stores s len) starts ∙ stores_whole_after s (length line) len after (omega arith))
 set_known line after s len None starts long is = tt
 
--- nothing is first in a reader to which nothing has come
+-- nothing is first in a reader to which nothing has arrived
 fresh_rest : rest_of fresh_reader [] ≡ []
 unfolding requests_of requests_within
 fresh_rest = refl

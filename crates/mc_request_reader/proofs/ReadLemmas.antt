@@ -1,4 +1,4 @@
--- Reads by which more of a text came.
+-- Reads by which more of a text arrived.
 use Rattle.std.proofs.Common.{◌≡◌, ◌∙◌, ℕ, zero, suc, ◌+◌, ◌-◌, ◌<◌, ◌≤◌, true, false, List, [], ◌∷◌, ◌++◌, length, take, drop, Option, Result, Ok, Err, refl, sym, ap, arith, append_assoc, length-drop}
 use Rattle.std.specs.Prelude.{IfOk, OnErr}
 use Rattle.std.specs.Io.{ReadsAtMost}
@@ -9,7 +9,7 @@ use Rattle.mc_request.specs.Requests.{requests_of}
 use Rattle.mc_request_reader.specs.ApartFields.{joined}
 use Rattle.mc_request_reader.specs.Reads.{Comes, ReadsBy}
 
--- what was done with the bytes that came, said in another way
+-- what was done with the bytes that arrived, stated in another way
 pub reads_as : {E : Type 0} (read : Result ℕ E) (unread unread' : Option (List ℕ)) (Takes Does : List ℕ → Type 0) (unmoved still : Type 0)
     → ((came : List ℕ) → Takes came → Does came) → (unmoved → still) → ReadsBy read unread unread' Takes unmoved → ReadsBy read unread unread' Does still
 reads_as (Ok count) unread unread' Takes Does unmoved still does keeps h = record {
@@ -29,7 +29,7 @@ reads_as (Err error) unread unread' Takes Does unmoved still does keeps h = reco
   stays = keeps h.stays;
 }
 
--- more has come to what is kept apart
+-- more has arrived at what is kept apart
 pub comes_beside : (line old new came : List ℕ) → new ≡ old ++ came → Comes (joined line old) (joined line new) came
 comes_beside line old new came e = rw e (record {
   rest = λ text. ap requests_of (append_assoc line (old ++ came) text ∙ ap (λ (bytes : List ℕ). line ++ bytes) (append_assoc old came text) ∙ sym (append_assoc line old (came ++ text)));
@@ -44,7 +44,7 @@ take_of_take (suc n) zero xs few = absurd (omega (arith, few))
 take_of_take (suc n) (suc m) [] few = refl
 take_of_take (suc n) (suc m) (x ∷ xs) few = ap (λ (ys : List ℕ). x ∷ ys) (take_of_take n m xs (omega (arith, few)))
 
--- a read behind what had come, into room that was made there
+-- a read behind what had arrived, into room that was made there
 pub reads_behind : {E : Type 0} (read : Result ℕ E) (unread unread' : Option (List ℕ)) (come room count : ℕ) (old wide new : List ℕ)
     → 0 < room → come + room ≤ length wide → length new ≡ length wide → take come new ≡ take come wide → take come wide ≡ take come old
     → ReadsAtMost read (take room (drop come new)) → ReadConsumes unread unread' read (take room (drop come new))

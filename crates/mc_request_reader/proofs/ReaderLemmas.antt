@@ -50,12 +50,12 @@ front_size_by : (dropping : Option (Fault × ℕ)) (unread : List ℕ) (o : Opti
 front_size_by dropping unread None front e is = absurd cc
 front_size_by dropping unread (Some x) front e is = grind (arith, first_size)
 
--- what a look showed has come
+-- what a look showed has arrived
 pub front_size : (s : ReaderState) (front : Front) → front_of s ≡ Some front → front.size ≤ length s.unread
 front_size s front is =
     front_size_by s.dropping s.unread (first_by s.dropping s.unread) front refl (passed s.closed (option_map front_at (first_by s.dropping s.unread)) front is)
 
--- what was looked at stays so when more comes
+-- what was searched stays so when more arrives
 scanned_more : (scanned : ℕ) (u more : List ℕ) → HasNoLineFeed scanned u → HasNoLineFeed scanned (u ++ more)
 scanned_more scanned u more h = grind (arith, length-append, get_or_append_left)
 
@@ -86,11 +86,11 @@ pub whole_is_first : (s : ReaderState) → s.closed ≡ false → s.dropping ≡
 whole_is_first s unclosed none some e =
     from_whole (next_request s.unread) s.unread some (sym (requests-step s.unread) ∙ rw (unclosed, none, append-nil) at e)
 
--- what is kept where nothing is closed or dropped
+-- what is kept if nothing is closed or dropped
 most_open : (s : ReaderState) → s.closed ≡ false → s.dropping ≡ None → s.held ≤ 2 * length s.unread → s.held ≤ most_held s
 most_open s unclosed none half = rw (unclosed, none) half
 
--- where something is whole, they are bounded by those that are not taken
+-- if something is whole, they are bounded by those that are not consumed
 pub little_whole : (s : ReaderState) → s.closed ≡ false → s.dropping ≡ None → s.held ≤ 2 * length s.unread → is_some (next_request s.unread) ≡ true → KeepsLittle s
 little_whole s unclosed none half some = grind (arith, whole_is_first, most_open)
 
@@ -129,7 +129,7 @@ dropped f left k [] piece text empty k_is =
     grind (arith, nat_lt, length-append, length-drop, drop-drop, same_test)
 dropped f left k (b ∷ bs) piece text empty k_is = grind (arith, append_assoc, only_zero)
 
--- a piece comes while a block is dropped
+-- a piece arrives while a block is dropped
 pub piece_dropped : (u new piece kept : List ℕ) (f : Fault) (left k : ℕ) (text : List ℕ) → (0 < left → length u ≡ 0) → k ≡ min left (length piece) → new ≡ u ++ kept → kept ≡ drop k piece
     → rest_from false (Some (f, left - k)) (new ++ text) ≡ rest_from false (Some (f, left)) (u ++ (piece ++ text))
 piece_dropped u new piece kept f left k text empty k_is new_is kept_is = rw (new_is, kept_is) (dropped f left k u piece text empty k_is)
@@ -138,7 +138,7 @@ ready_from : (o : Option (Taken × ℕ)) (text : List ℕ) (rest : List Taken) (
 ready_from None text rest b e is = (λ t. absurd cc, λ lt. let none : length rest ≡ 0 = rw e refl in absurd (omega (arith, none, lt)))
 ready_from (Some x) text rest b e is = grind arith
 
--- whether something is whole where no block is dropped
+-- whether something is whole, if no block is dropped
 pub ready_by : (s : ReaderState) (b : Bool) → s.closed ≡ false → s.dropping ≡ None → b ≡ is_some (next_request s.unread) → (IsTrue b → 0 < length (rest_of s [])) × (0 < length (rest_of s []) → IsTrue b)
 ready_by s b unclosed none is =
     ready_from (next_request s.unread) s.unread (rest_of s []) b (rw (unclosed, none, append-nil) (requests-step s.unread)) is
@@ -150,6 +150,6 @@ shown_is_first old what front new shows keeps = record { rest = λ text. shows.f
 pub shown_closes : (old : ReaderState) (what : Taken) (front : Front) (new : ReaderState) → Shows old what front → KeepsRest (past front old) new → new.closed ≡ ends what
 shown_closes old what front new shows keeps = keeps.closed ∙ shows.closes
 
--- what a look showed waits
+-- what a look showed is still first
 pub shown_waits : (s : ReaderState) (what : Taken) (front : Front) → Shows s what front → rest_of s [] ≡ what ∷ rest_of (past front s) []
 shown_waits s what front shows = shows.first.rest []

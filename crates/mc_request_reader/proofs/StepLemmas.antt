@@ -16,7 +16,7 @@ use Rattle.mc_request.specs.declared.faults.Fault.TheVariants.{LineTooLong}
 use Rattle.mc_request.specs.declared.parts.Taken.{Taken}
 use Rattle.mc_request.specs.declared.parts.Taken.TheVariants.{Faulty}
 
--- a line that has not come whole
+-- a line that has not arrived whole
 pub partial_none : (u : List ℕ) → first_line u ≡ lines.Partial → next_request u ≡ None
 partial_none u e = next_from u lines.Partial e
 
@@ -33,18 +33,18 @@ starts_by u content line m e means =
       next = λ more. next_from (u ++ more) (lines.Whole content line) (first_line_whole-more u more content line e) ∙ rw (means, drop-append-le line u more here.1) refl;
     }
 
--- where it ends
+-- the end of that line
 pub line_ends : (u content : List ℕ) (line : ℕ) → first_line u ≡ lines.Whole content line → line_end u ≡ Some (line - 1)
 line_ends u content line e = grind (arith, first_line_whole)
 
--- what is there now
+-- what holds of the bytes now
 pub starts_now : (u : List ℕ) (m : Meaning) (line : ℕ) → StartsBy u m line → next_request u ≡ taken_by m line (drop line u)
 starts_now u m line h = ap next_request (sym (append-nil u)) ∙ h.next [] ∙ rw append-nil refl
 
 pub same_test : (a b c d : ℕ) → (a < b → c < d) → (c < d → a < b) → nat_lt a b ≡ nat_lt c d
 same_test a b c d f g = grind (arith, nat_lt, cases_lt)
 
--- how much of a block has come, by all bytes and by those after the line
+-- how much of a block has arrived, by all bytes and by those after the line
 block_test : (u more : List ℕ) (line len : ℕ) → (0 < line) × (line ≤ length u) → nat_lt (length (drop line u ++ more)) (len + 2) ≡ nat_lt (length (u ++ more)) (line + (len + 2))
 block_test u more line len size = grind (arith, length-append, length-drop, same_test)
 
@@ -53,7 +53,7 @@ pub refused : (u : List ℕ) (line : ℕ) (f : Fault) (len : ℕ) → StartsBy u
     → (more : List ℕ) → next_request (u ++ more) ≡ (if nat_lt (length (u ++ more)) (line + (len + 2)) then None else Some (Faulty f, line + (len + 2)))
 refused u line f len h more = h.next more ∙ rw (block_test u more line len h.size) refl
 
--- a block that has not come whole, and goes on
+-- a block that has not arrived whole, and goes on
 pub stores_short : (u : List ℕ) (line : ℕ) (s : Storing) (len : ℕ) → StartsBy u (Stores s len) line → IsShortOf (line + (len + 2)) u
 stores_short u line s len h more short = grind (arith, nat_lt, block_test)
 
@@ -64,7 +64,7 @@ stores_whole u line s len h enough =
     let test : nat_lt (length (drop line u)) (len + 2) ≡ false = grind (arith, length-drop line u, enough) in
     starts_now u (Stores s len) line h ∙ rw test refl
 
--- a block that has not come whole
+-- a block that has not arrived whole
 pub stores_waits : (u : List ℕ) (line : ℕ) (s : Storing) (len : ℕ) → StartsBy u (Stores s len) line → length u < line + (len + 2) → next_request u ≡ None
 stores_waits u line s len h short =
     ap next_request (sym (append-nil u)) ∙ stores_short u line s len h [] (rw append-nil short)
@@ -72,7 +72,7 @@ stores_waits u line s len h short =
 pub come_by : (o : Option (Taken × ℕ)) (n size : ℕ) → (n < size → o ≡ None) → (size ≤ n → is_some o ≡ true) → nat_le size n ≡ is_some o
 come_by o n size short whole = grind (arith, nat_le, cases_lt)
 
--- whether a block has come whole, refused or not
+-- whether a block has arrived whole, refused or not
 pub stores_come : (u : List ℕ) (line : ℕ) (s : Storing) (len : ℕ) → StartsBy u (Stores s len) line → nat_le (line + (len + 2)) (length u) ≡ is_some (next_request u)
 stores_come u line s len h =
     come_by (next_request u) (length u) (line + (len + 2)) (stores_waits u line s len h) (λ enough. rw (stores_whole u line s len h enough) refl)
@@ -108,16 +108,16 @@ whole_more u more some = whole_by (next_request u) u more refl some
 pub whole_from : (u : List ℕ) (wanted : ℕ) → is_some (next_request u) ≡ true → IsWholeFrom wanted u
 whole_from u wanted some more enough = whole_more u more some
 
--- a block that has not come whole is whole with its last byte
+-- a block that has not arrived whole is whole with its last byte
 pub stores_from : (u : List ℕ) (line : ℕ) (s : Storing) (len : ℕ) → StartsBy u (Stores s len) line → IsWholeFrom (line + (len + 2)) u
 stores_from u line s len h more enough = grind (arith, nat_lt, block_test)
 
--- where nothing is whole, nothing is before another byte has come
+-- if nothing is whole, nothing is before another byte has arrived
 pub one_wanted : (u : List ℕ) → next_request u ≡ None → IsShortOf (length u + 1) u
 one_wanted u none [] short = rw append-nil none
 one_wanted u none (b ∷ bs) short = absurd (omega (arith, short, length-append u (b ∷ bs)))
 
--- whether what is first has come, by the block that its line announces
+-- whether what is first has arrived, by the block that its line announces
 pub has_come : (u : List ℕ) (line : ℕ) (m : Meaning) → StartsBy u m line → block_in m ≡ None → is_some (next_request u) ≡ true
 has_come u line (Alone taken) h none = rw (starts_now u (Alone taken) line h) refl
 has_come u line (Stores s len) h none = absurd cc
@@ -128,7 +128,7 @@ block_has_come u line (Alone taken) len h block = absurd cc
 block_has_come u line (Stores s n) len h block = let same : n ≡ len = cc in rw (← same) (stores_come u line s n h)
 block_has_come u line (Refuses f n) len h block = let same : n ≡ len = cc in rw (← same) (refuses_come u line f n h)
 
--- what is not whole has not come
+-- what is not whole has not arrived
 pub not_come : (o : Option (Taken × ℕ)) → is_some o ≡ false → o ≡ None
 not_come None h = refl
 not_come (Some x) h = absurd cc
@@ -136,6 +136,6 @@ not_come (Some x) h = absurd cc
 short_of : (o : Option (Taken × ℕ)) (n size : ℕ) → o ≡ None → nat_le size n ≡ is_some o → n < size
 short_of o n size none is = let short : nat_le size n ≡ false = is ∙ rw none refl in grind (arith, short)
 
--- a block that has not come whole is after what has come
+-- a block that has not arrived whole is after what has arrived
 pub block_is_after : (u : List ℕ) (line : ℕ) (m : Meaning) (len : ℕ) → StartsBy u m line → block_in m ≡ Some len → next_request u ≡ None → length u < line + (len + 2)
 block_is_after u line m len h block none = short_of (next_request u) (length u) (line + (len + 2)) none (block_has_come u line m len h block)

@@ -19,24 +19,24 @@ pub record IsLine (line : List ℕ) : Type 0 where
 abbrev pub front_at : Taken × ℕ → Front
 front_at x = record { size = x.1; closes = ends x.0 }
 
--- a line that announces a data block: with the line end after the block, so many bytes are wanted after the line
+-- a line that announces a data block: with the line end after the block, this many bytes are wanted after the line
 pub record Announces (line : List ℕ) (wanted : ℕ) : Type 0 where
   pub begins : IsLine line
   pub limit : length line + wanted ≤ REQUEST_LIMIT
-  -- nothing is whole before they have come
+  -- nothing is whole before they have arrived
   pub short : (more : List ℕ) → length more < wanted → next_request (line ++ more) ≡ None
   -- with them the first is whole, ends with them, and closes nothing
   pub whole : (more : List ℕ) → wanted ≤ length more
       → option_map front_at (next_request (line ++ more)) ≡ Some (record { size = length line + wanted; closes = false })
 
--- bytes of which none was taken, kept in two parts
+-- bytes of which none was consumed, kept in two parts
 abbrev pub joined : List ℕ → List ℕ → ReaderState
 joined line after = record { unread = line ++ after; dropping = None; closed = false; held = length line + length after }
 
--- the bytes of a piece, to a reader to which nothing had come
+-- the bytes of a piece, to a reader to which nothing had arrived
 abbrev pub begun_by : List ℕ → ReaderState
 begun_by piece = record { unread = piece; dropping = None; closed = false; held = length piece }
 
--- a `set` with this data block in the place of its own
+-- a `set` with this data block in place of its own
 abbrev pub set_with : TakenSet → List ℕ → Taken
 set_with set block = set_of (record set { block = block })

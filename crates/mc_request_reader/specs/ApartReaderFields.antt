@@ -1,9 +1,9 @@
--- How a reader keeps what has come: in one buffer, or the first request apart.
+-- How a reader keeps what has arrived: in one buffer, or the first request apart.
 use Rattle.std.specs.Prelude.{◌≡◌, false, Option, Some, None}
 use Rattle.mc_request_reader.specs.declared.apart_reader.ApartReader.TheInside.{Inside}
 use Rattle.mc_request_reader.specs.Reader.{ReaderState, fresh_reader, KeepsLittle}
 
--- what is kept apart is all that there is
+-- what is kept apart is all that the reader has
 abbrev pub state_by : Option ReaderState → ReaderState → ReaderState
 state_by None others = others
 state_by (Some apart) others = apart

@@ -1,4 +1,4 @@
--- What a call of a reader gives.
+-- What a call of a reader returns.
 use Rattle.std.specs.Prelude.{ℕ, ◌≡◌, nat_lt, true, false, List, [], ◌∷◌, drop, Option, Some, None, if◌then◌else◌}
 use Rattle.std.specs.Option.{option_map}
 use Rattle.mc_request.specs.declared.faults.Fault.{Fault}
@@ -27,18 +27,18 @@ use Rattle.mc_request_reader.specs.Reader.{ReaderState, rest_of}
 abbrev pub past : Front → ReaderState → ReaderState
 past front s = record s { unread = drop front.size s.unread; dropping = None; closed = front.closes }
 
--- the first that a reader has for whatever text, and the reader that has the others
+-- the first that a reader has, whatever text follows, and the reader that has the others
 pub record IsFirst (old : ReaderState) (taken : Taken) (new : ReaderState) : Type 0 where
   pub rest : (text : List ℕ) → rest_of old text ≡ taken ∷ rest_of new text
 
--- there is none yet, and nothing is lost
+-- it has none yet, and nothing is lost
 pub record HasNone (old new : ReaderState) : Type 0 where
   pub was_open : old.closed ≡ false
   pub is_open : new.closed ≡ false
   pub none : rest_of old [] ≡ []
   pub rest : (text : List ℕ) → rest_of new text ≡ rest_of old text
 
--- what is first where nothing is closed, and how many bytes it takes: it is whole, or its block was dropped
+-- what is first if nothing is closed, and how many bytes it takes: it is whole, or its block was dropped
 abbrev pub first_by : Option (Fault × ℕ) → List ℕ → Option (Taken × ℕ)
 first_by None unread = next_request unread
 first_by (Some d) unread = if nat_lt 0 d.1 then None else Some (Faulty d.0, 0)
@@ -60,13 +60,13 @@ Peeks s (peeks.First asked front) = Shows s (asked_of asked) front
 Peeks s peeks.More = HasNone s s
 Peeks s peeks.Closed = s.closed ≡ true
 
--- what a look lends is well formed
+-- what a look borrows is well formed
 abbrev pub IsWellFormedPeek : Peek → Type 0
 IsWellFormedPeek (peeks.First asked front) = is_well_formed (asked_of asked) ≡ true
 IsWellFormedPeek peeks.More = Unit {0}
 IsWellFormedPeek peeks.Closed = Unit {0}
 
--- the first is given, and the others are kept; after `quit` or a line too long the reader is closed
+-- the first is returned, and the others are kept; after `quit` or a line too long the reader is closed
 abbrev pub Gives : ReaderState → Next → ReaderState → Type 0
 Gives old (nexts.Request request) new = IsFirst old (Whole request) new × (new.closed ≡ ends (Whole request))
 Gives old (nexts.Fault fault) new = IsFirst old (Faulty fault) new × (new.closed ≡ closes fault)

@@ -1,4 +1,4 @@
--- How the bytes that are not taken are kept.
+-- How the bytes that are not consumed are kept.
 use Rattle.std.specs.Prelude.{ℕ, ◌≡◌, ◌*◌, ◌<◌, ◌≤◌, List, length, drop, true, false, Option, Some, None}
 use Rattle.mc_request.specs.declared.faults.Fault.{Fault}
 use Rattle.mc_request_reader.specs.declared.peeks.TheConstants.{REQUEST_LIMIT}
@@ -16,15 +16,15 @@ IsEmptyWhile None unread = Unit {0}
 IsEmptyWhile (Some d) unread = (closes d.0 ≡ false) × (0 < d.1 → length unread ≡ 0)
 
 pub record IsUnread (r : Inside) : Type 0 where
-  -- at most half of what is kept was taken
+  -- at most half of what is kept was consumed
   pub half : 2 * r.start ≤ length r.buffer.items
   -- what is known of the end of the first line
   pub searched : IsSearched r.searched (drop r.start r.buffer.items)
-  -- nothing is whole before so many bytes
+  -- nothing is whole before `wanted` bytes
   pub short : IsShortOf r.wanted (drop r.start r.buffer.items)
   pub limit : r.wanted ≤ REQUEST_LIMIT
-  -- with so many it is whole, where that is known
+  -- with `wanted` bytes it is whole, if that is known
   pub whole : r.sure ≡ true → IsWholeFrom r.wanted (drop r.start r.buffer.items)
   pub empty : IsEmptyWhile r.dropping (drop r.start r.buffer.items)
-  -- nothing is kept where nothing is read any more
+  -- nothing is kept once nothing is read any more
   pub done : r.closed ≡ true → length r.buffer.items ≡ 0

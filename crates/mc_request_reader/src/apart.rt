@@ -14,23 +14,23 @@ use std::io;
 use std::io::Read;
 use std::marker::Model;
 
-/// The fewest bytes of a piece whose front may be kept apart. A client that sends less at a time gets one buffer, so that nothing is
-/// reserved beside that for a few bytes.
+/// The fewest bytes of a piece whose front may be kept apart. A client that sends less at a time gets one buffer, so that a few
+/// bytes cause no second reservation.
 pub const LEAST_PIECE: usize = 1_024;
 
 /// The fewest bytes of a data block that is kept apart: to copy fewer costs less than to reserve memory for them.
 pub const LEAST_BLOCK: usize = 4_096;
 
-/// A whole line that announces a data block, and what has come after it. Contracts see the bytes of both, one after the other.
+/// A whole line that announces a data block, and what has arrived after it. Contracts see the bytes of both, in sequence.
 ///
-/// All bytes that come after the line lie in one list, those after the block too.
+/// All bytes that arrive after the line are in one list, those after the block too.
 #[derive(Drop)]
 pub struct Apart {
     /// The line with its end.
     line: Vec<u8>,
-    /// What has come after it.
+    /// What has arrived after it.
     block: Incoming,
-    /// How many bytes the block and the line end after it have.
+    /// The size in bytes of the block and the line end after it.
     wanted: usize,
 }
 
@@ -50,8 +50,8 @@ impl Apart {
     ghost use Rattle.mc_request_reader.specs.ApartFields.{begun_by};
     ghost use Rattle.mc_request_reader.specs.Peeks.{Peeks, HasNone, IsFirst, IsWellFormedPeek, front_of, past, set_of};
 
-    /// A piece, kept apart, if it begins with a whole `set` line whose data block is large, and has no more than that block. None too if
-    /// there is no memory to keep it so: it is kept like any other then.
+    /// Keeps a piece apart, if it begins with a whole `set` line whose data block is large, and has no more than that block. It returns
+    /// none too if there is no memory for that: the piece is then kept like any other.
     pub fn begin(alloc: Global, piece: &[u8]) -> Option<Apart>
         ensures begun { IfSome result (λ apart. apart ≡ begun_by piece.now) }
         ensures little { IfSome result (λ apart. KeepsLittle apart) }
@@ -71,9 +71,9 @@ impl Apart {
         })
     }
 
-    /// Puts a piece after what has come.
+    /// Appends a piece to what has arrived.
     ///
-    /// At `Memory` no byte is taken.
+    /// At `Memory` no byte is consumed.
     #[inline(never)]
     pub fn append(&mut self, piece: &[u8]) -> Result<(), ReadError>
         ensures fed { OnOk result ((text : List ℕ) → rest_of self.new text ≡ rest_of self.old (piece.now ++ text)) }
@@ -88,8 +88,8 @@ impl Apart {
         Ok(())
     }
 
-    /// Reads once, straight into the data block, if many of its bytes are to come. None if few are, or if there is no memory for them: then
-    /// nothing was read.
+    /// Reads once, straight into the data block, if many of its bytes are still missing. It returns none if few are, or if there is no
+    /// memory for them: then nothing was read.
     #[inline(never)]
     pub fn read_from<R: Read>(&mut self, reader: &mut R) -> Option<io::Result<usize>>
         ensures read { IfSome result (λ read. ReadsBy read (R.remaining reader.old) (R.remaining reader.new) (Comes self.old self.new)
@@ -102,7 +102,7 @@ impl Apart {
         self.block.read_from(reader, self.wanted)
     }
 
-    /// The first request or fault, if it has come whole. It is lent, and its line is read once more.
+    /// Returns the first request or fault, borrowed, if it has arrived whole. Its line is read once more.
     pub fn peek(&self) -> Peek<'_>
         ensures seen { Peeks self.now result }
         ensures well_formed { IsWellFormedPeek result }
@@ -119,8 +119,8 @@ impl Apart {
         }
     }
 
-    /// The `set`, if it has come whole, nothing after it has, and there is memory for its key: its block is handed out, and not copied.
-    /// What is left of it here is of no use.
+    /// Returns the `set`, if it has arrived whole, nothing after it has, and there is memory for its key. Its block is moved out, and
+    /// not copied. What is left of it here is of no use.
     pub fn take_set(&mut self, alloc: Global) -> Option<TakenSet>
         ensures first { IfSome result (λ set. IsFirst self.old (set_of set) fresh_reader) }
         ensures none { IfNone result (self.new ≡ self.old) }
@@ -136,7 +136,7 @@ impl Apart {
         Some(set)
     }
 
-    /// Takes what a look showed, and gives what has come after it to a reader to which nothing has come. It takes no memory.
+    /// Consumes what a look showed, and moves what has arrived after it to a reader to which nothing has arrived. It takes no memory.
     pub fn go_on(&mut self, front: Front, alloc: Global, others: &mut Reader)
         requires shown { front_of self.old ≡ Some front }
         requires idle { others.old ≡ fresh_reader }
@@ -148,21 +148,21 @@ impl Apart {
         }
     }
 
-    /// Whether it is known that nothing is whole until more bytes come. No byte is looked at.
+    /// Returns whether it is known that nothing is whole until more bytes arrive. It reads no byte.
     pub fn is_short(&self) -> bool
         ensures { result ≡ true → HasNone self.now self.now }
     {
         self.block.len() < self.wanted
     }
 
-    /// Whether a whole request or fault has come. No byte is looked at.
+    /// Returns whether a whole request or fault has arrived. It reads no byte.
     pub fn ready(&self) -> bool
         ensures { IsTrue result ↔ (0 < length (rest_of self.now [])) }
     {
         self.block.len() >= self.wanted
     }
 
-    /// Whether a whole request or fault has come, and nothing after it. No byte is looked at.
+    /// Returns whether a whole request or fault has arrived, and nothing after it. It reads no byte.
     pub fn is_alone(&self) -> bool
         ensures { result ≡ true → 0 < length (rest_of self.now []) }
     {
@@ -170,8 +170,8 @@ impl Apart {
     }
 }
 
-/// A piece that begins with a whole `set` line whose data block is large: the line with its end, what is after it, and how many bytes
-/// are wanted there.
+/// Cuts a piece that begins with a whole `set` line whose data block is large: into the line with its end, and what is after it. It
+/// also returns how many bytes are wanted there.
 fn cut(piece: &[u8]) -> Option<(&[u8], &[u8], usize)>
     ensures joins { IfSome result (λ cut. piece.now ≡ cut.0.now ++ cut.1.now) }
     ensures announces { IfSome result (λ cut. Announces cut.0.now cut.2) }
@@ -190,7 +190,7 @@ fn cut(piece: &[u8]) -> Option<(&[u8], &[u8], usize)>
     }
 }
 
-/// Whether a `set` line may announce a large block: it ends with four digits, or with a word. A wrong answer costs time, and nothing else.
+/// Returns whether a `set` line may announce a large block: it ends with four digits, or with a word. A wrong answer affects only the speed.
 fn may_be_large(content: &[u8]) -> bool {
     match content {
         [.., first, second, third, last] if last.is_ascii_digit() => {

@@ -1,4 +1,4 @@
-//! A reader for who keeps large data blocks: it hands them out.
+//! A reader for callers that keep large data blocks: it moves them out.
 ghost use Rattle.std.specs.Prelude.{◌≡◌, ◌<◌, ◌≤◌, ◌+◌, ◌↔◌, ℕ, List, [], ◌++◌, length, true, None, Some, IsTrue, IfSome, IfNone, OnOk, OnErr};
 ghost use Rattle.mc_request_reader.specs.Reader.{fresh_reader, KeepsRest, KeepsLittle};
 ghost use Rattle.mc_request_reader.specs.ApartFields.{begun_by};
@@ -14,19 +14,19 @@ use std::io;
 use std::io::Read;
 use std::marker::Model;
 
-/// A [`Reader`] for who keeps the data blocks of large `set`s. Contracts see the same of it, and each call that a reader has promises
-/// the same.
+/// A [`Reader`] for callers that keep the data blocks of large `set`s. Contracts see of it what they see of a reader, and each call
+/// that a reader has promises what the reader's does.
 ///
-/// A `set` line is kept apart if it begins a piece of at least 1,024 bytes, nothing else is kept, and it announces a data block of at
-/// least 4,096 bytes. The bytes of its block are then copied once, as they come, into memory of its own, which
-/// [`ApartReader::take_set`] hands out. If something has come after the block, or the block has no line end, it is lent by
-/// [`ApartReader::peek`] like any other.
+/// A `set` line is kept apart under three conditions: it begins a piece of at least 1,024 bytes, nothing else is kept, and it
+/// announces a data block of at least 4,096 bytes. The bytes of its block are then copied once, as they arrive, into memory of its
+/// own, which [`ApartReader::take_set`] moves out. If something has arrived after the block, or the block has no line end,
+/// [`ApartReader::peek`] borrows it like any other.
 #[derive(Drop)]
 pub struct ApartReader {
     alloc: Global,
-    /// What has come, but for what is kept apart.
+    /// What has arrived, except what is kept apart.
     reader: Reader,
-    /// A line and its data block. While there is one, nothing else is kept.
+    /// A line and its data block. While it exists, nothing else is kept.
     apart: Option<Apart>,
 }
 
@@ -49,7 +49,7 @@ impl ApartReader {
     ghost use Rattle.mc_request_reader.specs.Reader.{rest_of, kept_of};
     ghost use Rattle.mc_request_reader.specs.Peeks.{Peeks, Shows, HasNone, IsAlone, IsFirst, IsWellFormedPeek, front_by, get_of, set_of};
 
-    /// A reader to which nothing has come. It takes no memory.
+    /// Makes a reader to which nothing has arrived. It takes no memory.
     pub fn new(alloc: Global) -> Self
         ensures { result ≡ fresh_reader }
     {
@@ -82,8 +82,8 @@ impl ApartReader {
         self.reader.feed(piece)
     }
 
-    /// Reads once, straight into a data block that is kept apart, if many of its bytes are to come: what came is fed, and not copied. None says
-    /// that nothing was read. What the read says is given, its error too, and then nothing has changed.
+    /// Reads once, straight into a data block that is kept apart, if many of its bytes are still missing. What was read is fed, and not copied.
+    /// It returns none if nothing was read. Else it returns what the read returned. At an error of the read nothing has changed.
     #[inline(always)]
     pub fn read_from<R: Read>(&mut self, reader: &mut R) -> Option<io::Result<usize>>
         ensures read { IfSome result (λ read. ReadsBy read (R.remaining reader.old) (R.remaining reader.new) (Comes self.old self.new)
@@ -98,8 +98,8 @@ impl ApartReader {
         }
     }
 
-    /// The `set` that is first, if it has come whole, is kept apart, and nothing has come after it: it is taken, and its data block is not
-    /// copied. None says nothing of what is first, and then nothing has changed; so too if there is no memory for its key.
+    /// Takes the first `set` without copying its data block, if it has arrived whole, is kept apart, and nothing has arrived after it.
+    /// None says nothing of what is first, and then nothing has changed. It returns none too if there is no memory for the key.
     pub fn take_set(&mut self) -> Option<TakenSet>
         ensures first { IfSome result (λ set. IsFirst self.old (set_of set) self.new) }
         ensures closed { IfSome result (λ set. self.new.closed ≡ ends (set_of set)) }
@@ -114,7 +114,7 @@ impl ApartReader {
         Some(set)
     }
 
-    /// Whether [`ApartReader::take_set`] may give one. No byte is looked at. If so, a whole request or fault has come.
+    /// Returns whether [`ApartReader::take_set`] may return one. It reads no byte. If it is true, a whole request or fault has arrived.
     #[inline(always)]
     pub fn has_set(&self) -> bool
         ensures { result ≡ true → 0 < length (rest_of self.now []) }
@@ -125,7 +125,7 @@ impl ApartReader {
         }
     }
 
-    /// The first request or fault that has come whole, as [`Reader::peek`] lends it.
+    /// Borrows the first request or fault that has arrived whole, as [`Reader::peek`] does.
     pub fn peek(&self) -> Peek<'_>
         ensures seen { Peeks self.now result }
         ensures well_formed { IsWellFormedPeek result }
@@ -137,7 +137,7 @@ impl ApartReader {
         }
     }
 
-    /// The first request that has come whole, if it is a good `get` or `gets` without a space in front, as [`Reader::peek_get`] lends it.
+    /// Borrows the first request that has arrived whole, if it is a good `get` or `gets` without a space in front, as [`Reader::peek_get`] does.
     #[inline(always)]
     pub fn peek_get(&self) -> Option<LentGet<'_>>
         ensures seen { IfSome result (λ get. Shows self.now (get_of get) get.front) }
@@ -147,7 +147,7 @@ impl ApartReader {
         self.reader.peek_get()
     }
 
-    /// The first line, if its end is known and it begins like no storage command, as [`Reader::peek_lone`] lends it.
+    /// Borrows the first line, if its end is known and it begins like no storage command, as [`Reader::peek_lone`] does.
     #[inline(always)]
     pub fn peek_lone(&self) -> Option<LentLine<'_>>
         ensures seen { IfSome result (λ line. (what : Taken) → IsAlone line what → Shows self.now what (front_by line what)) }
@@ -157,7 +157,7 @@ impl ApartReader {
         self.reader.peek_lone()
     }
 
-    /// The bytes that have come and are not taken. While a block is kept apart there are none of these. No byte is looked at.
+    /// Returns the bytes that have arrived and are not consumed. While a block is kept apart there are none of these. It reads no byte.
     #[inline(always)]
     pub fn unread(&self) -> &[u8]
         ensures { 0 < length result.now → result.now ≡ self.now.unread }
@@ -165,7 +165,7 @@ impl ApartReader {
         self.reader.unread()
     }
 
-    /// Whether it is known that nothing is whole until more bytes come. No byte is looked at. False says nothing.
+    /// Returns whether it is known that nothing is whole until more bytes arrive. It reads no byte. False says nothing.
     #[inline(always)]
     pub fn is_short(&self) -> bool
         ensures short { result ≡ true → HasNone self.now self.now }
@@ -180,7 +180,7 @@ impl ApartReader {
         }
     }
 
-    /// Whether a whole request or fault has come, as [`Reader::ready`] says it.
+    /// Returns whether a whole request or fault has arrived, as [`Reader::ready`] does.
     pub fn ready(&self) -> bool
         ensures ready { IsTrue result ↔ (0 < length (rest_of self.now [])) }
         ensures little { KeepsLittle self.now }
@@ -191,14 +191,14 @@ impl ApartReader {
         }
     }
 
-    /// Whether nothing is read any more, after `quit` or a line too long.
+    /// Returns whether nothing is read any more, after `quit` or a line too long.
     pub fn is_closed(&self) -> bool
         ensures { result ≡ self.now.closed }
     {
         self.reader.is_closed()
     }
 
-    /// Takes what a look showed, as [`Reader::consume`] does. It takes no memory.
+    /// Consumes what a look showed, as [`Reader::consume`] does. It takes no memory.
     #[inline(always)]
     pub fn consume(&mut self, front: Front)
         requires { front_of self.old ≡ Some front }
@@ -211,7 +211,7 @@ impl ApartReader {
         }
     }
 
-    /// Gives back the memory that is reserved, as [`Reader::give_back`] does.
+    /// Frees the reserved memory, as [`Reader::give_back`] does.
     pub fn give_back(&mut self, kept: usize)
         ensures same { self.new ≡ self.old }
         ensures little { KeepsLittle self.new }
@@ -220,7 +220,7 @@ impl ApartReader {
     }
 }
 
-/// A piece, kept apart, if it comes to a reader to which nothing has come, and begins with a large `set`.
+/// Keeps a piece apart, if nothing has arrived at the reader before it, and it begins with a large `set`.
 #[inline(never)]
 fn begun(alloc: Global, others: &Reader, piece: &[u8]) -> Option<Apart>
     ensures begun { IfSome result (λ apart. apart ≡ begun_by piece.now) }
@@ -233,7 +233,7 @@ fn begun(alloc: Global, others: &Reader, piece: &[u8]) -> Option<Apart>
     Apart::begin(alloc, piece)
 }
 
-/// Takes what a look showed of what is kept apart, and gives what has come after it to a reader to which nothing has come.
+/// Consumes what a look showed of what is kept apart, and moves what has arrived after it to a reader to which nothing has arrived.
 #[inline(never)]
 fn go_on(apart: &mut Option<Apart>, front: Front, alloc: Global, others: &mut Reader)
     requires shown { IfSome apart.old (λ apart. front_of apart ≡ Some front) }

@@ -1,4 +1,4 @@
-//! Bytes that come, read straight behind those that have come.
+//! A buffer for bytes that arrive: they are read straight behind those that have arrived.
 ghost use Rattle.std.specs.Prelude.{◌≡◌, ◌<◌, ◌≤◌, ◌+◌, ◌-◌, ◌++◌, true, length, take, drop, vec_len, IfNone, IfOk, IfSome, OnErr, OnOk};
 ghost use Rattle.std.specs.Io.{ReadsAtMost};
 ghost use Rattle.std.specs.Io.KnownBytes.{ReadConsumes};
@@ -9,22 +9,22 @@ use std::io::Read;
 use std::marker::Model;
 use std::{io, mem};
 
-/// Memory is reserved for so many times the bytes that have come, and for no more than are wanted. So it stays in proportion to what was
-/// sent, whatever a line announces, and what has come is moved seldom.
+/// Memory is reserved for this many times the bytes that have arrived, and for no more than are wanted. So it stays in proportion to
+/// what was sent, whatever a line announces, and the arrived bytes are moved seldom.
 const ROOM_FOR: usize = 8;
 
-/// Room to read into is made up to so many times the bytes that have come. It is filled with zeros, once.
+/// Room to read into is made up to this many times the bytes that have arrived. It is filled with zeros, once.
 const ROOM_TO_READ: usize = 2;
 
 /// The fewest bytes that a read asks for: to copy fewer costs less than a read of their own.
 const LEAST_READ: usize = 16_384;
 
-/// Bytes that have come, and room behind them to read more into. Contracts see the bytes that have come.
+/// Bytes that have arrived, and room behind them to read more into. Contracts see the bytes that have arrived.
 #[derive(Drop)]
 pub struct Incoming {
-    /// The bytes that have come, and zeros, or what was read there in vain.
+    /// The bytes that have arrived, and behind them zeros or leftovers of a read that failed.
     bytes: Vec<u8>,
-    /// How many have come.
+    /// The number of bytes that have arrived.
     come: usize,
 }
 
@@ -39,7 +39,7 @@ impl Model for Incoming {
 }
 
 impl Incoming {
-    /// The first bytes of so many that are wanted. None if there is no memory.
+    /// Makes a buffer with the first of `wanted` bytes. It returns none if there is no memory.
     pub fn begin(alloc: Global, first: &[u8], wanted: usize) -> Option<Incoming>
         ensures { IfSome result (λ incoming. incoming ≡ first.now) }
     {
@@ -53,14 +53,14 @@ impl Incoming {
         })
     }
 
-    /// How many have come.
+    /// Returns the number of bytes that have arrived.
     pub fn len(&self) -> usize
         ensures { result ≡ length self.now }
     {
         self.come
     }
 
-    /// The bytes that have come.
+    /// Returns the bytes that have arrived.
     pub fn as_slice(&self) -> &[u8]
         ensures { result.now ≡ self.now }
     {
@@ -68,7 +68,7 @@ impl Incoming {
         come
     }
 
-    /// Puts a piece behind them. At an error nothing has changed.
+    /// Appends a piece. At an error nothing has changed.
     pub fn append(&mut self, piece: &[u8], wanted: usize) -> Result<(), AllocError>
         ensures ok { OnOk result (self.new ≡ self.old ++ piece.now) }
         ensures some { OnErr result (0 < length piece.now) }
@@ -81,8 +81,8 @@ impl Incoming {
         Ok(())
     }
 
-    /// Reads once, straight behind them, if many of those that are wanted are to come. None if few are, or if there is no memory for them:
-    /// then nothing was read.
+    /// Reads once, straight behind them, if many of the wanted bytes are missing. It returns none if few are, or if there is no memory for
+    /// them: then nothing was read.
     pub fn read_from<R: Read>(&mut self, reader: &mut R, wanted: usize) -> Option<io::Result<usize>>
         ensures read { IfSome result (λ read. ReadsBy read (R.remaining reader.old) (R.remaining reader.new)
             (λ came. self.new ≡ self.old ++ came) (self.new ≡ self.old)) }
@@ -101,7 +101,7 @@ impl Incoming {
         Some(read)
     }
 
-    /// Gives the bytes, and is left with none.
+    /// Returns the bytes, and keeps none.
     pub fn take(&mut self, alloc: Global) -> Vec<u8>
         ensures { result.items ≡ self.old }
     {
@@ -112,15 +112,15 @@ impl Incoming {
     }
 }
 
-/// For how many bytes memory is reserved, if so many have come and so many are wanted.
+/// Returns the number of bytes to reserve memory for, if `come` have arrived and `wanted` are wanted.
 fn room_for(come: usize, wanted: usize) -> usize
     ensures { come ≤ result }
 {
     wanted.min(come.saturating_mul(ROOM_FOR)).max(come)
 }
 
-/// Makes room behind bytes, of which so many are wanted, for so many more, if it wants them. If there is not so much memory, it has
-/// the room that it had.
+/// Makes room for `more` further bytes, if with them there are no more than `wanted`. If there is too little memory, the room
+/// stays as it was.
 fn make_room(bytes: &mut Vec<u8>, more: usize, wanted: usize)
     ensures { bytes.new.items ≡ bytes.old.items }
 {
@@ -130,7 +130,7 @@ fn make_room(bytes: &mut Vec<u8>, more: usize, wanted: usize)
     }
 }
 
-/// How many bytes a read asks for, if so many have come and so many are wanted.
+/// Returns how many bytes a read asks for, if `come` have arrived and `wanted` are wanted.
 fn room_to_read(come: usize, wanted: usize) -> usize
     ensures { result ≤ wanted - come }
 {
@@ -139,7 +139,7 @@ fn room_to_read(come: usize, wanted: usize) -> usize
         .saturating_sub(come)
 }
 
-/// Fills bytes with zeros, so that behind the first so many there are so many more, and says whether there are. False says that there is no
+/// Fills with zeros, so that there are `room` bytes behind the first `come`, and returns whether there are. False says that there is no
 /// memory for them.
 fn widen(bytes: &mut Vec<u8>, come: usize, room: usize, wanted: usize) -> bool
     requires { come ≤ vec_len bytes.old }
@@ -157,7 +157,7 @@ fn widen(bytes: &mut Vec<u8>, come: usize, room: usize, wanted: usize) -> bool
     bytes.resize(end, 0).is_ok()
 }
 
-/// Reads once, behind the first so many bytes, as many as there is room for.
+/// Reads once, behind the first `at` bytes, at most `room` bytes.
 fn read_behind<R: Read>(
     reader: &mut R,
     bytes: &mut [u8],
@@ -174,7 +174,7 @@ fn read_behind<R: Read>(
     reader.read(&mut bytes[at..at + room])
 }
 
-/// How many bytes a read gave: none at an error.
+/// Returns how many bytes a read returned: none at an error.
 fn count_of(read: &io::Result<usize>) -> usize
     ensures some { IfOk read.now (λ count. result ≡ count) }
     ensures none { OnErr read.now (result ≡ 0) }

@@ -8,36 +8,36 @@ pub const REQUEST_LIMIT: usize = 1_114_114;
 /// Where the first request or fault of a reader ends.
 #[derive(Clone, Copy, Debug)]
 pub struct Front {
-    /// How many of the bytes that are not taken it takes.
+    /// The number of unconsumed bytes that it takes.
     pub size: usize,
     /// Whether nothing is read after it.
     pub closes: bool,
 }
 
-/// What is first in a reader. It is lent, and not taken yet.
+/// What is first in a reader. It is borrowed, and not consumed yet.
 #[derive(Drop)]
 pub enum Peek<'a> {
     /// A whole request or fault, and where it ends.
     First(Asked<'a>, Front),
-    /// There is none until more bytes come.
+    /// Nothing is whole until more bytes arrive.
     More,
     /// Nothing is read any more, after `quit` or a line too long.
     Closed,
 }
 
-/// The command line that is first in a reader. It is lent, and not taken yet.
+/// The command line that is first in a reader. It is borrowed, and not consumed yet.
 #[derive(Drop)]
 pub struct LentLine<'a> {
     /// The line without its end.
     pub content: &'a [u8],
-    /// How many bytes it takes.
+    /// The number of bytes that it takes.
     pub size: usize,
 }
 
-/// A `get` or `gets` that is first in a reader. Its keys are lent, and it is not taken yet.
+/// A `get` or `gets` that is first in a reader. Its keys are borrowed, and it is not consumed yet.
 #[derive(Drop)]
 pub struct LentGet<'a> {
-    /// The words that are its keys: one at least.
+    /// The words that are its keys: at least one.
     pub keys: WordIter<'a>,
     /// Whether it asks for the items' numbers.
     pub with_cas: bool,
@@ -45,14 +45,14 @@ pub struct LentGet<'a> {
     pub front: Front,
 }
 
-/// A `set` that was first in a reader, and is taken: its key and its block are its own.
+/// A `set` that was first in a reader, and is consumed: its key and its block are owned.
 #[derive(Drop)]
 pub struct TakenSet {
     /// The key.
     pub key: Key,
     /// The client flags.
     pub flags: u32,
-    /// When its item is dead, as the command says it.
+    /// When its item expires, as the command says it.
     pub exptime: i64,
     /// The data block.
     pub block: Block,

@@ -7,29 +7,29 @@ use mc_request::{Fault, ReadError, Request, Taken};
 use std::alloc::Global;
 use std::marker::Model;
 
-/// What a reader gives.
+/// What a reader returns.
 #[derive(Debug, Drop)]
 pub enum Next {
     /// A whole request.
     Request(Request),
-    /// A fault, whose last byte has come.
+    /// A fault, whose last byte has arrived.
     Fault(Fault),
-    /// There is none until more bytes come.
+    /// Nothing is whole until more bytes arrive.
     More,
     /// Nothing is read any more, after `quit` or a line too long.
     Closed,
 }
 
-/// A reader of the requests of one connection. Contracts see what it stands for: the bytes that are not taken, the
-/// block that is dropped while it comes, whether it is closed, and how many bytes it keeps.
+/// A reader of the requests of one connection. Contracts see what it stands for: the bytes that are not consumed, the block that is
+/// dropped while it arrives, whether it is closed, and how many bytes it keeps.
 ///
-/// Each byte is looked at a constant number of times, however the text is cut: the end of a line is searched for once, a
-/// line whose block has not come whole is read once more when it has, and a block that is refused is dropped while it comes.
-/// After a `feed` or a `consume` it is known whether something is whole. If nothing is, no call reads a byte until more come; only
-/// if a `consume` brought a short line to the front, of at most 512 bytes, each look and each [`Reader::ready`] until the next feed
-/// reads the words of it that may announce a block. If something is whole, `ready` reads no byte, and [`Reader::peek`],
+/// Each byte is read a constant number of times, however the text is cut. The end of a line is searched for once. A line whose
+/// block has not arrived whole is read once more when it has. A refused block is dropped while it arrives. After a `feed` or a
+/// `consume` it is known whether something is whole. If nothing is, no call reads a byte until more arrive, with one exception. If
+/// a `consume` brought a short line to the front, of at most 512 bytes, each look and each [`Reader::ready`] reads the words of it
+/// that may announce a block. That lasts until the next feed. If something is whole, `ready` reads no byte, and [`Reader::peek`],
 /// [`Reader::peek_get`] and [`Reader::peek_lone`] each read what is first, at each call: its line, and no more than 15 bytes behind
-/// that. Where nothing is whole, a reader keeps fewer than [`REQUEST_LIMIT`](crate::REQUEST_LIMIT) bytes.
+/// that. If nothing is whole, a reader keeps fewer than [`REQUEST_LIMIT`](crate::REQUEST_LIMIT) bytes.
 #[derive(Drop)]
 pub struct Reader {
     alloc: Global,
@@ -53,7 +53,7 @@ impl Reader {
     ghost use Rattle.mc_request.specs.declared.parts.Taken.{Taken};
     ghost use Rattle.mc_request_reader.specs.Peeks.{Peeks, Shows, Gives, HasNone, IsAlone, IsWellFormedPeek, front_by, front_of, get_of, past};
 
-    /// A reader to which nothing has come. It takes no memory.
+    /// Makes a reader to which nothing has arrived. It takes no memory.
     pub fn new(alloc: Global) -> Self
         ensures { result ≡ fresh_reader }
     {
@@ -63,7 +63,7 @@ impl Reader {
         }
     }
 
-    /// A reader to which these bytes have come, of which so many were taken. It takes no memory.
+    /// Makes a reader to which these bytes have arrived, of which the first `taken` are consumed. It takes no memory.
     pub(crate) fn of_buffer(alloc: Global, buffer: Vec<u8>, taken: usize) -> Self
         requires { taken ≤ vec_len buffer }
         ensures rest { (text : List ℕ) → rest_of result text ≡ requests_of (drop taken buffer.items ++ text) }
@@ -75,17 +75,16 @@ impl Reader {
         Reader { alloc, unread }
     }
 
-    /// Whether nothing has come to it that is not taken. Memory may be reserved.
+    /// Returns whether no unconsumed byte is in it. Memory may be reserved.
     pub(crate) fn is_fresh(&self) -> bool
         ensures { result ≡ true → self.now ≡ fresh_reader }
     {
         self.unread.is_fresh()
     }
 
-    /// Takes the next piece of the text. After `quit` or a line too long it is dropped, and of a block that is refused what
-    /// comes is dropped.
+    /// Takes the next piece of the text. After `quit` or a line too long it is dropped. Of a refused block, what arrives is dropped.
     ///
-    /// At `Memory` no byte is taken. It is never refused where nothing of the piece is kept: an empty piece, one after the
+    /// At `Memory` no byte is consumed. A piece of which nothing is kept is never refused: an empty piece, one after the
     /// end, or one that is all of a refused block.
     pub fn feed(&mut self, piece: &[u8]) -> Result<(), ReadError>
         ensures fed { OnOk result ((text : List ℕ) → rest_of self.new text ≡ rest_of self.old (piece.now ++ text)) }
@@ -103,9 +102,9 @@ impl Reader {
         Ok(())
     }
 
-    /// The first request or fault that has come whole, which is taken: its keys and its block are copied.
+    /// Consumes and returns the first request or fault that has arrived whole: its keys and its block are copied.
     ///
-    /// At `Memory` it is not taken, and nothing has changed.
+    /// At `Memory` it is not consumed, and nothing has changed.
     pub fn next(&mut self) -> Result<Next, ReadError>
         ensures given { IfOk result (λ next. Gives self.old next self.new) }
         ensures little { KeepsLittle self.new }
@@ -125,7 +124,7 @@ impl Reader {
         }
     }
 
-    /// The first request or fault that has come whole. It is lent, and not taken: [`Reader::consume`] takes it.
+    /// Borrows the first request or fault that has arrived whole. [`Reader::consume`] consumes it.
     ///
     /// Its line is read once. It takes no memory, and copies nothing.
     pub fn peek(&self) -> Peek<'_>
@@ -136,10 +135,10 @@ impl Reader {
         self.unread.peek()
     }
 
-    /// The first request that has come whole, if it is a good `get` or `gets` without a space in front: what [`Reader::peek`] would show,
-    /// by small values. None says nothing of what is first.
+    /// Borrows the first request that has arrived whole, if it is a good `get` or `gets` without a space in front: what [`Reader::peek`]
+    /// would show, in small values. None says nothing of what is first.
     ///
-    /// Its line is read once if it begins with `g`, else one byte of it. It takes no memory, and copies nothing.
+    /// Its line is read once if it begins with `g`, else one byte of it is. It takes no memory, and copies nothing.
     #[inline(always)]
     pub fn peek_get(&self) -> Option<LentGet<'_>>
         ensures seen { IfSome result (λ get. Shows self.now (get_of get) get.front) }
@@ -149,9 +148,9 @@ impl Reader {
         self.unread.peek_get()
     }
 
-    /// The first line, if its end is known and what follows its leading spaces begins like no storage command. What it asks for, by
-    /// [`command_line`](mc_request::command_line), is then served where that wrote it: [`Reader::peek`] moves it. None says nothing of
-    /// what is first.
+    /// Borrows the first line, if its end is known and what follows its leading spaces begins like no storage command. What it asks
+    /// for, by [`command_line`](mc_request::command_line), is then served in the place where that call wrote it: [`Reader::peek`]
+    /// moves it. None says nothing of what is first.
     ///
     /// Its leading spaces are read, 16 bytes at a time, so up to 15 bytes behind them too, and the byte before its line feed. It takes
     /// no memory, and copies nothing.
@@ -164,7 +163,7 @@ impl Reader {
         self.unread.peek_lone()
     }
 
-    /// The bytes that have come and are not taken: what [`Reader::peek`] shows begins with them. None of them is looked at.
+    /// Returns the bytes that have arrived and are not consumed: what [`Reader::peek`] shows begins with them. It reads none of them.
     #[inline(always)]
     pub fn unread(&self) -> &[u8]
         ensures unread { result.now ≡ self.now.unread }
@@ -173,8 +172,8 @@ impl Reader {
         self.unread.unread()
     }
 
-    /// Whether it is known that nothing is whole until more bytes come: then [`Reader::peek`] would show [`Peek::More`]. No byte is
-    /// looked at, and nothing is copied. False says nothing.
+    /// Returns whether it is known that nothing is whole until more bytes arrive: then [`Reader::peek`] would show [`Peek::More`].
+    /// It reads no byte, and copies nothing. False says nothing.
     #[inline(always)]
     pub fn is_short(&self) -> bool
         ensures short { result ≡ true → HasNone self.now self.now }
@@ -183,8 +182,8 @@ impl Reader {
         self.unread.is_short()
     }
 
-    /// Whether a whole request or fault has come, which [`Reader::next`] would give. It takes no memory, and copies
-    /// nothing. No byte is looked at, but for the first words of a short line after a `consume`.
+    /// Returns whether a whole request or fault has arrived, which [`Reader::next`] would return. It takes no
+    /// memory, and copies nothing. It reads no byte, except the first words of a short line after a `consume`.
     pub fn ready(&self) -> bool
         ensures ready { IsTrue result ↔ (0 < length (rest_of self.now [])) }
         ensures little { KeepsLittle self.now }
@@ -192,15 +191,15 @@ impl Reader {
         self.unread.ready()
     }
 
-    /// Whether nothing is read any more, after `quit` or a line too long.
+    /// Returns whether nothing is read any more, after `quit` or a line too long.
     pub fn is_closed(&self) -> bool
         ensures { result ≡ self.now.closed }
     {
         self.unread.is_closed()
     }
 
-    /// Takes what [`Reader::peek`] showed, and drops its bytes once they are more than half of all. What comes
-    /// after it is looked at as a `feed` does, but for the words of a short line. It takes no memory.
+    /// Consumes what [`Reader::peek`] showed, and drops the consumed bytes once they are more than half of
+    /// all. What follows is examined as by a `feed`, except the words of a short line. It takes no memory.
     pub fn consume(&mut self, front: Front)
         requires { front_of self.old ≡ Some front }
         ensures taken { KeepsRest (past front self.old) self.new }
@@ -212,9 +211,9 @@ impl Reader {
         }
     }
 
-    /// Gives back the memory that is reserved, where no byte is held and more than `kept` bytes are reserved. It is for a
-    /// reader that will be idle for a while: the next feeds reserve anew. Where bytes are held nothing is moved, so a request
-    /// that comes in small pieces is not copied for each of them.
+    /// Frees the reserved memory, if no byte is kept and more than `kept` bytes are reserved. It is for a reader that will be
+    /// idle for a while: the next feeds reserve anew. If bytes are kept nothing is moved, so a request that arrives in small
+    /// pieces is not copied for each of them.
     pub fn give_back(&mut self, kept: usize)
         ensures same { self.new ≡ self.old }
         ensures little { KeepsLittle self.new }
@@ -222,9 +221,9 @@ impl Reader {
         self.unread.give_back(kept);
     }
 
-    /// How many bytes the reader keeps: those that are not taken, and of those taken the ones that are not dropped yet,
-    /// which are never more. None are kept after the end, or while a block that is refused comes. Where nothing is whole, they
-    /// are fewer than [`REQUEST_LIMIT`](crate::REQUEST_LIMIT).
+    /// Returns how many bytes the reader keeps: those that are not consumed, and the consumed ones that are not dropped yet,
+    /// which are never more. None are kept after the end, or while a refused block arrives. If nothing is whole, they are
+    /// fewer than [`REQUEST_LIMIT`](crate::REQUEST_LIMIT).
     pub fn held(&self) -> usize
         ensures held { result ≡ self.now.held }
         ensures little { KeepsLittle self.now }

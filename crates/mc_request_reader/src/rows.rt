@@ -6,7 +6,7 @@ ghost use Rattle.mc_request.specs.Requests.{requests_of};
 
 use mc_request::{Fault, Request, StoreMode, Taken, Update};
 
-/// A stored value, then the key is looked up; the second line ends by a bare line feed.
+/// A value is stored, then its key is looked up. The second line ends with a bare line feed.
 pub fn set_then_get()
     ensures { requests_of (codes "set a 0 0 1\r\nx\r\nget a\n")
         ≡ Taken.Whole (Request.Update (Update.Store StoreMode.Set None (codes "a") 0 (pos 0) (codes "x")) false)
@@ -31,7 +31,7 @@ pub fn quit_ends_the_text()
         ≡ Taken.Whole Request.Version ∷ Taken.Whole Request.Quit ∷ [] }
 {}
 
-/// A faulty `ms` line takes its block wherever its third word is a readable length; here the block would be a command.
+/// A faulty `ms` line takes its block if its third word is a readable length. Here the block would be a command.
 pub fn meta_block_is_swallowed()
     ensures text { requests_of (codes "ms a 5 z\r\nget a\r\nmn\r\n") ≡ Taken.Faulty Fault.InvalidFlag ∷ Taken.Whole Request.MetaNoop ∷ [] }
 {}

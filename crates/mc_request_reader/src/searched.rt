@@ -7,19 +7,19 @@ ghost use Rattle.mc_request_reader.specs.Steps.{IsSearched};
 
 use mc_text::{Line, content_to, next_line_from};
 
-/// How far bytes were searched for the end of their first line. What was searched is not searched again.
+/// How far bytes were searched for the end of their first line. No byte is searched again.
 #[derive(Clone, Copy, Debug)]
 pub enum Searched {
-    /// The first so many bytes hold no line feed.
+    /// The first bytes, this many, hold no line feed.
     Without(usize),
-    /// The first line feed is at this place.
+    /// The first line feed is at this index.
     Ends(usize),
     /// The first line is too long.
     TooLong,
 }
 
 impl Searched {
-    /// The first line of the bytes that were searched so far.
+    /// Returns the first line of the bytes, which were searched this far.
     #[inline(always)]
     pub fn line(self, bytes: &[u8]) -> Line<'_>
         requires { IsSearched self bytes.now }

@@ -1,4 +1,4 @@
-//! What the bytes that have come allow.
+//! What is at the front of the bytes that have arrived.
 ghost use Rattle.std.specs.Prelude.{◌≡◌, ◌≤◌, ◌<◌, ◌+◌, ◌-◌, ◌^◌, ◌++◌, ℕ, List, length, take, drop, true, None, Some, is_some, IfSome};
 ghost use Rattle.mc_text.specs.Lines.{line_end};
 ghost use Rattle.mc_text.specs.Words.{words};
@@ -22,22 +22,22 @@ use std::alloc::Global;
 /// What is after a data block.
 pub const LINE_END: &[u8] = b"\r\n";
 
-/// What is at the front of the bytes that have come.
+/// What is at the front of the bytes that have arrived.
 pub enum Arrival {
-    /// The first request or fault is whole. So far its line was searched.
+    /// The first request or fault is whole. Its line was searched this far.
     Whole(Searched),
-    /// It is not whole: so far its line was searched, and nothing is whole before `wanted` bytes. Where `sure`, it is
+    /// It is not whole. Its line was searched this far, and nothing is whole before `wanted` bytes. If `sure`, it is
     /// whole with these.
     Waits {
         searched: Searched,
         wanted: usize,
         sure: bool,
     },
-    /// A block that is swallowed has not come whole: the fault is given once so many bytes have come.
+    /// A block that is swallowed has not arrived whole: the fault is returned once this many bytes have arrived.
     Drops(Fault, usize),
 }
 
-/// What is at the front of the bytes, of which so many were searched.
+/// Returns what is at the front of the bytes, which were searched this far.
 pub fn arrival_of(unread: &[u8], searched: Searched) -> Arrival
     requires { IsSearched searched unread.now }
     ensures { ArrivalIs unread.now result }
@@ -59,7 +59,7 @@ pub fn arrival_of(unread: &[u8], searched: Searched) -> Arrival
     }
 }
 
-/// The same where the first line is whole, and takes so many bytes, and its data block is not.
+/// Returns what is at the front, if the first line is whole and takes `taken` bytes, and its data block is not whole.
 fn arrival_after(unread: &[u8], line: CommandLine<'_>, taken: usize) -> Arrival
     requires starts { StartsBy unread.now (meaning_of line) taken }
     requires line { line_end unread.now ≡ Some (taken - 1) }
@@ -79,8 +79,8 @@ fn arrival_after(unread: &[u8], line: CommandLine<'_>, taken: usize) -> Arrival
     }
 }
 
-/// Whether the first request or fault of the bytes is whole, of which so many were searched. Of a line no more is read
-/// than says whether a data block follows.
+/// Returns whether the first request or fault of the bytes is whole, which were searched this far. Of a line it reads
+/// only what says whether a data block follows.
 pub fn is_whole(unread: &[u8], searched: Searched) -> bool
     requires { IsSearched searched unread.now }
     ensures { result ≡ is_some (next_request unread.now) }
@@ -92,7 +92,7 @@ pub fn is_whole(unread: &[u8], searched: Searched) -> bool
     }
 }
 
-/// The same where the first line is whole, and takes so many bytes.
+/// Returns whether the first request or fault is whole, if the first line is whole and takes `taken` bytes.
 fn has_come(unread: &[u8], content: &[u8], taken: usize) -> bool
     requires { StartsBy unread.now (meaning (words content.now)) taken }
     ensures { result ≡ is_some (next_request unread.now) }
@@ -103,7 +103,7 @@ fn has_come(unread: &[u8], content: &[u8], taken: usize) -> bool
     }
 }
 
-/// How many bytes a line takes with its data block and the line end after that.
+/// Returns the size in bytes of a line with its data block and the line end after that.
 fn size_with_block(line: usize, len: u32) -> usize
     requires { line < 2 ^ 63 }
     ensures { result ≡ line + (len + 2) }
@@ -111,8 +111,8 @@ fn size_with_block(line: usize, len: u32) -> usize
     line + (len as usize + LINE_END.len())
 }
 
-/// The first request or fault of the bytes, of which so many were searched, where it is whole, and how many bytes it
-/// takes. Nothing is copied.
+/// Borrows the first request or fault of the bytes, which were searched this far, if it is whole. It also returns
+/// how many bytes that takes. Nothing is copied.
 pub fn first_asked(unread: &[u8], searched: Searched) -> Option<(Asked<'_>, usize)>
     requires { IsSearched searched unread.now }
     ensures { lent_seen result ≡ next_request unread.now }
@@ -134,7 +134,7 @@ pub fn first_asked(unread: &[u8], searched: Searched) -> Option<(Asked<'_>, usiz
     }
 }
 
-/// The same where the first line is whole, and takes so many bytes.
+/// Borrows the first request or fault, if the first line is whole and takes `taken` bytes.
 fn asked_after<'a>(
     unread: &'a [u8],
     line: CommandLine<'a>,
@@ -166,7 +166,7 @@ fn asked_after<'a>(
     }
 }
 
-/// What a line asks for, of which no byte is left out, not even its end.
+/// Returns what a line asks for. The line is given whole, with its end.
 fn line_by_itself(line: &[u8]) -> CommandLine<'_>
     requires { IsLine line.now }
     ensures starts { StartsBy line.now (meaning_of result) (length line.now) }
@@ -175,8 +175,8 @@ fn line_by_itself(line: &[u8]) -> CommandLine<'_>
     command_line(content_to(line, line.len() - 1))
 }
 
-/// The first request or fault of bytes that are kept in two parts, a line and what has come after it, where it is whole, and how many
-/// bytes it takes. Nothing is copied.
+/// Borrows the first request or fault, if it is whole, of bytes in two parts: a line, and what has arrived after it. It also returns
+/// how many bytes that takes. Nothing is copied.
 pub fn asked_beside<'a>(line: &'a [u8], after: &'a [u8]) -> Option<(Asked<'a>, usize)>
     requires { IsLine line.now }
     ensures { lent_seen result ≡ next_request (line.now ++ after.now) }
@@ -184,7 +184,7 @@ pub fn asked_beside<'a>(line: &'a [u8], after: &'a [u8]) -> Option<(Asked<'a>, u
     asked_by(line_by_itself(line), line.len(), after)
 }
 
-/// The same by what the line asks for, and how many bytes it takes.
+/// Borrows the first request or fault, by what its line asks for and how many bytes that line takes.
 fn asked_by<'a>(line: CommandLine<'a>, taken: usize, after: &'a [u8]) -> Option<(Asked<'a>, usize)>
     requires { taken < 2 ^ 63 }
     ensures { lent_seen result ≡ taken_by (meaning_of line.entry) taken after.now }
@@ -209,7 +209,7 @@ fn asked_by<'a>(line: CommandLine<'a>, taken: usize, after: &'a [u8]) -> Option<
     }
 }
 
-/// How many bytes are wanted after a line that announces a data block of at least so many bytes, with the line end after it.
+/// Returns how many bytes are wanted after a line that announces a data block of at least `least` bytes, with the line end after the block.
 pub fn block_after(line: &[u8], least: usize) -> Option<usize>
     requires { IsLine line.now }
     ensures { IfSome result (λ wanted. Announces line.now wanted) }
@@ -220,8 +220,8 @@ pub fn block_after(line: &[u8], least: usize) -> Option<usize>
     }
 }
 
-/// The plain `set` of a line, if its block and the line end after it are all that has come after the line, and there is memory for its
-/// key. Its block is left out.
+/// Returns the plain `set` of a line, if its block and the line end after it are all that has arrived after the line, and there is
+/// memory for its key. Its block is left out.
 pub fn set_beside(alloc: Global, line: &[u8], after: &[u8]) -> Option<TakenSet>
     requires { IsLine line.now }
     ensures long { IfSome result (λ set. 2 ≤ length after.now) }
@@ -234,7 +234,7 @@ pub fn set_beside(alloc: Global, line: &[u8], after: &[u8]) -> Option<TakenSet>
     }
 }
 
-/// The same by what the line asks for.
+/// Returns the plain `set` of a line by what the line asks for.
 fn set_by(alloc: Global, storing: Storing<'_>, len: u32, after: &[u8]) -> Option<TakenSet>
     requires { is_good_storing (storing_of storing) ≡ true }
     ensures long { IfSome result (λ set. length after.now ≡ len + 2) }
@@ -253,7 +253,7 @@ fn set_by(alloc: Global, storing: Storing<'_>, len: u32, after: &[u8]) -> Option
     plain_set(alloc, storing)
 }
 
-/// A storage command, if it is a plain `set` and there is memory for its key. It has no block.
+/// Returns a storage command without its block, if it is a plain `set` and there is memory for its key.
 fn plain_set(alloc: Global, storing: Storing<'_>) -> Option<TakenSet>
     requires { is_good_storing (storing_of storing) ≡ true }
     ensures { IfSome result (λ set. (block : List ℕ) → Whole (stored (storing_of storing.entry) block) ≡ set_with set block) }
@@ -285,7 +285,7 @@ fn plain_set(alloc: Global, storing: Storing<'_>) -> Option<TakenSet>
     }
 }
 
-/// A storage command and its data block that has come, by the two bytes after it.
+/// Returns a storage command and its data block, which has arrived, by the two bytes after it.
 #[inline(always)]
 fn with_block<'a>(storing: Storing<'a>, block: &'a [u8], end: &[u8]) -> Asked<'a>
     ensures { asked_of result ≡ with_block (storing_of storing.entry) block.now end.now }
@@ -297,9 +297,8 @@ fn with_block<'a>(storing: Storing<'a>, block: &'a [u8], end: &[u8]) -> Asked<'a
     }
 }
 
-/// The keys of the first request of the bytes, of which so many were searched, whether it asks for numbers, and how many bytes it takes,
-/// where it is a good `get` or `gets` without a space in front. Of a line that begins with another byte
-/// than `g` that byte alone is read.
+/// Returns the keys of the first request of the bytes, which were searched this far, if it is a good `get` or `gets` without a space in
+/// front. It also returns whether it asks for numbers, and how many bytes it takes. Of a line that does not begin with `g` it reads one byte.
 #[inline(always)]
 pub fn first_get(unread: &[u8], searched: Searched) -> Option<(WordIter<'_>, bool, usize)>
     requires { IsSearched searched unread.now }
@@ -317,8 +316,8 @@ pub fn first_get(unread: &[u8], searched: Searched) -> Option<(WordIter<'_>, boo
     }
 }
 
-/// The first line of the bytes, of which so many were searched, if its end is known and what follows its leading spaces begins like no
-/// storage command.
+/// Borrows the first line of the bytes, which were searched this far, if its end is known and what follows its leading spaces begins
+/// like no storage command.
 #[inline(always)]
 pub fn first_lone(unread: &[u8], searched: Searched) -> Option<LentLine<'_>>
     requires { IsSearched searched unread.now }
@@ -337,7 +336,7 @@ pub fn first_lone(unread: &[u8], searched: Searched) -> Option<LentLine<'_>>
     }
 }
 
-/// Whether what follows the leading spaces begins like no storage command. A wrong answer costs time, and nothing else.
+/// Returns whether what follows the leading spaces begins like no storage command. A wrong answer affects only the speed.
 #[inline(always)]
 fn is_lone(unread: &[u8]) -> bool {
     match without_spaces(unread).split_first() {

@@ -1,4 +1,4 @@
-//! The bytes that have come and are not taken.
+//! The bytes that have arrived and are not consumed.
 ghost use Rattle.std.specs.Prelude.{◌≡◌, ◌<◌, ◌≤◌, ◌+◌, ◌↔◌, ℕ, List, [], ◌++◌, length, drop, vec_len, true, false, None, Some, is_some, IsTrue, IfSome, OnOk, OnErr};
 
 use crate::peeks::{Front, LentGet, LentLine, Peek, REQUEST_LIMIT};
@@ -9,22 +9,22 @@ use mc_text::{Line, drop_front, give_back, let_go};
 use std::alloc::Global;
 use std::marker::Model;
 
-/// The most bytes of a line that is read again by each look after a `consume`, until more bytes come.
+/// The most bytes of a line that each look after a `consume` reads again, until more bytes arrive.
 pub const SHORT_LINE: usize = 512;
 
-/// The bytes that have come and are not taken, as a reader keeps them, with what is known of them.
+/// The bytes that have arrived and are not consumed, as a reader keeps them, with what is known of them.
 #[derive(Drop)]
 pub struct Unread {
     buffer: Vec<u8>,
-    /// How many bytes of the buffer are taken.
+    /// The number of bytes of the buffer that are consumed.
     start: usize,
     /// How far the bytes after them were searched for the end of the first line.
     searched: Searched,
-    /// With fewer bytes after them than this nothing is whole.
+    /// With fewer unconsumed bytes than this nothing is whole.
     wanted: usize,
-    /// Whether the first request or fault is known to be whole with so many.
+    /// Whether the first request or fault is known to be whole with `wanted` bytes.
     sure: bool,
-    /// The fault of a block that is dropped, and how many bytes of it are to come.
+    /// The fault of a block that is dropped, and how many bytes of it are missing.
     dropping: Option<(Fault, usize)>,
     closed: bool,
 }
@@ -48,7 +48,7 @@ impl Unread {
     ghost use Rattle.mc_request.specs.declared.parts.Taken.{Taken};
     ghost use Rattle.mc_request_reader.specs.Peeks.{Peeks, Shows, HasNone, IsAlone, IsWellFormedPeek, front_by, front_of, get_of, past};
 
-    /// Nothing has come. It takes no memory.
+    /// Makes one to which nothing has arrived. It takes no memory.
     pub fn new(alloc: Global) -> Self
         ensures { result ≡ fresh_reader }
     {
@@ -63,7 +63,7 @@ impl Unread {
         }
     }
 
-    /// Bytes of which so many were taken. It takes no memory.
+    /// Makes one of bytes of which `taken` are consumed. It takes no memory.
     pub fn of_buffer(mut buffer: Vec<u8>, taken: usize) -> Self
         requires { taken ≤ vec_len buffer }
         ensures unread { result.unread ≡ drop taken buffer.items }
@@ -82,16 +82,16 @@ impl Unread {
         }
     }
 
-    /// Whether it is as it was at first. Memory may be reserved.
+    /// Returns whether it is as it was at first. Memory may be reserved.
     pub fn is_fresh(&self) -> bool
         ensures { result ≡ true → self.now ≡ fresh_reader }
     {
         !self.closed && self.dropping.is_none() && self.buffer.is_empty()
     }
 
-    /// Puts a piece after what has come, without what is dropped of it.
+    /// Appends a piece to what has arrived, without what is dropped of it.
     ///
-    /// At `Memory` no byte is taken.
+    /// At `Memory` no byte is consumed.
     pub fn append(&mut self, piece: &[u8]) -> Result<(), ReadError>
         ensures fed { OnOk result ((text : List ℕ) → rest_of self.new text ≡ rest_of self.old (piece.now ++ text)) }
         ensures closed { self.new.closed ≡ self.old.closed }
@@ -114,10 +114,10 @@ impl Unread {
         Ok(())
     }
 
-    /// Notes how far what has come was looked at, and begins to drop a block that is refused. Where nothing is whole,
-    /// what was taken is dropped.
+    /// Notes how far the arrived bytes were examined, and begins to drop a refused block. If nothing is whole, it
+    /// drops the consumed bytes.
     ///
-    /// What was looked at is not looked at again, and what is left is moved once.
+    /// No byte is examined again, and what is left is moved once.
     pub fn advance(&mut self)
         ensures rest { KeepsRest self.old self.new }
         ensures little { KeepsLittle self.new }
@@ -160,8 +160,8 @@ impl Unread {
         }
     }
 
-    /// Looks for the end of the first line, notes how far it was searched, and says whether it is found and the line is
-    /// short: then a look reads at most `SHORT_LINE` bytes of it before it knows whether the first request or fault is whole.
+    /// Searches for the end of the first line, notes how far it searched, and returns whether the end is found and the line is
+    /// short. Then a look reads at most `SHORT_LINE` bytes of it before it knows whether the first request or fault is whole.
     pub fn finds_short_line(&mut self) -> bool
         ensures same { self.new ≡ self.old }
         ensures little { result ≡ true → KeepsLittle self.new }
@@ -183,14 +183,14 @@ impl Unread {
         }
     }
 
-    /// Whether it is known that nothing is whole, and nothing is kept of what was taken.
+    /// Returns whether it is known that nothing is whole, and no consumed byte is kept.
     pub fn waits(&self) -> bool
         ensures { result ≡ true → KeepsLittle self.now }
     {
         self.start == 0 && self.buffer.len() < self.wanted
     }
 
-    /// Drops what was taken.
+    /// Drops the consumed bytes.
     fn move_to_front(&mut self)
         ensures { self.new ≡ record self.old { held = length self.old.unread } }
     {
@@ -198,7 +198,7 @@ impl Unread {
         self.start = 0;
     }
 
-    /// The first request or fault that has come whole. It is lent, and its line is read once.
+    /// Borrows the first request or fault that has arrived whole. Its line is read once.
     pub fn peek(&self) -> Peek<'_>
         ensures seen { Peeks self.now result }
         ensures well_formed { IsWellFormedPeek result }
@@ -219,7 +219,7 @@ impl Unread {
         }
     }
 
-    /// The same where no block is dropped.
+    /// Borrows the first request or fault, if no refused block is being dropped.
     fn peek_unread(&self) -> Peek<'_>
         requires open { self.now.closed ≡ false }
         requires whole { self.now.dropping ≡ None }
@@ -239,7 +239,7 @@ impl Unread {
         }
     }
 
-    /// The first request that has come whole, if it is a good `get` or `gets` without a space in front, whose line's end is known.
+    /// Borrows the first request that has arrived whole, if it is a good `get` or `gets` without a space in front, whose line's end is known.
     #[inline(always)]
     pub fn peek_get(&self) -> Option<LentGet<'_>>
         ensures seen { IfSome result (λ get. Shows self.now (get_of get) get.front) }
@@ -254,7 +254,7 @@ impl Unread {
         }
     }
 
-    /// The same where no block is dropped.
+    /// Borrows the first `get` or `gets`, if no refused block is being dropped.
     #[inline(always)]
     fn get_unread(&self) -> Option<LentGet<'_>>
         requires open { self.now.closed ≡ false }
@@ -277,7 +277,7 @@ impl Unread {
         })
     }
 
-    /// The first line, if its end is known and what follows its leading spaces begins like no storage command.
+    /// Borrows the first line, if its end is known and what follows its leading spaces begins like no storage command.
     #[inline(always)]
     pub fn peek_lone(&self) -> Option<LentLine<'_>>
         ensures seen { IfSome result (λ line. (what : Taken) → IsAlone line what → Shows self.now what (front_by line what)) }
@@ -292,7 +292,7 @@ impl Unread {
         }
     }
 
-    /// The same where no block is dropped.
+    /// Borrows the first line, if no refused block is being dropped.
     #[inline(always)]
     fn lone_unread(&self) -> Option<LentLine<'_>>
         requires open { self.now.closed ≡ false }
@@ -308,7 +308,7 @@ impl Unread {
         Some(line)
     }
 
-    /// Whether it is known that nothing is whole until more bytes come. No byte is looked at.
+    /// Returns whether it is known that nothing is whole until more bytes arrive. It reads no byte.
     #[inline(always)]
     pub fn is_short(&self) -> bool
         ensures { result ≡ true → HasNone self.now self.now }
@@ -322,7 +322,7 @@ impl Unread {
         }
     }
 
-    /// The same where no block is dropped.
+    /// Returns whether it is known that nothing is whole, if no refused block is being dropped.
     #[inline(always)]
     fn is_unread_short(&self) -> bool
         requires open { self.now.closed ≡ false }
@@ -336,7 +336,7 @@ impl Unread {
         false
     }
 
-    /// The bytes that have come and are not taken.
+    /// Returns the bytes that have arrived and are not consumed.
     #[inline(always)]
     pub fn unread(&self) -> &[u8]
         ensures { result.now ≡ self.now.unread }
@@ -345,7 +345,7 @@ impl Unread {
         unread
     }
 
-    /// Whether a whole request or fault has come. Where the last call was `advance`, no byte is looked at.
+    /// Returns whether a whole request or fault has arrived. If the last call was `advance`, it reads no byte.
     pub fn ready(&self) -> bool
         ensures { IsTrue result ↔ (0 < length (rest_of self.now [])) }
     {
@@ -358,7 +358,7 @@ impl Unread {
         }
     }
 
-    /// The same where no block is dropped.
+    /// Returns whether a whole request or fault has arrived, if no refused block is being dropped.
     fn has_whole(&self) -> bool
         ensures { result ≡ is_some (next_request self.now.unread) }
     {
@@ -366,7 +366,7 @@ impl Unread {
         unread.len() >= self.wanted && (self.sure || is_whole(unread, self.searched))
     }
 
-    /// Takes what a look showed, and drops its bytes once they are more than half of all.
+    /// Consumes what a look showed, and drops the consumed bytes once they are more than half of all.
     pub fn consume(&mut self, front: Front)
         requires { front_of self.old ≡ Some front }
         ensures { KeepsRest (past front self.old) self.new }
@@ -384,21 +384,21 @@ impl Unread {
         self.closed = front.closes;
     }
 
-    /// Whether nothing is read any more.
+    /// Returns whether nothing is read any more.
     pub fn is_closed(&self) -> bool
         ensures { result ≡ self.now.closed }
     {
         self.closed
     }
 
-    /// Gives back the room that is reserved, where nothing is kept and more than so many bytes are reserved.
+    /// Frees the reserved memory, if nothing is kept and more than `kept` bytes are reserved.
     pub fn give_back(&mut self, kept: usize)
         ensures { self.new ≡ self.old }
     {
         give_back(&mut self.buffer, kept);
     }
 
-    /// How many bytes are kept.
+    /// Returns how many bytes are kept.
     pub fn held(&self) -> usize
         ensures { result ≡ self.now.held }
     {

@@ -1,4 +1,4 @@
--- Answers that are put out at once, and what a writer leaves of them.
+-- Answers that are written at once, and what a writer leaves of them.
 use Rattle.std.proofs.Common.{◌≡◌, ◌∙◌, ℕ, zero, suc, ◌+◌, ◌-◌, ◌<◌, ◌≤◌, min, nat_lt, Bool, true, false, List, [], ◌∷◌, ◌++◌, length, take, drop, codes, Option, Some, None, Ok, refl, sym, ap, subst, append_assoc, length-append, length-drop, length-take, drop-drop, arith}
 use Rattle.std.proofs.KnownBytes.{Appends-nil}
 use Rattle.std.proofs.lemmas.Bool.Decides.{nat_tests}
@@ -20,7 +20,7 @@ pub none_left : (keys : List (List ℕ)) (more : Bool) → more ≡ nat_lt 0 (le
 none_left [] more is ended = refl
 none_left (key ∷ keys) more is ended = let none : nat_lt 0 (length (key ∷ keys)) ≡ false = sym is ∙ ended in absurd (grind (arith, nat_tests, none))
 
--- what is left of two texts, one after the other
+-- what is left of two texts, joined
 drop-both : (count : ℕ) (xs ys : List ℕ) → drop count (xs ++ ys) ≡ drop count xs ++ drop (count - length xs) ys
 drop-both zero xs ys = let none : 0 ≡ 0 - length xs = omega arith in ap (λ (n : ℕ). xs ++ drop n ys) none
 drop-both (suc n) [] ys = let all : suc n ≡ suc n - 0 = omega arith in ap (λ (k : ℕ). drop k ys) all
@@ -106,7 +106,7 @@ gathered_none number moment (Turned Idle) written s t old new h = (refl, keeps_s
 gathered_none number moment (Turned Closing) written s t old new h = (refl, keeps_same written, h)
 gathered_none number moment Refused written s t old new h = (refl, keeps_same written, h)
 
--- the same of a server
+-- likewise of a server
 pub gathered_short : (number moment : ℕ) (limited : Limited) (written : Option (List ℕ)) (old new : ServerState)
     → Steps number old new (IsLimitedTurn number moment limited) → Steps number old new (IsGatheredTurn number moment limited 0 written written)
 gathered_short number moment limited written old new steps = record {
@@ -118,7 +118,7 @@ gathered_short number moment limited written old new steps = record {
   step = gathered_none number moment limited written old.cache new.cache steps.before steps.after steps.step;
 }
 
--- and if the writer can take nothing, nothing was
+-- if the writer can take nothing, nothing was taken
 pub ungathered : (number moment went : ℕ) (limited : Limited) (s t : CacheState) (old new : ConnectionState)
     → IsGatheredTurn number moment limited went (Some []) (Some []) s t old new → IsLimitedTurn number moment limited s t old new
 ungathered number moment went (Turned Took) s t old new h =

@@ -20,7 +20,7 @@ use Rattle.mc_cache.specs.Step.{step_of, Outcome}
 use Rattle.mc_server.specs.Served.{IsServed, Serves}
 use Rattle.mc_server.proofs.RefusalLemmas.{gets_tell_none}
 
--- the bytes of a reply that is filled with a lent value
+-- the bytes of a reply that is filled with a borrowed value
 pub bytes_seen-filled : {V : Type 0} (reply : Reply V) (value : Bor (List ℕ)) → bytes_seen (filled reply value) ≡ filled reply value.now
 bytes_seen-filled Stored value = refl
 bytes_seen-filled NotStored value = refl
@@ -111,7 +111,7 @@ in_order before head value next last =
     append_assoc before head (value ++ (next ++ last))
     ∙ ap (λ (bytes : List ℕ). before ++ bytes) (sym (append_assoc head (value ++ next) last ∙ ap (λ (bytes : List ℕ). head ++ bytes) (append_assoc value next last)))
 
--- it is found: its line was written, and its value and the end are to come
+-- it is found: its line was written, and its value and the end follow
 pub lone_hit : (number : ℕ) (key : List ℕ) (with_cas : Bool) (moment : ℕ) (s t : CacheState) (flags : ℕ) (cas : Option ℕ) (value before output : List ℕ)
     → step_of s (atoms.Get key None with_cas) moment false ≡ (t, Hit flags cas value) → output ≡ before ++ head_line key flags (length value) cas
     → IsServed number s (Whole (Get (key ∷ []) None with_cas)) moment t before (output ++ (value ++ codes "\r\nEND\r\n"))

@@ -1,4 +1,4 @@
--- A server that goes on is where its longer history leaves it: one lemma for each of its calls.
+-- A server that goes on is as its longer history leaves it: one lemma for each of its calls.
 use Rattle.std.proofs.Common.{◌≡◌, ◌≢◌, ◌∙◌, ⊎_elim, ℕ, ◌==◌, ◌<◌, true, false, if◌then◌else◌, List, [], ◌∷◌, ◌++◌, length, take, drop, Option, Some, None, refl, sym, ap, subst, arith}
 use Rattle.std.proofs.lemmas.Bool.Decides.{eqb_tells, leb_tells}
 use Rattle.std.proofs.lemmas.List.{append-nil}
@@ -42,7 +42,7 @@ same_for_other opening number history e differ =
       answers-push number opening history e ∙ rw other (append-nil (answers_to number opening history)),
     )
 
--- where a connection is depends on nothing else
+-- the state of a connection depends on nothing else
 holds_same : (opening : CacheState) (number : ℕ) (text text' : List ℕ) (history longer : List Entry) (sent sent' : List ℕ) (connection : Option ConnectionState)
     → text' ≡ text → sent' ≡ sent → SameFor opening number history longer
     → ServerHoldsAt opening number text history sent connection → ServerHoldsAt opening number text' longer sent' connection
@@ -57,7 +57,7 @@ holds_same opening number text text' history longer sent sent' (Some connection)
   answered = rw (same.1, sent_is) h.answered;
 }
 
--- a connection that is open holds, and so it does once it is left
+-- an open connection that satisfies `Holds` satisfies `Left` once it is closed
 pub left_from_holds : (opening : CacheState) (number : ℕ) (text : List ℕ) (history : List Entry) (sent : List ℕ) (connection : ConnectionState)
     → Holds opening number text history sent connection → Left opening number text history sent
 left_from_holds opening number text history sent connection h = record {
@@ -72,7 +72,7 @@ left_at : (opening : CacheState) (number : ℕ) (text : List ℕ) (history : Lis
 left_at opening number text history sent None h = h
 left_at opening number text history sent (Some connection) h = left_from_holds opening number text history sent connection h
 
--- what holds of the connection that took a step and of all others, holds of each
+-- what is true of the connection that took a step and of all others, is true of each
 pub at_each : (number : ℕ) (before after : ConnectionState) (old new : Connections) → connection_in old number ≡ Some before → new ≡ updated number after old
     → (P : ℕ → Option ConnectionState → Type 0) → P number (Some after) → ((other : ℕ) → number ≢ other → P other (connection_in old other))
     → (m : ℕ) → P m (connection_in new m)
@@ -83,7 +83,7 @@ at_each number before after old new was is P own others m =
     subst (λ (c : Option ConnectionState). P m c) (sym same) (others m e.1))
     (eqb_tells number m)
 
--- where an open connection of a server holds
+-- an open connection of a server satisfies `Holds`
 pub stood : (opening : CacheState) (texts sent : ℕ → List ℕ) (history : List Entry) (server : ServerState) (number : ℕ) (connection : ConnectionState)
     → ServerHolds opening texts sent history server → connection_at server number ≡ Some connection → Holds opening number (texts number) history (sent number) connection
 stood opening texts sent history server number connection h was =
@@ -112,7 +112,7 @@ ServerHolds-same opening texts texts' sent sent' history server text_is sent_is 
   };
 }
 
--- a connection takes a step, and what is said of all others stays
+-- a connection takes a step, and what is true of all others stays so
 pub stepped : (opening : CacheState) (texts texts' sent sent' : ℕ → List ℕ) (history longer : List Entry) (number : ℕ) (before after : ConnectionState) (old new : ServerState)
     → connection_at old number ≡ Some before → new.connections ≡ updated number after old.connections → new.admitted ≡ old.admitted
     → IsReplayed opening longer new.cache → Holds opening number (texts' number) longer (sent' number) after

@@ -73,7 +73,7 @@ second : (a b : Bool) → (a && b) ≡ true → b ≡ true
 second true b h = h
 second false b h = absurd cc
 
--- the word of a good meta command says its key
+-- the word of a good meta command stands for its key
 pub word_is_key : (command : MetaCommand (Bor (List ℕ)) (Bor (List ℕ))) (form : MetaForm (List (List ℕ))) → is_good_request (requests.Meta (meta_said form.coded command) form) ≡ true
     → (is_key (key_bytes form.coded (word_in_meta command)) ≡ true) × (meta_key (meta_said form.coded command) ≡ key_bytes form.coded (word_in_meta command))
 word_is_key (metas.Get key get) form h = (good_meta_key (meta_said form.coded (metas.Get key get)) form h, refl)

@@ -44,11 +44,11 @@ second : (a b : Bool) → (a && b) ≡ true → b ≡ true
 second true b h = h
 second false b h = absurd cc
 
--- a held value of at most so many bytes
+-- a stored value of at most n bytes
 abbrev AtMost : ℕ → Option Body → Type 0
 AtMost n held = IfSome held (λ body. length body.value ≤ n)
 
--- a reply that is told with a value of at most so many bytes, where this is held: no update is answered a hit
+-- a reply that becomes a meta reply with a value of at most n bytes, if this is stored: no reply to an update is a hit
 abbrev IsShort : ℕ → Option Body → Reply (List ℕ) → Type 0
 IsShort n held Stored = AtMost n held
 IsShort n held (Number number) = AtMost n held
@@ -174,7 +174,7 @@ count_step-short : (s : CacheState) (key : List ℕ) (held : Option Body) (count
 count_step-short s key None counting moment refused good = count_none-short s key counting.create moment refused good
 count_step-short s key (Some body) counting moment refused good = count_by-short s key body _ counting moment refused (compared-tells counting.compare (Some body))
 
--- what is made where a key is not held
+-- what is made if a key is not stored
 good_create : (counting : Counting) → is_good_counting counting ≡ true → is_where_some is_good_creation counting.create ≡ true
 good_create counting good = second (is_u64 counting.delta && is_where_some is_u64 counting.compare) _ (first (is_u64 counting.delta && is_where_some is_u64 counting.compare && is_where_some is_good_creation counting.create) _ good)
 
@@ -187,7 +187,7 @@ update_step-short s (Delete key compare invalidate) coded moment refused good = 
 update_step-short s (Count key counting) coded moment refused good = count_step-short s key (body_at key s.items) counting moment refused (good_create counting (second (is_meta_key coded key) _ good))
 update_step-short s (FlushAll delay) coded moment refused good = tt
 
--- what is told shows a value only where it is asked to
+-- a meta reply shows a value only if it is asked to
 shown_fits : (n : ℕ) (show : Show) (moment : ℕ) (marks : Marks) (held : Option Body) (v : Bool) → show.value ≡ v → AtMost n held → value_len (item_shown show moment marks held) ≤ (if v then n else 0)
 shown_fits n show moment marks None v is le = omega arith
 shown_fits n show moment marks (Some body) true is le = rw is le
@@ -218,7 +218,7 @@ update_fits s t update show coded moment refused reply front good by_front =
     let told : (step_of s (atoms.Meta (metas.Update update show)) moment refused).1 ≡ filled reply front = ap (λ (o : Outcome). o.1) by_front in
     rw told at (told_fits (update_value_room update) show moment Plain _ _ (update_step-short at update coded moment refused good))
 
--- what holds of a result that is there
+-- what is true of a result that is no error
 pub if_ok_then : {A E : Type 0} (r : Result A E) (P Q : A → Type 0) → ((a : A) → P a → Q a) → IfOk r P → IfOk r Q
 if_ok_then (Ok a) P Q next h = next a h
 if_ok_then (Err e) P Q next h = tt

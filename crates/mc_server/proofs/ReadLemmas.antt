@@ -6,7 +6,7 @@ use Rattle.mc_request_reader.specs.Reads.{Comes}
 use Rattle.mc_server.specs.ServerState.{ConnectionState, Connections, ServerState, connection_at, updated}
 use Rattle.mc_server.specs.Turns.{Feeds, IsFed, Steps}
 
--- more has come to a connection's reader
+-- more has arrived at a connection's reader
 pub fed_by : (old new : ReaderState) (output came : List ℕ) → Comes old new came → IsFed (record { reader = old; output = output }) came (record { reader = new; output = output })
 fed_by old new output came h =
     let at : ReaderState → ConnectionState = λ s. record { reader = s; output = output } in

@@ -58,19 +58,19 @@ gets_tell_none s exptime with_cas moment refused (key ∷ keys) =
     let first : is_refusal (step_of s (atoms.Get key exptime with_cas) moment refused).1 ≡ false = get_tells_none t key (body_at key t.items) exptime with_cas moment in
     rw first (gets_tell_none (step_of s (atoms.Get key exptime with_cas) moment refused).0 exptime with_cas moment refused keys)
 
--- what holds of two holds of the one that is chosen
+-- what is true of two is true of the one that is chosen
 either : {A : Type 0} (P : A → Type 0) (test : Bool) (x y : A) → P x → P y → P (if test then x else y)
 either P true x y first second = first
 either P false x y first second = second
 
--- where memory is not refused, a store is not answered the line
+-- if memory is not refused, the reply to a store is not that line
 stored_tells_none : (s : CacheState) (key : List ℕ) (content : Content) (reply : Reply (List ℕ)) → is_refusal reply ≡ false → is_refusal (stored s key content false reply).1 ≡ false
 stored_tells_none s key content reply other =
     let P : Result ℕ faults.Fault → Type 0 = λ r. is_refusal (stored_by s key content false reply r).1 ≡ false in
     either P (is_too_large s.budget key (length content.value)) (Err TooLarge) (if nat_le (2 ^ 64) (s.counter + 1) then Err CasUsedUp else Ok (s.counter + 1)) refl
     (either P (nat_le (2 ^ 64) (s.counter + 1)) (Err CasUsedUp) (Ok (s.counter + 1)) refl other)
 
--- nor is what is answered where nothing is stored
+-- nor is the reply if nothing is stored
 abbrev tells : Option (Reply (List ℕ)) → Bool
 tells None = false
 tells (Some reply) = is_refusal reply
@@ -142,7 +142,7 @@ update_tells_none s (Delete key compare invalidate) moment = delete_tells_none s
 update_tells_none s (Count key counting) moment = held_tells_none s key (body_at key s.items) counting moment
 update_tells_none s (FlushAll delay) moment = refl
 
--- nor is what is told to a meta command
+-- nor is the reply to a meta command
 shown_tells_none : (show : Show) (moment : ℕ) (marks : Marks) (held : Option Body) → is_refusal (item_shown show moment marks held) ≡ false
 shown_tells_none show moment marks None = refl
 shown_tells_none show moment marks (Some body) = refl

@@ -21,13 +21,13 @@ use Rattle.mc_request.specs.declared.meta.MetaGet.{MetaGet}
 use Rattle.mc_request.specs.declared.meta.MetaCommand.TheVariants as metas
 use Rattle.mc_server.specs.Rooms.{keys_room, meta_value_room, room_of, taken_bound}
 
--- where no value gets longer, no more room is needed
+-- if no value gets longer, no more room is needed
 pub keys_room-shrinks : (beside : ℕ) (keys : List (List ℕ)) (s t : CacheState)
     → ((other : List ℕ) → length (value_at other t.items) ≤ length (value_at other s.items)) → keys_room beside keys t ≤ keys_room beside keys s
 keys_room-shrinks beside [] s t shrinks = omega arith
 keys_room-shrinks beside (key ∷ keys) s t shrinks = omega (arith, shrinks key, keys_room-shrinks beside keys s t shrinks)
 
--- a value that is held is no longer than the longest
+-- a stored value is no longer than the longest
 pub value_at-longest : (key : List ℕ) (items : Items) → length (value_at key items) ≤ longest_of items
 value_at-longest key items =
     (elim (body_at key items) as (λ held. body_at key items ≡ held → length (unwrap_or (option_map (λ (b : Body). b.value) held) []) ≤ longest_of items) [
@@ -42,7 +42,7 @@ keys_room-longest beside each [] s le = omega arith
 keys_room-longest beside each (key ∷ keys) s le =
     omega (arith, le, value_at-longest key s.items, keys_room-longest beside each keys s le)
 
--- and so it is for as many keys or more
+-- likewise for as many keys or more
 pub keys_room-most : (beside each most : ℕ) (keys : List (List ℕ)) (s : CacheState) → longest_of s.items + beside ≤ each → length keys ≤ most
     → keys_room beside keys s ≤ each * most
 keys_room-most beside each most keys s le few =
@@ -56,7 +56,7 @@ few_words text keys are =
     let bytes : count_by (λ b. b == 32) text ≤ length text = count_by-le-length (λ b. b == 32) text in
     rw (← are) (omega (arith, length-words text, bytes))
 
--- and so it is for the value that `mg` shows
+-- likewise for the value that `mg` shows
 pub get_room-longest : (key : List ℕ) (get : MetaGet) (s : CacheState) → meta_value_room (metas.Get key get) s ≤ longest_of s.items
 get_room-longest key get s = elim get.show.value as (λ v. cond v (length (value_at key s.items)) 0 ≤ longest_of s.items) [
   | true ↦ value_at-longest key s.items
@@ -72,7 +72,7 @@ some_keys : (b c : Bool) → (b && c) ≡ true → b ≡ true
 some_keys true c h = cc
 some_keys false c h = absurd cc
 
--- the room of an answer is within what a caller is told
+-- the room of an answer is within the reported bound
 keys_within : (keys : List (List ℕ)) (s : CacheState) → 0 < length keys → 64 + keys_room 384 keys s ≤ keys_room 1024 keys s
 keys_within [] s some = absurd (omega arith)
 keys_within (key ∷ keys) s some = omega (arith, keys_room-wider 384 1024 keys s (omega arith))
@@ -88,7 +88,7 @@ room_within (Whole MetaNoop) s good = omega arith
 room_within (Whole Version) s good = omega arith
 room_within (Whole Quit) s good = omega arith
 
--- and what a caller is told is at most sixteen times that room
+-- the reported bound is at most sixteen times that room
 keys_bound : (keys : List (List ℕ)) (s : CacheState) → keys_room 1024 keys s ≤ 16 * keys_room 384 keys s
 keys_bound [] s = omega arith
 keys_bound (key ∷ keys) s = omega (arith, keys_bound keys s)

@@ -1,4 +1,4 @@
-//! Guesses of the items that are asked for next.
+//! Prefetching: guesses of the items that the next requests ask for.
 
 use crate::first_keys::{AHEAD, FirstKeys};
 use mc_cache::Cache;
@@ -6,41 +6,41 @@ use mc_request::{Asked, MetaCommand, Update};
 use mc_store::Store;
 use mc_text::{WordIter, words};
 
-/// Of fewer keys none is guessed.
+/// The fewest keys whose items are guessed.
 const FEW: usize = 3;
 
-/// A text of fewer bytes is not worth a look.
+/// The fewest bytes of a text that is worth a look.
 const SHORT: usize = 64;
 
-/// After a look that found little none begins at this many requests. If no more than half of its keys had a guess, none begins at twice as
-/// many after each such look that follows it.
+/// After a look that found little, no look begins at this many requests. If no more than half of its keys had a guess, the number doubles
+/// after each such look that follows it.
 const PASSES: u32 = 4;
 
-/// At so many more for each line that is refused while a guess is left, once these are more than an eighth of a look's keys.
+/// The number grows by this for each line that is refused while a guess is left, once such lines are more than an eighth of a look's keys.
 const VAIN_PASSES: u32 = 4;
 
-/// And at one more for so many bytes that it has with its data block.
+/// The number grows by one more for this many bytes of the refused line and its data block.
 const VAIN_BYTES: usize = 128;
 
-/// Of so many of a look's keys one may be in a line that is refused, and puts no look off.
+/// One in this many of a look's keys may be in a refused line without delaying the next look.
 const KEYS_TO_ONE_REFUSED: u8 = 8;
 
-/// At most at this many.
+/// The greatest number of requests at which no look begins.
 const MOST_PASSES: u32 = 64;
 
 /// What a connection keeps of its last look.
 #[derive(Clone, Copy)]
 pub struct Looked {
-    /// How many of the bytes that are not taken are in lines that it took: in these no other begins.
+    /// How many of the unconsumed bytes are in lines that the look took: no other look begins in these.
     bytes: usize,
-    /// At how many requests after these none begins, since it found little.
+    /// The number of next requests at which no look begins, since the last one found little.
     passes: u32,
-    /// At how many none began when one found little last, if none has found more since.
+    /// The number of requests after the last look that found little, if none has found more since.
     pause: u32,
 }
 
 impl Looked {
-    /// There was no look.
+    /// Returns what is kept before the first look.
     pub fn never() -> Looked {
         Looked {
             bytes: 0,
@@ -50,27 +50,27 @@ impl Looked {
     }
 }
 
-/// Guesses of the items of the keys that come next on one connection, in the order of the keys. Who uses a guess looks whether it is
-/// right: so it changes how long that takes, and nothing else.
+/// Guesses of the items of the keys that the next requests on one connection ask for, in the order of the keys. A call that takes a
+/// guess checks it, so a guess affects only the speed.
 #[derive(Clone, Copy)]
 pub struct Ahead {
     guesses: [u32; AHEAD],
-    /// Of how many keys there are guesses.
+    /// The number of keys that have guesses.
     count: u8,
-    /// How many of them were used.
+    /// The number of guesses that were used.
     used: u8,
-    /// How many of these were for a line that was refused.
+    /// The number of used guesses that were for a refused line.
     refused: u8,
-    /// What the looks read, which says nothing ([`Store::guess_all`]).
+    /// The bytes that the prefetches returned, joined: they only keep the loads alive ([`Store::guess_all`]).
     read: u8,
-    /// Whether the line that is served is refused, and puts the next look off.
+    /// Whether the line that is served is refused, and delays the next look.
     vain: bool,
     /// The number of the connection.
     connection: u64,
 }
 
 impl Ahead {
-    /// There is no guess.
+    /// Returns no guess.
     pub fn none() -> Ahead {
         Ahead {
             guesses: [0; AHEAD],
@@ -83,7 +83,7 @@ impl Ahead {
         }
     }
 
-    /// Turns to a connection, by its number. Guesses for another one are dropped.
+    /// Turns to a connection, by its number. The guesses of another connection are dropped.
     #[inline]
     pub fn turn_to(&mut self, connection: u64) {
         if self.connection != connection {
@@ -92,15 +92,15 @@ impl Ahead {
         }
     }
 
-    /// There are no guesses from now on.
+    /// Drops all guesses.
     fn drop_guesses(&mut self) {
         self.count = 0;
         self.used = 0;
         self.refused = 0;
     }
 
-    /// A line was refused. If a guess is left, one is passed over. If more than an eighth of a look's keys are in such lines, the next look
-    /// begins later: a look takes a line with a key whether it is refused or not, and who sends such lines gains nothing by it.
+    /// Notes that a line was refused. If a guess is left, it skips one. If more than an eighth of a look's keys are in such lines, it delays
+    /// the next look. A look takes a line with a key whether it is refused or not, and a client that sends such lines must gain nothing by it.
     #[inline]
     pub fn refuse(&mut self) {
         if self.used < self.count {
@@ -110,7 +110,7 @@ impl Ahead {
         }
     }
 
-    /// What a connection keeps of its last look once a request or fault of so many bytes is taken.
+    /// Returns what a connection keeps of its last look once a request or fault of `size` bytes is taken.
     #[inline]
     pub fn past(&mut self, looked: Looked, size: usize) -> Looked {
         let bytes = looked.bytes.saturating_sub(size);
@@ -126,13 +126,13 @@ impl Ahead {
         }
     }
 
-    /// The guess for the next meta command's key: 0 for one in base64, for which there is none.
+    /// Returns the guess for the next meta command's key: 0 for one in base64, which has none.
     #[inline]
     pub fn next_for(&mut self, coded: bool) -> u32 {
         if coded { 0 } else { self.next() }
     }
 
-    /// The guess for the next key, which is used by that: 0 if there is none.
+    /// Returns the guess for the next key, and marks it as used: 0 if there is none.
     #[inline]
     pub fn next(&mut self) -> u32 {
         if self.used >= self.count {
@@ -143,16 +143,15 @@ impl Ahead {
         guess.unwrap_or(0)
     }
 
-    /// A look, which guesses the items of the keys of a retrieval that is first in a text, with so many bytes, and of the requests that
-    /// come after it, if the cache finds several items sooner together. Given what the connection keeps of the last look, it gives what it
-    /// keeps of this one.
+    /// Looks ahead, if the cache finds several items faster together: it prefetches the items of the keys of a retrieval that is first in a text and
+    /// has `size` bytes, and of the requests after it. It takes what the connection keeps of the last look, and returns what it keeps of this one.
     ///
-    /// A look begins behind all lines that the last one took, so each byte is read by two looks at most, however the text is cut. If it
-    /// finds fewer than three keys, and leaves text enough for another one, the next begins 4 requests later. If no more than half of its
-    /// keys have a guess, the next begins 4 requests later too, and then 8, 16, 32 and 64, as long as none finds more. Of its refused lines
-    /// each beyond an eighth of its keys puts the next one off by 4 requests more, and by one for 128 bytes, to 64 at most. Requests at
-    /// which none could begin are not counted: those without a key, or with a key in base64, those that are refused, those in lines that
-    /// the look took, and those with fewer than 64 bytes from there on.
+    /// A look begins behind all lines that the last one took, so at most two looks read each byte, however the text is cut. If it finds
+    /// fewer than three keys, and leaves text enough for another one, the next begins 4 requests later. If no more than half of its keys
+    /// have a guess, the next begins 4 requests later too, and then 8, 16, 32 and 64, as long as none finds more. Each of its refused lines
+    /// beyond an eighth of its keys delays the next one by 4 requests more, and by one for 128 bytes, to 64 at most. Requests at which no
+    /// look could begin are not counted: those without a key, or with a key in base64, refused ones, those in lines that the look took, and
+    /// those with fewer than 64 bytes from there on.
     #[inline]
     pub fn look<S: Store + Drop>(
         &mut self,
@@ -168,7 +167,7 @@ impl Ahead {
         self.guess(looked, keys.again(), size, text, cache)
     }
 
-    /// The same of any request or fault, if something comes after it and it has a key.
+    /// Looks ahead, as [`Ahead::look`] does, at any request or fault that has a key and after which something follows.
     #[inline]
     pub fn look_past<S: Store + Drop>(
         &mut self,
@@ -187,7 +186,7 @@ impl Ahead {
         }
     }
 
-    /// The look, unless it is passed over.
+    /// Looks ahead, unless this request is to be skipped.
     #[inline(never)]
     fn guess<S: Store + Drop>(
         &mut self,
@@ -224,13 +223,13 @@ impl Ahead {
     }
 }
 
-/// At how many requests more none begins for a refused line of so many bytes.
+/// Returns the number of further requests at which no look begins, for a refused line of `size` bytes.
 fn vain_passes(size: usize) -> u32 {
     let bytes = (size / VAIN_BYTES).min(MOST_PASSES as usize);
     VAIN_PASSES.saturating_add(bytes as u32)
 }
 
-/// What is kept of a look that has read so many bytes, if none begins at so many requests after it.
+/// Returns what is kept of a look that has read `bytes` bytes, if none begins at the next `pause` requests.
 fn paused(bytes: usize, pause: u32) -> Looked {
     Looked {
         bytes,
@@ -239,8 +238,8 @@ fn paused(bytes: usize, pause: u32) -> Looked {
     }
 }
 
-/// At how many requests none begins after a look with these guesses: at none, unless no more than half of its keys have one. (A key that no
-/// item has may have a guess, if many keys fell together with it.)
+/// Returns the number of requests at which no look begins after one with these guesses: 0, unless no more than half of its keys have one.
+/// (A key that no item has may have a guess, if many keys share its bucket.)
 fn pause_after(before: u32, guesses: &[u32]) -> u32 {
     let found = guesses.iter().filter(|guess| **guess != 0).count();
     if found > guesses.len() / 2 {
@@ -249,7 +248,7 @@ fn pause_after(before: u32, guesses: &[u32]) -> u32 {
     before.saturating_mul(2).max(PASSES).min(MOST_PASSES)
 }
 
-/// What is kept of a look once a request was passed over for it.
+/// Returns what is kept of a look once a request was skipped for it.
 fn one_passed(looked: Looked) -> Looked {
     Looked {
         passes: looked.passes.saturating_sub(1),
@@ -257,7 +256,7 @@ fn one_passed(looked: Looked) -> Looked {
     }
 }
 
-/// The keys of a request that has one, but for a key in base64: its word is not what is looked up.
+/// Returns the keys of a request that has one, except a key in base64: its word is not what is looked up.
 #[inline(always)]
 fn keys_of<'a>(asked: &Asked<'a>) -> Option<WordIter<'a>> {
     match asked {
@@ -272,7 +271,7 @@ fn keys_of<'a>(asked: &Asked<'a>) -> Option<WordIter<'a>> {
     }
 }
 
-/// The key of a command that has one.
+/// Returns the key of a command that has one.
 #[inline(always)]
 fn key_of<'a>(update: &Update<&'a [u8], &'a [u8]>) -> Option<WordIter<'a>> {
     match update {

@@ -1,4 +1,4 @@
-//! Serving what is first in a reader: the cache makes its commands, and the answer goes after the output.
+//! Serving the first request of a reader: the cache executes its commands, and the answer is appended to the output.
 ghost use Rattle.std.specs.Prelude.{◌≡◌, ◌+◌, ◌≤◌, ◌<◌, ◌^◌, ◌-◌, ◌++◌, min, Bool, true, false, ℕ, List, length, vec_len, vec_capacity, ◌↔◌, Ok, IfOk, IsOkUnless, OnOk, OnErr};
 ghost use Rattle.std.specs.List.{list_all};
 ghost use Rattle.mc_text.specs.Keys.{is_key, is_plain_key};
@@ -35,17 +35,17 @@ use mc_store::Store;
 use mc_text::{CODED_ROOM, VALUE_LIMIT, WordIter};
 use std::alloc::AllocError;
 
-/// The most bytes that a command adds to an answer beside the value that it shows, as a caller is told.
+/// The most bytes that a command adds to an answer beside the value that it shows, as reported to a caller.
 pub const COMMAND_BOUND: usize = 1024;
 
 /// The most digits of a number of 64 bits.
 pub const NUMBER_ROOM: usize = 20;
 
-/// The most bytes of room that are made for values by the longest that is held, without a look at each. Where that would be
+/// The most bytes of room that are made for values by the length of the longest, without a look at each. If that would be
 /// more, each key is looked up.
 const ROOM_BY_LONGEST: usize = 65_536;
 
-/// Enough bytes of room for the answer to what is asked; [`usize::MAX`] where it may need that or more.
+/// Returns enough bytes of room for the answer to a request; [`usize::MAX`] if it may need that or more.
 pub fn room_for<S: Store + Drop>(asked: &Asked<'_>, cache: &Cache<S>) -> usize
     requires { is_well_formed (asked_of asked.now) ≡ true }
     ensures enough { min (room_of (asked_of asked.now) cache.now) (2 ^ 64 - 1) ≤ result }
@@ -61,7 +61,7 @@ pub fn room_for<S: Store + Drop>(asked: &Asked<'_>, cache: &Cache<S>) -> usize
     }
 }
 
-/// A bound on the answer to what is asked, as a caller is told it; [`usize::MAX`] where it is that or more.
+/// Returns a bound on the answer to a request, as reported to a caller; [`usize::MAX`] if it is that or more.
 pub fn bound_for<S: Store + Drop>(asked: &Asked<'_>, cache: &Cache<S>) -> usize
     requires { is_well_formed (asked_of asked.now) ≡ true }
     ensures { result ≡ min (taken_bound (asked_of asked.now) cache.now) (2 ^ 64 - 1) }
@@ -76,7 +76,7 @@ pub fn bound_for<S: Store + Drop>(asked: &Asked<'_>, cache: &Cache<S>) -> usize
     }
 }
 
-/// Enough bytes of room for the answer to a `get` or `gets` of these keys; [`usize::MAX`] where it may need that or more.
+/// Returns enough bytes of room for the answer to a `get` or `gets` of these keys; [`usize::MAX`] if it may need that or more.
 #[inline]
 pub fn room_for_get<S: Store + Drop>(keys: &WordIter<'_>, cache: &Cache<S>) -> usize
     ensures enough { min (LINE_ROOM + keys_room KEY_ROOM keys.now cache.now) (2 ^ 64 - 1) ≤ result }
@@ -85,16 +85,16 @@ pub fn room_for_get<S: Store + Drop>(keys: &WordIter<'_>, cache: &Cache<S>) -> u
     LINE_ROOM.saturating_add(enough_for_keys(keys, cache))
 }
 
-/// A bound on the answer to a `get` or `gets` of these keys, as a caller is told it; [`usize::MAX`] where it is that or more.
+/// Returns a bound on the answer to a `get` or `gets` of these keys, as reported to a caller; [`usize::MAX`] if it is that or more.
 pub fn bound_for_get<S: Store + Drop>(keys: &WordIter<'_>, cache: &Cache<S>) -> usize
     ensures { result ≡ min (keys_room COMMAND_BOUND keys.now cache.now) (2 ^ 64 - 1) }
 {
     room_for_keys(COMMAND_BOUND, keys.again(), cache)
 }
 
-/// Enough bytes for the values under some keys and what is beside them; [`usize::MAX`] where that may be it or more.
+/// Returns enough bytes for the values under some keys and what is beside them; [`usize::MAX`] if that may be it or more.
 ///
-/// Keys are no more than the bytes of their text and one; where that does not tell enough, no more than its spaces and one.
+/// It bounds the number of keys by the bytes of their text and one; if that is too much, by its spaces and one.
 fn enough_for_keys<S: Store + Drop>(keys: &WordIter<'_>, cache: &Cache<S>) -> usize
     ensures enough { min (keys_room KEY_ROOM keys.now cache.now) (2 ^ 64 - 1) ≤ result }
     ensures most { result ≤ keys_room KEY_ROOM keys.now cache.now + ROOM_BY_LONGEST }
@@ -114,7 +114,7 @@ fn enough_for_keys<S: Store + Drop>(keys: &WordIter<'_>, cache: &Cache<S>) -> us
     room_for_keys(KEY_ROOM, keys.again(), cache)
 }
 
-/// Enough bytes for the value that a meta command shows, by the word of its key.
+/// Returns enough bytes for the value that a meta command shows, by the word of its key.
 fn enough_for_value<S: Store + Drop>(
     command: &MetaCommand<&[u8], &[u8]>,
     coded: bool,
@@ -131,7 +131,7 @@ fn enough_for_value<S: Store + Drop>(
     }
 }
 
-/// The most bytes of a value that a meta command shows, by the word of its key.
+/// Returns the most bytes of a value that a meta command shows, by the word of its key.
 fn room_for_value<S: Store + Drop>(
     command: &MetaCommand<&[u8], &[u8]>,
     coded: bool,
@@ -154,7 +154,7 @@ fn room_for_value<S: Store + Drop>(
     }
 }
 
-/// The bytes of the values under some keys, and so many beside each; [`usize::MAX`] where it is that or more.
+/// Returns the bytes of the values under some keys, and `beside` more for each; [`usize::MAX`] if it is that or more.
 fn room_for_keys<S: Store + Drop>(beside: usize, keys: WordIter<'_>, cache: &Cache<S>) -> usize
     requires { beside < 2 ^ 16 }
     ensures { result ≡ min (keys_room beside keys.entry cache.now) (2 ^ 64 - 1) }
@@ -166,10 +166,10 @@ fn room_for_keys<S: Store + Drop>(beside: usize, keys: WordIter<'_>, cache: &Cac
     room
 }
 
-/// Serves what is asked at a moment, where its answer is within a limit, and says whether it is.
+/// Serves a request at a moment, if its answer is within a limit, and returns whether it is.
 ///
-/// What it may need of memory is taken before anything is: room for the answer, and the block of a value that is stored under a held key.
-/// Where the answer is not within the limit, or at an error, nothing has changed.
+/// It takes the memory that it may need before it changes anything: room for the answer, and the block of a value that is stored under a
+/// stored key. If the answer is not within the limit, or at an error, nothing has changed.
 #[inline]
 pub fn serve_within<S: Store + Drop>(
     asked: &Asked<'_>,
@@ -200,9 +200,8 @@ pub fn serve_within<S: Store + Drop>(
     Ok(true)
 }
 
-/// Serves what is asked at a moment, given guesses of the items of keys to come. Beside what the cache may take to store an
-/// item, memory is taken only for the block of a value that is stored under a held key, and where there is none nothing has
-/// changed.
+/// Serves a request at a moment, given guesses of the items of the next keys. The cache may take memory to store an item. Beside
+/// that, it takes memory only for the block of a value that is stored under a stored key, and if there is none nothing has changed.
 pub fn serve<S: Store + Drop>(
     asked: &Asked<'_>,
     cache: &mut Cache<S>,
@@ -247,7 +246,7 @@ pub fn serve<S: Store + Drop>(
     Ok(())
 }
 
-/// Serves a command that may change what is held, given a guess of its key's item.
+/// Serves a command that may change what is stored, given a guess of its key's item.
 fn serve_update<S: Store + Drop>(
     update: &Update<&[u8], &[u8]>,
     hides: Hides,
@@ -273,8 +272,8 @@ fn serve_update<S: Store + Drop>(
     Ok(())
 }
 
-/// Serves a `set` whose key and block are its own: no byte of the block is copied. There is room for its line, so it cannot fail: if the
-/// cache is refused memory, it is answered so.
+/// Serves a `set` whose key and block are owned: no byte of the block is copied. There is room for its line, so it cannot fail: if the
+/// cache is refused memory, the answer says so.
 pub fn serve_set<S: Store + Drop>(
     set: TakenSet,
     cache: &mut Cache<S>,
@@ -299,7 +298,7 @@ pub fn serve_set<S: Store + Drop>(
     }
 }
 
-/// What an update hides of its answer.
+/// Returns what an update hides of its answer.
 fn hides_by(noreply: bool) -> Hides
     ensures { (update : AnyUpdate (List ℕ) (List ℕ)) → hides_of (AnUpdate update noreply) ≡ result }
 {
@@ -344,7 +343,7 @@ fn serve_meta<S: Store + Drop>(
     Ok(())
 }
 
-/// What the cache answers to a meta command by the word of its key, given a guess of its item. The value that it shows is first.
+/// Returns the cache's reply to a meta command by the word of its key, given a guess of its item. The value that it shows is first.
 fn meta_reply<S: Store + Drop>(
     command: &MetaCommand<&[u8], &[u8]>,
     coded: bool,

@@ -23,7 +23,7 @@ use std::marker::Model;
 pub struct Connection {
     reader: ApartReader,
     output: Vec<u8>,
-    /// How many bytes of the output were taken out.
+    /// The number of bytes of the output that were taken out.
     sent: usize,
     /// What is kept of the last look ahead.
     looked: Looked,
@@ -49,7 +49,7 @@ impl Connection {
     ghost use Rattle.mc_server.specs.Turns.{IsFed, IsLimitedTurn, IsTurn};
     ghost use Rattle.mc_server.specs.declared.turns.Limited.TheVariants.{Refused};
 
-    /// A connection to which nothing has come.
+    /// Makes a connection to which nothing has arrived.
     pub fn new(alloc: Global) -> Self
         ensures { result ≡ fresh_connection }
     {
@@ -73,7 +73,7 @@ impl Connection {
         Ok(())
     }
 
-    /// Reads once, straight into the data block of a large `set`, if many of its bytes are to come. None says that nothing was read.
+    /// Reads once, straight into the data block of a large `set`, if many of its bytes are missing. None says that nothing was read.
     #[inline(always)]
     pub fn read_from<R: Read>(&mut self, reader: &mut R) -> Option<io::Result<usize>>
         ensures read { IfSome result (λ read. ReadsBy read (R.remaining reader.old) (R.remaining reader.new)
@@ -85,21 +85,21 @@ impl Connection {
         self.reader.read_from(reader)
     }
 
-    /// Whether a whole request or fault has come.
+    /// Returns whether a whole request or fault has arrived.
     pub fn ready(&self) -> bool
         ensures { IsTrue result ↔ (0 < length (rest_of self.now.reader [])) }
     {
         self.reader.ready()
     }
 
-    /// Whether nothing is read any more.
+    /// Returns whether nothing is read any more.
     pub fn is_closed(&self) -> bool
         ensures { result ≡ self.now.reader.closed }
     {
         self.reader.is_closed()
     }
 
-    /// A bound on what the next turn adds to the output; [`usize::MAX`] where it is that or more.
+    /// Returns a bound on what the next turn adds to the output; [`usize::MAX`] if it is that or more.
     pub fn bound<S: Store + Drop>(&self, cache: &Cache<S>) -> usize
         ensures { result ≡ min (bound_of (rest_of self.now.reader []) cache.now) (2 ^ 64 - 1) }
     {
@@ -109,8 +109,8 @@ impl Connection {
         }
     }
 
-    /// Takes the first request or fault that has come whole, and serves it at a moment: a [turn](Self::turn_within) without
-    /// a limit.
+    /// Takes the first request or fault that has arrived whole, and serves it at a moment: a [turn](Self::turn_within)
+    /// without a limit.
     pub fn turn<S: Store + Drop>(
         &mut self,
         cache: &mut Cache<S>,
@@ -134,10 +134,10 @@ impl Connection {
         }
     }
 
-    /// Takes the first request or fault that has come whole, and serves it at a moment, if its answer is within a limit.
+    /// Takes the first request or fault that has arrived whole, and serves it at a moment, if its answer is within a limit.
     ///
-    /// What it may need of memory is taken before anything is: room for the answer, and the block of a value that is
-    /// stored under a held key, unless the reader hands that out. If none waits it needs none.
+    /// It takes the memory that it may need before it changes anything: room for the answer, and the block of a value
+    /// that is stored under a stored key, unless the reader moves that out. If no request is pending it needs none.
     pub fn turn_within<S: Store + Drop>(
         &mut self,
         cache: &mut Cache<S>,
@@ -164,8 +164,8 @@ impl Connection {
         self.turn_gathering(cache, moment, limit, ahead, &mut NoWriter, &mut went)
     }
 
-    /// Takes a [turn](Self::turn_within) whose answer may be written at once. If it shows one large value, the writer is given in one call
-    /// what is unsent, the answer, and the value from where it is. `went` says how many bytes the writer took. The others stay in the output.
+    /// Takes a [turn](Self::turn_within) whose answer may be written at once. If it shows one large value, the writer is given in one call what is
+    /// unsent, the answer, and the value without a copy. `went` is set to the number of bytes that the writer took. The others stay in the output.
     pub fn turn_gathering<S: Store + Drop, W: Gather>(
         &mut self,
         cache: &mut Cache<S>,
@@ -229,7 +229,7 @@ impl Connection {
         self.turn_other(cache, moment, limit, ahead)
     }
 
-    /// The same where what is first is not a good `get` or `gets`.
+    /// Takes a turn of a first request that is not a good `get` or `gets`, or of a fault.
     fn turn_other<S: Store + Drop>(
         &mut self,
         cache: &mut Cache<S>,
@@ -283,8 +283,8 @@ impl Connection {
         }
     }
 
-    /// Takes a turn of a large `set` that the reader hands out: no byte of its data block is copied. None if it hands out none, if there is
-    /// no room for an answer, or if the limit is low: then nothing has changed.
+    /// Takes a turn of a large `set` that the reader moves out: no byte of its data block is copied. It returns none if there is no such
+    /// `set`, if there is no room for an answer, or if the limit is low: then nothing has changed.
     #[inline(never)]
     fn turn_set<S: Store + Drop>(
         &mut self,
@@ -353,7 +353,7 @@ impl Connection {
         Ok(Limited::Turned(Turn::Took))
     }
 
-    /// The answers that were not taken out.
+    /// Returns the answers that were not taken out.
     pub fn output(&self) -> &[u8]
         ensures { result.now ≡ self.now.output }
     {
@@ -361,7 +361,7 @@ impl Connection {
         output
     }
 
-    /// Releases the first `count` bytes of the output, which the client was sent.
+    /// Releases the first `count` bytes of the output, which were sent to the client.
     pub fn taken_out(&mut self, count: usize)
         requires { count ≤ length self.old.output }
         ensures { self.new ≡ record self.old { output = drop count self.old.output } }
@@ -369,7 +369,7 @@ impl Connection {
         self.sent = let_go(&mut self.output, self.sent + count);
     }
 
-    /// Gives back the memory of each buffer that holds no byte, where more than `kept` bytes are reserved for it.
+    /// Frees the memory of each buffer that holds no byte, if more than `kept` bytes are reserved for it.
     pub fn give_back(&mut self, kept: usize)
         ensures { self.new ≡ self.old }
     {

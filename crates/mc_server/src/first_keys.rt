@@ -1,4 +1,4 @@
-//! The keys that the first requests of a text ask for.
+//! The keys of the first requests of a text.
 ghost use Rattle.std.specs.Prelude.{◌≤◌, length};
 
 use mc_text::{CODED_LIMIT, KEY_LIMIT, LANES, WordIter, are_plain_keys, read_i64, read_len, words};
@@ -10,10 +10,10 @@ pub const AHEAD: usize = 32;
 /// The most bytes after the first request that are read: as many as that many gets of the longest keys take.
 const LONG: usize = 8_192;
 
-/// The most bytes of a command's name that are looked at.
+/// The most bytes of a command's name that are read.
 const NAME: usize = LANES - 1;
 
-/// The most bytes of a meta command's flags among which that for base64 is looked for.
+/// The most bytes of a meta command's flags among which that for base64 is searched for.
 const FLAGS: usize = 64;
 
 /// The most bytes of an exptime or a length.
@@ -22,21 +22,21 @@ const NUMBER: usize = 20;
 /// The control byte above the others, which is in no key.
 const DELETE: u8 = 127;
 
-/// The keys that the first requests of a text ask for, in their order, as many as there is room for.
+/// The keys of the first requests of a text, in their order, as many as there is room for.
 ///
-/// A line is taken only if it ends where the reader of requests has it end, and, if it is a retrieval, only if that would not refuse it:
-/// else it and all after it are left out. So of each line that is taken the keys are looked up, unless it has one key and is refused. A key
-/// in base64 is left out if that flag is in the first 64 bytes of the flags, since its word is not what is looked up.
+/// A line is taken only if it ends where the reader of requests ends it. A retrieval is taken only if the reader would not refuse it. Else
+/// the line and all after it are left out. So the keys of each taken line are looked up, unless it has one key and is refused. A key in
+/// base64 is left out if that flag is in the first 64 bytes of the flags, since its word is not what is looked up.
 #[derive(Drop)]
 pub struct FirstKeys<'a> {
     keys: [&'a [u8]; AHEAD],
     count: usize,
-    /// How many bytes the lines that were taken have with their data blocks.
+    /// The bytes of the taken lines and their data blocks.
     taken: usize,
 }
 
 impl<'a> FirstKeys<'a> {
-    /// There is none yet.
+    /// Makes an empty list.
     pub fn none() -> FirstKeys<'a> {
         FirstKeys {
             keys: [&[]; AHEAD],
@@ -45,8 +45,8 @@ impl<'a> FirstKeys<'a> {
         }
     }
 
-    /// Takes the keys of the first request, and those of the requests that the text after it begins with. No more than 8,192 bytes of that
-    /// text are read, and each of them a constant number of times.
+    /// Takes the keys of the first request, and those of the requests with which the text after it begins. It reads no more than 8,192
+    /// bytes of that text, and each of them a constant number of times.
     pub fn take(&mut self, first: WordIter<'a>, after: &'a [u8]) {
         for key in first {
             if self.push(key).is_none() {
@@ -56,19 +56,19 @@ impl<'a> FirstKeys<'a> {
         self.take_lines(after.get(..LONG).unwrap_or(after));
     }
 
-    /// The keys.
+    /// Returns the keys.
     pub fn keys(&self) -> &[&'a [u8]]
         ensures { length result.now ≤ AHEAD }
     {
         self.keys.as_slice().get(..self.count).unwrap_or_default()
     }
 
-    /// How many bytes of the text after the first request the requests take whose keys these are.
+    /// Returns how many bytes after the first request are taken by the requests whose keys these are.
     pub fn taken(&self) -> usize {
         self.taken
     }
 
-    /// Takes the lines that the text begins with.
+    /// Takes the lines with which the text begins.
     fn take_lines(&mut self, text: &'a [u8]) {
         let mut rest = text;
         for _ in 0..AHEAD {
@@ -85,7 +85,7 @@ impl<'a> FirstKeys<'a> {
         self.taken = text.len().saturating_sub(rest.len());
     }
 
-    /// Takes the keys of the first line, and gives what is after it and its data block.
+    /// Takes the keys of the first line, and returns what is after it and its data block.
     fn take_line(&mut self, text: &'a [u8]) -> Option<&'a [u8]> {
         let (name, words) = split_word(text, NAME)?;
         match name {
@@ -123,15 +123,15 @@ impl<'a> FirstKeys<'a> {
         Some(())
     }
 
-    /// Takes the next word, and gives what is after it.
+    /// Takes the next word, and returns what is after it.
     fn take_key(&mut self, text: &'a [u8], most: usize) -> Option<&'a [u8]> {
         let (word, rest) = next_word(text, most)?;
         self.push(word)?;
         Some(rest)
     }
 
-    /// The same of a meta command, and what is after its line: a key in base64 is left out, if that flag is in the first 64 bytes of the
-    /// flags.
+    /// Takes the key of a meta command, and returns its flags and what is after its line. It leaves a key in base64 out, if that flag is
+    /// in the first 64 bytes of the flags.
     fn take_meta_key(&mut self, words: &'a [u8]) -> Option<(&'a [u8], &'a [u8])> {
         let (word, rest) = next_word(words, CODED_LIMIT)?;
         let (flags, after) = split_line(rest)?;
@@ -141,7 +141,7 @@ impl<'a> FirstKeys<'a> {
         Some((rest, after))
     }
 
-    /// Takes the keys of a retrieval, of which there is one at least, as many as there is room for, and gives what is after its line.
+    /// Takes the keys of a retrieval, of which there is at least one, as many as there is room for, and returns what is after its line.
     fn take_keys(&mut self, words: &'a [u8]) -> Option<&'a [u8]> {
         let mut rest = self.take_key(words, KEY_LIMIT)?;
         for _ in 0..AHEAD {
@@ -158,18 +158,18 @@ impl<'a> FirstKeys<'a> {
     }
 }
 
-/// Whether one of these flags says that the key is in base64.
+/// Returns whether one of these flags says that the key is in base64.
 fn is_coded(flags: &[u8]) -> bool {
     flags.ends_with(b" b") || flags.windows(3).any(|three| three == b" b ".as_slice())
 }
 
-/// What is after the first line, if none of its words has more bytes than a key.
+/// Returns what is after the first line, if none of its words has more bytes than a key.
 fn after_keys(text: &[u8]) -> Option<&[u8]> {
     let (line, after) = split_line(text)?;
     are_plain_keys(&words(line)).then_some(after)
 }
 
-/// The first line without its end, if it is whole and no control byte is in it, and what is after it.
+/// Returns the first line without its end, if it is whole and no control byte is in it, and what is after it.
 #[inline]
 fn split_line(text: &[u8]) -> Option<(&[u8], &[u8])> {
     let end = first_up_to(b' ' - 1, text)?;
@@ -179,7 +179,7 @@ fn split_line(text: &[u8]) -> Option<(&[u8], &[u8])> {
     }
 }
 
-/// What is after the end of a line, if that is first.
+/// Returns what is after the end of a line, if that end is first.
 #[inline]
 fn after_line(text: &[u8]) -> Option<&[u8]> {
     match text {
@@ -188,14 +188,14 @@ fn after_line(text: &[u8]) -> Option<&[u8]> {
     }
 }
 
-/// The word in front, if it has at most this many bytes, and what is after it, from the byte on that ends it.
+/// Returns the word in front, if it has at most this many bytes, and what is after it, from the byte on that ends it.
 #[inline]
 fn split_word(text: &[u8], most: usize) -> Option<(&[u8], &[u8])> {
     let end = first_up_to(b' ', text.get(..=most).unwrap_or(text))?;
     Some((text.get(..end)?, text.get(end..)?))
 }
 
-/// The word after one space, and what is after that. Between two spaces there is none.
+/// Returns the word after one space, and what is after that. Between two spaces there is none.
 #[inline]
 fn next_word(text: &[u8], most: usize) -> Option<(&[u8], &[u8])> {
     let [b' ', words @ ..] = text else {
@@ -208,7 +208,7 @@ fn next_word(text: &[u8], most: usize) -> Option<(&[u8], &[u8])> {
     Some((word, rest))
 }
 
-/// The third word of the rest of a line, and what is after the line. Of what follows a storage command's key it is the length.
+/// Returns the third word of the rest of a line, and what is after the line. In the rest after a storage command's key it is the length.
 #[inline]
 fn third_word(text: &[u8]) -> Option<(&[u8], &[u8])> {
     if let Some((word, rest)) = third_in_lanes(text) {
@@ -220,8 +220,8 @@ fn third_word(text: &[u8]) -> Option<(&[u8], &[u8])> {
     Some((word, split_line(rest)?.1))
 }
 
-/// The third word of the rest of a line, and the text from its first control byte on, if that is among the first 16 bytes, and one space
-/// alone is in front of each word and none in front of that byte.
+/// Returns the third word of the rest of a line, and the text from its first control byte on. It does so if that byte is among the first
+/// 16, one space alone is in front of each word, and none is in front of that byte.
 #[inline]
 fn third_in_lanes(text: &[u8]) -> Option<(&[u8], &[u8])> {
     let (lanes, _) = text.split_first_chunk::<LANES>()?;
@@ -237,32 +237,32 @@ fn third_in_lanes(text: &[u8]) -> Option<(&[u8], &[u8])> {
     Some((word, text.get(ends.trailing_zeros() as usize..)?))
 }
 
-/// Which of some bytes are control bytes.
+/// Returns a mask of the bytes that are control bytes.
 #[inline(always)]
 fn control_bytes(bytes: u8x16) -> u64 {
     bytes.simd_lt(u8x16::splat(b' ')).to_bitmask()
         | bytes.simd_eq(u8x16::splat(DELETE)).to_bitmask()
 }
 
-/// The lowest bit that is set, and all below it: all bits, if none is set.
+/// Returns the lowest bit that is set, and all below it: all bits, if none is set.
 #[inline(always)]
 fn lowest_and_below(bits: u64) -> u64 {
     bits ^ bits.wrapping_sub(1)
 }
 
-/// The bits without the lowest that is set.
+/// Returns the bits without the lowest that is set.
 #[inline(always)]
 fn without_lowest(bits: u64) -> u64 {
     bits & bits.wrapping_sub(1)
 }
 
-/// What is after the data block of this length.
+/// Returns what is after the data block of this length.
 fn after_block<'a>(len: &[u8], text: &'a [u8]) -> Option<&'a [u8]> {
     let block = (read_len(len)? as usize).checked_add(2)?;
     text.get(block..)
 }
 
-/// Where the first byte is that is no more than another, or is 127. The processor looks at many at once.
+/// Returns the index of the first byte that is no more than another, or is 127. The processor tests many at once.
 #[inline]
 fn first_up_to(most: u8, text: &[u8]) -> Option<usize> {
     let (chunks, rest) = text.as_chunks::<LANES>();

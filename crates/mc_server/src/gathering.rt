@@ -1,4 +1,4 @@
-//! Serving a retrieval: a large value goes to the writer from where it is.
+//! Serving a retrieval: a large value is written without a copy.
 ghost use Rattle.std.specs.Prelude.{◌≡◌, ◌+◌, ◌*◌, ◌-◌, ◌≤◌, ◌<◌, ◌^◌, ◌++◌, true, false, ℕ, List, [], ◌∷◌, length, drop, codes, None, Ok, vec_len, vec_capacity, IfSome};
 ghost use Rattle.std.specs.List.{list_all};
 ghost use Rattle.mc_text.specs.Keys.{is_plain_key};
@@ -18,18 +18,18 @@ use mc_store::Store;
 use mc_stream::Gather;
 use mc_text::{WordIter, append, let_go};
 
-/// A value of so many bytes or more is written from where it is: 64 KiB. To copy a shorter one costs no more than that saves.
+/// A value of this many bytes or more is written without a copy: 64 KiB. Copying a shorter one costs no more than that saves.
 pub const GATHER_MIN: usize = 65_536;
 
-/// The room that is made for the answer to a retrieval of one key whose value has so many bytes.
+/// The room that is made for the answer to a retrieval of one key whose value has at most `GATHER_MIN` bytes.
 const GATHER_ROOM: usize = LINE_ROOM + KEY_ROOM + GATHER_MIN;
 
 /// What a retrieval has left of an output.
 #[derive(Clone, Copy)]
 pub struct Put {
-    /// How many bytes of the output were taken out, which are the first that are kept.
+    /// The number of bytes at the front of the output that were taken out.
     pub sent: usize,
-    /// How many bytes the writer took.
+    /// The number of bytes that the writer took.
     pub went: usize,
 }
 
@@ -37,7 +37,7 @@ pub struct Put {
 /// taken out.
 ///
 /// If there is one key, and its value is large, the writer is given all at once: what is unsent, the line in front of the value,
-/// the value where it is, and the end. What it does not take stays in the output. Any other answer is appended there.
+/// the value without a copy, and the end. What it does not take stays in the output. Any other answer is appended there.
 pub fn serve_get<S: Store + Drop, W: Gather>(
     keys: WordIter<'_>,
     room: usize,
@@ -77,7 +77,7 @@ pub fn serve_get<S: Store + Drop, W: Gather>(
     Put { sent, went: 0 }
 }
 
-/// The one key of a retrieval that has no other.
+/// Returns the key of a retrieval that has no other.
 fn lone_key<'a>(keys: &WordIter<'a>) -> Option<&'a [u8]>
     ensures { IfSome result (λ key. keys.now ≡ key.now ∷ []) }
 {
@@ -117,8 +117,8 @@ fn serve_lone<S: Store + Drop, W: Gather>(
     put_out(sent, output, cache.front_value(), writer)
 }
 
-/// Serves a retrieval of one key, given a guess of its item, but for the value and what follows it, and says whether there is one:
-/// it is the first of the cache. If there is none the answer is whole.
+/// Serves a retrieval of one key, given a guess of its item, except for the value and what follows it. It returns whether there is
+/// a value: it is that of the cache's first item. If there is none the answer is whole.
 fn serve_head<S: Store + Drop>(
     key: &[u8],
     guess: u32,
@@ -173,7 +173,7 @@ fn put_out<W: Gather>(sent: usize, output: &mut Vec<u8>, value: &[u8], writer: &
     }
 }
 
-/// What is left of a part once so many bytes were taken, and how many of these are behind it.
+/// Returns what is left of a part once `count` bytes were taken, and how many of these are behind it.
 fn left_of(part: &[u8], count: usize) -> (&[u8], usize)
     ensures left { result.0.now ≡ drop count part.now }
     ensures short { length result.0.now ≤ length part.now }

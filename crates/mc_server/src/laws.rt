@@ -1,4 +1,4 @@
-//! Laws of what is in a history. The functions do nothing: their contracts are the laws.
+//! Laws of the entries of a history. The functions do nothing: their contracts are the laws.
 ghost use Rattle.std.specs.Prelude.{◌≡◌, true, false};
 ghost use Rattle.mc_request.specs.Faults.{fault_line};
 ghost use Rattle.mc_request.specs.declared.faults.Fault.TheVariants.{OutOfMemory};
@@ -7,8 +7,8 @@ ghost use Rattle.mc_request.specs.declared.parts.Taken.TheVariants.{Whole};
 ghost use Rattle.mc_cache.specs.CacheState.{CacheState};
 ghost use Rattle.mc_server.specs.Served.{Entry, IsLegalAt, answer_after};
 
-/// An entry that was refused memory is answered the line that says so, and nothing else. One that was not may be
-/// after any history.
+/// The answer to an entry that was refused memory is the line that says so, and nothing else. An entry that was
+/// not may follow any history.
 pub fn refusals_are_told()
     ensures told { (s : CacheState) → (e : Entry) → IsLegalAt s e → e.refused ≡ true
         → answer_after s e ≡ fault_line OutOfMemory }

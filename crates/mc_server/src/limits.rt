@@ -1,4 +1,4 @@
-//! How large an answer may be.
+//! Limits of the size of an answer.
 ghost use Rattle.std.specs.Prelude.{◌≡◌, ◌≤◌, ◌<◌, ◌^◌, ◌-◌, ◌+◌, ◌↔◌, true, min, IsTrue};
 ghost use Rattle.mc_request.specs.LinesSeen.{asked_of};
 ghost use Rattle.mc_request.specs.WellFormed.{is_well_formed};
@@ -11,26 +11,26 @@ use mc_request::Asked;
 use mc_store::Store;
 use mc_text::WordIter;
 
-/// No bound is more than so many times the room for the answer.
+/// No bound is more than this many times the room for the answer.
 const BOUND_BY_ROOM: usize = 16;
 
 /// The most bytes that an answer may have, by the bound that [`Server::bound`](crate::Server::bound) gives.
 #[derive(Clone, Copy, Debug, PartialEq, Eq)]
 pub struct AnswerLimit {
-    /// So many; [`usize::MAX`] where it may have any.
+    /// The limit; [`usize::MAX`] if an answer may have any size.
     pub bytes: usize,
 }
 
 impl AnswerLimit {
-    /// An answer may have any size: the greatest bound is within it.
+    /// Returns the limit within which an answer may have any size.
     pub fn none() -> AnswerLimit
         ensures { result ≡ record { bytes = 2 ^ 64 - 1 } }
     {
         AnswerLimit { bytes: usize::MAX }
     }
 
-    /// Whether the answer to what is asked may have more bytes, where so much room is enough for it. The bound looks each key up,
-    /// and is asked for only where that room is large.
+    /// Returns whether the answer to a request may have more bytes, if `room` is room enough for it. The bound looks each key up,
+    /// and is computed only if that room is large.
     pub fn is_passed<S: Store + Drop>(
         self,
         room: usize,
@@ -47,7 +47,7 @@ impl AnswerLimit {
         bound_for(asked, cache) > self.bytes
     }
 
-    /// The same of the answer to a `get` or `gets` of these keys.
+    /// Returns whether the answer to a `get` or `gets` of these keys may have more bytes, if `room` is room enough for it.
     #[inline]
     pub(crate) fn is_passed_by_get<S: Store + Drop>(
         self,

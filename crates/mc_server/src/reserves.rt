@@ -1,10 +1,11 @@
-//! Memory that is kept for when the system gives none.
+//! A reserve of memory, for when the system gives none.
 ghost use Rattle.std.specs.Prelude.{IsOkUnless};
 
 use crate::turns::ServerError;
 use std::alloc::Global;
 
-/// How many bytes a part of a reserve has: few enough that the allocator serves it and what it is let go for from the same memory.
+/// The bytes of a part of a reserve: few enough that the allocator serves the part, and the allocations for which it is freed,
+/// from the same memory.
 const PART: usize = 65_536;
 
 /// Memory that is kept for when the system gives none.
@@ -15,14 +16,14 @@ pub struct Reserve {
 }
 
 impl Reserve {
-    /// A reserve without memory.
+    /// Makes a reserve without memory.
     pub fn none(alloc: Global) -> Self {
         Reserve {
             parts: Vec::new(alloc),
         }
     }
 
-    /// Takes memory until there are so many bytes of it in whole parts. At an error it has what it got.
+    /// Takes memory until the reserve has this many bytes in whole parts. At an error it has what it got.
     pub fn fill(&mut self, alloc: Global, bytes: usize) -> Result<(), ServerError>
         ensures { IsOkUnless result ServerError.Memory }
     {
@@ -34,12 +35,12 @@ impl Reserve {
         Ok(())
     }
 
-    /// Whether there are so many bytes of it, in whole parts.
+    /// Returns whether the reserve has this many bytes, in whole parts.
     pub fn holds(&self, bytes: usize) -> bool {
         self.parts.len() >= bytes / PART
     }
 
-    /// Gives its memory back, and says whether there was some.
+    /// Frees its memory, and returns whether there was some.
     #[inline(never)]
     pub fn release(&mut self) -> bool {
         let had_some = !self.parts.is_empty();

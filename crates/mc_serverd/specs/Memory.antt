@@ -7,26 +7,26 @@ use Rattle.mc_serverd.specs.declared.memory.Limit.TheVariants.{Addresses, Group}
 abbrev pub memory_of : ℕ → ℕ → ℕ
 memory_of budget items = budget * 107 / 100 + items * 112
 
--- what so many items of 120 bytes cost, 184 each, if that leaves some of the budget
+-- what n items of 120 bytes cost, 184 each, if that leaves some of the budget
 abbrev pub filled_by : ℕ → ℕ → Option ℕ
 filled_by items budget = if nat_lt (items * 184) budget then Some (items * 184) else None
 
--- a limit that is there and below what may be taken
+-- a limit that exists and is below what may be taken
 abbrev pub below : ℕ → Option ℕ → Option ℕ
 below memory None = None
 below memory (Some limit) = if nat_lt limit memory then Some limit else None
 
--- the lower one of two limits that may be there: of the addresses of a process, and of its control group
+-- the lower one of two optional limits: of the addresses of a process, and of its control group
 abbrev pub lower_of : Option ℕ → Option ℕ → Option Limit
 lower_of None None = None
 lower_of (Some limit) None = Some (Addresses limit)
 lower_of None (Some limit) = Some (Group limit)
 lower_of (Some limit) (Some shared) = Some (if nat_lt limit shared then Addresses limit else Group shared)
 
--- the limit that a server meets which takes so much memory
+-- the limit that a server meets which takes this much memory
 abbrev pub met_limit : ℕ → Option ℕ → Option ℕ → Option Limit
 met_limit memory limit shared = lower_of (below memory limit) (below memory shared)
 
--- how many tenths of a unit so many bytes are, to the nearest
+-- a number of bytes in tenths of a unit, to the nearest
 abbrev pub tenths_of : ℕ → ℕ → ℕ
 tenths_of tenth bytes = (bytes + tenth / 2) / tenth

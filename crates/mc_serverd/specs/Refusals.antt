@@ -4,11 +4,11 @@ use Rattle.mc_serverd.specs.declared.refusals.Refusals.{Refusals}
 use Rattle.mc_serverd.specs.declared.refusals.Row.{Row}
 use Rattle.mc_serverd.specs.declared.refusals.TheConstants.{PAUSE}
 
--- whether a refusal in a second, once so many items were stored, goes on a row: none was stored since its last one, and that was not long ago
+-- whether a refusal in a second, with n items stored so far, continues a row: none was stored since its last one, and that was not long ago
 abbrev pub goes_on : Row → ℕ → ℕ → Bool
 goes_on row second stores = (row.stores == stores) && nat_le (second - row.last) PAUSE
 
--- in which second the row began that a refusal in a second is of, after another row or none, once so many items were stored
+-- the second in which the row of a refusal began, after another row or none, with n items stored so far
 abbrev pub since_of : Option Row → ℕ → ℕ → ℕ
 since_of None second stores = second
 since_of (Some row) second stores = if goes_on row second stores then row.since else second
@@ -17,16 +17,16 @@ since_of (Some row) second stores = if goes_on row second stores then row.since 
 abbrev pub row_with : Option Row → ℕ → ℕ → Row
 row_with row second stores = record { since = since_of row second stores; last = second; stores = stores }
 
--- a count of 64 bits that goes on
+-- a count of 64 bits that goes up
 abbrev pub added : (count more : ℕ) → ℕ
 added count more = (count + more) % 2 ^ 64
 
--- that many refusals more, all in a second, once that many items were stored
+-- n more refusals, all in a second, with this many items stored so far
 abbrev pub noted : Refusals → (count second stores : ℕ) → Refusals
 noted refusals count second stores =
     record { count = added refusals.count count; row = Some (row_with refusals.row second stores) }
 
--- whether a row has lasted so many seconds, once so many items were stored: none was stored since; with 0 none has
+-- whether a row has lasted this many seconds, with this many items stored so far: none was stored since; with 0 none has
 abbrev pub has_lasted : Row → (seconds stores : ℕ) → Bool
 has_lasted row seconds stores = nat_lt 0 seconds && (row.stores == stores) && nat_le seconds (row.last - row.since)
 

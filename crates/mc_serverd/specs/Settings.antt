@@ -1,4 +1,4 @@
--- What a server shows of its settings to operators, by a name and a value each.
+-- The settings that a server shows to operators, each by a name and a value.
 -- source: memcached's protocol.txt, "Settings statistics", of the names that it has; of the others this project's own
 use Rattle.std.specs.Prelude.{ℕ, List, [], ◌∷◌, codes, decimal}
 use Rattle.mc_admin.specs.Pages.{value_text}
@@ -20,7 +20,7 @@ abbrev pub store_word : StoreKind → List ℕ
 store_word Table = codes "table"
 store_word Lru = codes "lru"
 
--- what `--cas-from` says: `now`, or a number
+-- the value of `--cas-from`: `now`, or a number
 abbrev pub cas_from_word : CasFrom → List ℕ
 cas_from_word (Last number) = decimal number
 cas_from_word Now = codes "now"

@@ -1,4 +1,4 @@
-//! From which number on a server counts its items.
+//! The number from which on a server counts its items.
 ghost use Rattle.std.specs.Prelude.{◌≡◌};
 ghost use Rattle.mc_serverd.specs.CasFrom.{cas_from_named, last_number};
 
@@ -6,26 +6,26 @@ use mc_text::read_u64;
 use std::fmt;
 use std::fmt::{Display, Formatter};
 
-/// The greatest number that may be named: clients that read a number of 63 bits and a sign still read the next 2^63 ones.
+/// The greatest number that may be named: clients that read a number of 63 bits and a sign can still read the next 2^63 ones.
 const MOST_LAST: u64 = 9_223_372_036_854_775_807;
 
-/// Up to which second since 1970 each has numbers of its own: in the year 2242.
+/// The last second since 1970 that has numbers of its own: in the year 2242.
 const MOST_SECOND: u64 = 8_589_934_591;
 
-/// How many numbers a second has, if items are counted from the second in which a server starts: 2^30.
+/// The count of numbers for each second, if items are counted from the second in which a server starts: 2^30.
 const NUMBERS_A_SECOND: u64 = 1_073_741_824;
 
-/// Above which number a server counts its items, as its operator says it.
+/// The number above which a server counts its items, as its operator states it.
 #[derive(Clone, Copy, Debug, PartialEq, Eq)]
 pub enum CasFrom {
     /// Above this one: below 2^63.
     Last(u64),
-    /// Above 2^30 for each second since 1970, as the server starts. A number that was read before then fits no item that is stored after,
-    /// if the clock was not set back, and no server stored more than 2^30 items a second since it started.
+    /// Above 2^30 for each second since 1970, as the server starts. A number that was read before then is that of no item that is stored
+    /// after. This needs that the clock was not set back, and that no server stored more than 2^30 items a second since it started.
     Now,
 }
 
-/// What a word says: `now`, or a number below 2^63. Any other says nothing.
+/// Reads a word: `now`, or a number below 2^63. Any other word gives none.
 pub fn cas_from_named(word: &str) -> Option<CasFrom>
     ensures { result ≡ cas_from_named word.now }
 {
@@ -38,7 +38,7 @@ pub fn cas_from_named(word: &str) -> Option<CasFrom>
     }
 }
 
-/// Above which number the items are counted of a server that starts in a second since 1970.
+/// Returns the number above which a server counts its items that starts in this second since 1970.
 pub fn last_number(cas_from: CasFrom, second: u64) -> u64
     ensures { result ≡ last_number cas_from second }
 {

@@ -1,4 +1,4 @@
-//! The store that a server was asked to have.
+//! The store of the kind that the operator chose.
 ghost use Rattle.std.specs.Prelude.{Some};
 ghost use Rattle.mc_serverd.specs.Chosen.{held_by};
 
@@ -8,7 +8,7 @@ use mc_table::SecretState;
 use mc_text::Key;
 use std::hash::RandomState;
 
-/// A store of the kind that was asked for. A server over it has one body for both kinds: with a body for each, what both call is no
+/// A store of the chosen kind. A server over it is one body of code for both kinds. With a body for each, what both call is no
 /// longer inlined, which costs a get in a pipeline 170 instructions.
 #[derive(Drop)]
 pub enum ChosenStore {

@@ -6,22 +6,22 @@ use mc_net::{Stopwatch, wall_clock};
 use std::marker::Model;
 use std::rt::Clock;
 
-/// What tells a server the time.
+/// The source of a server's time.
 pub trait Seconds {
-    /// The moment: whole seconds since 1970.
+    /// Returns the moment: whole seconds since 1970.
     fn now(&mut self) -> u64
         ensures { result < 2 ^ 63 };
 }
 
-/// The system's clock: what the wall clock said as this one was made, and from then on what the monotonic clock says has passed.
-/// Whoever sets the wall clock neither ends nor prolongs an item. Contracts see the moment that it told last.
+/// The system's clock: the wall clock's time when this one was made, and from then on the time that has passed by the monotonic
+/// clock. So setting the wall clock neither expires nor prolongs an item. Contracts see the moment that it returned last.
 ///
-/// Both parts are whole seconds, so that a moment may be a second before that of a wall clock that nobody has set. While the
-/// machine is suspended the clock does not go on.
+/// Both parts are whole seconds, so a moment may be a second before that of a wall clock that was never set. While the machine
+/// is suspended the clock stops.
 #[derive(Drop)]
 pub struct SystemSeconds<'a, R: Clock> {
     rt: &'a R,
-    /// The wall clock as this one was made: whole seconds since 1970.
+    /// The wall clock when this one was made: whole seconds since 1970.
     start: u64,
     stopwatch: Stopwatch,
 }
@@ -33,7 +33,7 @@ impl<'a, R: Clock> Model for SystemSeconds<'a, R> {
 }
 
 impl<'a, R: Clock> SystemSeconds<'a, R> {
-    /// The clock of a runtime. It begins at 0 where the wall clock is before 1970, or cannot be read.
+    /// Makes the clock of a runtime. It begins at 0 if the wall clock is before 1970, or cannot be read.
     pub fn new(rt: &'a R) -> Self {
         SystemSeconds {
             rt,
@@ -44,7 +44,8 @@ impl<'a, R: Clock> SystemSeconds<'a, R> {
 }
 
 impl<'a, R: Clock> Seconds for SystemSeconds<'a, R> {
-    /// Never earlier than it told before. Where the monotonic clock cannot be read, each moment is a second after the one before.
+    /// Returns a moment that is never earlier than the last one. If the monotonic clock cannot be read, each moment is a second
+    /// after the one before.
     fn now(&mut self) -> u64
         ensures bound { result < 2 ^ 63 }
         ensures told { result ≡ self.new }

@@ -1,4 +1,4 @@
-//! A store that counts what it does.
+//! A store that counts its operations.
 ghost use Rattle.std.specs.Prelude.{◌≡◌};
 
 use crate::counts::Counts;
@@ -7,7 +7,7 @@ use mc_store::Store;
 use mc_text::Key;
 use std::rc::Rc;
 
-/// A store that does what another does, and counts it: so no layer between has to count. What it counts no contract says.
+/// A store that forwards to another, and counts what it does: so no layer between has to count. No contract says what it counts.
 #[derive(Drop)]
 pub struct Counted<S: Store + Drop> {
     store: S,
@@ -15,19 +15,19 @@ pub struct Counted<S: Store + Drop> {
 }
 
 impl<S: Store + Drop> Counted<S> {
-    /// A store over another.
+    /// Makes a store over another.
     pub fn new(store: S, counts: Rc<Counts>) -> Counted<S>
         ensures { result.store ≡ store }
     {
         Counted { store, counts }
     }
 
-    /// Whether a body is dead at the moment.
+    /// Returns whether a body is expired at the moment.
     fn is_dead(&self, body: &Body) -> bool {
         body.expiry.is_dead(self.counts.moment())
     }
 
-    /// Notes what the store holds.
+    /// Notes how many items the store has, and what they cost.
     fn note_held(&self) {
         self.counts.hold(self.store.len(), self.store.used());
     }
@@ -118,7 +118,7 @@ impl<S: Store + Drop> Store for Counted<S> {
     }
 
     fn replace_by(&mut self, key: &[u8], guess: u32, body: Body) -> Result<Body, Body> {
-        // A body with the number 0 is lent for a moment, while the held one is written to.
+        // A body with the number 0 is a placeholder, while the value of the stored one is moved out and changed.
         let is_stored = body.cas > 0;
         let replaced = self.store.replace_by(key, guess, body);
         if let Ok(before) = &replaced {

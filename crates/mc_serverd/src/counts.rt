@@ -1,4 +1,4 @@
-//! What a store has done.
+//! The counts of a store's operations.
 ghost use Rattle.std.specs.Prelude.{◌≡◌};
 
 use crate::refusals::Refusals;
@@ -7,11 +7,11 @@ use std::cell::Cell;
 use std::fmt;
 use std::fmt::{Display, Formatter};
 
-/// What a store has done since it was made, as far as its operator asks, and how often memory was refused. Whoever holds it sets the
-/// moment, by which an item is dead or not. Each number begins again at 0 after 2^64 - 1.
+/// The counts of a store since it was made, as far as its operator sees them, and how often memory was refused. The caller sets the
+/// moment, which decides whether an item is expired. Each number begins again at 0 after 2^64 - 1.
 ///
-/// The numbers are in cells, since a store and its host hold them both. No clause sees what a cell holds: that each call counts, and that
-/// [`figures`](Counts::figures) has each number under its name, tests show.
+/// The numbers are in cells, since a store and its host share them. No clause sees what a cell holds: tests show that each call counts,
+/// and that [`figures`](Counts::figures) has each number under its name.
 #[derive(Drop)]
 pub struct Counts {
     moment: Cell<u64>,
@@ -26,7 +26,7 @@ pub struct Counts {
 }
 
 impl Counts {
-    /// Nothing was done, at the moment 0.
+    /// Makes counts of 0, at the moment 0.
     pub fn new() -> Counts {
         Counts {
             moment: Cell::new(0),
@@ -46,67 +46,67 @@ impl Counts {
         self.moment.set(moment);
     }
 
-    /// The moment.
+    /// Returns the moment.
     pub fn moment(&self) -> u64 {
         self.moment.get()
     }
 
-    /// A retrieval of a key was answered by an item.
+    /// Counts a retrieval of a key that found an item.
     pub fn hit(&self) {
         add_one(&self.hits);
     }
 
-    /// A retrieval of a key found none.
+    /// Counts a retrieval of a key that found none.
     pub fn miss(&self) {
         add_one(&self.misses);
     }
 
-    /// An item was stored.
+    /// Counts an item that was stored.
     pub fn store(&self) {
         add_one(&self.stores);
     }
 
-    /// An item was evicted.
+    /// Counts an item that was evicted.
     pub fn evict(&self) {
         add_one(&self.evictions);
     }
 
-    /// A dead item was taken out, or another was put in its place.
+    /// Counts an expired item that was removed or replaced.
     pub fn expire(&self) {
         add_one(&self.expired);
     }
 
-    /// That many calls were refused memory, and their clients closed.
+    /// Counts `count` calls that were refused memory, and whose clients were closed.
     pub fn refuse(&self, count: u64) {
         let mut refusals = self.refusals.get();
         refusals.note(count, self.moment.get(), self.stores.get());
         self.refusals.set(refusals);
     }
 
-    /// That many stores were refused memory: each got an error line, and its client stays connected.
+    /// Counts `count` stores that were refused memory: each got an error line, and its client stays connected.
     pub fn refuse_stores(&self, count: u64) {
         let mut refusals = self.refusals.get();
         refusals.note_answered(count);
         self.refusals.set(refusals);
     }
 
-    /// How often memory was refused.
+    /// Returns how often memory was refused.
     pub fn refused(&self) -> u64 {
         self.refusals.get().count
     }
 
-    /// Whether clients were closed for want of memory for so many seconds while no item was stored; with 0 none were.
+    /// Returns whether clients were closed for lack of memory for `seconds` seconds while no item was stored; with 0 none were.
     pub fn is_over(&self, seconds: u64) -> bool {
         self.refusals.get().is_over(seconds, self.stores.get())
     }
 
-    /// The store now holds so many items, which cost so much.
+    /// Sets how many items the store has now, and what they cost.
     pub fn hold(&self, items: usize, used: u64) {
         self.items.set(items);
         self.used.set(used);
     }
 
-    /// What the store has done and holds, where it may hold so much.
+    /// Returns what the store has done and has, with its limits.
     pub fn figures(&self, budget: u64, most: usize) -> StoreFigures
         ensures budget { result.budget ≡ budget }
         ensures most { result.most ≡ most }
@@ -126,7 +126,7 @@ impl Counts {
         }
     }
 
-    /// How many items the store holds, and what they cost.
+    /// Returns how many items the store has, and what they cost.
     pub fn held(&self) -> (usize, u64) {
         (self.items.get(), self.used.get())
     }

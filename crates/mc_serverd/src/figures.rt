@@ -1,4 +1,4 @@
-//! What a server says of itself to operators.
+//! The figures of a server, for operators.
 ghost use Rattle.std.specs.Prelude.{◌≡◌, codes, decimal, map};
 ghost use Rattle.mc_serverd.specs.Settings.{cas_from_word, settings_shown, shown, store_word};
 
@@ -13,8 +13,8 @@ use mc_text::VALUE_LIMIT;
 use std::alloc::{AllocError, Global};
 use std::fs::Files;
 
-/// Serves operators, by the clients that one of them is told of next, what a server has done for its clients, what its store has done,
-/// and its settings. Those for whom there is no memory are turned away.
+/// Serves operators: what a server has done for its clients, by the list of clients if an operator asked for it, what its store has
+/// done, and its settings. Operators for whom there is no memory are turned away.
 pub fn show<R: Files>(
     rt: &R,
     alloc: Global,
@@ -31,7 +31,7 @@ pub fn show<R: Files>(
     }
 }
 
-/// The same, which says whether there was memory.
+/// Serves operators as [`show`] does, and returns whether there was memory.
 fn try_show<R: Files>(
     rt: &R,
     alloc: Global,
@@ -57,7 +57,7 @@ fn try_show<R: Files>(
     Ok(())
 }
 
-/// The settings, by memcached's names where it has them.
+/// Returns the settings, by memcached's names if it has them.
 #[tactic(auto, unfolding(crate::specs::Settings::settings_shown))]
 fn settings_of(settings: &Settings) -> [Setting<'static>; 14]
     ensures { map shown result ≡ settings_shown settings.now }
@@ -86,7 +86,7 @@ fn settings_of(settings: &Settings) -> [Setting<'static>; 14]
     ]
 }
 
-/// The name of a kind of stores.
+/// Returns the name of a kind of stores.
 fn store_word(kind: StoreKind) -> &'static [u8]
     ensures { result.now ≡ store_word kind }
 {
@@ -96,7 +96,7 @@ fn store_word(kind: StoreKind) -> &'static [u8]
     }
 }
 
-/// The setting of `--cas-from`, as its operator said it.
+/// Returns the setting of `--cas-from`, as its operator stated it.
 fn cas_from_setting(cas_from: CasFrom) -> Setting<'static>
     ensures { shown result ≡ (codes "cas_from", cas_from_word cas_from) }
 {
@@ -106,7 +106,7 @@ fn cas_from_setting(cas_from: CasFrom) -> Setting<'static>
     }
 }
 
-/// A number under its name.
+/// Returns a number under its name.
 fn number(name: &'static [u8], number: u64) -> Setting<'static>
     ensures { shown result ≡ (name.entry.now, decimal number) }
 {
@@ -116,7 +116,7 @@ fn number(name: &'static [u8], number: u64) -> Setting<'static>
     }
 }
 
-/// A word under its name.
+/// Returns a word under its name.
 fn word(name: &'static [u8], word: &'static [u8]) -> Setting<'static>
     ensures { shown result ≡ (name.entry.now, word.entry.now) }
 {

@@ -1,17 +1,18 @@
-//! The limit of memory that the control groups of a process have.
+//! The memory limit of a process's control groups.
 
 use mc_program::earlier as lower;
 use std::fs;
 use std::fs::Files;
 
-/// Where the system says which control groups this process is in: a line for each tree of groups, `<number>:<what it limits>:<group>`.
+/// The file in which the system names the control groups of this process: a line for each tree of groups, `<number>:<what it
+/// limits>:<group>`.
 const GROUPS: &str = "/proc/self/cgroup";
 
-/// As many groups above each other are looked at.
+/// The most groups above each other that are read.
 const MOST_GROUPS: u32 = 32;
 
-/// The lowest limit of memory, in bytes, of the control groups that this process is in, of either version of Linux; none if there is none,
-/// or the system does not say.
+/// Returns the lowest memory limit, in bytes, of the control groups of this process, of either version of Linux; none if there is none, or
+/// the system does not report it.
 pub fn group_limit<R: Files + AllocGlobal>(rt: &R) -> Option<u64> {
     let groups = fs::read_to_string(rt, GROUPS).ok()?;
     let mut lowest = None;
@@ -28,7 +29,7 @@ pub fn group_limit<R: Files + AllocGlobal>(rt: &R) -> Option<u64> {
     lowest
 }
 
-/// The lowest limit of a group and of those above it. A limit is in a file of the group's folder.
+/// Returns the lowest limit of a group and of those above it. A limit is in a file of the group's folder.
 fn limit_above<R: Files + AllocGlobal>(rt: &R, tree: &str, group: &str, file: &str) -> Option<u64> {
     let mut lowest = None;
     let mut group = group;
@@ -42,7 +43,7 @@ fn limit_above<R: Files + AllocGlobal>(rt: &R, tree: &str, group: &str, file: &s
     lowest
 }
 
-/// The limit of a group, if it has one.
+/// Returns the limit of a group, if it has one.
 fn limit_of<R: Files + AllocGlobal>(rt: &R, tree: &str, group: &str, file: &str) -> Option<u64> {
     let path = format!(in rt.alloc(); "{tree}{group}/{file}").ok()?;
     let limit = fs::read_to_string(rt, path.as_str()).ok()?;

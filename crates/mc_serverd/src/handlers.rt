@@ -1,4 +1,4 @@
-//! What serves the clients of a server.
+//! The handler that serves the clients of a server.
 ghost use Rattle.std.specs.Prelude.{◌≡◌, ◌<◌, ◌^◌, None, IsSome, length, vec_len};
 ghost use Rattle.mc_server.specs.ServerState.{connection_at};
 ghost use Rattle.mc_pump.specs.Pumps.{Pumps};
@@ -22,20 +22,20 @@ pub struct ServerHandler<S: Store + Drop> {
     server: Server<S>,
     /// What the server's store has done, and how often memory was refused.
     counts: Rc<Counts>,
-    /// What reads fill: made once.
+    /// The buffer of reads: made once.
     piece: Vec<u8>,
-    /// How large an answer may be, what passed of all clients, and what is to be noted of the last one.
+    /// The limit of an answer, the counts of all clients, and what is to be noted of the last one.
     watch: Watch,
-    /// What is to be said of a request whose answer may be too large: how many bytes it might have.
+    /// The pending line about a request whose answer may be too large: how many bytes it might have.
     too_large: Seldom<u64>,
-    /// How many bytes of memory are kept for when the system gives none.
+    /// The bytes of memory that are kept for when the system gives none.
     reserve: usize,
     ghost reads: { 0 < vec_len piece },
 }
 
 impl<S: Store + Drop> ServerHandler<S> {
-    /// The handler of the clients of a server whose store counts what it does. Their answers may have so many bytes, and so many bytes of
-    /// memory are kept in reserve.
+    /// Makes the handler of the clients of a server whose store counts its operations. An answer may have at most `answer` bytes, and
+    /// `reserve` bytes of memory are kept in reserve.
     pub fn new(
         alloc: Global,
         server: Server<S>,
@@ -53,7 +53,7 @@ impl<S: Store + Drop> ServerHandler<S> {
         })
     }
 
-    /// Takes the memory in reserve that was released, as far as the system gives it, and has keys that are not held stored again.
+    /// Takes the memory in reserve that was released, as far as the system gives it, and lets keys that are not stored be stored again.
     pub fn keep_reserve(&mut self) {
         if self.server.keep_reserve(self.reserve).is_err() {
             self.server.end_short();
@@ -77,14 +77,14 @@ impl<S: Store + Drop> ServerHandler<S> {
         }
     }
 
-    /// Says on standard error, at most once in a second, that a request was refused whose answer may be too large, and how often that was
-    /// suppressed before.
+    /// Reports on standard error, at most once in a second, that a request was refused whose answer may be too large, and how often that
+    /// was suppressed before.
     pub fn tell<R: EprintSeldom>(&mut self, rt: &R, moment: u64) {
         if let Some(Said { what, suppressed }) = self.too_large.take(moment) {
             let line = format_args!(
                 "{PROGRAM}: request refused: its answer may have more than {what} bytes"
             );
-            // Where it cannot be said, all are served all the same.
+            // Best effort: a failed write to standard error must not stop serving.
             let _ = rt.eprintln_seldom(line, suppressed);
         }
     }
@@ -143,8 +143,8 @@ impl<S: Store + Drop> Handler<()> for ServerHandler<S> {
     }
 }
 
-/// Carries a client's bytes, and serves what comes whole, where the watch allows its answer. Which bytes a socket gives, and which
-/// it takes, is not known. It also says whether the socket has failed.
+/// Carries a client's bytes, and serves the requests that arrive whole, if the watch allows their answers. No contract says which
+/// bytes a socket gives or takes. It also returns whether the socket has failed.
 fn pump_client<S: Store + Drop>(
     server: &mut Server<S>,
     client: &mut Client<()>,

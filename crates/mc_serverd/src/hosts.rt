@@ -1,4 +1,4 @@
-//! A server, its clients and what it does unasked.
+//! A server, its clients and its periodic tasks.
 ghost use Rattle.std.specs.Prelude.{◌<◌, ◌^◌};
 
 use crate::clocks::Seconds;
@@ -20,11 +20,11 @@ use std::fs::Files;
 use std::rc::Rc;
 use std::time::Duration;
 
-/// A server, its clients and what it does unasked: once in a second or less often it has clients rest, and says what it has done.
+/// A server, its clients and its periodic tasks: once in a second or less often it sweeps idle clients, and reports what it has done.
 #[derive(Drop)]
 pub struct Host<'a, S: Store + Drop> {
     alloc: Global,
-    /// Where it listens, as it says it.
+    /// The address on which it listens, as it reports it.
     listen: &'a str,
     handler: ServerHandler<S>,
     clients: Clients<()>,
@@ -32,27 +32,27 @@ pub struct Host<'a, S: Store + Drop> {
     /// What the server's store has done.
     counts: Rc<Counts>,
     settings: Settings,
-    /// Whether it was said that its items are at their limit while much of its budget is free.
+    /// Whether it has reported that its items are at their limit while much of its budget is free.
     advised: bool,
-    /// Of how many calls it was said that they were refused memory.
+    /// The number of refused calls that it has reported.
     told_refused: u64,
-    /// Whether it ends, since it was refused memory for as long as the settings say.
+    /// Whether it ends, since it was refused memory for as long as the settings allow.
     ended: bool,
     start: u64,
     /// The moment of the round.
     moment: u64,
-    /// When the clients rested last.
+    /// The moment of the last sweep of idle clients.
     rested: u64,
     pace: Pace,
-    /// How many clients its open files allow beside operators; any number where there are none of these.
+    /// How many clients its open files allow beside operators; any number if there are no operators.
     room: Option<Room>,
     ghost within: { moment < 2 ^ 63 },
 }
 
-/// How many files are kept open beside those of operators: a further one is accepted by it, and the memory of the process read.
+/// The files that are kept free beside those of operators: with it a further operator is accepted, and the memory of the process is read.
 const SPARE_FILES: u64 = 1;
 
-/// How many files a server has open at most beside its clients, where operators have so many: its own, these, and one to spare.
+/// Returns how many files a server has open at most beside its clients, if operators have `operators`: its own, these, and one to spare.
 pub fn other_files(operators: u64) -> u64 {
     if operators == 0 {
         return OWN_FILES;
@@ -62,15 +62,15 @@ pub fn other_files(operators: u64) -> u64 {
         .saturating_add(operators)
 }
 
-/// How many clients are served, so that operators have so many files; any number where there are no operators, or the system allows too few
-/// files for a client beside them.
+/// Returns how many clients are served, if operators have this many files; any number if there are no operators, or the system allows too
+/// few files for a client beside them.
 fn room_beside(operators: u64) -> Option<Room> {
     let room = Room::new(other_files(operators));
     (operators > 0 && !room.is_full(0)).then_some(room)
 }
 
 impl<'a, S: Store + Drop> Host<'a, S> {
-    /// A host without a client, over a server whose store counts what it does, from a moment on. It listens at this host and port.
+    /// Makes a host without a client, over a server whose store counts its operations, from a moment on. It listens at this host and port.
     pub fn new(
         alloc: Global,
         listen: &'a str,
@@ -109,13 +109,13 @@ impl<'a, S: Store + Drop> Host<'a, S> {
         })
     }
 
-    /// What it has done for its clients, where so many connections were accepted.
+    /// Returns what it has done for its clients, with the number of accepted connections.
     fn done(&self, accepted: u64) -> Report {
         let uptime = self.moment.saturating_sub(self.start);
         self.clients.report(uptime, accepted, self.handler.tally())
     }
 
-    /// The clients that an operator is to be told of next, if one has asked.
+    /// Returns the clients of an operator's list, if one has asked for it.
     fn listed(&mut self) -> Result<Option<Listed>, AllocError> {
         let Some(from) = self.operators.listing() else {
             return Ok(None);
@@ -130,7 +130,7 @@ impl<'a, S: Store + Drop> Host<'a, S> {
         Ok(Some(listed))
     }
 
-    /// Serves operators, where so many connections were accepted.
+    /// Serves operators, with the number of accepted connections.
     fn show<R: Files>(&mut self, rt: &R, accepted: u64) {
         if !self.operators.is_stirred() {
             return;
@@ -153,13 +153,13 @@ impl<'a, S: Store + Drop> Host<'a, S> {
         );
     }
 
-    /// Whether it serves as many clients as its open files allow.
+    /// Returns whether it serves as many clients as its open files allow.
     fn is_full(&self) -> bool {
         self.room
             .is_some_and(|room| room.is_full(self.clients.len()))
     }
 
-    /// Says on standard error, at most once in a minute, that it serves as many clients as its open files allow, if it does.
+    /// Reports on standard error, at most once in a minute, that it serves as many clients as its open files allow, if it does.
     fn tell_full<R: Eprint>(&mut self, rt: &R) {
         if self.is_full()
             && let Some(room) = &mut self.room
@@ -168,15 +168,15 @@ impl<'a, S: Store + Drop> Host<'a, S> {
         }
     }
 
-    /// Says on standard error what it has done, and its store, where so many connections were accepted.
+    /// Reports on standard error what it and its store have done, with the number of accepted connections.
     fn report<R: Eprint>(&self, rt: &R, accepted: u64) {
         let clients = self.done(accepted);
         let counts = &*self.counts;
-        // Where it cannot be said, all are served all the same.
+        // Best effort: a failed write to standard error must not stop serving.
         let _ = eprintln!(rt; "{PROGRAM}: {clients} {counts}");
     }
 
-    /// Says on standard error how many calls were refused memory since it said so last, and notes whether that ends the server.
+    /// Reports on standard error how many calls were refused memory since its last report, and notes whether that ends the server.
     fn tell_refused<R: Eprint>(&mut self, rt: &R) {
         let count = self.counts.refused();
         let refused = count.wrapping_sub(self.told_refused);
@@ -185,11 +185,11 @@ impl<'a, S: Store + Drop> Host<'a, S> {
         }
         self.told_refused = count;
         self.ended = self.counts.is_over(self.settings.service.memory_exit);
-        // Where it cannot be said, all are served all the same.
+        // Best effort: a failed write to standard error must not stop serving.
         let _ = eprintln!(rt; "{PROGRAM}: out of memory: {refused} refused");
     }
 
-    /// Says on standard error, once, that its items are at their limit while more than half of its budget is free, and what to write.
+    /// Reports on standard error, once, that its items are at their limit while more than half of its budget is free, and what to change.
     fn advise<R: Eprint>(&mut self, rt: &R) {
         let (held, used) = self.counts.held();
         let Settings { budget, items, .. } = self.settings;
@@ -198,7 +198,7 @@ impl<'a, S: Store + Drop> Host<'a, S> {
         }
         if let Some(advice) = advice_of(held, used, items, budget) {
             self.advised = true;
-            // Where it cannot be said, all are served all the same.
+            // Best effort: a failed write to standard error must not stop serving.
             let _ = eprintln!(rt;
                 "{PROGRAM}: full at {items} items, while more than half of --budget is free: {advice}"
             );
@@ -208,7 +208,7 @@ impl<'a, S: Store + Drop> Host<'a, S> {
 
 impl<R: Print + EprintSeldom + Files, C: Seconds, S: Store + Drop> Rounds<R, C> for Host<'_, S> {
     fn ready(&mut self, rt: &R) {
-        // Whom the line does not reach is served all the same.
+        // Best effort: a failed write to standard output must not stop serving.
         let _ = println!(rt; "listening {}", self.listen);
     }
 

@@ -1,4 +1,4 @@
-//! How many items a server may hold.
+//! The most items that a server may have.
 ghost use Rattle.std.specs.Prelude.{◌≡◌};
 ghost use Rattle.mc_serverd.specs.Bounds.{advice_of, items_for, items_named};
 
@@ -7,22 +7,22 @@ use mc_text::read_u64;
 use std::fmt;
 use std::fmt::{Display, Formatter};
 
-/// The most items, if nobody says otherwise.
+/// The most items, by default.
 pub const USUAL_ITEMS: usize = 65_536;
 
-/// For how many bytes of the budget there may be an item, if their number follows it.
+/// The bytes of the budget for each item, if the number of items follows the budget.
 const BYTES_AN_ITEM: u64 = 120;
 
-/// How many items a server may hold, as its operator says it.
+/// How many items a server may have, as its operator states it.
 #[derive(Clone, Copy, Debug, PartialEq, Eq)]
 pub enum Items {
-    /// So many: 1 to [`MAX_ITEMS`].
+    /// At most this many: 1 to [`MAX_ITEMS`].
     Most(usize),
     /// One for each 120 bytes of the budget, from [`USUAL_ITEMS`] to [`MAX_ITEMS`].
     Auto,
 }
 
-/// What a word says: `auto`, or a number from 1 to [`MAX_ITEMS`]. Any other says nothing.
+/// Reads a word: `auto`, or a number from 1 to [`MAX_ITEMS`]. Any other word gives none.
 pub fn items_named(word: &str) -> Option<Items>
     ensures { result ≡ items_named word.now }
 {
@@ -35,7 +35,7 @@ pub fn items_named(word: &str) -> Option<Items>
     }
 }
 
-/// The most items under a budget.
+/// Returns the most items under a budget.
 pub fn items_for(items: Items, budget: u64) -> usize
     ensures { result ≡ items_for items budget }
 {
@@ -45,12 +45,12 @@ pub fn items_for(items: Items, budget: u64) -> usize
     }
 }
 
-/// What the operator of a server can do whose items are at their limit, while more than half of its budget is free.
+/// What an operator can do if a server's items are at their limit, while more than half of its budget is free.
 #[derive(Clone, Copy, Debug, PartialEq, Eq)]
 pub enum Advice {
     /// Start it with `--items auto`.
     Auto,
-    /// Start one server more: this one holds as many items as a server can.
+    /// Start another server: this one has as many items as a server can have.
     Another,
 }
 
@@ -63,8 +63,8 @@ impl Display for Advice {
     }
 }
 
-/// What to tell the operator of a server that holds so many items, which cost so much, under these limits: nothing unless its items are
-/// at their limit, while more than half of its budget is free.
+/// Returns the advice for a server that has `held` items, which cost `used`, under these limits: none unless its items are at their
+/// limit, while more than half of its budget is free.
 pub fn advice_of(held: usize, used: u64, items: usize, budget: u64) -> Option<Advice>
     ensures { result ≡ advice_of held used items budget }
 {

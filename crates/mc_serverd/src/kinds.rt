@@ -2,7 +2,7 @@
 ghost use Rattle.std.specs.Prelude.{◌≡◌};
 ghost use Rattle.mc_serverd.specs.Kinds.{kind_named};
 
-/// What a server keeps its items in.
+/// The container in which a server keeps its items.
 #[derive(Clone, Copy, Debug, PartialEq, Eq)]
 pub enum StoreKind {
     /// Our own table, whose keys [`mc_table::KeyHasher`] hashes.
@@ -14,7 +14,7 @@ pub enum StoreKind {
 /// The names of the kinds. The first is the default.
 pub const KINDS: [&str; 2] = ["table", "lru"];
 
-/// The kind of this name. That of any other is the table.
+/// Returns the kind of this name. That of any other name is the table.
 pub fn kind_named(name: &str) -> StoreKind
     ensures { result ≡ kind_named name.now }
 {

@@ -1,24 +1,23 @@
 //! A memcached server on a socket.
 //!
-//! The exit status is 0 where `--check` was asked for, or where as many connections as `--accept` says were served. Else it is
-//! that of [`mc_program`]. The words are read first, then `--check` is obeyed, then it listens.
+//! The exit status is 0 if `--check` was given, or if as many connections as `--accept` names were served. Else it is that of
+//! [`mc_program`]. The program first reads its arguments, then obeys `--check`, and then listens.
 //!
 //! # How it serves
 //!
-//! Connections are accepted, read, served and written.
+//! It accepts, reads, serves and writes the connections of its clients.
 //!
 //! [`serve`] serves the connections of a listener ([`bind`]) over one cache, with [`Settings`], at the moments of a clock
-//! ([`Seconds`], [`SystemSeconds`]). Its body is [`mc_pump::pump`], which carries one connection's bytes between a server
-//! and the two sides of a stream, and has the law of one connection. [`command`] and [`Options`] are the command line of
-//! the program [`PROGRAM`].
+//! ([`Seconds`], [`SystemSeconds`]). Its core is [`mc_pump::pump`], which carries one connection's bytes between a server and the two
+//! sides of a stream, and has the law of one connection. [`command`] and [`Options`] are the command line of the program [`PROGRAM`].
 //!
-//! [`tell_memory`] says how much memory a server with its settings may come to take. On standard error [`serve`] says, at most once
-//! in a second, that a request was refused whose answer may be too large, and, where the settings ask for it, what it has done. The
-//! store counts what it does, so that no layer between has to.
+//! [`tell_memory`] reports how much memory a server with its settings may come to take. [`serve`] reports on standard error, at
+//! most once in a second, that a request was refused whose answer may be too large. If the settings ask for it, it also reports
+//! what it has done. The store counts its operations, so that no layer between has to.
 //!
-//! [`serve`] waits for its sockets, and may wait for ever; [`bind`] looks a name up, and may wait for that; no other call waits.
-//! What a socket carries, no contract says. Proved of a client's turn are that its connection alone is pumped, at the moment that
-//! the clock tells, and what is done with it afterwards; of the system's clock, that it never goes back.
+//! [`serve`] waits for its sockets, and may wait for ever. [`bind`] resolves a name, and may wait for that. No other call waits. No
+//! contract says what a socket carries. Proved of a client's turn are that its connection alone is pumped, at the clock's moment,
+//! and what is done with it afterwards; of the system's clock, that it never goes back.
 #![tactic(auto)]
 
 mod cas_from;
@@ -68,7 +67,7 @@ fn main(rt: HostRuntime) -> ExitCode {
     ExitCode::from(exit_status(&served))
 }
 
-/// Reads the words, says in which form they ask for lines, and then prints the settings or serves.
+/// Reads the arguments, sets the form of the log, and then prints the settings or serves.
 fn run<R>(rt: &R, option: &mut LogOption) -> Result<(), Failure>
 where
     R: Env + Clock + Files + Print + Eprint + Net + RandomSource + Wait + AllocGlobal,
@@ -93,7 +92,7 @@ where
     served.map_err(|error| Failure::at(rt, error, options.listen, is_read))
 }
 
-/// Listens, and serves. How much memory it may take it says before, if its operator reads it.
+/// Listens, reports how much memory it may take if its operator reads that, and serves.
 fn listen_and_serve<R>(
     rt: &R,
     alloc: Global,

@@ -1,4 +1,4 @@
-//! How much memory a server may come to take, and how that is said at its start.
+//! How much memory a server may come to take, and the report of it at its start.
 ghost use Rattle.std.specs.Prelude.{◌≡◌, ◌+◌, ◌<◌, ◌^◌};
 ghost use Rattle.mc_cache.specs.CacheState.{IsWithinBounds};
 ghost use Rattle.mc_serverd.specs.Memory.{below, filled_by, lower_of, memory_of, met_limit, tenths_of};
@@ -13,10 +13,10 @@ use std::fmt;
 use std::fmt::{Display, Formatter};
 use std::fs::Files;
 
-/// How many hundredths of a byte of the process each byte of what items cost may take.
+/// The hundredths of a byte of the process that each byte of the items' cost may take.
 const HUNDREDTHS: u64 = 107;
 
-/// How many bytes of the process the table takes for each of the most items.
+/// The bytes of the process that the table takes for each of the most items.
 const TABLE_BYTES: u64 = 112;
 
 /// What an item of 120 bytes costs.
@@ -25,10 +25,10 @@ const USUAL_COST: u64 = 184;
 /// The number of the limit of a process's addresses, `RLIMIT_AS` of Linux. `libc` here has no name for it.
 const RLIMIT_AS: i32 = 9;
 
-/// The bytes of an MB, as they are said.
+/// The bytes of an MB in reports.
 const MEGABYTE: u64 = 1_000_000;
 
-/// The bytes of a GB, as they are said.
+/// The bytes of a GB in reports.
 const GIGABYTE: u64 = 1_000_000_000;
 
 /// A limit of a process's memory, in bytes.
@@ -40,8 +40,8 @@ pub enum Limit {
     Group(u64),
 }
 
-/// How much memory a server with a budget and so many items at most may come to take, in bytes: 1.07 of the budget, and 112 bytes
-/// for each item.
+/// Returns how much memory a server with a budget and at most this many items may come to take, in bytes: 1.07 of the budget, and
+/// 112 bytes for each item.
 pub fn memory_of(budget: u64, items: usize) -> u64
     requires { IsWithinBounds budget items }
     ensures { result ≡ memory_of budget items }
@@ -49,7 +49,7 @@ pub fn memory_of(budget: u64, items: usize) -> u64
     budget * HUNDREDTHS / 100 + items as u64 * TABLE_BYTES
 }
 
-/// What so many items of 120 bytes cost, if that leaves some of the budget.
+/// Returns what this many items of 120 bytes cost, if that leaves some of the budget.
 pub fn filled_by(items: usize, budget: u64) -> Option<u64>
     requires { IsWithinBounds budget items }
     ensures { result ≡ filled_by items budget }
@@ -58,14 +58,14 @@ pub fn filled_by(items: usize, budget: u64) -> Option<u64>
     (filled < budget).then_some(filled)
 }
 
-/// The limit that a server meets which takes so much memory: the lower one of those that are below it.
+/// Returns the limit that a server meets which takes this much memory: the lower one of those that are below it.
 pub fn met_limit(memory: u64, addresses: Option<u64>, group: Option<u64>) -> Option<Limit>
     ensures { result ≡ met_limit memory addresses group }
 {
     lower_of(below(memory, addresses), below(memory, group))
 }
 
-/// A limit that is there and below so much.
+/// Returns a limit, if it exists and is below this much.
 fn below(memory: u64, limit: Option<u64>) -> Option<u64>
     ensures { result ≡ below memory limit }
 {
@@ -75,7 +75,7 @@ fn below(memory: u64, limit: Option<u64>) -> Option<u64>
     }
 }
 
-/// The lower one of two limits that may be there.
+/// Returns the lower one of two optional limits.
 fn lower_of(addresses: Option<u64>, group: Option<u64>) -> Option<Limit>
     ensures { result ≡ lower_of addresses group }
 {
@@ -88,7 +88,7 @@ fn lower_of(addresses: Option<u64>, group: Option<u64>) -> Option<Limit>
     }
 }
 
-/// The limit of this process's addresses; none if the system does not say.
+/// Returns the limit of this process's addresses; none if the system does not report it.
 fn address_limit() -> Option<u64> {
     let mut limit = rlimit {
         rlim_cur: 0,
@@ -100,7 +100,7 @@ fn address_limit() -> Option<u64> {
     Some(limit.rlim_cur)
 }
 
-/// How many tenths of a unit so many bytes are, to the nearest.
+/// Returns a number of bytes in tenths of a unit, to the nearest.
 fn tenths_of(tenth: u64, bytes: u64) -> u64
     requires some { 0 < tenth }
     requires fits { bytes + tenth < 2 ^ 64 }
@@ -109,7 +109,7 @@ fn tenths_of(tenth: u64, bytes: u64) -> u64
     (bytes + tenth / 2) / tenth
 }
 
-/// A number of bytes as it is said: MB, and from 1,000,000,000 bytes on GB, each with a tenth.
+/// A number of bytes as it is reported: in MB, and from 1,000,000,000 bytes on in GB, each with a tenth.
 #[derive(Clone, Copy)]
 struct Amount(u64);
 
@@ -126,7 +126,7 @@ impl Display for Amount {
     }
 }
 
-/// A number as it is said: with a comma after its thousands and its millions.
+/// A number as it is reported: with a comma after its thousands and its millions.
 #[derive(Clone, Copy)]
 struct Grouped(u64);
 
@@ -152,13 +152,13 @@ impl Display for Limit {
     }
 }
 
-/// Says on standard error how much memory a server may come to take, and the limit that it meets then; and, if items of 120 bytes do not
-/// use its budget up, how much of it they fill.
+/// Reports on standard error how much memory a server may come to take, and the limit that it then meets. If items of 120 bytes do not
+/// use its budget up, it also reports how much of it they fill.
 pub fn tell_memory<R: Eprint + Files + AllocGlobal>(rt: &R, settings: &Settings) {
     let Settings { budget, items, .. } = *settings;
     let memory = memory_of(budget, items);
     let (taken, costs, count) = (Amount(memory), Amount(budget), Grouped(items as u64));
-    // Where it cannot be said, clients are served all the same.
+    // Best effort: a failed write to standard error must not stop serving.
     let _ = match met_limit(memory, address_limit(), group_limit(rt)) {
         Some(limit) => eprintln!(rt;
             "{PROGRAM}: may take {taken}: budget {costs}, {count} items; {limit}"

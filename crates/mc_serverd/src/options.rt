@@ -15,7 +15,7 @@ use std::alloc::{AllocError, Global};
 use std::fmt;
 use std::fmt::{Display, Formatter};
 
-/// The fewest bytes that an answer may be allowed: what is counted for a request without a value.
+/// The smallest limit of an answer: the bound for a request without a value.
 const LEAST_ANSWER: u64 = 1024;
 
 /// Why a word of `--budget` is refused.
@@ -46,20 +46,20 @@ pub const PROGRAM: &str = "mc_serverd";
 /// What a command line asks for.
 #[derive(Clone, Copy, Debug)]
 pub struct Options<'a> {
-    /// Where to listen: `<host>:<port>`.
+    /// The address to listen at: `<host>:<port>`.
     pub listen: &'a str,
     /// What to serve with.
     pub settings: Settings,
-    /// In which form its operator is told on standard error what happens.
+    /// The form of the log lines on standard error.
     pub log: LogOption,
-    /// Where operators are answered.
+    /// The settings of the operators' port.
     pub admin: AdminTerms<'a>,
     /// Whether to print the settings and end.
     pub check: bool,
 }
 
 impl<'a> Options<'a> {
-    /// What matches of [`command`] ask for. An error says which word is refused, and why: of `--budget`, `--items`, `--cas-from`,
+    /// Reads the matches of [`command`]. An error says which word is refused, and why: of `--budget`, `--items`, `--cas-from`,
     /// `--answer`, `--reserve` or `--admin-name`. The command refuses the others.
     pub fn of(matches: &ArgMatches<'a>) -> Result<Options<'a>, &'static str> {
         let budget = size_of(matches, "budget", 1).ok_or(BAD_BUDGET)?;
@@ -88,18 +88,17 @@ impl<'a> Options<'a> {
     }
 }
 
-/// The word of an option; none says nothing.
+/// Returns the word of an option; empty if there is none.
 fn word_of<'a>(matches: &ArgMatches<'a>, name: &str) -> &'a str {
     matches.get_str(name).unwrap_or("")
 }
 
-/// How many bytes the word of an option says, if they are from `least` to [`MAX_BUDGET`].
+/// Returns the bytes that the word of an option names, if they are from `least` to [`MAX_BUDGET`].
 fn size_of(matches: &ArgMatches<'_>, name: &str, least: u64) -> Option<u64> {
     size_within(word_of(matches, name), least, MAX_BUDGET)
 }
 
-/// What to listen at and what to serve with, as it is printed: the four settings that are always there, and of the others those
-/// that are not at their defaults.
+/// Prints the address and the settings: four of them always, and of the others those that are not at their defaults.
 impl Display for Options<'_> {
     fn fmt<W: fmt::Write>(&self, f: &mut Formatter<W>) -> fmt::Result {
         let Settings {
@@ -126,7 +125,7 @@ impl Display for Options<'_> {
     }
 }
 
-/// Writes how clients are served, but what is at its default.
+/// Writes how clients are served, except the settings at their defaults.
 fn write_service<W: fmt::Write>(service: Service, f: &mut Formatter<W>) -> fmt::Result {
     let Terms { idle, report, .. } = service.terms;
     if service.answer != USUAL_ANSWER {
@@ -147,7 +146,7 @@ fn write_service<W: fmt::Write>(service: Service, f: &mut Formatter<W>) -> fmt::
     Ok(())
 }
 
-/// The command of a server program, with the meaning, the default and the limits of each option.
+/// Returns the command of a server program, with the meaning, the default and the limits of each option.
 pub fn command<'a>(alloc: Global) -> Result<Command<'a>, AllocError> {
     Command::new(alloc, PROGRAM)
         .version(VERSION)

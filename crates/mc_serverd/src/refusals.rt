@@ -2,29 +2,29 @@
 ghost use Rattle.std.specs.Prelude.{◌≡◌, None};
 ghost use Rattle.mc_serverd.specs.Refusals.{added, goes_on, has_lasted, is_over, noted, since_of};
 
-/// A row of refusals ends if for more than so many seconds there is none.
+/// The most seconds between two refusals of one row.
 pub const PAUSE: u64 = 2;
 
 /// A row of refusals, between which no item was stored.
 #[derive(Clone, Copy, Debug, PartialEq, Eq)]
 pub struct Row {
-    /// In which second the first was.
+    /// The second of the first refusal.
     pub since: u64,
-    /// In which second the last was.
+    /// The second of the last refusal.
     pub last: u64,
-    /// How many items had been stored.
+    /// The number of items that had been stored.
     pub stores: u64,
 }
 
 impl Row {
-    /// Whether a refusal in a second goes on it, once so many items were stored.
+    /// Returns whether a refusal in a second continues the row, with `stores` items stored so far.
     fn goes_on(self, second: u64, stores: u64) -> bool
         ensures { result ≡ goes_on self second stores }
     {
         self.stores == stores && second.saturating_sub(self.last) <= PAUSE
     }
 
-    /// Whether it has lasted so many seconds, once so many items were stored.
+    /// Returns whether the row has lasted `seconds` seconds, with `stores` items stored so far.
     fn has_lasted(self, seconds: u64, stores: u64) -> bool
         ensures { result ≡ has_lasted self seconds stores }
     {
@@ -32,7 +32,7 @@ impl Row {
     }
 }
 
-/// In which second the row began that a refusal in a second is of, once so many items were stored.
+/// Returns the second in which the row of a refusal began, with `stores` items stored so far.
 fn since_of(row: Option<Row>, second: u64, stores: u64) -> u64
     ensures { result ≡ since_of row second stores }
 {
@@ -45,14 +45,14 @@ fn since_of(row: Option<Row>, second: u64, stores: u64) -> u64
 /// How often a server was refused memory, and for how long it closed clients for that, while none of its items was stored.
 #[derive(Clone, Copy, Debug, PartialEq, Eq)]
 pub struct Refusals {
-    /// How often: it begins again at 0 after 2^64 - 1.
+    /// The number of refusals: it begins again at 0 after 2^64 - 1.
     pub count: u64,
-    /// The row that the last refusal is of.
+    /// The row of the last refusal.
     pub row: Option<Row>,
 }
 
 impl Refusals {
-    /// No call was refused memory.
+    /// Makes a count of no refusal.
     pub fn new() -> Refusals
         ensures { result ≡ record { count = 0; row = None } }
     {
@@ -62,8 +62,8 @@ impl Refusals {
         }
     }
 
-    /// Notes `count` refusals in a second whose clients were closed, once `stores` items were stored. It goes on a row if no item was stored
-    /// since its last refusal, and that was at most [`PAUSE`] seconds before.
+    /// Notes `count` refusals in a second whose clients were closed, with `stores` items stored so far. They continue a row if no item was
+    /// stored since its last refusal, and that was at most [`PAUSE`] seconds before.
     pub fn note(&mut self, count: u64, second: u64, stores: u64)
         ensures { self.new ≡ noted self.old count second stores }
     {
@@ -75,15 +75,16 @@ impl Refusals {
         });
     }
 
-    /// Notes `count` refusals that were answered, whose clients keep their connections. They are counted, and of no row: a server that refuses
-    /// new items alone is of use.
+    /// Notes `count` refusals that were answered, whose clients keep their connections. They are counted, but belong to no row: a server that
+    /// refuses new items alone is of use.
     pub fn note_answered(&mut self, count: u64)
         ensures { self.new ≡ record self.old { count = added self.old.count count } }
     {
         self.count = self.count.wrapping_add(count);
     }
 
-    /// Whether calls were refused memory for so many seconds while no item was stored, of which there are so many. With 0 they never were.
+    /// Returns whether calls were refused memory for `seconds` seconds while no item was stored, with `stores` items stored so far. With 0
+    /// they never were.
     pub fn is_over(&self, seconds: u64, stores: u64) -> bool
         ensures { result ≡ is_over self.now.row seconds stores }
     {

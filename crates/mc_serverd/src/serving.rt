@@ -28,18 +28,18 @@ use std::random::RandomSource;
 use std::rc::Rc;
 use std::sync::Wait;
 
-/// Why a server cannot listen whose hashes have no seed.
+/// The error of a server that cannot listen since its hashes have no seed.
 const NO_SEED: ServeError = ServeError::Listen(ListenError::NoSeed);
 
-/// Serves the connections that a listener accepts, over one cache, at the moments that the clock tells. Random numbers key its hashes.
+/// Serves the connections that a listener accepts, over one cache, at the clock's moments. Random numbers key its hashes.
 ///
-/// Once all is reserved that it needs at the start, the table of the items too, it prints `listening` and where. Who waits for that line is
-/// served.
+/// Once everything is reserved that it needs at the start, the table of the items too, it prints `listening` and the address. A client that
+/// connects after that line is served.
 ///
-/// It answers once as many connections as the settings say were accepted and all of them are closed; without such a
-/// limit it serves for ever, unless the settings say after how many seconds without memory it ends. A connection that fails is closed, and
-/// the others go on. A round of the poll reads the clock once. Operators are served at the end of a round, by what the server has done. What
-/// is said on standard error waits for whoever reads it; where it fails nothing else changes.
+/// It returns once as many connections as the settings say were accepted and all of them are closed. Without such a limit it serves for
+/// ever, unless the settings say after how many seconds without memory it ends. A connection that fails is closed, and the others go on. A
+/// round of the poll reads the clock once. Operators are served at the end of a round, by what the server has done. A write to standard
+/// error waits for its reader; if it fails nothing else changes.
 pub fn serve<R: Net + RandomSource + Wait + Files + Print + EprintSeldom, C: Seconds>(
     rt: &R,
     alloc: Global,
@@ -57,8 +57,8 @@ pub fn serve<R: Net + RandomSource + Wait + Files + Print + EprintSeldom, C: Sec
     serve_rounds(rt, alloc, listener, service.terms.accept, clock, &mut host)
 }
 
-/// A server without a connection that starts in a second, over an empty cache whose hashes are keyed by random numbers, and whose store
-/// counts what it does. Its reserve is taken.
+/// Makes a server without a connection that starts in a second, over an empty cache. Random numbers key the hashes of the cache, and
+/// its store counts its operations. It takes the reserve.
 fn new_server<R: RandomSource>(
     rt: &R,
     alloc: Global,
@@ -81,7 +81,7 @@ fn new_server<R: RandomSource>(
     Ok(server)
 }
 
-/// A store of this kind with no item, and room for so many and one more.
+/// Makes a store of this kind with no item, and room for `items` and one more.
 fn new_store<R: RandomSource>(
     rt: &R,
     alloc: Global,

@@ -1,4 +1,4 @@
-//! What a server is started with.
+//! The settings of a server.
 ghost use Rattle.std.specs.Prelude.{◌≡◌, ◌↔◌, IfSome, IsSome};
 ghost use Rattle.mc_cache.specs.CacheState.{IsWithinBounds};
 
@@ -7,27 +7,27 @@ use crate::kinds::StoreKind;
 use mc_cache::is_within_bounds;
 use mc_program::Terms;
 
-/// The most bytes that an answer may have, where nobody says otherwise: 256 MiB.
+/// The most bytes that an answer may have, by default: 256 MiB.
 pub const USUAL_ANSWER: usize = 268_435_456;
 
-/// How many bytes of memory are kept for when the system gives none, if nobody says otherwise: 4 MiB.
+/// The bytes of memory that are kept for when the system gives none, by default: 4 MiB.
 pub const USUAL_RESERVE: usize = 4_194_304;
 
 /// How clients are served.
 #[derive(Clone, Copy, Debug)]
 pub struct Service {
-    /// On which terms all clients are served.
+    /// The terms on which all clients are served.
     pub terms: Terms,
     /// The most bytes that an answer may have: a request whose answer may have more closes its connection.
     pub answer: usize,
-    /// A server that for that many seconds closes clients for want of memory, and stores nothing, ends; 0 for never.
+    /// A server that closes clients for lack of memory for this many seconds, and stores nothing, ends; 0 for never.
     pub memory_exit: u64,
-    /// How many bytes of memory are kept, from which clients are served when the system gives none; 0 for none.
+    /// The bytes of memory that are kept, from which clients are served when the system gives none; 0 for none.
     pub reserve: usize,
 }
 
 impl Service {
-    /// The usual service, until so many connections were accepted.
+    /// Returns the default service, until `accept` connections were accepted.
     pub fn until(accept: u64) -> Service {
         Service {
             terms: Terms {
@@ -42,16 +42,16 @@ impl Service {
     }
 }
 
-/// What a server is started with. Its budget and its items are within the bounds of a cache.
+/// The settings of a server. Its budget and its items are within the bounds of a cache.
 #[derive(Clone, Copy, Debug)]
 pub struct Settings {
     /// What the items may cost in all, in bytes: 1 to [`MAX_BUDGET`](mc_cache::MAX_BUDGET).
     pub budget: u64,
     /// The most items: 1 to [`MAX_ITEMS`](mc_cache::MAX_ITEMS).
     pub items: usize,
-    /// What the items are kept in.
+    /// The kind of store in which the items are kept.
     pub kind: StoreKind,
-    /// Above which number items are counted.
+    /// The number above which items are counted.
     pub cas_from: CasFrom,
     /// How clients are served.
     pub service: Service,
@@ -59,7 +59,7 @@ pub struct Settings {
 }
 
 impl Settings {
-    /// These settings, where the budget and the items are within the bounds of a cache.
+    /// Returns these settings, if the budget and the items are within the bounds of a cache.
     pub fn new(
         budget: u64,
         items: usize,

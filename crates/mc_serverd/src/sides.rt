@@ -1,4 +1,4 @@
-//! The two sides of a client's socket, with what is seen there.
+//! The two sides of a client's socket, which note whether they have failed.
 ghost use Rattle.std.specs.Prelude.{◌≡◌};
 ghost use Rattle.std.specs.Io.{ReadsAtMost, WritesAtMost};
 ghost use Rattle.std.specs.Io.KnownBytes.{Keeps, ReadConsumes, WriteAppends};
@@ -13,7 +13,7 @@ use std::io::{ErrorKind, IoSlice, Read, Write};
 /// The input of a client, and whether it has failed.
 #[derive(Drop)]
 pub struct Received<R> {
-    /// What gives the bytes.
+    /// The source of the bytes.
     pub stream: R,
     /// Whether a read failed.
     pub failed: bool,
@@ -39,7 +39,7 @@ impl<R: Read> Read for Received<R> {
 /// The output of a client, and whether it has failed.
 #[derive(Drop)]
 pub struct Sent<W> {
-    /// What takes the bytes.
+    /// The sink of the bytes.
     pub stream: W,
     /// Whether a write failed, or nothing was taken.
     pub failed: bool,
@@ -69,7 +69,7 @@ impl<W: Write> Write for Sent<W> {
 }
 
 impl Gather for Sent<&TcpStream> {
-    /// One call of the system, on parts that are not copied. If it fails, the next write says so, and is noted.
+    /// Writes the parts in one system call, without copying them. If it fails, the next write reports it, and is noted.
     fn gather(&mut self, first: &[u8], middle: &[u8], last: &[u8]) -> usize {
         let parts = [
             IoSlice::new(first),
@@ -83,7 +83,7 @@ impl Gather for Sent<&TcpStream> {
     }
 }
 
-/// Whether a stream whose read or write had this error has failed: one that has nothing to give now, or takes nothing, has not.
+/// Returns whether a stream has failed whose read or write had this error. One that has no bytes now, or takes none now, has not.
 fn fails(error: &io::Error) -> bool
     ensures { result ≡ fails_by (error_kind error.now) }
 {

@@ -4,7 +4,7 @@ use Rattle.mc_store.specs.Items.{body_at}
 use Rattle.mc_store.specs.Epochs.{Entries, live, IsLetGo}
 use Rattle.mc_store.proofs.HeldLemmas.{cut}
 
--- entries that go from the back are dead
+-- entries that are removed from the back are dead
 dead_append : (count : ℕ) (front gone : Entries) → count ≤ length front → drop count (front ++ gone) ≡ drop count front ++ gone
 dead_append zero front gone fits = refl
 dead_append (suc count) [] gone fits = absurd (omega arith)
@@ -15,7 +15,7 @@ none_dead zero entries all = all
 none_dead (suc count) [] all = absurd (omega arith)
 none_dead (suc count) (entry ∷ entries) all = none_dead count entries (omega arith)
 
--- what is let go is let go of the dead ones
+-- what is freed is freed of the dead ones
 pub dead_let_go : (price count : ℕ) (old new : Entries) → IsLetGo price count old new → IsLetGo price 0 (drop count old) (drop count new)
 dead_let_go price count old new go = record {
   gone = go.gone;
@@ -28,7 +28,7 @@ dead_let_go price count old new go = record {
   no_more = go.no_more;
 }
 
--- an entry that is not live is taken out of the dead ones
+-- an entry that is not live is removed from the dead ones
 pub dead_without : (key : List ℕ) (count : ℕ) (entries : Entries) → body_at key (live count entries) ≡ None
     → drop count (cut key entries) ≡ cut key (drop count entries)
 dead_without key zero entries absent = refl

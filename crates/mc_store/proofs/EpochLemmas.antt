@@ -13,14 +13,14 @@ use Rattle.mc_store.specs.Recents.{written}
 use Rattle.mc_store.proofs.DeadLemmas.{dead_let_go, dead_without}
 use Rattle.mc_store.proofs.HeldLemmas.{held_at, cut, lookup_is, remove_is, entry_is, set_is}
 
--- what is dead stays so where an entry is taken out
+-- dead entries stay so if an entry is removed
 dead_cut : (key : List ℕ) (epoch : ℕ) (entries : Entries) → AreDead epoch entries → AreDead epoch (cut key entries)
 dead_cut key epoch [] dead = tt
 dead_cut key epoch (entry ∷ entries) dead =
     let again : AreDead epoch (cut key entries) = dead_cut key epoch entries dead.1 in
     grind (arith, cut)
 
--- what is held by dead entries is dead
+-- what is stored in dead entries is dead
 dead_held : (key : List ℕ) (epoch : ℕ) (entries : Entries) (held : Held) → AreDead epoch entries → held_at key entries ≡ Some held → held.epoch < epoch
 dead_held key epoch [] held dead at = absurd cc
 dead_held key epoch (entry ∷ entries) held dead at =
@@ -47,7 +47,7 @@ all_dead epoch zero next entries parted is = dead_next epoch next entries parted
 all_dead epoch (suc count) next [] parted is = tt
 all_dead epoch (suc count) next (entry ∷ entries) parted is = grind (arith, all_dead epoch count next entries parted.1 is)
 
--- there are so many live ones
+-- the number of the live ones
 pub length-live : (epoch count : ℕ) (entries : Entries) → IsParted epoch count entries → length (live count entries) ≡ count
 length-live epoch zero entries parted = refl
 length-live epoch (suc count) [] parted = absurd parted
@@ -58,7 +58,7 @@ count-fits epoch zero entries parted = omega arith
 count-fits epoch (suc count) [] parted = absurd parted
 count-fits epoch (suc count) (entry ∷ entries) parted = omega (arith, count-fits epoch count entries parted.1)
 
--- the same entries are live in a front that has so many
+-- the same entries are live in a front that has them all
 pub parted_front : (epoch count : ℕ) (front gone : Entries) → IsParted epoch count (front ++ gone) → count ≤ length front
     → IsParted epoch count front × (live count front ≡ live count (front ++ gone))
 parted_front epoch zero front gone parted fits = (dead_front epoch front gone parted, refl)
@@ -76,7 +76,7 @@ parted_take epoch (suc count) (suc n) (entry ∷ entries) parted fits =
     let again : IsParted epoch count (take n entries) × (live count (take n entries) ≡ live count entries) = parted_take epoch count n entries parted.1 (omega arith) in
     ((parted.0, again.0), ap (λ (is : Items). (entry.0, entry.1.body) ∷ is) again.1)
 
--- the live ones stay where an entry is taken out whose key is not live
+-- the live ones stay if an entry is removed whose key is not live
 parted_cut : (key : List ℕ) (epoch count : ℕ) (entries : Entries) → IsParted epoch count entries → body_at key (live count entries) ≡ None
     → IsParted epoch count (cut key entries) × (live count (cut key entries) ≡ live count entries)
 parted_cut key epoch zero entries parted absent = (dead_cut key epoch entries parted, refl)
@@ -86,7 +86,7 @@ parted_cut key epoch (suc count) (entry ∷ entries) parted absent =
     parted_cut key epoch count entries parted.1 in
     grind (arith, cut)
 
--- what is not held is not live
+-- what is not stored is not live
 absent_is : (key : List ℕ) (count : ℕ) (entries : Entries) → held_at key entries ≡ None → body_at key (live count entries) ≡ None
 absent_is key zero entries none = refl
 absent_is key (suc count) [] none = refl
@@ -120,7 +120,7 @@ live_is key epoch (suc count) (entry ∷ entries) held parted at now =
     let again : held_at key entries ≡ Some held → IsLiveAt key epoch count entries held = λ further. live_is key epoch count entries held parted.1 further now in
     grind (arith, held_at, cut)
 
--- what a look-up tells of the live ones
+-- what a look-up says of the live ones
 pub looks_live : (key : List ℕ) (epoch count : ℕ) (entries : Entries) (held : Held) → IsParted epoch count entries
     → lookup (bytes_eq key) entries ≡ Some held → held.epoch ≡ epoch → IsLiveAt key epoch count entries held
 looks_live key epoch count entries held parted found now = live_is key epoch count entries held parted (sym (lookup_is key entries) ∙ found) now
@@ -156,7 +156,7 @@ pub writes : (key : List ℕ) (epoch count : ℕ) (old new : Entries) (held afte
     → IsWritten key epoch count old new held.body after.body
 writes key epoch count old new held after parted found now still is = rw is (writes_held key epoch count old held after parted found now still)
 
--- what it leaves, once others were let go
+-- what it leaves, once others were freed
 pub record IsReplaced (key : List ℕ) (epoch count price : ℕ) (old new : Entries) (before after : Body) : Type 0 where
   pub parted : IsParted epoch count new
   pub held : body_at key (live count old) ≡ Some before
@@ -176,7 +176,7 @@ replaces key epoch count price old mid new held after parted found now still is 
       dead = subst (λ (es : Entries). IsLetGo price 0 es (drop count new)) wrote.dead (dead_let_go price count mid new go);
     }
 
--- what letting a dead entry go leaves that a look-up has promoted
+-- what freeing a dead entry leaves that a look-up has promoted
 pub lets_go : (key : List ℕ) (epoch count : ℕ) (old mid new : Entries) (held : Held) → IsParted epoch count old
     → Some held ≡ lookup (bytes_eq key) old → held.epoch ≢ epoch → mid ≡ written key old held → new ≡ drop 1 mid
     → IsParted epoch count new × (live count new ≡ live count old) × (body_at key (live count old) ≡ None)
@@ -231,7 +231,7 @@ takes_none key epoch count old new parted none is =
     let rest : IsParted epoch count (cut key old) × (live count (cut key old) ≡ live count old) = parted_cut key epoch count old parted absent in
     (rw cuts rest.0, rw cuts rest.1, absent)
 
--- what putting an entry leaves, once others were let go
+-- what inserting an entry leaves, once others were freed
 cut_none : (key : List ℕ) (entries : Entries) → held_at key entries ≡ None → cut key entries ≡ entries
 cut_none key [] none = refl
 cut_none key (entry ∷ entries) none =
@@ -300,7 +300,7 @@ pub goes_one : (initial old new out : Entries) (last : List ℕ × Held) → ini
 goes_one initial old new out last is ends =
     (is ∙ ap (λ (es : Entries). es ++ out) ends ∙ append_assoc new (last ∷ []) out, ap length ends ∙ length_push new last)
 
--- where all but the live ones go
+-- if all except the live ones are freed
 length-all : (epoch count : ℕ) (entries : Entries) → IsParted epoch count entries → length (take count entries) ≡ count
 length-all epoch zero entries parted = refl
 length-all epoch (suc count) [] parted = absurd parted
@@ -312,12 +312,12 @@ leaves_all epoch count old new parted is =
     let rest : IsParted epoch count (take count old) × (live count (take count old) ≡ live count old) = parted_take epoch count count old parted (omega arith) in
     (rw is rest.0, rw is rest.1, rw is (length-all epoch count old parted))
 
--- where none is left
+-- if none is left
 pub pops_none : (epoch count : ℕ) (old new : Entries) → IsParted epoch count old → old ≡ [] → new ≡ []
     → IsParted epoch count new × (live count new ≡ []) × (live count old ≡ [])
 pops_none epoch count old new parted nothing still = grind (arith, count-fits)
 
--- where there is room for more live entries, there is room for one once others were let go
+-- if there is room for more live entries, there is room for one once others were freed
 pub room_after : (count most left : ℕ) (old new : Option ℕ) → HasRoom most old → new ≡ old → IfSome old (λ entries. count < entries → left < entries) → count < most
     → IfSome new (λ entries. left < entries)
 room_after count most left None new has is free fits = rw is tt

@@ -8,7 +8,7 @@ use Rattle.mc_table.specs.Tables.{promoted}
 use Rattle.mc_store.specs.declared.held.Held.{Held}
 use Rattle.mc_store.specs.Epochs.{Entries}
 
--- what is held under a key
+-- what is stored under a key
 abbrev pub held_at : List ℕ → Entries → Option Held
 held_at key [] = None
 held_at key (entry ∷ entries) = cond (bytes_eq entry.0 key) (Some entry.1) (held_at key entries)
@@ -18,7 +18,7 @@ abbrev pub cut : List ℕ → Entries → Entries
 cut key [] = []
 cut key (entry ∷ entries) = cond (bytes_eq entry.0 key) entries (entry ∷ cut key entries)
 
--- what a look-up finds is what is held
+-- what a look-up finds is what is stored
 pub lookup_is : (key : List ℕ) (entries : Entries) → lookup (bytes_eq key) entries ≡ held_at key entries
 lookup_is key [] = refl
 lookup_is key (entry ∷ entries) = rw (nat_list_eq_equiv.symm key entry.0, lookup_is key entries) refl
@@ -44,7 +44,7 @@ pub promoted_is : (key : List ℕ) (entries : Entries) (held : Held) → held_at
     → promoted (bytes_eq key) entries ≡ (key, held) ∷ cut key entries
 promoted_is key entries held at = rw (entry_is key entries, at, remove_is key entries) refl
 
--- what is written to it is held first
+-- what is written to it is first
 pub set_is : (key : List ℕ) (entries : Entries) (held after : Held) → held_at key entries ≡ Some held
     → set_value (bytes_eq key) (promoted (bytes_eq key) entries) after ≡ (key, after) ∷ cut key entries
 set_is key entries held after at = rw (promoted_is key entries held at, nat_list_eq_equiv.refl key) refl

@@ -18,7 +18,7 @@ longest_of-without key (item ∷ items) =
       | false ↦ max-le own (omega (arith, again, others))
     ]
 
--- what is held is no longer than the longest
+-- a stored value is no longer than the longest
 pub longest_of-held : (key : List ℕ) (items : Items) (body : Body) → body_at key items ≡ Some body → length body.value ≤ longest_of items
 longest_of-held key [] body held = absurd cc
 longest_of-held key (item ∷ items) body held =

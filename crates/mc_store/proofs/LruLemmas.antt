@@ -15,7 +15,7 @@ last_is (entry ∷ entries) last found =
     let same : parts.1 ≡ last = cc in
     subst (λ (l : Entries). l ≡ take (length l - 1) l ++ last ∷ []) (sym parts.2) (rw (ends.1, same) refl)
 
--- there is none where there is no entry
+-- there is none if there is no entry
 last_none : (entries : Entries) → last_entry entries ≡ None → entries ≡ []
 last_none [] none = refl
 last_none (entry ∷ entries) none =
@@ -24,7 +24,7 @@ last_none (entry ∷ entries) none =
     let at : last_entry (parts.0 ++ parts.1 ∷ []) ≡ None = subst (λ (l : Entries). last_entry l ≡ None) parts.2 none in
     absurd cc
 
--- what is taken out from the end, and what is left
+-- what is removed from the end, and what is left
 pub pops_last : (old new : Entries) (result : Option (List ℕ × Held)) → result ≡ last_entry old → new ≡ take (length old - 1) old
     → IfSome result (λ last. old ≡ new ++ last ∷ [])
 pops_last old new None is left = tt

@@ -30,7 +30,7 @@ not_long size none =
       | false ↦ λ is counted. ltb-false LONG size is
     ]) refl none
 
--- where none is counted, none is longer
+-- if none is counted, none is longer
 pub none_long : (items : Items) → long_count items ≡ 0 → longest_of items ≤ LONG
 none_long [] none = omega arith
 none_long (item ∷ items) none =
@@ -59,7 +59,7 @@ long_append : (front : Items) (last : List ℕ × Body) → long_count (front ++
 long_append [] last = omega arith
 long_append (item ∷ items) last = omega (arith, long_append items last)
 
--- the sums stay where a held body is written to and its value keeps its length
+-- the sums stay if a stored body is written to and its value keeps its length
 sum_written : (key : List ℕ) (before after : Body) (old new : Items) (sums : Sums) → IsSumOf sums old → body_at key old ≡ Some before
     → length after.value ≡ length before.value → new ≡ (key, after) ∷ without key old → IsSumOf sums new
 sum_written key before after old new sums is held same written =
@@ -77,7 +77,7 @@ sum_written key before after old new sums is held same written =
       longest = rw written (max-le (omega (arith, own, same, is.longest)) (omega (arith, rest, is.longest)));
     }
 
--- where an item is brought to the front whose value keeps its length
+-- if an item is brought to the front whose value keeps its length
 pub sum_brought : (key : List ℕ) (change : Body → Body) (old new : Items) (sums : Sums) → IsSumOf sums old
     → ((body : Body) → length (change body).value ≡ length body.value)
     → new ≡ brought key (option_map change (body_at key old)) old → IsSumOf sums new
@@ -102,7 +102,7 @@ held_fits key old body sums is held =
     let long : long_one (length body.value) + long_count (without key old) ≡ long_count old = long_held key old body held in
     (omega (arith, is.used), omega (arith, is.long))
 
--- where the item of a key is taken out
+-- if the item of a key is removed
 pub sum_taken : (key : List ℕ) (old new : Items) (body : Body) (sums after : Sums) (price size : ℕ) → IsSumOf sums old → body_at key old ≡ Some body
     → new ≡ without key old → price ≡ cost_of key body.value → size ≡ length body.value → after ≡ without_value price size sums → IsSumOf after new
 sum_taken key old new body sums after price size is held left priced sized less =
@@ -119,7 +119,7 @@ sum_taken key old new body sums after price size is held left priced sized less 
       longest = omega (arith, longest_of-without key old, is.longest);
     })
 
--- where an item is put in front
+-- if an item is inserted in front
 pub sum_put : (key : List ℕ) (body : Body) (old new : Items) (sums after : Sums) (price size : ℕ) → IsSumOf sums old
     → cost_sum old + cost_of key body.value < 2 ^ 63 → new ≡ (key, body) ∷ old
     → price ≡ cost_of key body.value → size ≡ length body.value → after ≡ with_value price size sums → IsSumOf after new
@@ -138,7 +138,7 @@ sum_put key body old new sums after price size is fits put priced sized more =
       longest = rw most longer;
     })
 
--- where a value takes the place of another
+-- if a value replaces another
 pub replaced_fits : (key : List ℕ) (before after : Body) (old : Items) (sums less : Sums) (shorter size : ℕ) → IsSumOf sums old
     → body_at key old ≡ Some before → cost_sum old + cost_of key after.value < 2 ^ 63
     → shorter ≡ length before.value → size ≡ length after.value → less ≡ without_value shorter shorter sums
@@ -175,7 +175,7 @@ sum_replaced key before after old new sums less more shorter size is held fits p
       longest = rw (most, bound) longer;
     }
 
--- where the last item is taken out
+-- if the last item is removed
 pub last_fits : (old new : Items) (last : List ℕ × Body) (sums : Sums) → IsSumOf sums old → old ≡ new ++ last ∷ []
     → (item_cost last ≤ sums.used) × (long_one (length last.1.value) ≤ sums.long)
 last_fits old new last sums is ends =

@@ -6,6 +6,6 @@ use Rattle.mc_table.specs.Tables.{promoted}
 use Rattle.mc_store.specs.declared.held.Held.{Held}
 use Rattle.mc_store.specs.Epochs.{Entries}
 
--- the key's entry goes first, with another value under the key
+-- the key's entry moves to the front, with another value under the key
 abbrev pub written : List ℕ → Entries → Held → Entries
 written key entries held = set_value (bytes_eq key) (promoted (bytes_eq key) entries) held

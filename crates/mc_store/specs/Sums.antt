@@ -8,7 +8,7 @@ use Rattle.mc_store.specs.Items.{Items, cost_sum, longest_of}
 abbrev pub long_one : ℕ → ℕ
 long_one length = if nat_lt LONG length then 1 else 0
 
--- how many values are longer than LONG
+-- the number of values that are longer than LONG
 abbrev pub long_count : Items → ℕ
 long_count [] = 0
 long_count (item ∷ items) = long_one (length item.1.value) + long_count items
@@ -20,7 +20,7 @@ pub record IsSumOf (sums : Sums) (items : Items) : Type 0 where
   pub long : sums.long ≡ long_count items
   pub longest : longest_of items ≤ sums.longest
 
--- the sums with a value of so many bytes more, which costs so much
+-- the sums with one more value, by its length and its item's cost
 abbrev pub with_value : ℕ → ℕ → Sums → Sums
 with_value price length sums = record {
   used = sums.used + price;
@@ -28,7 +28,7 @@ with_value price length sums = record {
   longest = max sums.longest length;
 }
 
--- the sums with such a value less
+-- the sums with one such value less
 abbrev pub without_value : ℕ → ℕ → Sums → Sums
 without_value price length sums = record {
   used = sums.used - price;

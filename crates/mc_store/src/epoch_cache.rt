@@ -1,4 +1,4 @@
-//! EpochCache: items by key with a clear that takes the same time for any number of them.
+//! `EpochCache`: items by key, with a clear that takes the same time for any number of items.
 ghost use Rattle.std.specs.Prelude.{◌≡◌, ◌∷◌, ◌++◌, ◌≤◌, ◌<◌, ◌^◌, [], length, take, is_some, None, Some, OnOk, IfErr, IfOk, OnErr, IfSome, IfNone};
 ghost use Rattle.std.specs.Option.{option_copied, option_map};
 ghost use Rattle.mc_item.specs.Costs.{cost_of};
@@ -12,21 +12,21 @@ use mc_text::Key;
 use std::marker::Model;
 use std::mem;
 
-/// Items by key, each with the epoch in which it was put.
+/// Items by key, each with the epoch in which it was stored.
 ///
-/// The entries of the cache's own epoch are live, and come before all others. [`EpochCache::clear`] begins the next epoch, in which
-/// all entries are dead. What is dead is not counted and not found. A call with a key frees the dead entry of that key, but
-/// [`EpochCache::peek`], [`EpochCache::find`] and [`EpochCache::guess_all`] free none. [`EpochCache::put_front`], and a
-/// [`EpochCache::replace`] that finds its key, free more of them from the back, and [`EpochCache::drop_last`] all.
+/// The entries of the cache's own epoch are live, and are before all others. [`EpochCache::clear`] begins the next epoch, in which
+/// all entries are dead. Dead entries are not counted and not found. A call with a key frees the dead entry of that key, except
+/// that [`EpochCache::peek`], [`EpochCache::find`] and [`EpochCache::guess_all`] free none. [`EpochCache::put_front`], and an
+/// [`EpochCache::replace`] that finds its key, free more of them from the back, and [`EpochCache::drop_last`] frees all.
 ///
-/// Contracts see the live items, the dead entries, and the most items that there may be.
+/// Contracts see the live items, the dead entries, and the most items that the cache may have.
 #[derive(Drop)]
 pub struct EpochCache<M: Recent> {
     cache: M,
     epoch: u64,
-    /// How many entries are live: the first ones.
+    /// The number of live entries: these are the first ones.
     count: usize,
-    /// How many items there may be.
+    /// The most items.
     most: usize,
 }
 
@@ -42,7 +42,7 @@ impl<M: Recent> Model for EpochCache<M> {
 }
 
 impl<M: Recent> EpochCache<M> {
-    /// A cache with no item, over one that has no entry. There may be `most` items.
+    /// Makes a cache with no item, over one that has no entry. It may have `most` items.
     pub fn over(cache: M, most: usize) -> Self
         requires empty { M.entries cache ≡ [] }
         requires room { HasRoom most (M.room cache) }
@@ -57,14 +57,14 @@ impl<M: Recent> EpochCache<M> {
         }
     }
 
-    /// How many items there are.
+    /// Returns the number of items.
     pub fn len(&self) -> usize
         ensures { result ≡ length self.now.items }
     {
         self.count
     }
 
-    /// The body under the key. The order stays.
+    /// Returns the body under the key. The order stays.
     pub fn peek(&self, key: &[u8]) -> Option<&Body>
         ensures { option_copied result ≡ body_at key.now self.now.items }
     {
@@ -72,8 +72,8 @@ impl<M: Recent> EpochCache<M> {
         Some(body)
     }
 
-    /// The body under the key, and a guess of its entry ([`Recent::find`]): it is right until an entry goes, a dead one too. The order
-    /// stays.
+    /// Returns the body under the key, and a guess of its entry ([`Recent::find`]). The guess is right until an entry is removed, a
+    /// dead one too. The order stays.
     pub fn find(&self, key: &[u8], guess: u32) -> Option<(u32, &Body)>
         ensures { option_map (λ found. found.1.now) result ≡ body_at key.now self.now.items }
     {
@@ -84,7 +84,7 @@ impl<M: Recent> EpochCache<M> {
         Some((guess, &held.body))
     }
 
-    /// The body of the first item.
+    /// Returns the body of the first item.
     pub fn front(&self) -> Option<&Body>
         ensures { option_copied result ≡ front_body self.now.items }
     {
@@ -95,7 +95,7 @@ impl<M: Recent> EpochCache<M> {
         Some(&held.body)
     }
 
-    /// Moves the key's item to the front, and says whether there is one.
+    /// Moves the key's item to the front, and returns whether it exists.
     pub fn bring(&mut self, key: &[u8]) -> bool
         ensures held { result ≡ is_some (body_at key.now self.old.items) }
         ensures items { self.new.items ≡ brought key.now (body_at key.now self.old.items) self.old.items }
@@ -104,7 +104,7 @@ impl<M: Recent> EpochCache<M> {
         self.bring_by(key, 0)
     }
 
-    /// The same, given a guess of which entry it is.
+    /// Does what [`EpochCache::bring`] does, given a guess of the entry.
     pub fn bring_by(&mut self, key: &[u8], guess: u32) -> bool
         ensures held { result ≡ is_some (body_at key.now self.old.items) }
         ensures items { self.new.items ≡ brought key.now (body_at key.now self.old.items) self.old.items }
@@ -120,22 +120,22 @@ impl<M: Recent> EpochCache<M> {
         true
     }
 
-    /// Whether it guesses.
+    /// Returns whether [`EpochCache::guess_all`] guesses.
     pub fn guesses(&self) -> bool {
         self.cache.guesses()
     }
 
-    /// Guesses for each key which entry it has. It gives a number that says nothing ([`Recent::guess_all`]).
+    /// Prefetches: writes a guess of each key's entry. The returned byte only keeps the loads alive ([`Recent::guess_all`]).
     pub fn guess_all(&self, keys: &[&[u8]], guesses: &mut [u32]) -> u8 {
         self.cache.guess_all(keys, guesses)
     }
 
-    /// The guess that is right for the first item.
+    /// Returns the guess that is right for the first item.
     pub fn first_guess(&self) -> u32 {
         self.cache.first_guess()
     }
 
-    /// Sets the expiry of the key's item, moves it to the front, and says whether there is one.
+    /// Sets the expiry of the key's item, moves it to the front, and returns whether it exists.
     pub fn expire(&mut self, key: &[u8], expiry: Deadline) -> bool
         ensures held { result ≡ is_some (body_at key.now self.old.items) }
         ensures items { self.new.items ≡ brought key.now (expiring expiry (body_at key.now self.old.items)) self.old.items }
@@ -144,7 +144,7 @@ impl<M: Recent> EpochCache<M> {
         self.expire_by(key, 0, expiry)
     }
 
-    /// The same, given a guess of which entry it is.
+    /// Does what [`EpochCache::expire`] does, given a guess of the entry.
     pub fn expire_by(&mut self, key: &[u8], guess: u32, expiry: Deadline) -> bool
         ensures held { result ≡ is_some (body_at key.now self.old.items) }
         ensures items { self.new.items ≡ brought key.now (expiring expiry (body_at key.now self.old.items)) self.old.items }
@@ -161,7 +161,7 @@ impl<M: Recent> EpochCache<M> {
         true
     }
 
-    /// Sets the two marks and the number of the key's item, moves it to the front, and says whether there is one.
+    /// Sets the two marks and the number of the key's item, moves it to the front, and returns whether it exists.
     pub fn mark(&mut self, key: &[u8], stale: bool, won: bool, cas: u64) -> bool
         ensures held { result ≡ is_some (body_at key.now self.old.items) }
         ensures items { self.new.items ≡ brought key.now (marking stale won cas (body_at key.now self.old.items)) self.old.items }
@@ -170,7 +170,7 @@ impl<M: Recent> EpochCache<M> {
         self.mark_by(key, 0, stale, won, cas)
     }
 
-    /// The same, given a guess of which entry it is.
+    /// Does what [`EpochCache::mark`] does, given a guess of the entry.
     pub fn mark_by(&mut self, key: &[u8], guess: u32, stale: bool, won: bool, cas: u64) -> bool
         ensures held { result ≡ is_some (body_at key.now self.old.items) }
         ensures items { self.new.items ≡ brought key.now (marking stale won cas (body_at key.now self.old.items)) self.old.items }
@@ -189,7 +189,7 @@ impl<M: Recent> EpochCache<M> {
         true
     }
 
-    /// Takes the key's item out.
+    /// Removes and returns the key's item.
     pub fn take(&mut self, key: &[u8]) -> Option<(Key, Body)>
         ensures item { IfSome result (λ item. (item.0 ≡ key.now) × (body_at key.now self.old.items ≡ Some item.1)) }
         ensures none { IfNone result (body_at key.now self.old.items ≡ None) }
@@ -199,7 +199,7 @@ impl<M: Recent> EpochCache<M> {
         self.take_by(key, 0)
     }
 
-    /// The same, given a guess of which entry it is.
+    /// Does what [`EpochCache::take`] does, given a guess of the entry.
     pub fn take_by(&mut self, key: &[u8], guess: u32) -> Option<(Key, Body)>
         ensures item { IfSome result (λ item. (item.0 ≡ key.now) × (body_at key.now self.old.items ≡ Some item.1)) }
         ensures none { IfNone result (body_at key.now self.old.items ≡ None) }
@@ -218,10 +218,10 @@ impl<M: Recent> EpochCache<M> {
         }
     }
 
-    /// Puts a body under a key that is held, moves its item to the front, and gives the old body. Then it lets dead entries go: all, or
-    /// two at least that cost at least as many bytes as the value has, and no more than that takes.
+    /// Replaces the body under a stored key, moves its item to the front, and returns the old body. Then it frees dead entries: all, or
+    /// at least two that cost at least as many bytes as the value has, and no more than that takes.
     ///
-    /// Where the key is not held, `Err` hands the body back.
+    /// If the key is not stored, `Err` returns the new body.
     pub fn replace(&mut self, key: &[u8], body: Body) -> Result<Body, Body>
         ensures before { IfOk result (λ before. body_at key.now self.old.items ≡ Some before) }
         ensures ok { OnOk result (self.new.items ≡ (key.now, body) ∷ without key.now self.old.items) }
@@ -234,7 +234,7 @@ impl<M: Recent> EpochCache<M> {
         self.replace_by(key, 0, body)
     }
 
-    /// The same, given a guess of which entry it is.
+    /// Does what [`EpochCache::replace`] does, given a guess of the entry.
     pub fn replace_by(&mut self, key: &[u8], guess: u32, body: Body) -> Result<Body, Body>
         ensures before { IfOk result (λ before. body_at key.now self.old.items ≡ Some before) }
         ensures ok { OnOk result (self.new.items ≡ (key.now, body) ∷ without key.now self.old.items) }
@@ -257,10 +257,10 @@ impl<M: Recent> EpochCache<M> {
         Ok(before)
     }
 
-    /// Puts an item in front, under a key that is not held. Before that it lets dead entries go: all, or two at least that cost at least as
-    /// much as the item, and no more than that takes; and then a dead entry of the key.
+    /// Inserts an item in front, under a key that is not stored. Before that it frees dead entries: all, or at least two that cost at least
+    /// as much as the item, and no more than that takes; and then a dead entry of the key.
     ///
-    /// Where there is no memory, `Err` hands the key and the body back.
+    /// If there is no memory, `Err` returns the key and the body.
     pub fn put_front(&mut self, key: Key, body: Body) -> Result<(), (Key, Body)>
         requires absent { body_at key self.old.items ≡ None }
         requires room { length self.old.items < self.old.most }
@@ -285,7 +285,7 @@ impl<M: Recent> EpochCache<M> {
         }
     }
 
-    /// Takes the last item out, and lets all dead entries go before.
+    /// Removes and returns the last item, and frees all dead entries before that.
     pub fn drop_last(&mut self) -> Option<(Key, Body)>
         ensures last { IfSome result (λ last. self.old.items ≡ self.new.items ++ last ∷ []) }
         ensures empty { IfNone result ((self.old.items ≡ []) × (self.new.items ≡ [])) }
@@ -301,7 +301,7 @@ impl<M: Recent> EpochCache<M> {
         }
     }
 
-    /// Takes all items out: they are dead from now on. Only after the last epoch of 64 bits the entries go one by one.
+    /// Removes all items: their entries are dead from now on. Only after the last epoch of 64 bits the entries are freed one by one.
     pub fn clear(&mut self)
         ensures items { self.new.items ≡ [] }
         ensures most { self.new.most ≡ self.old.most }
@@ -316,8 +316,8 @@ impl<M: Recent> EpochCache<M> {
     }
 }
 
-/// Lets entries go, the last one first, but none of the first `count`: all others, or two at least that cost at least `price`. It
-/// lets no more go than that takes.
+/// Frees entries, the last one first, but none of the first `count`: all others, or at least two that cost at least `price`. It
+/// frees no more than that takes.
 fn let_go<M: Recent>(cache: &mut M, count: usize, price: u64)
     requires { count ≤ length (M.entries cache.old) }
     ensures go { IsLetGo price count (M.entries cache.old) (M.entries cache.new) }
@@ -342,7 +342,7 @@ fn let_go<M: Recent>(cache: &mut M, count: usize, price: u64)
     }
 }
 
-/// Lets all entries go but the first `count`.
+/// Frees all entries except the first `count`.
 fn let_all_go<M: Recent>(cache: &mut M, count: usize)
     requires { count ≤ length (M.entries cache.old) }
     ensures entries { M.entries cache.new ≡ take count (M.entries cache.old) }

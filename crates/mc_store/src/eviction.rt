@@ -1,13 +1,13 @@
-//! Eviction: the items that were used last are kept.
+//! Eviction: the most recently used items are kept.
 ghost use Rattle.std.specs.Prelude.{◌≡◌};
 ghost use Rattle.mc_store.specs.Items.{kept};
 
 use crate::stores::Store;
 use mc_item::cost;
 
-/// Takes items out, the last one first, until the others cost at most `budget` bytes and are at most `limit`.
+/// Evicts items, the last one first, until the others cost at most `budget` bytes and are at most `limit`.
 ///
-/// It takes no memory. It adds the costs up once; each item that it takes out is then one step more.
+/// It takes no memory. It reads the sum of the costs once; each evicted item is then one step more.
 #[tactic(auto, using(crate::proofs::KeptLemmas::evictions))]
 pub fn keep<S: Store + Drop>(store: &mut S, budget: u64, limit: usize)
     ensures items { S.items store.new ≡ kept budget limit (S.items store.old) }

@@ -1,4 +1,4 @@
-//! HashStore: the items in what finds them by a hash.
+//! `HashStore`: items in a container that finds them by a hash.
 ghost use Rattle.std.specs.Prelude.{◌≡◌, ◌≤◌, ◌<◌, ◌^◌, ◌↔◌, [], ◌+◌, Some, IfOk, IsErrOf};
 ghost use Rattle.mc_store.specs.Epochs.{HasRoom};
 ghost use Rattle.mc_store.specs.Items.{cost_sum};
@@ -24,7 +24,7 @@ pub enum StoreError {
     /// 1: no memory for the store.
     #[error("out of memory")]
     Memory,
-    /// 2: one item more than the limit is no number of 64 bits.
+    /// 2: one more item than the limit is no number of 64 bits.
     #[error("too many items")]
     TooMany,
 }
@@ -45,39 +45,37 @@ pub type FixedHasher = BuildHasherDefault<FoldHasher>;
 /// The items in lru's cache: a node of its own for each, in a list by last use.
 pub type LruStore<H> = HashStore<LruCache<Key, Held, H>>;
 
-/// The items in our own table, side by side: less memory an item than a [`LruStore`], and fewer waits for it.
+/// The items in our own table, in one vector: it takes less memory per item than an [`LruStore`], and causes fewer cache misses.
 pub type TableStore<H> = HashStore<Table<Key, Held, H>>;
 
-/// The items in what finds them by a hash, in the order of their last use: a [`LruStore`] or a [`TableStore`]. Sums over them
-/// are kept beside them.
+/// Items in a container that finds them by a hash, in the order of their last use: an [`LruStore`] or a [`TableStore`]. It keeps sums over them.
 ///
 /// Contracts see the items and the greatest number of them. What they cost together stays below 2^63.
 ///
 /// # Work
 ///
 /// A call with a key hashes it once and searches once. Given a guess that is right, it does neither. `put_front` hashes its key twice, and
-/// `guess_all` each key once. `len`, `used`, `longest`, `front` and `clear` hash nothing. To take out the last entry, or a dead one, hashes
-/// nothing in a [`TableStore`], and that entry's key in a [`LruStore`]. So none of these takes longer where more items are held, as long as
-/// the hash spreads the keys, but for what is said of `put_front` below.
+/// `guess_all` each key once. `len`, `used`, `longest`, `front` and `clear` hash nothing. Removing the last entry, or a dead one, hashes
+/// nothing in a [`TableStore`], and that entry's key in an [`LruStore`]. So none of these takes longer if more items are stored, as long as
+/// the hash spreads the keys, except as said of `put_front` below.
 ///
 /// `clear` begins a new epoch, which makes all entries dead. They are not counted and not found, and they are freed later. A call with a
-/// key frees the dead entry of that key, but `peek`, `find` and `guess_all` free none. Each `put_front` frees two more at least, until
-/// they cost as much as the item or none is left, and each `replace` that finds its key as many for the new value. `drop_last` frees all
-/// of them first. Each that is freed costs what it costs to take out the last entry. While dead entries are left no store makes the
-/// entries cost more, or be more, live and dead together. So a store that is kept within a budget and a limit has no dead ones left when
-/// it drops an item. The end of the store takes out one entry after the other.
+/// key frees the dead entry of that key, except that `peek`, `find` and `guess_all` free none. Each `put_front` frees at least two more,
+/// until they cost as much as the item or none is left. Each `replace` that finds its key frees as many for the new value. `drop_last`
+/// frees all of them first. Freeing one costs as much as removing the last entry. While dead entries are left no store makes the entries
+/// cost more, or be more, live and dead together. So a store that is kept within a budget and a limit has no dead ones left when it evicts
+/// an item. Dropping the store frees the entries in sequence.
 ///
 /// # Memory
 ///
-/// The constructor of a [`TableStore`] takes room for all entries and its search table, which is never laid out anew: no call takes time
-/// for each entry, but the end of the store. That of a [`LruStore`] takes its search table alone, for 9 * 2^k items, the least such number
-/// that is enough; each new item then takes a node. The blocks of dead entries stay taken until they are freed.
+/// The constructor of a [`TableStore`] reserves room for all entries and its search table, which is never rehashed: no call takes time for
+/// each entry, except dropping the store. That of an [`LruStore`] reserves its search table alone, for 9 * 2^k items, the least such number
+/// that is enough; each new item then takes a node. The memory of dead entries stays reserved until they are freed.
 ///
-/// In the search table of a [`LruStore`] a key that is taken out of a crowded part leaves its place counted as taken. If no place is left
-/// by that count, as may be after long eviction or a clear, `put_front` first lays that table out anew, which takes time for each entry
-/// but hashes none. That is done in place if the entries, the new one with them, are at most half of what it is for. Else it is
-/// doubled, and only that takes memory; then they are at most half of it, so this comes once in a store's life. If memory is
-/// refused, so is the item, and the items are as they were.
+/// In the search table of an [`LruStore`] a key that is removed from a crowded part leaves a tombstone. No free place may be left after long
+/// eviction or a clear. Then `put_front` first rebuilds that table, which takes time for each entry but hashes none. That is done in place
+/// if the entries, including the new one, are at most half of its capacity. Else the table is doubled, and only that takes memory; then they
+/// are at most half of it, so this happens once in a store's life. If memory is refused, so is the item, and the items are unchanged.
 #[derive(Drop)]
 pub struct HashStore<M: Recent> {
     cache: EpochCache<M>,
@@ -96,8 +94,8 @@ impl<M: Recent> Model for HashStore<M> {
 }
 
 impl LruStore<FixedHasher> {
-    /// A store over lru's cache with no item, and room for so many and one more: the one that a caller puts before it drops another. Its
-    /// hasher's seed is fixed, so who chooses the keys can choose such as fall together: strangers' keys want
+    /// Makes a store over lru's cache with no item, and room for `items` and one more: the one that a caller inserts before it evicts
+    /// another. Its hasher's seed is fixed, so a client that chooses the keys can make them collide. For untrusted keys use
     /// [`LruStore::with_hasher`].
     pub fn new(alloc: Global, items: usize) -> Result<Self, StoreError>
         ensures empty { IfOk result (λ store. store.items ≡ []) }
@@ -109,7 +107,7 @@ impl LruStore<FixedHasher> {
 }
 
 impl<H: BuildHasher + Drop> LruStore<H> {
-    /// A store over lru's cache with no item, and room for so many and one more, whose keys this hasher hashes.
+    /// Makes a store over lru's cache with no item, and room for `items` and one more, whose keys this hasher hashes.
     pub fn with_hasher(alloc: Global, items: usize, hasher: H) -> Result<Self, StoreError>
         ensures empty { IfOk result (λ store. store.items ≡ []) }
         ensures most { IfOk result (λ store. store.most ≡ items + 1) }
@@ -123,7 +121,7 @@ impl<H: BuildHasher + Drop> LruStore<H> {
 }
 
 impl TableStore<FixedHasher> {
-    /// A store over a table with no item, and room for so many and one more, as [`LruStore::new`].
+    /// Makes a store over a table with no item, and room for `items` and one more, as [`LruStore::new`].
     pub fn new(alloc: Global, items: usize) -> Result<Self, StoreError>
         ensures empty { IfOk result (λ store. store.items ≡ []) }
         ensures most { IfOk result (λ store. store.most ≡ items + 1) }
@@ -134,7 +132,7 @@ impl TableStore<FixedHasher> {
 }
 
 impl<H: BuildHasher + Drop> TableStore<H> {
-    /// A store over a table with no item, and room for so many and one more, whose keys this hasher hashes.
+    /// Makes a store over a table with no item, and room for `items` and one more, whose keys this hasher hashes.
     pub fn with_hasher(alloc: Global, items: usize, hasher: H) -> Result<Self, StoreError>
         ensures empty { IfOk result (λ store. store.items ≡ []) }
         ensures most { IfOk result (λ store. store.most ≡ items + 1) }
@@ -147,7 +145,7 @@ impl<H: BuildHasher + Drop> TableStore<H> {
 }
 
 impl<M: Recent> HashStore<M> {
-    /// A store with no item, over what has no entry. There may be `most` items.
+    /// Makes a store with no item, over a container that has no entry. It may have `most` items.
     fn over(cache: M, most: usize) -> Self
         requires empty { M.entries cache ≡ [] }
         requires room { HasRoom most (M.room cache) }
@@ -275,7 +273,7 @@ impl<M: Recent> Store for HashStore<M> {
     }
 }
 
-/// The body of an item, whose key is dropped.
+/// Returns the body of an item, whose key is dropped.
 fn body_of(item: (Key, Body)) -> Body
     ensures { result ≡ item.1 }
 {

@@ -1,4 +1,4 @@
-//! ListStore: the items in a plain list.
+//! `ListStore`: items in a plain list.
 ghost use Rattle.std.specs.Prelude.{◌≡◌, ◌<◌, ◌^◌, [], ◌+◌, position, is_some, IfSome, IfNone, Some, None};
 ghost use Rattle.std.specs.Option.{option_map};
 ghost use Rattle.std.specs.Str.{bytes_eq};
@@ -12,8 +12,8 @@ use std::alloc::Global;
 use std::marker::Model;
 use std::mem;
 
-/// The items in a plain list, and what they cost. Each call with a key looks through the list once, from the front, and
-/// `longest` through all of it.
+/// The items in a plain list, and what they cost. Each call with a key searches the list once, from the front, and
+/// `longest` reads all of it.
 ///
 /// Contracts see the keys and bodies. What they cost together stays below 2^63.
 #[derive(Drop)]
@@ -34,7 +34,7 @@ impl Model for ListStore {
 }
 
 impl ListStore {
-    /// A store with no item. It takes no memory.
+    /// Makes a store with no item. It takes no memory.
     pub fn new(alloc: Global) -> Self
         ensures { result ≡ [] }
     {
@@ -134,7 +134,7 @@ impl Store for ListStore {
     }
 }
 
-/// How many bytes the longest value has.
+/// Returns the length of the longest value.
 #[tactic(auto, using(crate::proofs::LongestLemmas::steps))]
 fn longest_in(entries: &[(Key, Body)]) -> usize
     ensures { result ≡ longest_of entries.now }
@@ -146,7 +146,7 @@ fn longest_in(entries: &[(Key, Body)]) -> usize
     longest
 }
 
-/// Moves the key's item to the front, and says whether there is one. One that is first already stays where it is.
+/// Moves the key's item to the front, and returns whether it exists. An item that is first already is not moved.
 fn brought(entries: &mut Vec<(Key, Body)>, key: &[u8]) -> bool
     ensures held { result ≡ is_some (body_at key.now entries.old.items) }
     ensures items { entries.new.items ≡ brought key.now (body_at key.now entries.old.items) entries.old.items }
@@ -161,7 +161,7 @@ fn brought(entries: &mut Vec<(Key, Body)>, key: &[u8]) -> bool
     true
 }
 
-/// Takes the key's item out.
+/// Removes and returns the key's item.
 #[tactic(auto, using(crate::proofs::KeptLemmas::costs, crate::proofs::ItemLemmas::absent))]
 fn taken_out(entries: &mut Vec<(Key, Body)>, key: &[u8]) -> Option<(Key, Body)>
     ensures body { option_map (λ item. item.1) result ≡ body_at key.now entries.old.items }
@@ -173,7 +173,7 @@ fn taken_out(entries: &mut Vec<(Key, Body)>, key: &[u8]) -> Option<(Key, Body)>
     Some(entries.remove(place))
 }
 
-/// Where the key's item is.
+/// Returns the index of the key's item.
 fn place_of(entries: &[(Key, Body)], key: &[u8]) -> Option<usize>
     ensures found { IfSome result (HoldsAt key.now entries.now) }
     ensures absent { IfNone result (body_at key.now entries.now ≡ None) }

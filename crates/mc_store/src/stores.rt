@@ -1,4 +1,4 @@
-//! What a cache is built over.
+//! The interface between a cache and its items.
 ghost use Rattle.std.specs.Prelude.{ℕ, Option, ◌≡◌, ◌∷◌, ◌++◌, ◌+◌, ◌<◌, ◌≤◌, ◌^◌, [], length, is_some, None, Some, IfOk, OnOk, IfErr, OnErr, IfSome, IfNone};
 ghost use Rattle.std.specs.Option.{option_copied, option_map};
 ghost use Rattle.mc_item.specs.Costs.{cost_of};
@@ -7,54 +7,54 @@ ghost use Rattle.mc_store.specs.Items.{Items, body_at, front_body, without, brou
 use mc_item::{Body, Deadline};
 use mc_text::Key;
 
-/// The items of a cache, one under a key, most recent first.
+/// The items of a cache, at most one under each key, most recent first.
 ///
-/// A key is asked for by its bytes. Only [`Store::put_front`] takes memory.
+/// A key is looked up by its bytes. Only [`Store::put_front`] takes memory.
 pub trait Store {
     /// The keys and bodies, most recent first.
     ghost items: { Self → Items };
 
-    /// The most items that there may be, if there is such a number. No call changes it.
+    /// The most items, if there is such a number. No call changes it.
     ghost most: { Self → Option ℕ };
 
-    /// How many items there are.
+    /// Returns the number of items.
     fn len(&self) -> usize
         ensures { result ≡ length (items self.now) };
 
-    /// What the items cost, in bytes.
+    /// Returns what the items cost, in bytes.
     fn used(&self) -> u64
         ensures { result ≡ cost_sum (items self.now) };
 
-    /// A number of bytes that no value is longer than. It may be larger than the longest value that is there.
+    /// Returns a number of bytes that no value is longer than. It may exceed the longest stored value.
     fn longest(&self) -> usize
         ensures { longest_of (items self.now) ≤ result };
 
-    /// The body under the key. The order stays.
+    /// Returns the body under the key. The order stays.
     fn peek(&self, key: &[u8]) -> Option<&Body>
         ensures { option_copied result ≡ body_at key.now (items self.now) };
 
-    /// The body under the key, and a guess of which item it is. The order stays, and a guess given here is looked at first.
+    /// Returns the body under the key, and a guess of its item. The item of the given guess is compared first. The order stays.
     ///
-    /// The guess is right until an item is put, replaced or taken out, or a call other than [`Store::peek`], [`Store::find`] and
-    /// [`Store::guess_all`] asks for a key that is not held: each of these may move items.
+    /// The guess is right until an item is inserted, replaced or removed. Calls other than [`Store::peek`], [`Store::find`] and
+    /// [`Store::guess_all`] also end it, if their key is not stored. Each of these may move items.
     fn find(&self, key: &[u8], _guess: u32) -> Option<(u32, &Body)>
         ensures { option_map (λ found. found.1.now) result ≡ body_at key.now (items self.now) }
     {
         Some((0, self.peek(key)?))
     }
 
-    /// The body of the first item.
+    /// Returns the body of the first item.
     fn front(&self) -> Option<&Body>
         ensures { option_copied result ≡ front_body (items self.now) };
 
-    /// Moves the key's item to the front, and says whether there is one.
+    /// Moves the key's item to the front, and returns whether it exists.
     fn bring(&mut self, key: &[u8]) -> bool
         ensures held { result ≡ is_some (body_at key.now (items self.old)) }
         ensures items { items self.new ≡ brought key.now (body_at key.now (items self.old)) (items self.old) }
         ensures most { most self.new ≡ most self.old };
 
-    /// The same, given a guess of which item it is ([`Store::guess_all`], [`Store::find`]). A guess changes how long it takes, and nothing
-    /// else.
+    /// Does what [`Store::bring`] does, given a guess of the item ([`Store::guess_all`], [`Store::find`]). A guess affects only the
+    /// speed.
     fn bring_by(&mut self, key: &[u8], _guess: u32) -> bool
         ensures held { result ≡ is_some (body_at key.now (items self.old)) }
         ensures items { items self.new ≡ brought key.now (body_at key.now (items self.old)) (items self.old) }
@@ -63,26 +63,26 @@ pub trait Store {
         self.bring(key)
     }
 
-    /// Whether [`Store::guess_all`] guesses: several items are found sooner together than each by itself.
+    /// Returns whether [`Store::guess_all`] guesses: several items are found faster together than each by itself.
     fn guesses(&self) -> bool {
         false
     }
 
-    /// Guesses which item each key has, and is worth its time if [`Store::guesses`]. A store that never does leaves the guesses as they
-    /// are. 0 is no guess. [`Store::bring_by`] and the other calls that are given a guess use it. The result is made of what was read, so
-    /// that no compiler leaves the reading out. It says nothing else.
+    /// Prefetches the items of keys: writes a guess of each key's item (0 is none), for [`Store::bring_by`] and the other calls that take
+    /// a guess. It is worth its time if [`Store::guesses`]. A store that never guesses leaves the guesses as they are. The returned byte
+    /// is made of what was read, and only keeps the loads alive.
     fn guess_all(&self, _keys: &[&[u8]], _guesses: &mut [u32]) -> u8 {
         0
     }
 
-    /// Sets the expiry of the key's item, moves it to the front, and says whether there is one.
+    /// Sets the expiry of the key's item, moves it to the front, and returns whether it exists.
     fn expire(&mut self, key: &[u8], expiry: Deadline) -> bool
         ensures held { result ≡ is_some (body_at key.now (items self.old)) }
         ensures items { items self.new
             ≡ brought key.now (expiring expiry (body_at key.now (items self.old))) (items self.old) }
         ensures most { most self.new ≡ most self.old };
 
-    /// The same, given a guess of which item it is.
+    /// Does what [`Store::expire`] does, given a guess of the item.
     fn expire_by(&mut self, key: &[u8], _guess: u32, expiry: Deadline) -> bool
         ensures held { result ≡ is_some (body_at key.now (items self.old)) }
         ensures items { items self.new
@@ -92,14 +92,14 @@ pub trait Store {
         self.expire(key, expiry)
     }
 
-    /// Sets the two marks and the number of the key's item, moves it to the front, and says whether there is one.
+    /// Sets the two marks and the number of the key's item, moves it to the front, and returns whether it exists.
     fn mark(&mut self, key: &[u8], stale: bool, won: bool, cas: u64) -> bool
         ensures held { result ≡ is_some (body_at key.now (items self.old)) }
         ensures items { items self.new
             ≡ brought key.now (marking stale won cas (body_at key.now (items self.old))) (items self.old) }
         ensures most { most self.new ≡ most self.old };
 
-    /// The same, given a guess of which item it is.
+    /// Does what [`Store::mark`] does, given a guess of the item.
     fn mark_by(&mut self, key: &[u8], _guess: u32, stale: bool, won: bool, cas: u64) -> bool
         ensures held { result ≡ is_some (body_at key.now (items self.old)) }
         ensures items { items self.new
@@ -109,18 +109,18 @@ pub trait Store {
         self.mark(key, stale, won, cas)
     }
 
-    /// The guess that is right for the first item; 0 if none is known.
+    /// Returns the guess that is right for the first item; 0 if none is known.
     fn first_guess(&self) -> u32 {
         0
     }
 
-    /// Takes the key's item out, and gives its body.
+    /// Removes the key's item, and returns its body.
     fn take(&mut self, key: &[u8]) -> Option<Body>
         ensures body { result ≡ body_at key.now (items self.old) }
         ensures items { items self.new ≡ without key.now (items self.old) }
         ensures most { most self.new ≡ most self.old };
 
-    /// The same, given a guess of which item it is.
+    /// Does what [`Store::take`] does, given a guess of the item.
     fn take_by(&mut self, key: &[u8], _guess: u32) -> Option<Body>
         ensures body { result ≡ body_at key.now (items self.old) }
         ensures items { items self.new ≡ without key.now (items self.old) }
@@ -129,9 +129,9 @@ pub trait Store {
         self.take(key)
     }
 
-    /// Puts a body under a key that is held, moves its item to the front, and gives the old body.
+    /// Replaces the body under a stored key, moves its item to the front, and returns the old body.
     ///
-    /// Where the key is not held, `Err` hands the body back.
+    /// If the key is not stored, `Err` returns the new body.
     fn replace(&mut self, key: &[u8], body: Body) -> Result<Body, Body>
         requires { cost_sum (items self.old) + cost_of key.now body.value < 2 ^ 63 }
         ensures before { IfOk result (λ before. body_at key.now (items self.old) ≡ Some before) }
@@ -141,7 +141,7 @@ pub trait Store {
         ensures err { OnErr result (items self.new ≡ items self.old) }
         ensures most { most self.new ≡ most self.old };
 
-    /// The same, given a guess of which item it is.
+    /// Does what [`Store::replace`] does, given a guess of the item.
     fn replace_by(&mut self, key: &[u8], _guess: u32, body: Body) -> Result<Body, Body>
         requires { cost_sum (items self.old) + cost_of key.now body.value < 2 ^ 63 }
         ensures before { IfOk result (λ before. body_at key.now (items self.old) ≡ Some before) }
@@ -154,9 +154,9 @@ pub trait Store {
         self.replace(key, body)
     }
 
-    /// Puts an item in front, under a key that is not held.
+    /// Inserts an item in front, under a key that is not stored.
     ///
-    /// Where there is no memory, `Err` hands the key and the body back.
+    /// If there is no memory, `Err` returns the key and the body.
     fn put_front(&mut self, key: Key, body: Body) -> Result<(), (Key, Body)>
         requires absent { body_at key (items self.old) ≡ None }
         requires room { IfSome (most self.old) (λ most. length (items self.old) < most) }
@@ -166,18 +166,18 @@ pub trait Store {
         ensures err { OnErr result (items self.new ≡ items self.old) }
         ensures most { most self.new ≡ most self.old };
 
-    /// Takes the last item out.
+    /// Removes and returns the last item.
     fn drop_last(&mut self) -> Option<(Key, Body)>
         ensures last { IfSome result (λ last. items self.old ≡ items self.new ++ last ∷ []) }
         ensures empty { IfNone result ((items self.old ≡ []) × (items self.new ≡ [])) }
         ensures most { most self.new ≡ most self.old };
 
-    /// Takes all items out.
+    /// Removes all items.
     fn clear(&mut self)
         ensures items { items self.new ≡ [] }
         ensures most { most self.new ≡ most self.old };
 
-    /// Is told that a retrieval of a key was answered, and whether an item is shown. A store that counts them says what it does with
-    /// that; no other does anything.
+    /// Reports that a retrieval of a key was answered, and whether an item is shown. A store that counts retrievals says what it
+    /// does with that; no other does anything.
     fn retrieved(&self, _is_hit: bool) {}
 }

@@ -1,10 +1,10 @@
-//! Sums: what a store knows of all its items.
+//! Sums over all items of a store.
 ghost use Rattle.std.specs.Prelude.{◌≡◌, ◌+◌, ◌<◌, ◌≤◌, ◌^◌, [], length};
 ghost use Rattle.mc_store.specs.Items.{Items, longest_of};
 ghost use Rattle.mc_store.specs.declared.sums.TheConstants.{LONG};
 ghost use Rattle.mc_store.specs.Sums.{IsSumOf, long_one, with_value, without_value};
 
-/// A value of more bytes is long.
+/// The most bytes of a value that is not long.
 pub const LONG: usize = 65_536;
 
 /// What the items of a store cost, how many values are long, and a bound for the longest.
@@ -12,14 +12,14 @@ pub const LONG: usize = 65_536;
 pub struct Sums {
     /// What the items cost, in bytes.
     pub used: u64,
-    /// How many values have more than [`LONG`] bytes.
+    /// The number of values that have more than [`LONG`] bytes.
     pub long: u64,
     /// The length of the longest value that was put since the store was empty or cleared.
     pub longest: usize,
 }
 
 impl Sums {
-    /// The sums of no item.
+    /// Returns the sums of no item.
     pub fn none() -> Sums
         ensures { IsSumOf result [] }
     {
@@ -30,7 +30,7 @@ impl Sums {
         }
     }
 
-    /// A number of bytes that no value is longer than: at most [`LONG`] where no value is long.
+    /// Returns a number of bytes that no value is longer than: at most [`LONG`] if no value is long.
     pub fn longest(self) -> usize
         ensures bound { (items : Items) → IsSumOf self items → longest_of items ≤ result }
         ensures short { self.long ≡ 0 → result ≤ LONG }
@@ -41,7 +41,7 @@ impl Sums {
         self.longest
     }
 
-    /// Adds a value of so many bytes, which costs so much.
+    /// Adds a value of `length` bytes, whose item costs `price`.
     pub fn add(&mut self, price: u64, length: usize)
         requires used { self.old.used + price < 2 ^ 64 }
         requires long { self.old.long + 1 < 2 ^ 64 }
@@ -52,7 +52,7 @@ impl Sums {
         self.longest = self.longest.max(length);
     }
 
-    /// Takes away a value of so many bytes, which costs so much.
+    /// Subtracts a value of `length` bytes, whose item costs `price`.
     pub fn take_away(&mut self, price: u64, length: usize)
         requires used { price ≤ self.old.used }
         requires long { long_one length ≤ self.old.long }
@@ -63,7 +63,7 @@ impl Sums {
     }
 }
 
-/// 1 for the length of a long value, else 0.
+/// Returns 1 for the length of a long value, else 0.
 fn long_one(length: usize) -> u64
     ensures { result ≡ long_one length }
 {

@@ -8,17 +8,17 @@ use mc_table::Table;
 use mc_text::{Key, KeyBytes};
 use std::hash::BuildHasher;
 
-/// With fewer entries none is guessed: their memory is near the processor.
+/// With fewer entries it makes no guesses: their memory is near the processor.
 const MANY: usize = 32_768;
 
-/// Where the first lines of a value begin that are asked for: a line of memory has 64 bytes.
+/// The offsets in a value whose cache lines are prefetched. A cache line has 64 bytes.
 const LINES: [usize; 4] = [0, 64, 128, 192];
 
 /// The most keys whose entries are guessed at once.
 const AT_ONCE: usize = 32;
 
-/// The first byte of an entry's key, those at `LINES` of its value and the value's last, joined by exclusive or; 0 if there is no entry. So
-/// the processor asks for the memory that key and value have of their own.
+/// Prefetches the key and the value of an entry: returns the first byte of the key, those at `LINES` of the value and its last, joined by
+/// exclusive or; 0 if there is no entry. The returned byte only keeps the loads alive.
 #[inline]
 fn bytes_of(entry: Option<(&Key, &Held)>) -> u8 {
     let Some((key, held)) = entry else {

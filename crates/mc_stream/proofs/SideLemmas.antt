@@ -18,7 +18,7 @@ keeps_appends None b h = tt
 keeps_appends (Some a) None h = absurd h
 keeps_appends (Some a) (Some b) h = h ∙ sym (append-nil a)
 
--- all of known bytes came in two parts: in the first, or with the second
+-- all of known bytes arrived in two parts: in the first, or with the second
 nothing_left : (xs ys zs : List ℕ) → xs ≡ (xs ++ ys) ++ zs → ys ≡ []
 nothing_left [] [] zs e = refl
 nothing_left [] (y ∷ ys) zs e = absurd cc
@@ -114,7 +114,7 @@ pub came_any : (moved : Bool) (unread unread' : Option (List ℕ)) (ended' : Boo
 came_any true unread unread' ended' came unmoved h = h
 came_any false unread unread' ended' came unmoved h = h.0
 
--- a read by which nothing came, and not the end
+-- a read by which nothing arrived, and not the end
 pub came_false : (moved : Bool) (unread unread' : Option (List ℕ)) (ended' : Bool) (came : List ℕ) (unmoved : Type 0) → moved ≡ false
     → HowItCame (Ok moved) unread unread' ended' came unmoved → (ended' ≡ false) × unmoved
 came_false true unread unread' ended' came unmoved e h = absurd cc
@@ -129,7 +129,7 @@ carries_sent unread written written' ended went h = record {
   at_end = λ e. inl e;
 }
 
--- bytes came, and the input was not seen to end
+-- bytes arrived, and the input was not seen to end
 pub brings_bytes : (a b : Option (List ℕ)) (ended : Bool) (came : List ℕ) → ended ≡ false → Consumes a b came → Brings a b ended came
 brings_bytes a b ended came open_yet consumed = record {
   consumed = consumed;
@@ -146,7 +146,7 @@ pub went_false : (moved : Bool) (written written' : Option (List ℕ)) (went : L
 went_false true written written' went unmoved e h = absurd cc
 went_false false written written' went unmoved e h = h.1
 
--- a read by which nothing came, or the end
+-- a read by which nothing arrived, or the end
 pub came_none : (unread unread' : Option (List ℕ)) (ended' : Bool) (unmoved : Type 0) → Brings unread unread' ended' [] → unmoved → HowItCame (Ok ended') unread unread' ended' [] unmoved
 came_none unread unread' true unmoved h u = h
 came_none unread unread' false unmoved h u = (h, refl, u)

@@ -5,20 +5,20 @@ use Rattle.std.specs.Io.KnownBytes.{Appends, Consumes, Keeps}
 use Rattle.mc_stream.specs.declared.outcomes.Pumped.{Pumped}
 use Rattle.mc_stream.specs.declared.outcomes.Pumped.TheVariants.{Again, Failed}
 
--- bytes that came are all that the reader had, where that is known
+-- the bytes that arrived are all that the reader had, if that is known
 abbrev pub IsAll : Option (List ℕ) → List ℕ → Type 0
 IsAll None came = Unit {0}
 IsAll (Some all) came = came ≡ all
 
--- The bytes that came are those that the reader gave, and the bytes that went are those that the writer took, as far as
--- these are known; the input is said to have ended only where all of it came.
+-- The bytes that arrived are those that the reader gave, and the bytes that were sent are those that the writer took,
+-- as far as these are known; the input is said to have ended only if all of it arrived.
 pub record Carries (unread unread' written written' : Option (List ℕ)) (ended ended' : Bool) (came went : List ℕ) : Type 0 where
   pub consumed : Consumes unread unread' came
   pub appended : Appends written written' went
   pub still_ended : ended ≡ true → ended' ≡ true
   pub at_end : ended' ≡ true → (ended ≡ true) ⊎ IsAll unread came
 
--- The same by how a pump ends. Where it failed, bytes that the reader gave may be lost: those that came are the first of them.
+-- Likewise by how a pump ends. If it failed, bytes that the reader gave may be lost: those that arrived are the first of them.
 abbrev pub CarriesBy : Pumped → Option (List ℕ) → Option (List ℕ) → Option (List ℕ) → Option (List ℕ) → Bool → Bool → List ℕ → List ℕ → Type 0
 CarriesBy Failed unread unread' written written' ended ended' came went = (lost : List ℕ) × Carries unread unread' written written' ended ended' (came ++ lost) went
 CarriesBy other unread unread' written written' ended ended' came went = Carries unread unread' written written' ended ended' came went
@@ -39,12 +39,12 @@ abbrev pub MovesNothing : Result ℕ Pumped → Type 0
 MovesNothing (Ok count) = count ≡ 0
 MovesNothing (Err pump) = IsStopOfSide pump
 
--- what a read carried: bytes, or the end, after which all have come
+-- what a read carried: bytes, or the end, after which all have arrived
 pub record Brings (unread unread' : Option (List ℕ)) (ended' : Bool) (came : List ℕ) : Type 0 where
   pub consumed : Consumes unread unread' came
   pub at_end : ended' ≡ true → IsAll unread came
 
--- what a read carried that stops the pump; where something failed, what it brought may be lost
+-- what a read carried that stops the pump; if something failed, the bytes that it read may be lost
 abbrev pub StopsRead : Pumped → (unread unread' : Option (List ℕ)) (ended' : Bool) (came : List ℕ) → Type 0
 StopsRead Again unread unread' ended' came = Brings unread unread' ended' came
 StopsRead Failed unread unread' ended' came = (lost : List ℕ) × Brings unread unread' ended' (came ++ lost)
@@ -56,19 +56,19 @@ HowItWent (Ok true) written written' went unmoved = Appends written written' wen
 HowItWent (Ok false) written written' went unmoved = Appends written written' went × unmoved
 HowItWent (Err pump) written written' went unmoved = IsStopOfSide pump × Appends written written' went
 
--- how a read went, of which something is fed: whether anything came, or the end, or how it stops the pump
+-- how a read went, of which something is fed: whether anything arrived, or the end, or how it stops the pump
 abbrev pub HowItCame : Result Bool Pumped → (unread unread' : Option (List ℕ)) (ended' : Bool) (came : List ℕ) (unmoved : Type 0) → Type 0
 HowItCame (Ok true) unread unread' ended' came unmoved = Brings unread unread' ended' came
 HowItCame (Ok false) unread unread' ended' came unmoved = Brings unread unread' ended' came × (ended' ≡ false) × unmoved
 HowItCame (Err pump) unread unread' ended' came unmoved = StopsRead pump unread unread' ended' came
 
--- one write of an output: the first bytes of it, so many, went; where it stops the pump, none did
+-- one write of an output: the first n bytes of it were sent; if it stops the pump, none were
 abbrev pub Writes : Result ℕ Pumped → (output : List ℕ) (written written' : Option (List ℕ)) → Type 0
 Writes (Ok count) output written written' = (count ≤ length output) × Appends written written' (take count output)
 Writes (Err pump) output written written' = IsStopOfSide pump × Keeps written written'
 
--- One read into a piece, of an input that had not ended: the first bytes of the piece, so many, came; the end came only
--- where none did. Where it stops the pump, none did, and not the end.
+-- One read into a piece, of an input that had not ended: the first n bytes of the piece arrived; the end arrived only
+-- if none did. If it stops the pump, none did, and not the end.
 abbrev pub Reads : Result ℕ Pumped → (piece' : List ℕ) (ended' : Bool) (unread unread' : Option (List ℕ)) → Type 0
 Reads (Ok count) piece' ended' unread unread' = (count ≤ length piece') × (ended' ≡ true → count ≡ 0) × Brings unread unread' ended' (take count piece')
 Reads (Err pump) piece' ended' unread unread' = IsStopOfSide pump × (ended' ≡ false) × Keeps unread unread'

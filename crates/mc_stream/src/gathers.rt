@@ -1,20 +1,20 @@
-//! Writers that take the parts of an answer together.
+//! Writers that take the parts of an answer in one call.
 ghost use Rattle.std.specs.Prelude.{◌+◌, ◌≤◌, ◌++◌, Some, [], length, take};
 ghost use Rattle.std.specs.Io.KnownBytes.{Appends};
 
 use std::io;
 use std::io::Write;
 
-/// A writer that takes three parts in one call: no byte of them is copied to one place before.
+/// A writer that takes three parts in one call, without copying them into one place first.
 pub trait Gather: Write {
-    /// Writes three parts in one call, one after the other, and says how many of their first bytes the writer took: 0 if it
-    /// takes none now, and 0 if it fails. Why it took no more the next write says.
+    /// Writes three parts in sequence, in one call, and returns how many of their first bytes the writer took: 0 if it
+    /// takes none now, and 0 if it fails. The next write returns why it took no more.
     fn gather(&mut self, first: &[u8], middle: &[u8], last: &[u8]) -> usize
         ensures bound { result ≤ length first.now + length middle.now + length last.now }
         ensures bytes { Appends (Self.contents self.old) (Self.contents self.new) (take result (first.now ++ (middle.now ++ last.now))) };
 }
 
-/// A writer that takes nothing: an answer that is written to it stays whole where it is.
+/// A writer that takes nothing: an answer that is written to it stays whole in its buffer.
 #[derive(Clone, Copy, Debug, Drop)]
 pub struct NoWriter;
 

@@ -1,9 +1,10 @@
-//! One call of a side of a stream that does not wait: [`write_once`], [`read_once`], and [`Gather::gather`], which writes three parts
-//! that lie apart. [`told`] is for a read that someone else made. A [`Tally`] counts what passed.
+//! The non-blocking calls on the two sides of a stream, for the pumps of clients and links: [`write_once`], [`read_once`], and
+//! [`Gather::gather`], which writes three parts that are apart. [`told`] interprets a read that another caller made. A [`Tally`]
+//! counts requests, and bytes read and written.
 //!
-//! A body that carries bytes between a stream and what is after it, a pump, is made of these two, at most [`MAX_ROUNDS`]
-//! of each a call, and says by [`Pumped`] how it left the stream. The stream is any reader and any writer: no socket is known
-//! here, and nothing of what is after it. `specs/Sides.antt` has what the two sides carry.
+//! A pump carries bytes between a stream and what is behind it. It is made of these calls, at most [`MAX_ROUNDS`] rounds a call, and
+//! returns by [`Pumped`] how it left the stream. The stream is any reader and any writer: this crate knows no socket, and nothing of
+//! what is behind the stream. `specs/Sides.antt` defines what the two sides carry.
 #![tactic(auto)]
 
 mod gathers;

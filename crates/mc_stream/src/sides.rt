@@ -1,4 +1,4 @@
-//! The two sides of a stream that does not wait: one write, one read. Nothing here knows what is after the stream.
+//! The two sides of a non-blocking stream: one write, one read. Nothing here knows what is behind the stream.
 ghost use Rattle.std.specs.Prelude.{◌≡◌, ◌≢◌, ◌<◌, ◌==◌, ℕ, List, Option, false, length, Ok, Err, IfOk, IfErr};
 ghost use Rattle.std.specs.Io.{ReadsAtMost};
 ghost use Rattle.std.specs.Io.KnownBytes.{ReadConsumes};
@@ -8,11 +8,11 @@ ghost use Rattle.mc_stream.specs.Sides.{MovesNothing, Reads, Writes};
 use crate::outcomes::Pumped;
 use std::io::{Error, ErrorKind, Read, Write};
 
-/// Writes an output in one call, and says how many of its first bytes the writer took: 0 where the output is empty, or
-/// where the writer takes none now.
+/// Writes an output in one call, and returns how many of its first bytes the writer took: 0 if the output is empty, or
+/// if the writer takes none now.
 ///
-/// The error is how a pump stops, and nothing was written: `Again` where the call was interrupted, `Failed` where the
-/// writer failed, or took nothing and did not say why.
+/// The error is how a pump stops, and nothing was written: `Again` if the call was interrupted, `Failed` if the writer
+/// failed, or took nothing without an error.
 pub fn write_once<W: Write>(writer: &mut W, output: &[u8]) -> Result<usize, Pumped>
     ensures { Writes result output.now (W.contents writer.old) (W.contents writer.new) }
 {
@@ -26,10 +26,10 @@ pub fn write_once<W: Write>(writer: &mut W, output: &[u8]) -> Result<usize, Pump
     }
 }
 
-/// Reads into a piece in one call, and says how many bytes came, which are the first of the piece: 0 where the input has
-/// ended, which `ended` then says, or where the reader gives none now.
+/// Reads into a piece in one call, and returns how many bytes arrived, which are the first of the piece: 0 if the input has
+/// ended, and then `ended` is set, or if the reader has none now.
 ///
-/// The error is how a pump stops, and nothing came: `Again` where the call was interrupted, `Failed` where the reader failed.
+/// The error is how a pump stops, and nothing arrived: `Again` if the call was interrupted, `Failed` if the reader failed.
 pub fn read_once<R: Read>(
     reader: &mut R,
     piece: &mut [u8],
@@ -42,8 +42,8 @@ pub fn read_once<R: Read>(
     told(reader.read(piece), ended)
 }
 
-/// What a read by someone else says, as [`read_once`] says it of its own: how many bytes came, which are the first of its piece,
-/// of which 0 is the end, which `ended` then says; or what its error says.
+/// Interprets the result of a read that another caller made, as [`read_once`] interprets its own. It returns how many bytes
+/// arrived, which are the first of the piece. 0 is the end, and sets `ended`. An error is interpreted likewise.
 pub fn told(read: Result<usize, Error>, ended: &mut bool) -> Result<usize, Pumped>
     requires goes_on { ended.old ≡ false }
     ensures came { IfOk read (λ count. (result ≡ Ok count) × (ended.new ≡ (count == 0))) }
@@ -60,7 +60,7 @@ pub fn told(read: Result<usize, Error>, ended: &mut bool) -> Result<usize, Pumpe
     }
 }
 
-/// What an error of a read or a write says: that nothing moved, or how the pump stops.
+/// Interprets an error of a read or a write: nothing moved, or how the pump stops.
 fn moved_nothing(error: &Error) -> Result<usize, Pumped>
     ensures nothing { MovesNothing result }
     ensures waits { error_kind error.now ≡ ErrorKind.WouldBlock → result ≡ Ok 0 }

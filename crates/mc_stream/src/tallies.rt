@@ -1,8 +1,7 @@
-//! What passed.
+//! Counts of requests and bytes.
 ghost use Rattle.std.specs.Prelude.{◌≡◌, ◌+◌, ◌%◌, ◌^◌};
 
-/// What passed: requests that were taken, bytes that were read and bytes that were written. Each count begins again at 0 after
-/// 2^64 - 1.
+/// Counts of requests that were taken, bytes that were read and bytes that were written. Each count begins again at 0 after 2^64 - 1.
 #[derive(Clone, Copy, Debug, PartialEq, Eq)]
 pub struct Tally {
     /// Requests and faults that were taken.
@@ -14,7 +13,7 @@ pub struct Tally {
 }
 
 impl Tally {
-    /// Nothing has passed.
+    /// Makes a tally of zeros.
     pub fn new() -> Tally
         ensures { result ≡ record { requests = 0; read = 0; written = 0 } }
     {

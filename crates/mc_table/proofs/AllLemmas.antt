@@ -1,4 +1,4 @@
--- All numbers up to their count: one more, one brought to the front, one taken out.
+-- All numbers up to their count: one more, one brought to the front, one removed.
 use Rattle.std.proofs.Common.{◌≡◌, ℕ, suc, ◌<◌, ◌≤◌, ◌⊎◌, inl, inr, List, [], ◌∷◌, ◌++◌, length, refl, sym, ap, subst, arith}
 use Rattle.std.proofs.lemmas.Bool.{cases_eq}
 use Rattle.mc_table.specs.Places.{Member, Apart, AllApart, UpTo, left_out, AreAll}
@@ -48,7 +48,7 @@ pub AreAll-front : (p : ℕ) (ps : List ℕ) → AreAll ps → SplitAt p ps → 
 AreAll-front p ps all cut =
     subst (λ (l : List ℕ). AreAll (p ∷ l)) (sym cut.others) (front_at cut.front p cut.back (subst (λ (l : List ℕ). AreAll l) cut.is all))
 
--- the greatest number taken out
+-- the greatest number removed
 last_out : (xs : List ℕ) (p : ℕ) (ys : List ℕ) → AreAll (xs ++ p ∷ ys) → p ≡ suc (length (xs ++ ys)) → AreAll (xs ++ ys)
 last_out xs p ys all last =
     let count : length (xs ++ p ∷ ys) ≡ suc (length (xs ++ ys)) = length_mid xs p ys in
@@ -63,7 +63,7 @@ last_out xs p ys all last =
           Member-out p place xs ys other (all.all place positive le);
     }
 
--- another taken out, whose number the last one takes
+-- another removed, whose number the last one takes
 other_out : (xs : List ℕ) (p : ℕ) (ys us : List ℕ) (n : ℕ) (vs : List ℕ) → AreAll (xs ++ p ∷ ys) → n ≡ length (xs ++ p ∷ ys) → (p ≡ n → ⊥)
     → xs ++ ys ≡ us ++ n ∷ vs → AreAll (us ++ p ∷ vs)
 other_out xs p ys us n vs all last differ cut =
@@ -107,7 +107,7 @@ last_held ps p all held =
     let bounds = UpTo-member (length ps) p ps all.within held in
     grind arith
 
--- what is left where another than the last is taken out falls apart at the last
+-- if another than the last is removed, what is left splits at the last
 pub split_last : (p : ℕ) (ps : List ℕ) → AreAll ps → SplitAt p ps → (p ≡ length ps → ⊥) → SplitAt (length ps) (left_out p ps)
 split_last p ps all cut differ =
     let all2 : AreAll (cut.front ++ p ∷ cut.back) = subst (λ (l : List ℕ). AreAll l) cut.is all in
@@ -116,11 +116,11 @@ split_last p ps all cut differ =
     let left : Member (length ps) (cut.front ++ cut.back) = Member-out p (length ps) cut.front cut.back (λ same. differ (sym same)) held in
     subst (λ (l : List ℕ). SplitAt (length ps) l) (sym cut.others) (split_at (length ps) (cut.front ++ cut.back) (AllApart-out p cut.front cut.back all2.once) left)
 
--- the last one taken out
+-- the last one removed
 pub AreAll-last_out : (p : ℕ) (ps : List ℕ) → AreAll ps → SplitAt p ps → p ≡ length ps → AreAll (left_out p ps)
 AreAll-last_out p ps all cut last = grind (arith, length_mid, last_out)
 
--- another taken out
+-- another removed
 pub AreAll-other_out : (p : ℕ) (ps : List ℕ) → AreAll ps → SplitAt p ps → (p ≡ length ps → ⊥) → (rest : SplitAt (length ps) (left_out p ps))
     → AreAll (rest.front ++ p ∷ rest.back)
 AreAll-other_out p ps all cut differ rest = grind (arith, other_out)

@@ -1,4 +1,4 @@
--- Chains: where each link leads, and what a write to one leaves.
+-- Chains: what each link leads to, and what a write to one leaves.
 use Rattle.std.proofs.Common.{◌≡◌, ◌≢◌, ◌⊎◌, ℕ, zero, suc, ◌-◌, ◌<◌, ◌≤◌, inl, inr, List, [], ◌∷◌, ◌++◌, length, set, get_or, get_or-set_same, get_or-set_other, refl, sym, ap, ◌∙◌, subst, arith}
 use Rattle.std.proofs.lemmas.Bool.{cases_eq, cases_lt}
 use Rattle.std.proofs.lemmas.List.{get_or_append_left, length-set}
@@ -14,7 +14,7 @@ bucket_within buckets tag some = let most : bit_and tag (buckets - 1) ≤ bucket
 -- the last place of a bucket
 
 module _ (f : ℕ → ℕ) where
-  -- at places that fall to the same
+  -- at places that fall to the same bucket
   pub last_same : (g : ℕ → ℕ) (out bucket most place : ℕ) → ((q : ℕ) → 0 < q → q ≤ most → q ≢ out → g q ≡ f q) → IsLast f out bucket most place → IsLast g out bucket most place
   last_same g out bucket most place same is =
       record {
@@ -62,7 +62,7 @@ module _ (f : ℕ → ℕ) where
         ];
       }
 
-  -- a place comes in behind what is led to, or is of another bucket
+  -- a place is inserted behind the place that is led to, or is of another bucket
   pub last_kept_in : (bucket most place new : ℕ) → (f new ≢ bucket) ⊎ ((most < new) ⊎ (new < place)) → IsLast f new bucket most place → IsLast f 0 bucket most place
   last_kept_in bucket most place new apart is =
       record {
@@ -81,7 +81,7 @@ module _ (f : ℕ → ℕ) where
         ];
       }
 
-  -- a place comes in before what is led to
+  -- a place is inserted before the place that is led to
   pub last_new : (bucket most place new : ℕ) → f new ≡ bucket → 0 < new → new ≤ most → place < new → IsLast f new bucket most place → IsLast f 0 bucket most new
   last_new bucket most place new own some within before is =
       record {
@@ -91,7 +91,7 @@ module _ (f : ℕ → ℕ) where
         last = λ q after high other. is.last q (omega arith) high (λ same. absurd (omega arith));
       }
 
-  -- what the place that comes in leads to
+  -- what the inserted place leads to
   pub last_behind : (bucket most place new : ℕ) → new ≤ suc most → place < new → IsLast f new bucket most place → IsLast f 0 bucket (new - 1) place
   last_behind bucket most place new within before is =
       record {
@@ -111,9 +111,9 @@ module _ (f : ℕ → ℕ) where
         last = λ q after high other. is.last q after high (λ same. absurd (omega arith));
       }
 
--- each link leads to the last place of its bucket up to where it reaches
+-- each link leads to the last place of its bucket up to its reach
 
--- up to where a link leads: a head to any place, a place to those before it
+-- the reach of a link: any place for a head, those before it for a place
 abbrev pub reach : ℕ → ℕ → ℕ
 reach most place = if place == 0 then most else place - 1
 
@@ -304,7 +304,7 @@ unlinked heads tags nexts most place above chained some low within size is =
     ] in
     chained_by heads heads2 tags nexts2 place most count some links
 
--- a place comes into the chain of its bucket
+-- a place is inserted into the chain of its bucket
 
 pub linked : (heads tags nexts : List ℕ) (most place above : ℕ) → IsChained heads tags nexts place most → 0 < length heads → 0 < place → place ≤ most → most ≤ length nexts
     → IsAbove heads tags nexts (falls (length heads) tags place) most place above
@@ -409,7 +409,7 @@ cut heads tags nexts most chained some =
       further = λ q high within chains. last_none_out f most (f q) (q - 1) (at_place nexts q) (omega arith) (chained.further q high (omega arith) (λ same. absurd (omega arith)));
     }
 
--- slots that have the same in all chains
+-- slots that agree in all chains
 pub chained_same : (heads tags nexts tags2 nexts2 : List ℕ) (out most : ℕ)
     → ((q : ℕ) → 0 < q → q ≤ most → q ≢ out → (at_place tags2 q ≡ at_place tags q) × (at_place nexts2 q ≡ at_place nexts q))
     → IsChained heads tags nexts out most → IsChained heads tags2 nexts2 out most

@@ -1,4 +1,4 @@
--- Entries in the order of places: what is found, taken out, written and put.
+-- Entries in the order of places: what is found, removed, written and inserted.
 use Rattle.std.proofs.Common.{◌≡◌, ℕ, zero, suc, ◌-◌, ◌<◌, ◌≤◌, inl, inr, Bool, true, false, cond, eqb, List, [], ◌∷◌, ◌++◌, length, take, set, get_or, Option, Some, None, refl, ap, ◌∙◌, subst, arith}
 use Rattle.std.specs.Prelude.{slice_get}
 use Rattle.std.specs.Option.{option_map}
@@ -80,7 +80,7 @@ pub in_order-append : {X : Type 0} (es : List X) (xs ys : List ℕ) → in_order
 in_order-append es [] ys = refl
 in_order-append {X} es (x ∷ xs) ys = grind (arith, in_order-append es xs ys)
 
--- entries that agree at the places are the same in their order
+-- entries that agree at the places agree in their order
 pub in_order-same : {X : Type 0} (es fs : List X) (ps : List ℕ) → ((p : ℕ) → Member p ps → slice_get fs (p - 1) ≡ slice_get es (p - 1)) → in_order fs ps ≡ in_order es ps
 in_order-same es fs [] same = refl
 in_order-same {X} es fs (p ∷ ps) same =
@@ -145,7 +145,7 @@ pub lookup_by_entry : {K V : Type 0} (test : K → Bool) (es : List (K × V)) �
 lookup_by_entry test [] = refl
 lookup_by_entry {K} {V} test (e ∷ es) = grind (arith, lookup_by_entry test es)
 
--- one taken out
+-- one removed
 
 pub length-renumbered : (from to : ℕ) (ps : List ℕ) → length (renumbered from to ps) ≡ length ps
 length-renumbered from to [] = refl
@@ -195,7 +195,7 @@ in_order-more {X} es x ps within =
     in_order-cons (es ++ x ∷ []) (suc (length es)) ps x own
     ∙ ap (λ (l : List X). x ∷ l) (in_order-same es (es ++ x ∷ []) ps (λ p held. let low = (UpTo-member (length es) p ps within held).0 in let high = (UpTo-member (length es) p ps within held).1 in got-front es (x ∷ []) (p - 1) (omega arith)))
 
--- where a key is not found in the order, it is nowhere
+-- a key that is not found in the order is nowhere
 pub nowhere_from : {K V : Type 0} (test : K → Bool) (es : List (K × V)) (ps : List ℕ) (i : ℕ) (e : K × V) → lookup test (in_order es ps) ≡ None → Member (suc i) ps
     → slice_get es i ≡ Some e → test e.0 ≡ false
 nowhere_from test es [] i e none held is = absurd held

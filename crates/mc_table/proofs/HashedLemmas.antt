@@ -1,4 +1,4 @@
--- Slots in the chains of their hashes: what is found, taken out, put and written.
+-- Slots in the chains of their hashes: what is found, removed, inserted and written.
 use Rattle.std.proofs.Common.{◌≡◌, ◌≢◌, ◌⊎◌, ℕ, zero, suc, ◌+◌, ◌-◌, ◌<◌, ◌^◌, inl, inr, Bool, true, false, List, [], ◌∷◌, ◌++◌, length, map, set, get_or, get_or-set_same, Option, Some, None, refl, sym, ap, ◌∙◌, subst, arith}
 use Rattle.std.specs.Prelude.{◌==◌, if◌then◌else◌, slice_get, IfSome}
 use Rattle.std.specs.List.{swap_remove}
@@ -75,7 +75,7 @@ module _ {K V : Type 0} where
       (λ j e at. got_old (entries_of slots) i j w e (ap (λ (l : List (K × V)). slice_get l j) (sym (entries_lent slots i slot w is)) ∙ at))
       (map_kept (λ s. s.tag) slots i slot (with slot w) is refl) (map_kept (λ s. s.next) slots i slot (with slot w) is refl) (length-set slots i (with slot w))
 
--- an entry that is taken out: where the entry at an index was
+-- an entry that is removed: the old index of the entry that is now at an index
 abbrev was_at : ℕ → ℕ → ℕ → ℕ
 was_at count i j = if j == i then count - 1 else j
 

@@ -42,7 +42,7 @@ module _ {T : Type 0} where
         | false ↦ λ h. ap (λ (others : List (ℕ × T)). e ∷ others) (again h)
       ]) was
 
-  -- an entry that is taken out is not another one
+  -- an entry that is removed is not another one
   pub without_other : (number other : ℕ) (es : List (ℕ × T)) → number ≢ other → entry_of (without number es) other ≡ entry_of es other
   without_other number other [] differ = refl
   without_other number other (e ∷ es) differ =
@@ -52,7 +52,7 @@ module _ {T : Type 0} where
         | false ↦ λ is. ap (λ (o : Option T). if e.0 == other then Some e.1 else o) again
       ]) refl
 
-  -- where no entry has the number, nothing is taken out
+  -- if no entry has the number, nothing is removed
   pub without_absent : (number : ℕ) (es : List (ℕ × T)) → entry_of es number ≡ None → without number es ≡ es
   without_absent number [] none = refl
   without_absent number (e ∷ es) none =
@@ -73,7 +73,7 @@ module _ {T : Type 0} where
         | false ↦ λ h. again h
       ]) none
 
-  -- and the others are as they were
+  -- the others are as they were
   pub fresh_other : (number other : ℕ) (value : T) (es : List (ℕ × T)) → number ≢ other → entry_of (es ++ (number, value) ∷ []) other ≡ entry_of es other
   fresh_other number other value [] differ = rw (other_number number other differ) refl
   fresh_other number other value (e ∷ es) differ =

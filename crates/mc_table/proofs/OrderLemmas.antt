@@ -30,14 +30,14 @@ ring_loop links places ring = record {
     have_of place (inl here) = omega (arith, ring.count)
     have_of place (inr held) = let bounds = UpTo-member (length places) place places ring.are_all.within held in let most : place ≤ length places = bounds.1 in omega (arith, ring.count)
 
--- what comes after a place of a loop is one of its places, or 0
+-- the place after a place of a loop is one of its places, or 0
 after_within : (links : List Link) (from : ℕ) (ps : List ℕ) (to q : ℕ) → Leads links from ps to → Member q (from ∷ ps) → Member (link_at links q).after (to ∷ ps)
 after_within links from [] to q leads (inl here) = inl (sym (subst (λ (k : ℕ). (link_at links k).after ≡ to) here leads.0))
 after_within links from [] to q leads (inr held) = absurd held
 after_within links from (p ∷ ps) to q leads (inl here) = inr (inl (sym (subst (λ (k : ℕ). (link_at links k).after ≡ p) here leads.0)))
 after_within links from (p ∷ ps) to q leads (inr held) = grind (arith, after_within links p ps to q leads.2 held)
 
--- and what comes before it
+-- likewise the place before it
 before_within : (links : List Link) (from : ℕ) (ps : List ℕ) (to q : ℕ) → Leads links from ps to → Member q (to ∷ ps) → Member (link_at links q).before (from ∷ ps)
 before_within links from [] to q leads (inl here) = inl (sym (subst (λ (k : ℕ). (link_at links k).before ≡ from) here leads.1))
 before_within links from [] to q leads (inr held) = absurd held
@@ -58,7 +58,7 @@ loop_sides links places place loop held = record {
   after = loop.have (link_at links place).after (after_within links 0 places 0 place loop.leads held);
 }
 
--- what comes after 0 in a loop has sides too
+-- the place after 0 in a loop has neighbours too
 pub first_sides : (links : List Link) (places : List ℕ) (place : ℕ) → IsLoop links places → Member place (0 ∷ places) → HasSides links (link_at links place).after
 first_sides links places place loop held =
     loop_sides links places (link_at links place).after loop (after_within links 0 places 0 place loop.leads held)
@@ -175,7 +175,7 @@ dropped_last links places loop all count small =
       small = omega arith;
     }
 
--- the last place is taken out
+-- the last place is removed
 pub ring_last_out : (links : List Link) (places : List ℕ) (place : ℕ) → IsRing links places → SplitAt place places → place ≡ length places
     → IsRing (take (length (unlinked links place) - 1) (unlinked links place)) (renumbered (length places) place (left_out place places))
 ring_last_out links places place ring cut last =
@@ -188,7 +188,7 @@ ring_last_out links places place ring cut last =
     let after = dropped_last (unlinked links place) (left_out place places) loop all (omega arith) (omega arith) in
     grind (arith, renumbered-same)
 
--- another place is taken out, and the last takes its number
+-- another place is removed, and the last takes its number
 pub ring_other_out : (links : List Link) (places : List ℕ) (place next : ℕ) → IsRing links places → 0 < place → SplitAt place places → (place ≡ length places → ⊥)
     → next ≡ (link_at (unlinked links place) (length places)).after → (after : List Link) → after ≡ linked_before (unlinked (unlinked links place) (length places)) place next
     → IsRing (take (length after - 1) after) (renumbered (length places) place (left_out place places))
@@ -234,7 +234,7 @@ ring_last links ring = before_is links 0 (places_of links) 0 ring.leads
 pub ring_none : IsRing (no_link ∷ []) []
 ring_none = grind arith
 
--- the same for the code, which has what each call left
+-- likewise for the code, which has what each call left
 
 pub own_split : (links : List Link) (place : ℕ) → IsRing links (places_of links) → 0 < place → place ≤ length (places_of links) → SplitAt place (places_of links)
 own_split links place ring positive within = ring_split links (places_of links) place ring positive within
@@ -260,7 +260,7 @@ brought_ring links one two place ring positive within is made =
     let ring2 = ring_brought links (places_of links) place (link_at (unlinked links place) 0).after ring positive (own_split links place ring positive within) refl in
     grind arith
 
--- the last place, where another is unlinked
+-- the last place, if another is unlinked
 pub last_sides : (links one : List Link) (place last : ℕ) → IsRing links (places_of links) → 0 < place → place ≤ length (places_of links) → one ≡ unlinked links place
     → last ≡ length one - 1 → (last ≡ place → ⊥) → HasSides one last
 last_sides links one place last ring positive within is at differ =
@@ -272,7 +272,7 @@ last_sides links one place last ring positive within is at differ =
     let rest : SplitAt (length (places_of links)) (left_out place (places_of links)) = split_last place (places_of links) ring.are_all cut (λ same. differ (lastly ∙ sym same)) in
     grind (arith, member_mid, loop_sides)
 
--- what came after it, once it is unlinked too
+-- the place after it, once that is unlinked too
 pub next_sides : (links one two : List Link) (place last next : ℕ) → IsRing links (places_of links) → 0 < place → place ≤ length (places_of links) → one ≡ unlinked links place
     → last ≡ length one - 1 → (last ≡ place → ⊥) → two ≡ unlinked one last → next ≡ (link_at one last).after → HasSides two next
 next_sides links one two place last next ring positive within is at differ made after =
@@ -314,7 +314,7 @@ last_ring links one place last ring positive within is at same =
     subst (λ (l : List Link). IsRing (take (length l - 1) l) (renumbered (length (places_of links)) place (left_out place (places_of links)))) (sym is)
     (ring_last_out links (places_of links) place ring cut lastly)
 
--- what a `Vec` holds that is a ring
+-- the items of a `Vec` that are a ring
 
 pub ring_at : (items links : List Link) (places : List ℕ) → items ≡ links → IsRing links places → IsRing items (places_of items)
 ring_at items links places is ring = subst (λ (l : List Link). IsRing l (places_of l)) (sym is) (ring_own links places ring)
@@ -360,7 +360,7 @@ popped v after items same is = grind (arith, refilled)
 pub linked_length : (links after : List Link) (place next : ℕ) → after ≡ linked_before links place next → length after ≡ length links
 linked_length links after place next is = ap length is ∙ length-linked_before links place next
 
--- a ring has fewer places than a number of 32 bits tells
+-- a ring has fewer places than 2^32
 pub ring_small : (links : List Link) → IsRing links (places_of links) → length (places_of links) < 2 ^ 32
 ring_small links ring = let count : length links ≡ suc (length (places_of links)) = ring.count in let small : length links ≤ 2 ^ 32 = ring.small in omega arith
 

@@ -54,14 +54,14 @@ AllApart-between p [] ys apart other = (other, apart)
 AllApart-between p (x ∷ xs) ys apart other =
     (Apart-both x xs (p ∷ ys) (Apart-front x xs ys apart.0) (λ same. other.0 (sym same), Apart-back x xs ys apart.0), AllApart-between p xs ys apart.1 other.1)
 
--- one that is taken out
+-- one that is removed
 pub AllApart-out : (p : ℕ) (xs ys : List ℕ) → AllApart (xs ++ p ∷ ys) → AllApart (xs ++ ys)
 AllApart-out p [] ys apart = apart.1
 AllApart-out p (x ∷ xs) ys apart =
     let rest = Apart-back x xs (p ∷ ys) apart.0 in
     (Apart-both x xs ys (Apart-front x xs (p ∷ ys) apart.0) rest.1, AllApart-out p xs ys apart.1)
 
--- what is taken out is apart from what is left
+-- what is removed is apart from what is left
 pub Apart-out : (p : ℕ) (xs ys : List ℕ) → AllApart (xs ++ p ∷ ys) → Apart p (xs ++ ys)
 Apart-out p [] ys apart = apart.0
 Apart-out p (x ∷ xs) ys apart =
@@ -74,7 +74,7 @@ Member-out p q [] ys other (inr held) = held
 Member-out p q (x ∷ xs) ys other (inl here) = inl here
 Member-out p q (x ∷ xs) ys other (inr held) = inr (Member-out p q xs ys other held)
 
--- and the other way
+-- and conversely
 pub Member-in : (p q : ℕ) (xs ys : List ℕ) → Member q (xs ++ ys) → Member q (xs ++ p ∷ ys)
 Member-in p q [] ys held = inr held
 Member-in p q (x ∷ xs) ys (inl here) = inl here

@@ -28,17 +28,17 @@ pub Leads-both : (links : List Link) (from : ℕ) (xs : List ℕ) (p : ℕ) (ys 
 Leads-both links from [] p ys to front back = (front.0, front.1, back)
 Leads-both links from (x ∷ xs) p ys to front back = (front.0, front.1, Leads-both links x xs p ys to front.2 back)
 
--- what comes after the place that they lead from
+-- the place after the one that they lead from
 pub after_is : (links : List Link) (from : ℕ) (ps : List ℕ) → Leads links from ps 0 → (link_at links from).after ≡ first_of ps
 after_is links from [] leads = leads.0
 after_is links from (p ∷ ps) leads = leads.0
 
--- what comes before the place that they lead to
+-- the place before the one that they lead to
 pub before_is : (links : List Link) (from : ℕ) (ps : List ℕ) (to : ℕ) → Leads links from ps to → (link_at links to).before ≡ last_from from ps
 before_is links from [] to leads = leads.1
 before_is links from (p ∷ ps) to leads = before_is links p ps to leads.2
 
--- what comes before the place that they lead to is among those on the way
+-- the place before the one that they lead to is among those on the way
 pub before_held : (links : List Link) (from : ℕ) (ps : List ℕ) (to : ℕ) → Leads links from ps to → Member (link_at links to).before (from ∷ ps)
 before_held links from [] to leads = inl (sym leads.1)
 before_held links from (p ∷ ps) to leads = inr (before_held links p ps to leads.2)
@@ -98,7 +98,7 @@ Leads-unlinked links xs p (y ∷ ys) apart have leads =
     member_mid_at [] p y ys = inr (inl refl)
     member_mid_at (x ∷ xs) p y ys = inr (member_mid_at xs p y ys)
 
--- a place that is linked before another comes there
+-- a place that is linked before another is there
 pub Leads-linked : (links : List Link) (xs : List ℕ) (p : ℕ) (ys : List ℕ) → AllApart (0 ∷ (xs ++ ys)) → HaveLinks links (xs ++ ys)
     → p < length links → (p ≡ 0 → ⊥) → Apart p (xs ++ ys) → Leads links 0 (xs ++ ys) 0 → Leads (linked_before links p (first_of ys)) 0 (xs ++ p ∷ ys) 0
 unfolding linked_before

@@ -28,7 +28,7 @@ module _ {T : Type 0} where
   lowest_next low [] next rises = rises
   lowest_next low (e ∷ es) next rises = omega (arith, rises.0, lowest_next (e.0 + 1) es next rises.1)
 
-  -- and no entry has it
+  -- no entry has it
   pub absent_next : (low : ℕ) (es : List (ℕ × T)) (next : ℕ) → Rises low es next → entry_of es next ≡ None
   absent_next low [] next rises = refl
   absent_next low (e ∷ es) next rises =
@@ -41,7 +41,7 @@ module _ {T : Type 0} where
   rises_push low [] next value rises = (rises, omega arith)
   rises_push low (e ∷ es) next value rises = (rises.0, rises_push (e.0 + 1) es next value rises.1)
 
-  -- an entry is taken out
+  -- an entry is removed
   pub rises_without : (low : ℕ) (es : List (ℕ × T)) (next number : ℕ) → Rises low es next → Rises low (without number es) next
   rises_without low [] next number rises = rises
   rises_without low (e ∷ es) next number rises =
@@ -59,7 +59,7 @@ module _ {T : Type 0} where
   rises_lent low es next place own value is rises =
       subst (λ (n : ℕ). Rises low (set es place (n, value)) next) (ap (λ (e : ℕ × T). e.0) (sym is)) (rises_set low es next place own value rises)
 
-  -- what was taken out is not there
+  -- what was removed is not among the others
   pub without_own : (low : ℕ) (es : List (ℕ × T)) (next number : ℕ) → Rises low es next → entry_of (without number es) number ≡ None
   without_own low [] next number rises = refl
   without_own low (e ∷ es) next number rises =
@@ -92,7 +92,7 @@ module _ {T : Type 0} where
       let above = number_from (e.0 + 1) es next place default rises.1 (omega arith) in
       grind (arith, nat_tests, is, above, set_at (e.0 + 1) es next number place default after rises.1 (omega arith) is)
 
-  -- and the one that is taken out
+  -- the one that is removed
   remove_at : (low : ℕ) (es : List (ℕ × T)) (next number place : ℕ) (default : ℕ × T) → Rises low es next → place < length es → (get_or es place default).0 ≡ number
       → remove es place ≡ without number es
   remove_at low [] next number place default rises inside is = absurd (omega arith)
@@ -138,7 +138,7 @@ module _ {T : Type 0} where
             ));
       }
 
-  -- what was read where the number is, is its entry
+  -- what was read at the number's index is its entry
   pub entry_there : (es : List (ℕ × T)) (next number place : ℕ) (own : ℕ × T) → Rises 0 es next → IsAt es number place → own ≡ get_or es place own → Some own.1 ≡ entry_of es number
   entry_there es next number place own rises at is =
       ap (λ (e : ℕ × T). Some e.1) is ∙ sym (entry_at 0 es next number place own rises at.inside (at.has_number own))
@@ -149,6 +149,6 @@ module _ {T : Type 0} where
   set_there es next number place after rises at =
       ap (λ (n : ℕ). set es place (n, after)) (at.has_number (0, after)) ∙ set_at 0 es next number place (0, after) after rises at.inside (at.has_number (0, after))
 
-  -- and what is removed there is taken out
+  -- what is removed there is what had the number
   pub remove_there : (es : List (ℕ × T)) (next number place : ℕ) (own : T) → Rises 0 es next → IsAt es number place → remove es place ≡ without number es
   remove_there es next number place own rises at = remove_at 0 es next number place (0, own) rises at.inside (at.has_number (0, own))

@@ -92,14 +92,14 @@ taken_chains {K} {V} heads slots after i out slot within is apart chained =
     (λ q high low chains. (at q (tags_of slots) (length-tags_of slots) high low chains, at q (nexts_of slots) (length-nexts_of slots) high low chains)) chained in
     rw (tags, nexts, size) kept
 
--- the last slot, out of its chain, is taken out
+-- the last slot, out of its chain, is removed
 pub taken_last : {K V : Type 0} (heads : List ℕ) (slots after : List (Slot K V)) (i place : ℕ) (slot : Slot K V) → i < length slots → after ≡ swap_remove slots i slot
     → place ≡ length slots → i + 1 ≡ place → IsChained heads (tags_of slots) (nexts_of slots) place (length slots) → IsChained heads (tags_of after) (nexts_of after) 0 (length after)
 taken_last {K} {V} heads slots after i place slot within is last same chained =
     let whole = cut heads (tags_of slots) (nexts_of slots) (length slots) (subst (λ (n : ℕ). IsChained heads (tags_of slots) (nexts_of slots) n (length slots)) last chained) (omega arith) in
     taken_chains heads slots after i 0 slot within is (λ q high low some. (λ one. absurd (omega arith))) whole
 
--- a slot out of its chain is taken out, and the last has gone from its chain
+-- a slot out of its chain is removed, and the last has gone from its chain
 pub taken_other : {K V : Type 0} (heads heads2 : List ℕ) (slots after : List (Slot K V)) (i place : ℕ) (slot : Slot K V) → 0 < length heads → i < length slots → after ≡ swap_remove slots i slot
     → length slots ≢ place → i + 1 ≡ place → heads2 ≡ set heads (falls (length heads) (tags_of slots) (length slots)) (at_place (nexts_of slots) (length slots))
     → IsChained heads (tags_of slots) (nexts_of slots) place (length slots) → IsChained heads2 (tags_of after) (nexts_of after) place (length after)

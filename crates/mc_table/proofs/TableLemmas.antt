@@ -27,7 +27,7 @@ got-values [] i e is = absurd cc
 got-values {K} {V} (x ∷ es) zero e is = let same : x ≡ e = cc in ap (λ (y : K × V). Some y.1) same
 got-values (x ∷ es) (suc i) e is = got-values es i e is
 
--- what a look-up gives
+-- what a look-up returns
 pub peek_found : {K V : Type 0} (test : K → Bool) (es : List (K × V)) (ps : List ℕ) (i : ℕ) (value : V) → IsTable es ps → IsAt test es i
     → slice_get (values_of es) i ≡ Some value → Some value ≡ lookup test (in_order es ps)
 peek_found {K} {V} test es ps i value table at is =
@@ -211,7 +211,7 @@ table_nowhere test es ps table none other e is =
 pub no_items : {X : Type 0} (es : List X) (ps : List ℕ) → IsTable es ps → last_of ps ≡ 0 → in_order es ps ≡ []
 no_items es ps table is = ap (λ (l : List ℕ). in_order es l) (table_empty es ps table is)
 
--- a place that was put in front and is taken out again
+-- a place that was put in front and is removed again
 pub undone : (n : ℕ) (ps : List ℕ) → renumbered n n (left_out n (n ∷ ps)) ≡ ps
 undone n ps = renumbered-same n (left_out n (n ∷ ps)) ∙ left_out-head n ps
 

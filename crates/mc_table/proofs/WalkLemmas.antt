@@ -20,7 +20,7 @@ pub record Seeks {K V : Type 0} (test : K → Bool) (heads tags : List ℕ) (ent
   pub own : 0 < place → falls (length heads) tags place ≡ bucket_of (length heads) tag
   pub passed : (index : ℕ) (e : K × V) → place ≤ index → slice_get entries index ≡ Some e → get_or tags index 0 ≡ tag → test e.0 ≡ false
 
--- where a walk stands is among the slots
+-- a walk is always at one of the slots
 reach_within : (most above at : ℕ) → above ≤ most → at ≤ reach most above → at ≤ most
 reach_within most above at within low = elim (cases_eq above 0) as (λ _. at ≤ most) [
   | inl none ↦ grind (arith, nat_tests)
@@ -73,7 +73,7 @@ sought {K} {V} test heads tags nexts entries tag place chained some is =
       passed = λ index e low got same. absurd (first.last (suc index) (omega arith) (got_within entries index e got) (λ none. absurd (omega arith)) (own_bucket heads tags tag index same));
     }
 
--- the slot of a place is not the one, and the search goes on with what it leads to
+-- the slot of a place is not the one, and the search goes on with the next
 pub sought_on : {K V : Type 0} (test : K → Bool) (heads tags nexts : List ℕ) (entries : List (K × V)) (tag place next : ℕ) (own : K × V) → IsChained heads tags nexts 0 (length entries)
     → Seeks test heads tags entries tag place → 0 < place → next ≡ at_place nexts place → slice_get entries (place - 1) ≡ Some own
     → (at_place tags place ≡ tag → test own.0 ≡ false) → Seeks test heads tags entries tag next

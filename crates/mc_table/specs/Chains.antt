@@ -1,11 +1,12 @@
 -- Chains: the places of each bucket, from the greatest down. This project's own.
 use Rattle.std.specs.Prelude.{◌≡◌, ◌≢◌, ℕ, ◌-◌, ◌*◌, ◌^◌, ◌<◌, ◌≤◌, ◌==◌, List, length, slice_index_or, slice_set, if◌then◌else◌, min, bit_and}
 
--- the bucket that a tag falls to, among so many
+-- the bucket of a tag, among n buckets
 unfoldable pub bucket_of : ℕ → ℕ → ℕ
 bucket_of buckets tag = bit_and tag (buckets - 1)
 
--- how many buckets there are for so many entries: a power of two, and one entry or none falls to each
+-- the number of buckets for n entries: a power of two, at least 16 and at least n (or 2^31 if n is more), and less than
+-- twice that if it is above 16
 pub record IsBucketCount (entries buckets : ℕ) : Type 0 where
   pub power : (k : ℕ) × (buckets ≡ 2 ^ k)
   pub some : 2 ^ 4 ≤ buckets
@@ -20,7 +21,7 @@ at_place numbers place = slice_index_or numbers (place - 1) 0
 abbrev pub falls : ℕ → List ℕ → ℕ → ℕ
 falls buckets tags place = bucket_of buckets (at_place tags place)
 
--- a place is the last of a bucket up to another, or 0 if there is none. One place counts for nothing: it is out of its chain
+-- a place is the last of a bucket up to another, or 0 if there is none. One place is ignored: it is out of its chain
 pub record IsLast (bucket_at : ℕ → ℕ) (out bucket most place : ℕ) : Type 0 where
   pub within : place ≤ most
   pub own : 0 < place → bucket_at place ≡ bucket
@@ -33,11 +34,11 @@ pub record IsChained (heads tags nexts : List ℕ) (out most : ℕ) : Type 0 whe
   pub further : (place : ℕ) → 0 < place → place ≤ most → place ≢ out
       → IsLast (falls (length heads) tags) out (falls (length heads) tags place) (place - 1) (at_place nexts place)
 
--- where a bucket's head leads to, or a place
+-- the place that a bucket's head leads to, or that a place leads to
 abbrev pub link : List ℕ → List ℕ → ℕ → ℕ → ℕ
 link heads nexts bucket place = if place == 0 then slice_index_or heads bucket 0 else at_place nexts place
 
--- the heads, and where places lead to, once a bucket's head leads to another place, or a place does
+-- the heads, and the next of each place, once a bucket's head leads to another place, or a place does
 abbrev pub heads_with : ℕ → ℕ → ℕ → List ℕ → List ℕ
 heads_with bucket place to heads = if place == 0 then slice_set heads bucket to else heads
 

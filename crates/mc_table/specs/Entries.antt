@@ -1,7 +1,7 @@
 -- Things by their numbers: this project's own.
 use Rattle.std.specs.Prelude.{ℕ, ◌+◌, ◌==◌, List, [], ◌∷◌, ◌++◌, Option, Some, None, if◌then◌else◌}
 
--- what has a number, in the order of the numbers, and the number of the next
+-- the things that have numbers, in the order of the numbers, and the number of the next
 pub record Numbering (T : Type 0) : Type 0 where
   pub entries : List (ℕ × T)
   pub next : ℕ
@@ -11,7 +11,7 @@ abbrev pub entry_of : {T : Type 0} → List (ℕ × T) → ℕ → Option T
 entry_of [] number = None
 entry_of (entry ∷ others) number = if entry.0 == number then Some entry.1 else entry_of others number
 
--- the same entries, where the one of a number is this
+-- the same entries, except that the one of a number is this
 abbrev pub updated : {T : Type 0} → ℕ → T → List (ℕ × T) → List (ℕ × T)
 updated number value [] = []
 updated number value (entry ∷ others) =

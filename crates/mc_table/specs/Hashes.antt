@@ -1,4 +1,4 @@
--- What a key is hashed to under three secret numbers: this project's own.
+-- The hash of a key under three secret numbers: this project's own.
 use Rattle.std.specs.Prelude.{ℕ, zero, suc, ◌+◌, ◌-◌, ◌*◌, ◌/◌, ◌%◌, ◌^◌, List, length, if◌then◌else◌, nat_le, nat_lt, slice_index, bit_and, bit_or, bit_xor, Result, Ok, Err}
 use Rattle.mc_table.specs.declared.key_hashers.KeyHasher.{KeyHasher}
 use Rattle.mc_table.specs.declared.key_hashers.SecretState.{SecretState}
@@ -7,19 +7,19 @@ use Rattle.mc_table.specs.declared.key_hashers.SecretState.{SecretState}
 unfoldable pub folded_product : ℕ → ℕ → ℕ → ℕ
 folded_product word factor addend = bit_xor ((bit_and (word * factor) (2 ^ 64 - 1) + addend) % 2 ^ 64) (word * factor / 2 ^ 64)
 
--- four bytes from a place on, the lowest first
+-- four bytes from an index on, the lowest first
 unfoldable pub half_at : List ℕ → ℕ → ℕ
 half_at bytes at = slice_index bytes at + slice_index bytes (at + 1) * 256 + slice_index bytes (at + 2) * 65536 + slice_index bytes (at + 3) * 16777216
 
--- a number that is moved up by so many bits, of 64
+-- a number that is shifted up by n bits, of 64
 abbrev pub moved_up : ℕ → ℕ → ℕ
 moved_up x by = (x * 2 ^ by) % 2 ^ 64
 
--- eight bytes from a place on, the lowest first
+-- eight bytes from an index on, the lowest first
 unfoldable pub word_at : List ℕ → ℕ → ℕ
 word_at bytes at = bit_or (half_at bytes at) (moved_up (half_at bytes (at + 4)) 32)
 
--- the bytes from a place on, of which there are at most seven: four and four of them that may be the same, or three, or none
+-- the bytes from an index on, of which there are at most seven: four and four of them that may overlap, or three, or none
 unfoldable pub rest_from : List ℕ → ℕ → ℕ
 rest_from bytes at =
     let n = length bytes in
@@ -28,7 +28,7 @@ rest_from bytes at =
     then bit_or (bit_or (slice_index bytes at) (moved_up (slice_index bytes (at + (n - at) / 2)) 8)) (moved_up (slice_index bytes (n - 1)) 16)
     else 0)
 
--- a state after so many words
+-- a state after n words
 unfoldable pub after_words : List ℕ → KeyHasher → ℕ → ℕ
 after_words bytes h zero = h.state
 after_words bytes h (suc n) = folded_product (bit_xor (after_words bytes h n) (word_at bytes (8 * n))) h.factor h.addend
@@ -40,7 +40,7 @@ write h bytes =
     let last = folded_product (bit_xor (after_words bytes h words) (rest_from bytes (8 * words))) h.factor h.addend in
     record h { state = folded_product (bit_xor last (length bytes)) h.factor h.addend }
 
--- what it makes of all texts
+-- the hash that a hasher returns
 abbrev pub finish : KeyHasher → ℕ
 finish h = h.state
 
@@ -48,7 +48,7 @@ finish h = h.state
 abbrev pub first_hasher : SecretState → KeyHasher
 first_hasher s = record { state = s.state; factor = s.factor; addend = s.addend }
 
--- three secret numbers of 24 bytes, the factor an odd one; where the bytes could not be filled, that error
+-- three secret numbers of 24 bytes, the factor an odd one; if the bytes could not be filled, that error
 unfoldable pub seeded : {U E : Type 0} → List ℕ → Result U E → Result SecretState E
 seeded bytes (Ok filled) = Ok (record { state = word_at bytes 0; factor = bit_or (word_at bytes 8) 1; addend = word_at bytes 16 })
 seeded bytes (Err error) = Err error

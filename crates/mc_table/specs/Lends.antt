@@ -10,7 +10,7 @@ use Rattle.mc_table.specs.contracts.tables.Table.{the_row}
 use Rattle.mc_table.specs.contracts.chained.Chained.{the_row as chained_row}
 
 module _ (K V S H : RattleType) (key : HashMembers K.Denot) (build : builder.Ghosts S.Denot H.Denot) (hash : hasher.Ghosts H.Denot) (t : MutBor (List (K.Denot × V.Denot))) where
-  -- it has the entries es, with the last value written through r at the key that passes the test, and at `None` it stays as it is
+  -- it has the entries es, with the last value written through r at the key that passes the test; at `None` it stays
   abbrev pub lends_value : (K.Denot → Bool) → List (K.Denot × V.Denot) → Option (MutBor V.Denot) → Fml
   lends_value test es r = LendsIf (the_row K V S H (record { eq = key.eq }) (record { hash_input = key.hash_input }) build hash) V t r (λ w. set_value test es w) t.now
 

@@ -11,7 +11,7 @@ abbrev pub Apart : ℕ → List ℕ → Type 0
 Apart place [] = Unit {0}
 Apart place (p ∷ ps) = (p ≡ place → ⊥) × Apart place ps
 
--- no place comes twice
+-- no place occurs twice
 abbrev pub AllApart : List ℕ → Type 0
 AllApart [] = Unit {0}
 AllApart (p ∷ ps) = Apart p ps × AllApart ps
@@ -21,7 +21,7 @@ abbrev pub UpTo : ℕ → List ℕ → Type 0
 UpTo most [] = Unit {0}
 UpTo most (p ∷ ps) = (0 < p) × (p ≤ most) × UpTo most ps
 
--- the first of places, or 0 where there is none
+-- the first of places, or 0 if there is none
 abbrev pub first_of : List ℕ → ℕ
 first_of [] = 0
 first_of (p ∷ ps) = p
@@ -31,7 +31,7 @@ abbrev pub last_from : ℕ → List ℕ → ℕ
 last_from place [] = place
 last_from place (p ∷ ps) = last_from p ps
 
--- the last of places, or 0 where there is none
+-- the last of places, or 0 if there is none
 abbrev pub last_of : List ℕ → ℕ
 last_of places = last_from 0 places
 
@@ -40,7 +40,7 @@ abbrev pub left_out : ℕ → List ℕ → List ℕ
 left_out place [] = []
 left_out place (p ∷ ps) = if p == place then ps else p ∷ left_out place ps
 
--- places in which one has another number
+-- places of which one has another number
 abbrev pub renumbered : ℕ → ℕ → List ℕ → List ℕ
 renumbered from to [] = []
 renumbered from to (p ∷ ps) = (if p == from then to else p) ∷ renumbered from to ps

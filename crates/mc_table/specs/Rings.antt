@@ -1,4 +1,4 @@
--- A ring of links: the places of an order, and the place 0, which comes before the first and after the last. This
+-- A ring of links: the places of an order, and the place 0, which is before the first and after the last. This
 -- project's own.
 use Rattle.std.specs.Prelude.{◌≡◌, ℕ, zero, suc, ◌-◌, ◌≤◌, ◌^◌, List, [], ◌∷◌, length, slice_index_or, slice_set}
 use Rattle.mc_table.specs.declared.links.Link.{Link}
@@ -12,27 +12,27 @@ no_link = record { before = 0; after = 0 }
 abbrev pub link_at : List Link → ℕ → Link
 link_at links place = slice_index_or links place no_link
 
--- links in which a place comes after another
+-- links in which a place is after another
 abbrev pub with_after : List Link → ℕ → ℕ → List Link
 with_after links place next = slice_set links place (record { before = (link_at links place).before; after = next })
 
--- links in which a place comes before another
+-- links in which a place is before another
 abbrev pub with_before : List Link → ℕ → ℕ → List Link
 with_before links place previous = slice_set links place (record { before = previous; after = (link_at links place).after })
 
--- links in which two places come one after the other
+-- links in which one place follows another
 unfoldable pub joined : List Link → ℕ → ℕ → List Link
 joined links previous next = with_before (with_after links previous next) next previous
 
--- links in which nothing leads to a place: what was on its sides is joined
+-- links in which nothing leads to a place: its neighbours are joined
 unfoldable pub unlinked : List Link → ℕ → List Link
 unlinked links place = joined links (link_at links place).before (link_at links place).after
 
--- links in which a place comes right before another
+-- links in which a place is right before another
 unfoldable pub linked_before : List Link → ℕ → ℕ → List Link
 linked_before links place next = joined (joined links (link_at links next).before place) place next
 
--- so many places, each after the last, from one on
+-- n places, each after the last, from one on
 unfoldable pub walk : List Link → ℕ → ℕ → List ℕ
 walk links zero place = []
 walk links (suc count) place = (link_at links place).after ∷ walk links count (link_at links place).after

@@ -15,7 +15,7 @@ module _ {K V : Type 0} where
   abbrev pub tags_of : List (Slot K V) → List ℕ
   tags_of slots = map (λ s. s.tag) slots
 
-  -- where each leads to
+  -- the place that each leads to
   abbrev pub nexts_of : List (Slot K V) → List ℕ
   nexts_of slots = map (λ s. s.next) slots
 

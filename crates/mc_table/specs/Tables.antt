@@ -4,7 +4,7 @@ use Rattle.std.specs.Option.{option_map_or}
 use Rattle.std.specs.Map.{lookup_entry, remove_entry}
 use Rattle.mc_table.specs.Places.{AreAll}
 
--- an entry that there may be in front of others
+-- an optional entry in front of others
 abbrev pub put_some : {X : Type 0} → Option X → List X → List X
 put_some None xs = xs
 put_some (Some x) xs = x ∷ xs
@@ -14,11 +14,11 @@ abbrev pub in_order : {X : Type 0} → List X → List ℕ → List X
 in_order entries [] = []
 in_order entries (p ∷ ps) = put_some (slice_get entries (p - 1)) (in_order entries ps)
 
--- the entry whose key passes the test goes first
+-- the entry whose key passes the test moves to the front
 abbrev pub promoted : {K V : Type 0} → (K → Bool) → List (K × V) → List (K × V)
 promoted test entries = option_map_or (λ e. e ∷ remove_entry test entries) (lookup_entry test entries) entries
 
--- a value under a key goes first: a key that is there stays, with the new value
+-- a value under a key moves to the front: an existing key stays, with the new value
 abbrev pub put_entry : {K V : Type 0} → (K → K → Bool) → K → V → List (K × V) → List (K × V)
 put_entry eq key value entries = option_map_or (λ e. (e.0, value) ∷ remove_entry (eq key) entries) (lookup_entry (eq key) entries) ((key, value) ∷ entries)
 

@@ -1,4 +1,4 @@
-//! Entries that are found by a hash, side by side.
+//! Entries that are found by a hash, in one vector.
 ghost use Rattle.std.specs.Prelude.{◌≡◌, ◌^◌, ◌<◌, ◌+◌, [], ◌∷◌, ◌++◌, Some, length, slice_get, IfOk, IfErr, IfSome, IfNone, OnOk, OnErr};
 ghost use Rattle.std.specs.Borrow.{sem};
 ghost use Rattle.std.specs.List.{swap_remove};
@@ -14,14 +14,14 @@ use std::collections::hash_map::Equivalent;
 use std::hash::{BuildHasher, Hash};
 use std::marker::Model;
 
-/// Entries that are found by a hash, side by side. No two keys are equal.
+/// Entries that are found by a hash, in one vector. No two keys are equal.
 ///
-/// Contracts see the entries by their index. How many buckets there are is settled by the constructor, so only `clear` does work
-/// that grows with the entries.
+/// Contracts see the entries by their index. The constructor fixes the number of buckets, so only `clear` does work that grows
+/// with the entries.
 #[derive(Drop)]
 pub struct Chained<K: Eq + Hash, V, S: BuildHasher> {
     slots: Vec<Slot<K, V>>,
-    /// Where the chain of each bucket begins, or 0 if it has no slot.
+    /// The first place of each bucket's chain, or 0 if it has no slot.
     heads: Vec<u32>,
     hasher: S,
 }
@@ -42,7 +42,7 @@ impl<K: Eq + Hash, V, S: BuildHasher> Model for Chained<K, V, S> {
 }
 
 impl<K: Eq + Hash, V, S: BuildHasher + Drop> Chained<K, V, S> {
-    /// No entry, with room for so many, whose keys this hasher hashes.
+    /// Makes a table of no entry, with room for `entries`, whose keys this hasher hashes.
     pub fn with_hasher(alloc: Global, entries: usize, hasher: S) -> Result<Self, AllocError>
         ensures { IfOk result (λ t. t ≡ []) }
     {
@@ -61,7 +61,7 @@ impl<K: Eq + Hash, V, S: BuildHasher + Drop> Chained<K, V, S> {
 impl<K: Eq + Hash, V, S: BuildHasher> Chained<K, V, S> {
     ghost use Rattle.mc_table.specs.Lends.{lends_at};
 
-    /// How many entries there are.
+    /// Returns the number of entries.
     #[inline]
     pub fn len(&self) -> usize
         ensures len { result ≡ length self.now }
@@ -70,7 +70,7 @@ impl<K: Eq + Hash, V, S: BuildHasher> Chained<K, V, S> {
         self.slots.len()
     }
 
-    /// The index of the entry that a key is found at.
+    /// Returns the index of the entry of a key.
     #[inline]
     pub fn get_index_of<Q: Equivalent<K>>(&self, query: Q) -> Option<usize>
         ensures found { IfSome result (λ index. IsAt (Q.equivalent query) self.now index) }
@@ -79,7 +79,7 @@ impl<K: Eq + Hash, V, S: BuildHasher> Chained<K, V, S> {
         search(&self.heads, &self.slots, tag_of(&self.hasher, query), query)
     }
 
-    /// The index of the entry that a key is found at, where a place is guessed: the entry there is looked at first.
+    /// Returns the index of the entry of a key. `place` is a guess of its place: the entry there is compared first.
     #[inline]
     pub fn get_index_by<Q: Equivalent<K>>(&self, query: Q, place: u32) -> Option<usize>
         ensures found { IfSome result (IsAt (Q.equivalent query) self.now) }
@@ -91,25 +91,25 @@ impl<K: Eq + Hash, V, S: BuildHasher> Chained<K, V, S> {
         self.get_index_of(query)
     }
 
-    /// The tag of a key, by which [`Chained::guess_all`] guesses.
+    /// Returns the tag of a key, which [`Chained::guess_all`] takes.
     #[inline]
     pub fn tag<Q: Hash + Copy>(&self, key: Q) -> u32 {
         tag_of(&self.hasher, key)
     }
 
-    /// Guesses the place of the entry of each tag: its index, and one more, or 0. An entry there may have another tag.
+    /// Writes a guess of the entry's place for each tag: its index plus one, or 0. An entry there may have another tag.
     pub fn guess_all(&self, tags: &[u32], places: &mut [u32]) {
         guess_all(&self.heads, &self.slots, tags, places);
     }
 
-    /// The entry of a place, if there is one.
+    /// Returns the entry of a place, if there is one.
     #[inline]
     pub fn entry(&self, place: u32) -> Option<(&K, &V)> {
         let slot = self.slots.get((place as usize).wrapping_sub(1))?;
         Some((&slot.key, &slot.value))
     }
 
-    /// The entry at an index.
+    /// Returns the entry at an index.
     #[inline]
     pub fn at(&self, index: usize) -> (&K, &V)
         requires { index < length self.now }
@@ -119,7 +119,7 @@ impl<K: Eq + Hash, V, S: BuildHasher> Chained<K, V, S> {
         (&slot.key, &slot.value)
     }
 
-    /// The value at an index, to write to.
+    /// Returns the value at an index, to write to.
     #[inline]
     pub fn value_mut(&mut self, index: usize) -> &mut V
         requires { index < length self.old }
@@ -130,7 +130,7 @@ impl<K: Eq + Hash, V, S: BuildHasher> Chained<K, V, S> {
         &mut slot.value
     }
 
-    /// Takes out the entry at an index. The last takes its place.
+    /// Removes and returns the entry at an index. The last entry takes its place.
     #[inline]
     pub fn swap_remove(&mut self, index: usize) -> (K, V)
         requires { index < length self.old }
@@ -141,9 +141,9 @@ impl<K: Eq + Hash, V, S: BuildHasher> Chained<K, V, S> {
         (slot.key, slot.value)
     }
 
-    /// Puts an entry last, under a key that is not there.
+    /// Appends an entry, under a key that no entry has.
     ///
-    /// Where there is no memory, `Err` hands the key and the value back, and nothing has changed.
+    /// If there is no memory, `Err` returns the key and the value, and nothing has changed.
     pub fn push(&mut self, key: K, value: V) -> Result<(), AllocFailed<(K, V)>>
         requires absent { IsNowhere (K.eq key) self.old }
         requires small { length self.old + 1 < 2 ^ 32 }
@@ -170,7 +170,7 @@ impl<K: Eq + Hash, V, S: BuildHasher> Chained<K, V, S> {
         }
     }
 
-    /// Takes out all entries.
+    /// Removes all entries.
     pub fn clear(&mut self)
     where
         K: Drop,
@@ -182,7 +182,7 @@ impl<K: Eq + Hash, V, S: BuildHasher> Chained<K, V, S> {
     }
 }
 
-/// How many buckets there are for so many entries: the least power of two that is at least as many, from 16 to 2^31.
+/// Returns the number of buckets for `entries`: the least power of two that is at least as many, from 16 to 2^31.
 fn buckets_for(entries: usize) -> usize
     ensures { IsBucketCount entries result }
 {
@@ -194,7 +194,7 @@ fn buckets_for(entries: usize) -> usize
     buckets
 }
 
-/// The tag of a key: the lower 32 bits of its hash.
+/// Returns the tag of a key: the lower 32 bits of its hash.
 #[inline]
 #[tactic(auto, unfolding(crate::specs::Slots::tag_of))]
 fn tag_of<Q: Hash + Copy, S: BuildHasher>(hasher: &S, key: Q) -> u32

@@ -1,4 +1,4 @@
-//! Chains: the places of each bucket, from the greatest down.
+//! Chains: the places of each bucket, from the greatest down. The place of a slot is its index plus one.
 //!
 //! The head of a bucket and the slots of its chain each lead to the next lower place of the bucket, and the last leads to 0. So the
 //! last slot of all is always the first of its chain, and each step of a walk goes down.
@@ -11,10 +11,10 @@ use crate::slots::Slot;
 use std::collections::hash_map::Equivalent;
 use std::hash::Hash;
 
-/// How many slots of a chain a guess looks at.
+/// How many slots of a chain a guess compares.
 const GUESSED_STEPS: usize = 2;
 
-/// The bucket that a tag falls to.
+/// Returns the bucket of a tag.
 #[inline]
 #[tactic(auto, unfolding(crate::specs::Chains::bucket_of))]
 pub(crate) fn bucket_of(tag: u32, buckets: usize) -> usize
@@ -25,7 +25,7 @@ pub(crate) fn bucket_of(tag: u32, buckets: usize) -> usize
     tag as usize & (buckets - 1)
 }
 
-/// The index of the slot of a tag whose key a query stands for.
+/// Returns the index of the slot of a tag whose key a query stands for.
 #[inline]
 pub(crate) fn search<K: Eq + Hash, V, Q: Equivalent<K>>(
     heads: &Vec<u32>,
@@ -50,7 +50,7 @@ pub(crate) fn search<K: Eq + Hash, V, Q: Equivalent<K>>(
     None
 }
 
-/// Whether the slot of a place is there and has a key that a query stands for.
+/// Returns whether a place has a slot whose key a query stands for.
 #[inline]
 pub(crate) fn stands_at<K: Eq + Hash, V, Q: Equivalent<K>>(
     slots: &Vec<Slot<K, V>>,
@@ -66,8 +66,8 @@ pub(crate) fn stands_at<K: Eq + Hash, V, Q: Equivalent<K>>(
     query.equivalent(&slot.key)
 }
 
-/// Guesses the place of each tag: one that has another tag, or none, is no harm, since who asks for a key compares it. Of all tags
-/// the heads are read first, and then the slots, so that the processor waits for the memory of many at once.
+/// Writes a guess of the place of each tag. A place that has another tag, or none, does no harm, since a look-up compares the key.
+/// The heads of all tags are read first, and then the slots, so that the processor loads the memory of many at once.
 pub(crate) fn guess_all<K, V>(
     heads: &Vec<u32>,
     slots: &Vec<Slot<K, V>>,
@@ -86,7 +86,7 @@ pub(crate) fn guess_all<K, V>(
     }
 }
 
-/// The place itself if its slot has the tag, or else the next of its chain.
+/// Returns the place itself if its slot has the tag, or else the next of its chain.
 #[inline]
 fn passed<K, V>(slots: &Vec<Slot<K, V>>, place: u32, tag: u32) -> u32 {
     match slots.get((place as usize).wrapping_sub(1)) {
@@ -95,7 +95,7 @@ fn passed<K, V>(slots: &Vec<Slot<K, V>>, place: u32, tag: u32) -> u32 {
     }
 }
 
-/// Takes the slot at an index out of its chain and out of the slots. The last takes its place.
+/// Removes the slot at an index from its chain and from the slots. The last slot takes its place.
 pub(crate) fn take_out<K, V>(
     heads: &mut Vec<u32>,
     slots: &mut Vec<Slot<K, V>>,
@@ -122,7 +122,7 @@ pub(crate) fn take_out<K, V>(
     slot
 }
 
-/// Takes a place out of its chain.
+/// Removes a place from its chain.
 fn unlink<K, V>(heads: &mut Vec<u32>, slots: &mut Vec<Slot<K, V>>, place: u32)
     requires some { 0 < length heads.old.items }
     requires chained { AreChained heads.old.items slots.old.items 0 }
@@ -140,7 +140,7 @@ fn unlink<K, V>(heads: &mut Vec<u32>, slots: &mut Vec<Slot<K, V>>, place: u32)
     set_link(heads, slots, bucket, above, next);
 }
 
-/// Puts a place into the chain of its bucket, which it is the one place to be out of.
+/// Inserts a place into the chain of its bucket. It is the only place that is in no chain.
 fn link_in<K, V>(heads: &mut Vec<u32>, slots: &mut Vec<Slot<K, V>>, place: u32)
     requires some { 0 < length heads.old.items }
     requires chained { AreChained heads.old.items slots.old.items place }
@@ -158,7 +158,7 @@ fn link_in<K, V>(heads: &mut Vec<u32>, slots: &mut Vec<Slot<K, V>>, place: u32)
     set_link(heads, slots, bucket, above, place);
 }
 
-/// Leads the head of the last slot's bucket past it.
+/// Makes the head of the last slot's bucket skip it.
 fn free_last<K, V>(heads: &mut Vec<u32>, slots: &Vec<Slot<K, V>>)
     requires some { 0 < length heads.old.items }
     requires within { 0 < length slots.now.items }
@@ -169,7 +169,7 @@ fn free_last<K, V>(heads: &mut Vec<u32>, slots: &Vec<Slot<K, V>>)
     heads[bucket] = slot.next;
 }
 
-/// The place of a bucket that leads to another place or past it, or 0 if its head does.
+/// Returns the place of a bucket that leads to another place or past it, or 0 if its head does.
 fn above<K, V>(heads: &Vec<u32>, slots: &Vec<Slot<K, V>>, bucket: usize, place: u32) -> u32
     requires bucket { bucket < length heads.now.items }
     requires chained { (out : ℕ) × AreChained heads.now.items slots.now.items out }
@@ -184,7 +184,7 @@ fn above<K, V>(heads: &Vec<u32>, slots: &Vec<Slot<K, V>>, bucket: usize, place: 
     above
 }
 
-/// Where a bucket's head leads to, or a place.
+/// Returns the place that a bucket's head leads to, or that a place leads to.
 #[inline]
 fn link<K, V>(heads: &Vec<u32>, slots: &Vec<Slot<K, V>>, bucket: usize, place: u32) -> u32
     requires bucket { bucket < length heads.now.items }
@@ -198,7 +198,7 @@ fn link<K, V>(heads: &Vec<u32>, slots: &Vec<Slot<K, V>>, bucket: usize, place: u
     }
 }
 
-/// Leads a bucket's head, or a place, to another place.
+/// Makes a bucket's head, or a place, lead to another place.
 #[inline]
 fn set_link<K, V>(
     heads: &mut Vec<u32>,
@@ -221,7 +221,7 @@ fn set_link<K, V>(
     }
 }
 
-/// Leads a place to another.
+/// Makes a place lead to another.
 #[inline]
 fn set_next<K, V>(slots: &mut Vec<Slot<K, V>>, place: u32, next: u32)
     requires positive { 0 < place }

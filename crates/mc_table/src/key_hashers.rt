@@ -8,8 +8,8 @@ use std::random::RandomSource;
 
 /// Hashes bytes under three secret numbers: the state that it begins with, the factor, and the addend.
 ///
-/// It takes eight bytes at a time, each time by one product of 128 bits whose halves are joined ([`folded_product`]), then the
-/// rest, and last the length: so texts of two lengths are never the same numbers.
+/// It takes eight bytes at a time, each by one product of 128 bits whose halves are joined ([`folded_product`]), then the
+/// rest, and last the length. So texts of two lengths never give the same sequence of numbers.
 #[derive(Clone, Copy)]
 pub struct KeyHasher {
     state: u64,
@@ -39,9 +39,9 @@ impl Hasher for KeyHasher {
     }
 }
 
-/// The two halves of a product's 128 bits, joined by exclusive or once the addend is added to the low half.
+/// Returns the two halves of a product's 128 bits, joined by exclusive or after the addend is added to the low half.
 ///
-/// Without the addend a word and its complement often have the same halves but for their complement, and so the same hash.
+/// Without the addend the halves of a word and of its complement are often complements of each other, and so the hashes equal.
 #[tactic(auto, unfolding(crate::specs::Hashes::folded_product))]
 fn folded_product(word: u64, factor: u64, addend: u64) -> u64
     ensures { result ≡ hashes.folded_product word factor addend }
@@ -50,7 +50,7 @@ fn folded_product(word: u64, factor: u64, addend: u64) -> u64
     ((product & 0xFFFF_FFFF_FFFF_FFFF) as u64).wrapping_add(addend) ^ (product >> 64) as u64
 }
 
-/// Four bytes from a place on as a number, the lowest first.
+/// Returns four bytes from an index on as a number, the lowest first.
 #[tactic(auto, unfolding(crate::specs::Hashes::half_at))]
 fn half_at(bytes: &[u8], at: usize) -> u64
     requires { at + 4 ≤ length bytes.now }
@@ -59,7 +59,7 @@ fn half_at(bytes: &[u8], at: usize) -> u64
     u32::from_le_bytes([bytes[at], bytes[at + 1], bytes[at + 2], bytes[at + 3]]) as u64
 }
 
-/// Eight bytes from a place on as a number, the lowest first.
+/// Returns eight bytes from an index on as a number, the lowest first.
 #[tactic(auto, unfolding(crate::specs::Hashes::word_at))]
 fn word_at(bytes: &[u8], at: usize) -> u64
     requires { at + 8 ≤ length bytes.now }
@@ -68,7 +68,7 @@ fn word_at(bytes: &[u8], at: usize) -> u64
     half_at(bytes, at) | half_at(bytes, at + 4) << 32
 }
 
-/// The bytes from a place on, at most seven of them, as a number, each of them once at least.
+/// Returns the bytes from an index on, at most seven of them, as a number. Each of them counts at least once.
 fn rest_from(bytes: &[u8], at: usize) -> u64
     requires { at ≤ length bytes.now }
     ensures { result ≡ hashes.rest_from bytes.now at }
@@ -92,7 +92,7 @@ pub struct SecretState {
 }
 
 impl SecretState {
-    /// Three secret numbers from the machine's source of random bytes. An error is that source's.
+    /// Makes three secret numbers from the machine's source of random bytes. An error is that source's.
     pub fn new(rt: &impl RandomSource) -> io::Result<SecretState> {
         let mut bytes = [0; 24];
         let filled = rt.fill_bytes(&mut bytes);
@@ -100,7 +100,7 @@ impl SecretState {
     }
 }
 
-/// What these bytes make the secret numbers, if they were filled. Else the error of filling them.
+/// Makes the secret numbers from these bytes, if they were filled. Else it returns the error of filling them.
 #[tactic(auto, unfolding(crate::specs::Hashes::seeded))]
 fn seeded(filled: io::Result<()>, bytes: &[u8]) -> io::Result<SecretState>
     requires { 24 ≤ length bytes.now }

@@ -1,40 +1,40 @@
-//! Tables: of entries, in the order of their last use, with the hasher of their keys; and of things under rising numbers.
+//! Three containers: a table of entries in the order of their last use, the hasher of its keys, and a list of things under rising numbers.
 //!
-//! A [`Table`] finds an entry by its key's hash, and knows which one was used most recently. An entry is put in front
-//! ([`Table::put`], [`Table::put_front`]), looked at ([`Table::peek`], [`Table::peek_mru`]), brought to the front and changed
-//! ([`Table::get_mut`]), and taken out ([`Table::pop_entry`], [`Table::pop_mru`], [`Table::pop_lru`], [`Table::clear`]). What each
-//! call leaves is said of the entries, most recent first, in std's words of a map and those of `specs/Tables.antt`. Who is about to ask
-//! for several keys may have their entries guessed together ([`Table::guess_all`]), and who asks for one again has a guess from
-//! [`Table::find`]: calls that are given a guess ([`Table::get_mut_by`], [`Table::pop_entry_by`]) do the same, sooner if it is right.
+//! A [`Table`] finds an entry by its key's hash, and knows which one was used most recently. [`Table::put`] and [`Table::put_front`] insert an entry
+//! in front. [`Table::peek`] and [`Table::peek_mru`] read one, and [`Table::get_mut`] brings one to the front to change it. [`Table::pop_entry`],
+//! [`Table::pop_mru`] and [`Table::pop_lru`] remove one, and [`Table::clear`] removes all. Contracts say what each call leaves by the entries, most
+//! recent first, in std's words of a map and those of `specs/Tables.antt`. A caller that will look several keys up may prefetch them
+//! ([`Table::guess_all`]), which gives a guess of each key's entry. A caller that looks one up again has a guess from [`Table::find`]. Calls that
+//! take a guess ([`Table::get_mut_by`], [`Table::pop_entry_by`]) do what those without do, faster if the guess is right.
 //!
-//! Entries lie side by side (`chained.rt`), and each is in the chain of its hash's bucket (`chains.rt`). The last one takes the place
-//! of one that is taken out. Their order is in links of their own (`orders.rt`), so a use writes to three links and moves no
-//! entry. Only `put` and `put_front` take memory, and only `clear` does work that grows with the entries.
+//! The entries are in one vector (`chained.rt`), and each is in the chain of its hash's bucket (`chains.rt`). The last entry takes the place of
+//! a removed one. Their order is in links of its own (`orders.rt`), so a use writes to three links and moves no entry. Only `put` and
+//! `put_front` take memory, and only `clear` does work that grows with the entries.
 //!
 //! # Hashes of keys
 //!
-//! A keyed hasher: what it gives depends on secret random numbers.
+//! The hasher is keyed: a hash depends on secret random numbers.
 //!
-//! [`SecretState`] makes a [`KeyHasher`] for each key: `std::hash::RandomState` and its hasher, but faster for keys of some tens
-//! of bytes. With both, which keys collide depends on random numbers that a stranger does not know.
+//! [`SecretState`] makes a [`KeyHasher`] for each key. The two are like `std::hash::RandomState` and its hasher, but faster for keys of some
+//! tens of bytes. With both, which keys collide depends on random numbers that an attacker does not know.
 //!
 //! ## How strong it is
 //!
-//! It is a fast keyed hash, at the level of foldhash and wyhash: for keys that were chosen without knowing the secret numbers, no family of
+//! It is a fast keyed hash, at the level of foldhash and wyhash. For keys that were chosen without knowing the secret numbers, no family of
 //! keys is known that collides more often than chance would have it. In models of it with small words, counted whole, no difference between two
 //! words makes their hashes equal much more often than any other (`tests/gate/hashes.py`).
 //!
-//! It is no cipher, and weaker than SipHash: from hashes its secret numbers could be computed, so no hash is to be shown. No proof
-//! speaks of chosen keys: proved is that a hash is what `specs/Hashes.antt` defines, and, of a private function, that each secret number is
-//! made of bytes of its own. That these are random is trusted.
+//! It is no cipher, and weaker than SipHash: its secret numbers could be computed from hashes, so no hash may be shown. No proof speaks of
+//! chosen keys. Proved is that a hash is what `specs/Hashes.antt` defines, and, of a private function, that each secret number is made of bytes
+//! of its own. That these are random is trusted.
 //!
 //! # By number
 //!
-//! A [`Numbered`] gives each thing that is put into it a number that none had before ([`Numbered::push`]), the first of them 0.
-//! Under that number the thing is looked at ([`Numbered::get`]), changed ([`Numbered::get_mut`]) and taken out
-//! ([`Numbered::remove`]). A look-up tries first where the last change was, and then by binary search.
+//! A [`Numbered`] gives each thing that is pushed a number that none had before ([`Numbered::push`]), the first of them 0. By that number a
+//! thing is read ([`Numbered::get`]), changed ([`Numbered::get_mut`]) and removed ([`Numbered::remove`]). A look-up first tries the index of
+//! the last change, and then a binary search.
 //!
-//! `specs/Entries.antt` says what is under a number, and what a change and a removal leave. Only `push` takes memory.
+//! `specs/Entries.antt` defines what is under a number, and what a change and a removal leave. Only `push` takes memory.
 #![tactic(auto)]
 
 mod chained;

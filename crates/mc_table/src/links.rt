@@ -1,6 +1,6 @@
-//! Links: what comes before a place and after it.
+//! Links: the places before and after a place.
 
-/// What comes before a place and after it, in a ring of places.
+/// The places before and after a place, in a ring of places.
 #[derive(Clone, Copy)]
 pub struct Link {
     /// The place before it.

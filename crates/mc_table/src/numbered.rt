@@ -6,13 +6,13 @@ ghost use Rattle.std.specs.Borrow.{sem};
 use std::alloc::{AllocError, Global};
 use std::marker::Model;
 
-/// Things of one kind, each under a number that it was given. Contracts see the entries in the order of their numbers, and
+/// Things of one type, each under a number that it was given. Contracts see the entries in the order of their numbers, and
 /// the number of the next.
 #[derive(Drop)]
 pub struct Numbered<T> {
     entries: Vec<(u64, T)>,
     next: u64,
-    /// Where the entry was that was changed last: the next call is most often for the same one.
+    /// The index of the entry that was changed last: most often the next call is for the same one.
     recent: usize,
 }
 
@@ -33,7 +33,7 @@ impl<T> Numbered<T> {
     ghost use Rattle.mc_table.specs.Rises.{Rises, IsAt};
     ghost use Rattle.mc_table.specs.NumberedLends.{LendsPlace, LendsEntry};
 
-    /// Nothing, and 0 as the number of the first. It takes no memory.
+    /// Makes a list of nothing, with 0 as the number of the first. It takes no memory.
     pub fn new(alloc: Global) -> Self
         ensures { result ≡ record { entries = []; next = 0 } }
     {
@@ -44,21 +44,21 @@ impl<T> Numbered<T> {
         }
     }
 
-    /// How many entries there are.
+    /// Returns the number of entries.
     pub fn len(&self) -> usize
         ensures { result ≡ length self.now.entries }
     {
         self.entries.len()
     }
 
-    /// The number of the next entry.
+    /// Returns the number of the next entry.
     pub fn next_number(&self) -> u64
         ensures { result ≡ self.now.next }
     {
         self.next
     }
 
-    /// What is under a number.
+    /// Returns what is under a number.
     pub fn get(&self, number: u64) -> Option<&T>
         ensures { option_copied result ≡ entry_of self.now.entries number }
     {
@@ -66,7 +66,7 @@ impl<T> Numbered<T> {
         Some(&self.entries[place].1)
     }
 
-    /// What is under a number, to be changed.
+    /// Returns what is under a number, to be changed.
     pub fn get_mut(&mut self, number: u64) -> Option<&mut T>
         ensures* writes_back { sem 𝓛 (LendsEntry T.row self.entry number result) }
         ensures value { option_copied_mut result ≡ entry_of self.old.entries number }
@@ -75,7 +75,7 @@ impl<T> Numbered<T> {
         Some(self.at_mut(place))
     }
 
-    /// The entry at a place, to be changed. It is tried first by the next look-up.
+    /// Returns the entry at an index, to be changed. The next look-up tries it first.
     fn at_mut(&mut self, place: usize) -> &mut T
         requires { place < length self.old.entries }
         ensures* writes_back { sem 𝓛 (LendsPlace T.row self.entry place result) }
@@ -86,7 +86,7 @@ impl<T> Numbered<T> {
         &mut entry.1
     }
 
-    /// Where the entry of a number is.
+    /// Returns the index of a number's entry.
     fn place_of(&self, number: u64) -> Option<usize>
         ensures rises { Rises 0 self.now.entries self.now.next }
         ensures found { IfSome result (IsAt self.now.entries number) }
@@ -98,7 +98,7 @@ impl<T> Numbered<T> {
         }
     }
 
-    /// The same by binary search.
+    /// Returns the index of a number's entry, by binary search.
     fn search(&self, number: u64) -> Option<usize>
         ensures found { IfSome result (IsAt self.now.entries number) }
         ensures absent { IfNone result (entry_of self.now.entries number ≡ None) }
@@ -112,7 +112,7 @@ impl<T> Numbered<T> {
 impl<T: Drop> Numbered<T> {
     ghost use Rattle.mc_table.specs.Entries.{entry_of, without, with_next};
 
-    /// Puts something in, and gives the number that it has from now on. At an error it is dropped.
+    /// Adds a thing, and returns the number that it has from now on. At an error it is dropped.
     pub fn push(&mut self, value: T) -> Result<u64, AllocError>
         requires { self.old.next < 2 ^ 64 - 1 }
         ensures number { IfOk result (λ number. number ≡ self.old.next) }
@@ -127,7 +127,7 @@ impl<T: Drop> Numbered<T> {
         Ok(number)
     }
 
-    /// Takes what is under a number out, if something is. No other gets the number.
+    /// Removes and returns what is under a number, if there is something. No other thing gets the number.
     pub fn remove(&mut self, number: u64) -> Option<T>
         ensures removed { result ≡ entry_of self.old.entries number }
         ensures others { self.new ≡ record self.old { entries = without number self.old.entries } }

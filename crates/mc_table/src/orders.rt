@@ -9,10 +9,10 @@ use std::marker::Model;
 
 /// Places, each of the numbers from 1 to their count, in an order: the most recent first.
 ///
-/// Contracts see the places. Each call takes the same time however many there are. A place takes 8 bytes.
+/// Contracts see the places. Each call takes the same time for any number of places. A place takes 8 bytes.
 #[derive(Drop)]
 pub struct Order {
-    /// The link of each place. That of the place 0 leads to the first and to the last.
+    /// The link of each place. The link of place 0 leads to the first and to the last.
     links: Vec<Link>,
 }
 
@@ -28,7 +28,7 @@ impl Model for Order {
 }
 
 impl Order {
-    /// An order of no place, with room for so many.
+    /// Makes an order of no place, with room for `places`.
     pub fn with_capacity(alloc: Global, places: usize) -> Result<Order, AllocError>
         ensures { IfOk result (λ order. order ≡ []) }
     {
@@ -40,7 +40,7 @@ impl Order {
         Ok(Order { links })
     }
 
-    /// How many places there are.
+    /// Returns the number of places.
     pub fn len(&self) -> usize
         ensures len { result ≡ length self.now }
         ensures all { AreAll self.now }
@@ -48,21 +48,21 @@ impl Order {
         self.links.len() - 1
     }
 
-    /// The first place, or 0 where there is none.
+    /// Returns the first place, or 0 if there is none.
     pub fn first(&self) -> u32
         ensures { result ≡ first_of self.now }
     {
         self.links[0].after
     }
 
-    /// The last place, or 0 where there is none.
+    /// Returns the last place, or 0 if there is none.
     pub fn last(&self) -> u32
         ensures { result ≡ last_of self.now }
     {
         self.links[0].before
     }
 
-    /// A number made of the links before a place and after it, which says nothing: who asks for it has them read.
+    /// Prefetches the links before a place and after it. The returned byte is made of them, and only keeps the loads alive.
     #[inline]
     pub fn around(&self, place: u32) -> u8 {
         let Some(link) = self.links.get(place as usize) else {
@@ -72,7 +72,7 @@ impl Order {
         ((before ^ after) & 0xFF) as u8
     }
 
-    /// The place after another one, or 0 where there is no such place.
+    /// Returns the place after another one, or 0 if there is no such place.
     fn place_after(&self, place: u32) -> u32 {
         match self.links.get(place as usize) {
             Some(link) => link.after,
@@ -80,7 +80,7 @@ impl Order {
         }
     }
 
-    /// Puts one more place in front: the least number that is none.
+    /// Inserts one more place in front: the least number that is not in the order.
     ///
     /// `Err` says that there is no memory, or that no number of 32 bits is left. Then nothing has changed.
     pub fn push_front(&mut self) -> Result<(), AllocError>
@@ -113,7 +113,7 @@ impl Order {
         }
     }
 
-    /// Takes all places out.
+    /// Removes all places.
     pub fn clear(&mut self)
         ensures { self.new ≡ [] }
     {
@@ -125,7 +125,7 @@ impl Order {
         };
     }
 
-    /// Takes a place out. The greatest number takes its number.
+    /// Removes a place. The greatest place takes its number.
     pub fn remove(&mut self, place: u32)
         requires positive { 0 < place }
         requires within { place ≤ length self.old }
@@ -136,7 +136,7 @@ impl Order {
     }
 }
 
-/// Lets two places come one after the other.
+/// Links two places, so that one follows the other.
 #[tactic(auto, unfolding(crate::specs::Rings::joined))]
 fn join(links: &mut [Link], previous: u32, next: u32)
     requires previous { previous < length links.old }
@@ -147,7 +147,7 @@ fn join(links: &mut [Link], previous: u32, next: u32)
     links[next as usize].before = previous;
 }
 
-/// Joins what is on the sides of a place.
+/// Joins the neighbours of a place.
 #[tactic(auto, unfolding(crate::specs::Rings::unlinked))]
 fn unlink(links: &mut [Link], place: u32)
     requires place { place < length links.old }
@@ -159,7 +159,7 @@ fn unlink(links: &mut [Link], place: u32)
     join(links, link.before, link.after);
 }
 
-/// Lets a place come right before another.
+/// Inserts a place right before another.
 #[tactic(auto, unfolding(crate::specs::Rings::linked_before), using(crate::proofs::LinkLemmas::lengths))]
 fn link_before(links: &mut [Link], place: u32, next: u32)
     requires place { place < length links.old }
@@ -186,7 +186,7 @@ fn bring(links: &mut [Link], place: u32)
     link_before(links, place, first);
 }
 
-/// Takes a place out, and gives its number to the greatest. Then the last link is free.
+/// Removes a place, and gives its number to the greatest. Then the last link is free.
 #[tactic(auto, using(crate::proofs::LinkLemmas::lengths))]
 fn take_out(links: &mut [Link], place: u32)
     requires ring { IsRing links.old (places_of links.old) }

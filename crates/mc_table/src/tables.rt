@@ -23,19 +23,19 @@ use std::mem;
 ///
 /// A call with a key hashes it once and searches once. Given a guess that is right, it does neither. `put` hashes a key that is not there
 /// twice. `put_front` and `tag` hash once and search nothing, and the other calls hash nothing. A search passes the entries of one bucket.
-/// To take an entry out passes those of two: its own, and that of the last entry, which takes its place. The constructor settles how many
-/// buckets there are: at least one for each entry that it takes room for (up to 2^31). So no call but `clear` does work that grows with
-/// the entries, as long as no more are in the table than it was made for and hashes spread. Nothing is ever laid out anew.
+/// Removing an entry passes those of two: its own, and that of the last entry, which takes its place. The constructor fixes the number of
+/// buckets: at least one for each entry that it takes room for (up to 2^31). So only `clear` does work that grows with the entries, as
+/// long as the table has no more than it was made for and hashes spread. It never rehashes.
 ///
 /// # Memory
 ///
-/// The constructor takes room for so many entries. A table holds fewer than 2^32: one more is refused as if there were no memory. An
-/// entry takes its key, its value, 8 bytes beside them, 8 in the order, and 4 to 8 for the heads of the buckets (4 bytes each, of
-/// which there are at least 16 and at most 2^31).
+/// The constructor reserves room for `entries` entries. A table holds fewer than 2^32: one more is refused as if there were no memory. An
+/// entry takes its key, its value, 8 bytes beside them, 8 in the order, and 4 to 8 for the heads of the buckets. A head has 4 bytes, and
+/// there are at least 16 heads and at most 2^31.
 #[derive(Drop)]
 pub struct Table<K: Eq + Hash, V, S: BuildHasher> {
     entries: Chained<K, V, S>,
-    /// The place of each entry: its index, and one more.
+    /// The place of each entry: its index plus one.
     order: Order,
 }
 
@@ -54,7 +54,7 @@ impl<K: Eq + Hash, V, S: BuildHasher> Model for Table<K, V, S> {
 }
 
 impl<K: Eq + Hash, V, S: BuildHasher + Drop> Table<K, V, S> {
-    /// A table of no entry, with room for so many, whose keys this hasher hashes.
+    /// Makes a table of no entry, with room for `entries`, whose keys this hasher hashes.
     pub fn with_hasher(alloc: Global, entries: usize, hasher: S) -> Result<Self, AllocError>
         ensures { IfOk result (λ t. t ≡ []) }
     {
@@ -67,7 +67,7 @@ impl<K: Eq + Hash, V, S: BuildHasher + Drop> Table<K, V, S> {
 impl<K: Eq + Hash, V, S: BuildHasher> Table<K, V, S> {
     ghost use Rattle.mc_table.specs.Lends.{lends_value};
 
-    /// How many entries there are.
+    /// Returns the number of entries.
     pub fn len(&self) -> usize
         ensures len { result ≡ length self.now }
         ensures fits { result < 2 ^ 63 }
@@ -75,7 +75,7 @@ impl<K: Eq + Hash, V, S: BuildHasher> Table<K, V, S> {
         self.entries.len()
     }
 
-    /// The value of the key. The order stays as it is.
+    /// Returns the value of the key. The order stays.
     pub fn peek<Q: Equivalent<K>>(&self, k: Q) -> Option<&V>
         ensures { option_copied result ≡ lookup (Q.equivalent k) self.now }
     {
@@ -83,8 +83,8 @@ impl<K: Eq + Hash, V, S: BuildHasher> Table<K, V, S> {
         Some(self.entries.at(index).1)
     }
 
-    /// The value of the key, and a guess of which entry it is, which is right until an entry is taken out. The entry that is guessed so far
-    /// is looked at first, and the order stays as it is.
+    /// Returns the value of the key, and a guess of its entry, which is right until an entry is removed. The entry of the given guess is
+    /// compared first. The order stays.
     pub fn find<Q: Equivalent<K>>(&self, k: Q, guess: u32) -> Option<(u32, &V)>
         ensures { option_map (λ found. found.1.now) result ≡ lookup (Q.equivalent k) self.now }
     {
@@ -92,7 +92,7 @@ impl<K: Eq + Hash, V, S: BuildHasher> Table<K, V, S> {
         Some((index as u32 + 1, self.entries.at(index).1))
     }
 
-    /// Takes out the key and its value.
+    /// Removes and returns the key and its value.
     pub fn pop_entry<Q: Equivalent<K>>(&mut self, k: Q) -> Option<(K, V)>
         ensures value { result ≡ lookup_entry (Q.equivalent k) self.old }
         ensures entries { self.new ≡ remove_entry (Q.equivalent k) self.old }
@@ -100,7 +100,7 @@ impl<K: Eq + Hash, V, S: BuildHasher> Table<K, V, S> {
         self.pop_entry_by(k, 0)
     }
 
-    /// The same, given a guess of which entry it is.
+    /// Removes and returns the key and its value, given a guess of the entry.
     pub fn pop_entry_by<Q: Equivalent<K>>(&mut self, k: Q, guess: u32) -> Option<(K, V)>
         ensures value { result ≡ lookup_entry (Q.equivalent k) self.old }
         ensures entries { self.new ≡ remove_entry (Q.equivalent k) self.old }
@@ -111,7 +111,7 @@ impl<K: Eq + Hash, V, S: BuildHasher> Table<K, V, S> {
         Some(remove_at(&mut self.entries, &mut self.order, index))
     }
 
-    /// Takes out the entry that was used least recently.
+    /// Removes and returns the entry that was used least recently.
     pub fn pop_lru(&mut self) -> Option<(K, V)>
         ensures last { IfSome result (λ last. self.old ≡ self.new ++ last ∷ []) }
         ensures empty { IfNone result ((self.old ≡ []) × (self.new ≡ [])) }
@@ -123,7 +123,7 @@ impl<K: Eq + Hash, V, S: BuildHasher> Table<K, V, S> {
         Some(remove_at(&mut self.entries, &mut self.order, place as usize - 1))
     }
 
-    /// Takes out the entry that was used most recently.
+    /// Removes and returns the entry that was used most recently.
     pub fn pop_mru(&mut self) -> Option<(K, V)>
         ensures value { result ≡ slice_get self.old 0 }
         ensures entries { self.new ≡ drop 1 self.old }
@@ -135,7 +135,7 @@ impl<K: Eq + Hash, V, S: BuildHasher> Table<K, V, S> {
         Some(remove_at(&mut self.entries, &mut self.order, place as usize - 1))
     }
 
-    /// The entry that was used most recently.
+    /// Returns the entry that was used most recently.
     pub fn peek_mru(&self) -> Option<(&K, &V)>
         ensures { option_map deref_pair result ≡ slice_get self.now 0 }
     {
@@ -146,7 +146,7 @@ impl<K: Eq + Hash, V, S: BuildHasher> Table<K, V, S> {
         Some(self.entries.at(place as usize - 1))
     }
 
-    /// The value of the key to write to. Makes it the most recently used.
+    /// Returns the value of the key, to write to, and makes it the most recently used.
     pub fn get_mut<Q: Equivalent<K>>(&mut self, k: Q) -> Option<&mut V>
         ensures* writes_back { sem 𝓛 (lends_value K.row V.row S.row S.Hasher.row K.Hash S.BuildHasher S.Hasher.Hasher self.entry (Q.equivalent k) (promoted (Q.equivalent k) self.old) result) }
         ensures value { option_copied_mut result ≡ lookup (Q.equivalent k) self.old }
@@ -154,8 +154,8 @@ impl<K: Eq + Hash, V, S: BuildHasher> Table<K, V, S> {
         self.get_mut_by(k, 0)
     }
 
-    /// The same, given a guess of which entry it is ([`Table::guess_all`]): that one is looked at first. A guess changes how long the
-    /// search takes, and nothing else.
+    /// Returns the value of the key, as [`Table::get_mut`] does, given a guess of the entry ([`Table::guess_all`]), which is compared first. A
+    /// guess affects only the speed.
     pub fn get_mut_by<Q: Equivalent<K>>(&mut self, k: Q, guess: u32) -> Option<&mut V>
         ensures* writes_back { sem 𝓛 (lends_value K.row V.row S.row S.Hasher.row K.Hash S.BuildHasher S.Hasher.Hasher self.entry (Q.equivalent k) (promoted (Q.equivalent k) self.old) result) }
         ensures value { option_copied_mut result ≡ lookup (Q.equivalent k) self.old }
@@ -165,42 +165,42 @@ impl<K: Eq + Hash, V, S: BuildHasher> Table<K, V, S> {
         Some(self.entries.value_mut(index))
     }
 
-    /// The tag of a key, by which [`Table::guess_all`] guesses.
+    /// Returns the tag of a key, which [`Table::guess_all`] takes.
     #[inline]
     pub fn tag<Q: Hash + Copy>(&self, k: Q) -> u32 {
         self.entries.tag(k)
     }
 
-    /// Guesses for each tag which entry has a key of that tag, and makes no change. A guess may be wrong. One that is right stays right
-    /// until an entry is taken out. The heads and the entries of all tags are looked at side by side, so the processor waits for their
-    /// memory at once: group prefetching, known from joins by hashes.
+    /// Prefetches: for each tag it writes a guess of the entry that has a key of that tag (0 is none), and changes nothing else. A
+    /// guess may be wrong. One that is right stays right until an entry is removed. The heads and the entries of all tags are read in
+    /// groups, so the processor loads their memory at once: group prefetching, known from hash joins.
     #[inline]
     pub fn guess_all(&self, tags: &[u32], guesses: &mut [u32]) {
         self.entries.guess_all(tags, guesses);
     }
 
-    /// The guess that is right for the entry that was used most recently; 0 if there is none.
+    /// Returns the guess that is right for the entry that was used most recently; 0 if there is none.
     #[inline]
     pub fn first_guess(&self) -> u32 {
         self.order.first()
     }
 
-    /// The entry that a guess says, if there is one.
+    /// Returns the entry of a guess, if there is one.
     #[inline]
     pub fn guessed(&self, guess: u32) -> Option<(&K, &V)> {
         self.entries.entry(guess)
     }
 
-    /// What the order has beside the entry that a guess says, which says nothing: so the processor asks for that memory before the entry is
-    /// brought to the front.
+    /// Prefetches the neighbours in the order of the entry of a guess, before that entry is brought to the front. The returned byte only
+    /// keeps the loads alive.
     #[inline]
     pub fn around(&self, guess: u32) -> u8 {
         self.order.around(guess)
     }
 
-    /// Puts a value under a key, in front, and gives the old value where the key is there: then the old key stays.
+    /// Inserts a value under a key, in front. If the key exists, it returns the old value, and the old key stays.
     ///
-    /// Where there is no memory, `Err` hands the key and the value back, and nothing has changed.
+    /// If there is no memory, `Err` returns the key and the value, and nothing has changed.
     pub fn put(&mut self, k: K, v: V) -> Result<Option<V>, AllocFailed<(K, V)>>
     where
         K: Drop,
@@ -217,7 +217,7 @@ impl<K: Eq + Hash, V, S: BuildHasher> Table<K, V, S> {
         Ok(None)
     }
 
-    /// Takes out all entries, one after the other, and empties each bucket.
+    /// Removes all entries, in sequence, and empties each bucket.
     pub fn clear(&mut self)
     where
         K: Drop,
@@ -228,9 +228,9 @@ impl<K: Eq + Hash, V, S: BuildHasher> Table<K, V, S> {
         self.order.clear();
     }
 
-    /// Puts an entry in front, under a key that is not there.
+    /// Inserts an entry in front, under a key that no entry has.
     ///
-    /// Where there is no memory, `Err` hands the key and the value back, and nothing has changed.
+    /// If there is no memory, `Err` returns the key and the value, and nothing has changed.
     pub fn put_front(&mut self, k: K, v: V) -> Result<(), AllocFailed<(K, V)>>
     where
         K: Drop,
@@ -254,7 +254,7 @@ impl<K: Eq + Hash, V, S: BuildHasher> Table<K, V, S> {
     }
 }
 
-/// Takes out the entry at an index, and its place.
+/// Removes and returns the entry at an index, and removes its place.
 fn remove_at<K: Eq + Hash, V, S: BuildHasher>(
     entries: &mut Chained<K, V, S>,
     order: &mut Order,

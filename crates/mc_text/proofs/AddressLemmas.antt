@@ -8,7 +8,7 @@ some_by : (b : Bool) (n i : ℕ) → cond b (Some n) None ≡ Some i → n ≡ i
 some_by true n i e = cc
 some_by false n i e = absurd cc
 
--- the first place at which a test passes, where there is one
+-- the first place at which a test passes, if there is one
 position_or_len_is : (p : ℕ → Bool) (xs : List ℕ) (i : ℕ) → position p xs ≡ Some i → position_or_len p xs ≡ i
 position_or_len_is p xs i e = some_by (nat_lt (position_or_len p xs) (length xs)) (position_or_len p xs) i e
 

@@ -1,4 +1,4 @@
--- What a word of bytes says in base64 is bytes.
+-- The bytes that a word encodes in base64 are bytes.
 use Rattle.std.proofs.Common.{◌≡◌, ℕ, zero, suc, ◌+◌, ◌*◌, ◌<◌, true, List, [], ◌∷◌, length, drop, slice_index, Option, Some, None, refl, ◌∙◌, ◌⊎◌, arith, inl, inr}
 use Rattle.std.proofs.lemmas.Bool.{and_parts, and_from, lt-ltb}
 use Rattle.std.proofs.lemmas.Bool.Decides.{nat_tests}
@@ -17,16 +17,16 @@ use Rattle.mc_text.specs.CodedKeys.{bytes_of_base64, coded_key}
 use Rattle.mc_text.proofs.ByteLemmas.{is_byte, all_bytes, bytes_all, list_all-take, list_all-drop}
 use Rattle.mc_text.proofs.CodedLemmas.{are_bytes, said_key}
 
--- four values of six bits are three bytes
+-- four values of six bits make three bytes
 group_small : (m0 m1 m2 m3 : ℕ) → m0 < 64 → m1 < 64 → m2 < 64 → m3 < 64 → all_bytes (decode_group m0 m1 m2 m3) ≡ true
 group_small m0 m1 m2 m3 l0 l1 l2 l3 = grind (arith, lt-ltb)
 
--- both of two errors that are none
+-- both of two errors, of which there is none
 neither : (x y : Option DecodeError) → or_else x y ≡ None → (x ≡ None) × (y ≡ None)
 neither None y h = (refl, h)
 neither (Some e) y h = cc h
 
--- a byte with no error says a value of six bits
+-- a byte with no error stands for a value of six bits
 value_small : (dec s : List ℕ) (i : ℕ) → IsDecodeTable dec → IsBytes s → symbol_error dec s i ≡ None → slice_index dec (slice_index s i) < 64
 value_small dec s i table bytes none = grind (arith, slice_index)
 
@@ -98,6 +98,6 @@ said_small : (word bytes : List ℕ) → all_bytes word ≡ true → bytes_of_ba
 unfolding bytes_of_base64 decoded_of
 said_small word bytes are h = decoded_small standard word bytes are (ok_of (decode_of standard word) bytes h)
 
--- the key that a word of bytes says
+-- the key that a word encodes has bytes alone
 pub bytes_of_coded : (word key : List ℕ) → all_bytes word ≡ true → coded_key word ≡ Some key → all_bytes key ≡ true
 bytes_of_coded word key are h = said_small word key are (said_key word key h)

@@ -17,7 +17,7 @@ use Rattle.mc_text.specs.Keys.{is_key}
 use Rattle.mc_text.specs.declared.coded_keys.TheConstants.{CODED_LIMIT}
 use Rattle.mc_text.specs.CodedKeys.{coded_of, bytes_of_base64, where_key, coded_key}
 
--- what a result gives where it is no error
+-- what a result gives, if it is no error
 ok_of : {E : Type 0} (r : Result (List ℕ) E) (bytes : List ℕ) → result_ok r ≡ Some bytes → r ≡ Ok bytes
 ok_of (Ok x) bytes e = cc e
 ok_of (Err x) bytes e = absurd cc
@@ -41,12 +41,12 @@ pub length-coded_of : (bytes : List ℕ) → length (coded_of bytes) ≡ (length
 unfolding coded_of
 length-coded_of bytes = grind (arith, replicate, length-append, length-replicate, length-encode_symbols)
 
--- no byte is said by the empty word
+-- the empty word encodes no byte
 pub said-nil : bytes_of_base64 [] ≡ Some []
 unfolding bytes_of_base64 base64_on_literals
 said-nil = refl
 
--- how long a word is that says bytes
+-- the length of a word that encodes bytes
 pub length-said : (word bytes : List ℕ) → IsBytes word → bytes_of_base64 word ≡ Some bytes → length word ≡ (length bytes + 2) / 3 * 4
 length-said word bytes are said = ap length (sym (coded_of-said word bytes are said)) ∙ length-coded_of bytes
 
@@ -59,7 +59,7 @@ pub said_key : (word key : List ℕ) → coded_key word ≡ Some key → bytes_o
 unfolding coded_key
 said_key word key e = (coded_key-is (bytes_of_base64 word) key e).0
 
--- bytes that are said are the key, where they are one, and else there is none
+-- the encoded bytes are the key, if they are one, and else there is none
 pub coded_key-said : (word bytes : List ℕ) → bytes_of_base64 word ≡ Some bytes → coded_key word ≡ where_key bytes
 unfolding coded_key
 coded_key-said word bytes said = rw said refl
@@ -68,7 +68,7 @@ pub coded_key-unsaid : (word : List ℕ) → bytes_of_base64 word ≡ None → c
 unfolding coded_key
 coded_key-unsaid word unsaid = rw unsaid refl
 
--- no key has so long a word
+-- no word beyond the limit encodes a key
 pub coded_key-too_long : (word : List ℕ) → IsBytes word → CODED_LIMIT < length word → coded_key word ≡ None
 coded_key-too_long word are long =
     (elim (bytes_of_base64 word) as (λ said. bytes_of_base64 word ≡ said → coded_key word ≡ None) [

@@ -1,4 +1,4 @@
--- The law of forms, for who has spellings of their own.
+-- The law of forms, for spellings that are defined by other means.
 use Rattle.std.proofs.Common.{◌≡◌, ◌≢◌, ℕ, ◌+◌, ◌-◌, ◌<◌, ◌≤◌, Bool, true, false, List, [], ◌∷◌, ◌++◌, length, drop, inl, inr, Result, Ok, Err, refl, sym, ap, ◌∙◌, arith}
 use Rattle.std.proofs.lemmas.List.{append-nil, length-append, drop_at}
 use Rattle.mc_text.specs.declared.unready.Unready.{Unready}
@@ -76,7 +76,7 @@ pub record Begun {R : Type 0} (may : R → Bool) (spell : R → List ℕ) (u : L
   pub missing : 0 < length more
   pub spelled : u ++ more ≡ spell value
 
--- they are, and so are those and what follows, as long as that is fewer bytes than so many
+-- they are, and so are those and what follows, as long as that is fewer than n bytes
 pub record BegunFor {R : Type 0} (may : R → Bool) (spell : R → List ℕ) (u : List ℕ) (n : ℕ) : Type 0 where
   pub some : 0 < n
   pub begun : (more : List ℕ) → length more < n → Begun may spell (u ++ more)
@@ -150,7 +150,7 @@ are_apart {R} f may spell h r q xs ys cr cq e =
     let pair = ok_same (r, xs) (q, ys) (read f (spell r ++ xs)) (read_whole f may spell h r xs cr) (ap (read f) e ∙ read_whole f may spell h q ys cq) in
     (ap (λ (x : R × List ℕ). x.0) pair, ap (λ (x : R × List ℕ). x.1) pair)
 
--- what is left after what was taken
+-- the rest after the consumed bytes
 pub drop-taken : (u left s : List ℕ) → u ≡ s ++ left → (length left ≤ length u) × (drop (length u - length left) u ≡ left)
 drop-taken u left s e =
     let sizes : length u ≡ length s + length left = ap (length {A = ℕ}) e ∙ length-append s left in

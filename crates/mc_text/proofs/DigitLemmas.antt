@@ -28,7 +28,7 @@ stops value byte rest true true f h = absurd cc
 stops value byte rest false under f h = refl
 stops value byte rest true false f h = grind (arith, nat_lt, le-ltb, ltb-false, goes_on, both_out)
 
--- where a byte is no digit, or the number is too large with it, there is none
+-- if a byte is no digit, or the number is too large with it, there is none
 pub stopped : (most : ℕ) (word : List ℕ) (value i : ℕ) → 0 < length word → length word ≤ most → i < length word
     → list_all is_ascii_digit (drop i word) ≡ list_all is_ascii_digit word → digits_value_after 10 value (drop i word) ≡ digits_value 10 word
     → with_digit value (get_or word i 0) ≡ None → number most (2 ^ 64) word ≡ None

@@ -16,7 +16,7 @@ both_left : (a b : Bool) → (a && b) ≡ true → a ≡ true
 both_left true b h = refl
 both_left false b h = absurd (cc)
 
--- where two splits of one list meet
+-- the point at which two splits of one list meet
 pub append_split : (a x d w : List ℕ) → a ++ x ≡ d ++ w
     → ((z : List ℕ) × (d ≡ a ++ z) × (x ≡ z ++ w)) ⊎ ((rest : List ℕ) × (a ≡ d ++ rest) × (rest ++ x ≡ w))
 append_split [] x d w e = inl (d, refl, e)
@@ -82,7 +82,7 @@ text_short t u w b more e = elim (append_split u (b ∷ more) t w e) [
         inr ([], rw all (let whole : text_at u (u ++ []) ≡ Ok [] = text_whole u [] in rw append-nil at whole), f)
     text_short_by t u w b more (c ∷ z) e f = inl (rw e (text_begun u (c ∷ z) (omega arith)))
 
--- for code that strips a text, or looks whether one begins by the other
+-- for code that strips a text, or tests whether one begins with the other
 text_by : (t u : List ℕ) (r : Result (List ℕ) Unready) → text_at t u ≡ r → ((rest : List ℕ) → u ≢ t ++ rest) → ((z : List ℕ) → t ≢ u ++ z) → text_at t u ≡ Err Strange
 text_by t u (Ok rest) e never less = absurd (never rest (text_found t u rest e))
 text_by t u (Err (More n)) e never less = let left = text_more t u n e in absurd (less (left.1 ∷ left.2) (sym left.3))

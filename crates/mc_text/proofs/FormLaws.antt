@@ -19,7 +19,8 @@ AreApart f g = (p : Path f) (q : Path g) (xs ys : List ℕ) → word f p ++ xs �
 abbrev pub HasBytes : {R : Type 0} → Form R → Type 0
 HasBytes f = (p : Path f) → 0 < length (word f p)
 
--- a number is followed by what is no digit, a block by something, and two forms of which one is spelled are apart
+-- a number is followed by something other than a digit, a block by something, and two forms of which one is
+-- spelled are apart
 abbrev pub IsClear : {R : Type 0} → Form R → Type 0
 IsClear (Done r) = Unit {0}
 IsClear (Text text f) = IsClear f
@@ -40,7 +41,7 @@ pub record Begun {R : Type 0} (f : Form R) (u : List ℕ) : Type 0 where
   pub more : List ℕ
   pub spelled : u ++ next ∷ more ≡ word f path
 
--- the bytes, and those that follow, as long as these are fewer than so many, are such a beginning
+-- the bytes are such a beginning, and so are they with what follows, as long as that is fewer than n bytes
 pub record BegunFor {R : Type 0} (f : Form R) (u : List ℕ) (n : ℕ) : Type 0 where
   pub some : 0 < n
   pub begun : (more : List ℕ) → length more < n → Begun f (u ++ more)
@@ -55,7 +56,7 @@ pub record IsRead {R : Type 0} (f : Form R) : Type 0 where
   pub found : (u : List ℕ) (x : R × List ℕ) → read f u ≡ Ok x → Found f u x
   pub begun : (u : List ℕ) (n : ℕ) → read f u ≡ Err (More n) → BegunFor f u n
 
--- where one byte is wanted, it is the bytes themselves that are a beginning
+-- if one byte is missing, the bytes themselves are a beginning
 begun_one : {R : Type 0} (f : Form R) (u : List ℕ) (n : ℕ) → n ≡ 1 → Begun f u → BegunFor f u n
 begun_one f u n one h = record { some = omega arith; begun = λ more few. with_none more (omega arith) }
   where
@@ -66,7 +67,7 @@ begun_one f u n one h = record { some = omega arith; begun = λ more few. with_n
 begun_now : {R : Type 0} (f : Form R) (u : List ℕ) (n : ℕ) → BegunFor f u n → Begun f u
 begun_now f u n h = subst (Begun f) (append-nil u) (h.begun [] h.some)
 
--- what is begun after a field
+-- a beginning after a field
 begun_after : (front u s more w : List ℕ) (b : ℕ) (rest : List ℕ) → u ≡ front ++ s → (s ++ more) ++ b ∷ rest ≡ w → (u ++ more) ++ b ∷ rest ≡ front ++ w
 begun_after front u s more w b rest e f =
     ap (λ (r : List ℕ). (r ++ more) ++ b ∷ rest) e ∙ ap (λ (r : List ℕ). r ++ b ∷ rest) (append_assoc front s more)
@@ -250,7 +251,7 @@ block_read size f after h = record {
     longer : (w u : List ℕ) → 0 < length w → 0 < length (w ++ u)
     longer w u p = omega (arith, length-append w u)
 
-    -- bytes that make a block of those that came, and one after it
+    -- bytes that make a block of those that arrived, and one after it
     filled : (u : List ℕ) → length u ≤ size → Begun (Block size f) u
     filled u h =
         let zeros = replicate (size - length u) 0 in
@@ -265,7 +266,7 @@ block_read size f after h = record {
           spelled = ap (λ r. u ++ r) (sym left.2) ∙ sym (append_assoc u zeros (word (f block) p));
         }
 
--- where the first of two forms that are apart is not begun, it is strange
+-- of two forms that are apart, the first is strange on a spelling of the second
 not_whole : {R : Type 0} (f g : Form R) → IsRead f → AreApart f g → (q : Path g) (u : List ℕ) (x : R × List ℕ) (more left : List ℕ) → u ++ more ≡ word g q ++ left → read f u ≡ Ok x → ⊥
 not_whole f g h apart q u x more left same e =
     let p = h.found u x e in

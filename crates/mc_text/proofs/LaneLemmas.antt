@@ -30,7 +30,7 @@ first_further byte text passed k le before first =
       sym (same text passed k byte) ∙ first.1,
     )
 
--- the same where it is nowhere in it
+-- likewise if it is nowhere in it
 pub none_further : (byte : ℕ) (text : List ℕ) (passed : ℕ) → passed ≤ length text → Nowhere (Passes (is_byte byte) text) 0 passed
     → IsFirstByte (is_byte byte) (drop passed text) None → IsFirstByte (is_byte byte) text None
 none_further byte text passed le before none k low high here =
@@ -39,13 +39,13 @@ none_further byte text passed le before none k low high here =
 absurd_bool : (b : Bool) → b ≡ false → b ≡ true → ⊥
 absurd_bool b f t = cc
 
--- of bytes that are looked at together, none before the first
+-- among bytes that are searched together, none before the first
 pub nowhere_in_lanes : (byte : ℕ) (rest : List ℕ) (place : ℕ) → 16 ≤ length rest
     → place ≡ prefix_len (λ b. not (b == byte)) (take 16 rest) → Nowhere (Passes (is_byte byte) rest) 0 place
 nowhere_in_lanes byte rest place le is k low high here =
     absurd_bool (get_or rest k 0 == byte) (run_in_chunk_fails (λ b. b == byte) rest 0 16 place 0 (omega arith) is k low (omega arith)) here
 
--- and the first
+-- and the first of them
 pub first_in_lanes : (byte : ℕ) (rest : List ℕ) (place : ℕ) → 16 ≤ length rest
     → place ≡ prefix_len (λ b. not (b == byte)) (take 16 rest) → place < 16 → IsFirstByte (is_byte byte) rest (Some place)
 first_in_lanes byte rest place le is lt = (

@@ -1,4 +1,4 @@
--- What the spellings of a form begin with, and what follows where two never begin alike.
+-- What the spellings of a form begin with, and what follows if no two begin alike.
 use Rattle.std.proofs.Common.{◌≡◌, ℕ, ◌+◌, ◌/◌, ◌%◌, ◌^◌, ◌<◌, ◌≤◌, ◌==◌, ◌&&◌, Bool, true, false, List, [], ◌∷◌, ◌++◌, ◌⊎◌, inl, inr, Option, Some, None, if◌then◌else◌, refl, sym, ap, subst, ◌∙◌, arith}
 use Rattle.std.specs.Prelude.{not}
 use Rattle.std.specs.Fmt.{decimal}
@@ -9,12 +9,12 @@ use Rattle.mc_text.specs.Forms.{Form, Done, Text, Number, Block, Or, Path, word,
 use Rattle.mc_text.proofs.FieldLemmas.{StartsPlain}
 use Rattle.mc_text.proofs.FormLaws.{IsPlain, AreApart, IsClear}
 
--- what each row of a form begins with: a digit, or these bytes
+-- what each alternative of a form begins with: a digit, or these bytes
 pub data Lead : Type 0 where
   Digit : Lead
   Bytes : List ℕ → Lead
 
--- one for each row of a form
+-- one for each alternative of a form
 abbrev pub leads : {R : Type 0} → Form R → List Lead
 leads (Done r) = Bytes [] ∷ []
 leads (Text text f) = Bytes text ∷ []
@@ -41,7 +41,7 @@ abbrev pub all : (Lead → Bool) → List Lead → Bool
 all test [] = true
 all test (l ∷ ls) = test l && all test ls
 
--- no two rows begin alike
+-- no two alternatives begin alike
 abbrev pub all_differ : List Lead → List Lead → Bool
 all_differ ls ms = all (λ l. all (λ m. differ l m) ms) ls
 
@@ -153,7 +153,7 @@ pub record IsAfter {R : Type 0} (f : Form R) : Type 0 where
 pub clear_number : {R : Type 0} (most : ℕ) (f : ℕ → Form R) → most < 2 ^ 64 → ((n : ℕ) → IsAfter (f n)) → IsClear (Number most f)
 clear_number most f bound h = (bound, λ n. plain (f n) (h n).clear (h n).leads, λ n. (h n).clear)
 
--- a form without numbers and blocks is clear where no two of its rows begin alike
+-- a form without numbers and blocks is clear if no two of its alternatives begin alike
 abbrev pub are_clear : {R : Type 0} → Form R → Bool
 are_clear (Done r) = true
 are_clear (Text text f) = are_clear f

@@ -27,7 +27,7 @@ byte_onto : (b : ℕ) (parts : List (List ℕ)) → list_all are_key_bytes (onto
 byte_onto b [] = and_assoc (is_key_byte b) true true
 byte_onto b (part ∷ parts) = and_assoc (is_key_byte b) (are_key_bytes part) (list_all are_key_bytes parts)
 
--- a byte that is no space may be on the line where it may be in a key
+-- a byte that is no space may be on the line exactly if it may be in a key
 not_space : (b : ℕ) → eqb b 32 ≡ false → is_key_byte b ≡ is_line_byte b
 not_space b other = grind (arith, eqb-false b 32 other)
 
@@ -36,7 +36,7 @@ split_byte : (b : ℕ) (bs : List ℕ) (v : Bool) → eqb b 32 ≡ v → list_al
 split_byte b bs true is h = rw (slice_split-cons_yes is_space b bs is, eqb-true b 32 is) h
 split_byte b bs false is h = rw (slice_split-cons_no is_space b bs is, byte_onto b (slice_split is_space bs), not_space b is, h) refl
 
--- what is between spaces has bytes of keys alone, where the text has such and spaces alone
+-- the parts between spaces have bytes of keys alone exactly if the text has such and spaces alone
 split_bytes : (text : List ℕ) → list_all are_key_bytes (slice_split is_space text) ≡ list_all is_line_byte text
 split_bytes [] = refl
 split_bytes (b ∷ bs) = split_byte b bs (eqb b 32) refl (split_bytes bs)
@@ -57,20 +57,20 @@ run_kept b bs parts = rw (run_is b bs) refl
 run_plain : (b : ℕ) (bs : List ℕ) → is_plain_key (b ∷ bs) ≡ (is_short (b ∷ bs) && are_key_bytes (b ∷ bs))
 run_plain b bs = rw (run_is b bs) refl
 
--- runs are plain keys where their bytes are those of keys and none is too long
+-- runs are plain keys if their bytes are those of keys and none is too long
 runs_plain : (parts : List (List ℕ)) → list_all is_plain_key (filter is_run parts) ≡ (list_all are_key_bytes parts && list_all is_short (filter is_run parts))
 runs_plain [] = refl
 runs_plain ([] ∷ parts) = runs_plain parts
 runs_plain ((b ∷ bs) ∷ parts) = grind (arith, filter, regrouped, run_kept, run_plain, runs_plain parts)
 
--- the words of a text are plain keys where its bytes may be on such a line, and no word is too long
+-- the words of a text are plain keys if its bytes may be on such a line, and no word is too long
 pub words_plain : (text : List ℕ) → list_all is_plain_key (words text) ≡ (list_all is_line_byte text && list_all is_short (words text))
 unfolding words
 words_plain text =
     runs_plain (slice_split is_space text)
     ∙ ap (λ (v : Bool). v && list_all is_short (filter is_run (slice_split is_space text))) (split_bytes text)
 
--- no part has more bytes than so many
+-- no part has more than n bytes
 abbrev within : ℕ → List ℕ → Bool
 within n part = nat_le (length part) n
 
@@ -132,7 +132,7 @@ split_onto : (x : ℕ) (xs : List ℕ) (y : ℕ) (ys : List ℕ) (v : Bool) → 
 split_onto x xs y ys true is h = grind (arith, slice_split-cons_yes)
 split_onto x xs y ys false is h = grind (arith, slice_split-cons_no, length-slice_split, onto_append)
 
--- what is between spaces, where a text is cut at one
+-- the parts between spaces, if a text is cut at one
 split_append : (xs : List ℕ) (y : ℕ) (ys : List ℕ) → eqb y 32 ≡ true → slice_split is_space (xs ++ y ∷ ys) ≡ slice_split is_space xs ++ slice_split is_space ys
 split_append [] y ys is = slice_split-cons_yes is_space y ys is
 split_append (x ∷ xs) y ys is = split_onto x xs y ys (eqb x 32) refl (split_append xs y ys is)
@@ -146,7 +146,7 @@ cut_at : (text : List ℕ) (i : ℕ) → i < length text → text ≡ take i tex
 cut_at text i inside =
     sym (take-append-drop i text) ∙ ap (λ (more : List ℕ). take i text ++ more) (rw add-one (drop-cons text i 0 inside))
 
--- where a space is among the first bytes, the words before it are short
+-- if a space is among the first bytes, the words before it are short
 pub short_after : (text : List ℕ) (i : ℕ) → i < length text → i ≤ 250 → eqb (get_or text i 0) 32 ≡ true
     → list_all is_short (words text) ≡ list_all is_short (words (drop (i + 1) text))
 short_after text i inside early is =

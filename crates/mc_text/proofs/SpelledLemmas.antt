@@ -74,7 +74,7 @@ is_word-key key h =
     let short : length key ≤ 336 = grind (arith, nat_tests, size.1) in
     is_word-by key some short (list_all-weaker is_key_byte is_word_byte key_byte key parts.1)
 
--- where a line ends that is spelled with its end
+-- the end of a line that is spelled with its end
 line_end-spelled : (content rest : List ℕ) → list_all is_line_byte content ≡ true → length content + 2 ≤ 65536
     → line_end (content ++ (13 ∷ 10 ∷ rest)) ≡ Some (length content + 1)
 unfolding line_end

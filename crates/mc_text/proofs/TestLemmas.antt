@@ -16,7 +16,7 @@ pub key_bytes : (bytes : List ℕ) → list_all (is_from 33) bytes ≡ list_all 
 key_bytes [] = refl
 key_bytes (b ∷ bs) = rw (key_byte b, key_bytes bs) refl
 
--- no bit is set where each element fails a test
+-- no bit is set exactly if each element fails a test
 unset : (m : Bool) (n : ℕ) → eqb (cond m 1 0 + 2 * n) 0 ≡ (not m && eqb n 0)
 unset m n = grind (arith)
 
@@ -79,6 +79,6 @@ and_no : (a : Bool) → (a && false) ≡ false
 and_no true = refl
 and_no false = refl
 
--- where those from a place on fail, all do
+-- if those from a place on fail, so do all
 pub fails_later : (p : ℕ → Bool) (xs : List ℕ) (m : ℕ) → list_all p (drop m xs) ≡ false → list_all p xs ≡ false
 fails_later p xs m fails = sym (overlap p xs m m (omega arith)) ∙ rw fails (and_no (list_all p (take m xs)))

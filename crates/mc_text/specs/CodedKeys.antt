@@ -12,25 +12,25 @@ use Rattle.mc_text.specs.declared.coded_keys.TheConstants.{CODED_LIMIT}
 unfoldable pub coded_of : List ℕ → List ℕ
 coded_of key = encode_of standard key
 
--- the bytes that a word says in base64, if it is base64: whole groups of four symbols, the last one padded, with no bit
--- set after the last byte
+-- the bytes that a word encodes in base64, if it is base64: whole groups of four symbols, the last one padded, with no
+-- bit set after the last byte
 -- source: RFC 4648, sections 3.2, 3.5 and 4
 unfoldable pub bytes_of_base64 : List ℕ → Option (List ℕ)
 bytes_of_base64 word = decoded_of standard word
 
--- bytes, where they are a key
+-- bytes, if they are a key
 abbrev pub where_key : List ℕ → Option (List ℕ)
 where_key bytes = if is_key bytes then Some bytes else None
 
--- the key that a word says in base64, if it says one: source protocol.txt, "Meta Commands", flag b
+-- the key that a word encodes in base64, if it encodes one: source protocol.txt, "Meta Commands", flag b
 unfoldable pub coded_key : List ℕ → Option (List ℕ)
 coded_key word = option_and_then where_key (bytes_of_base64 word)
 
--- a word says more bytes than a key has
+-- a word encodes more bytes than a key has
 abbrev pub says_too_many : Option (List ℕ) → Bool
 says_too_many None = false
 says_too_many (Some bytes) = nat_lt KEY_LIMIT (length bytes)
 
--- a word is longer than that of any key, or says more bytes than a key has: this project's own order of the causes
+-- a word is longer than that of any key, or encodes more bytes than a key has: this project's own order of the causes
 abbrev pub is_coded_too_long : List ℕ → Bool
 is_coded_too_long word = nat_lt CODED_LIMIT (length word) || says_too_many (bytes_of_base64 word)

@@ -11,9 +11,9 @@ pub data Form (R : Type 0) : Type 0 where
   Done : R → Form R
   -- these bytes
   Text : List ℕ → Form R → Form R
-  -- a number of at most so much, in decimal digits without a leading zero
+  -- a number of at most n, in decimal digits without a leading zero
   Number : ℕ → (ℕ → Form R) → Form R
-  -- so many bytes, whatever they are
+  -- n bytes, whatever they are
   Block : ℕ → (List ℕ → Form R) → Form R
   -- one or the other
   Or : Form R → Form R → Form R
@@ -44,12 +44,12 @@ meant (Block size f) p = meant (f p.0) p.2
 meant (Or f g) (inl p) = meant f p
 meant (Or f g) (inr p) = meant g p
 
--- a form that may be there, before another one
+-- an optional form, before another one
 abbrev pub or_if : {R : Type 0} → Bool → Form R → Form R → Form R
 or_if true f g = Or f g
 or_if false f g = g
 
--- a number after a text, where it is asked for
+-- a number after a text, if it is asked for
 abbrev pub number_if : {R : Type 0} → Bool → List ℕ → ℕ → (Option ℕ → Form R) → Form R
 number_if true text most f = Text text (Number most (λ n. f (Some n)))
 number_if false text most f = f None
@@ -60,7 +60,7 @@ abbrev pub ◌>>=◌ : {A B : Type 0} → Result A Unready → (A → Result B U
 (Ok x) >>= f = f x
 (Err e) >>= f = Err e
 
--- the first reading, or where it is strange the second
+-- the first reading, or if it is strange the second
 abbrev pub or_else : {A : Type 0} → Result A Unready → Result A Unready → Result A Unready
 or_else (Ok x) other = Ok x
 or_else (Err (More wanted)) other = Err (More wanted)
@@ -84,12 +84,12 @@ digits_at most n (b ∷ u) =
     (if nat_lt 0 n && nat_le (10 * n + (b - 48)) most then digits_at most (10 * n + (b - 48)) u else Err Strange)
     else Ok (n, b ∷ u)
 
--- a number of at most so much, and the bytes after it
+-- a number of at most n, and the bytes after it
 unfoldable pub number_at : ℕ → List ℕ → Result (ℕ × List ℕ) Unready
 number_at most [] = Err (More 1)
 number_at most (b ∷ u) = if is_digit b && nat_le (b - 48) most then digits_at most (b - 48) u else Err Strange
 
--- so many bytes, and those after them, of which one has come: it may be strange
+-- n bytes, and those after them, of which one has arrived: that one may be strange
 unfoldable pub block_at : ℕ → List ℕ → Result (List ℕ × List ℕ) Unready
 block_at size u = if nat_lt size (length u) then Ok (take size u, drop size u) else Err (More (size - length u + 1))
 

@@ -11,8 +11,8 @@ pub const HOST_LIMIT: usize = 255;
 /// The greatest port.
 const PORT_LIMIT: u64 = 65_535;
 
-/// Whether a text is an address: a host of 1 to 255 letters, digits, dots and hyphens, a colon, and a port from 1 to
-/// 65535 in decimal digits without a leading zero. It takes no memory.
+/// Returns whether a text is an address: a host of 1 to 255 letters, digits, dots and hyphens, a colon, and a port
+/// from 1 to 65535 in decimal digits without a leading zero. It takes no memory.
 pub fn is_address(text: &[u8]) -> bool
     ensures { result ≡ is_address text.now }
 {
@@ -24,14 +24,14 @@ pub fn is_address(text: &[u8]) -> bool
     is_host(host) && is_port(port)
 }
 
-/// Where the first colon is.
+/// Returns the index of the first colon.
 fn colon_of(text: &[u8]) -> Option<usize>
     ensures { result ≡ position (λ b. b == 58) text.now }
 {
     text.iter().position(|b| *b == b':')
 }
 
-/// Whether a word is a host: 1 to 255 letters, digits, dots and hyphens.
+/// Returns whether a word is a host: 1 to 255 letters, digits, dots and hyphens.
 fn is_host(word: &[u8]) -> bool
     ensures { result ≡ is_host word.now }
 {
@@ -45,7 +45,7 @@ fn has_host_bytes_alone(word: &[u8]) -> bool
         .all(|b| b.is_ascii_alphanumeric() || *b == b'.' || *b == b'-')
 }
 
-/// Whether a word is a port: a number from 1 to 65535 without a leading zero.
+/// Returns whether a word is a port: a number from 1 to 65535 without a leading zero.
 fn is_port(word: &[u8]) -> bool
     ensures { result ≡ is_port word.now }
 {

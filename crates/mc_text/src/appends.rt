@@ -1,7 +1,7 @@
-//! Bytes that are appended where there is room for them.
+//! Appending bytes to a vector that has room for them.
 ghost use Rattle.std.specs.Prelude.{◌≡◌, ◌+◌, ◌≤◌, ◌++◌, length, vec_len, vec_capacity};
 
-/// Appends bytes for which there is room: it takes no memory, and cannot fail.
+/// Appends bytes. The caller has made room for them, so it takes no memory and cannot fail.
 pub fn append(out: &mut Vec<u8>, bytes: &[u8])
     requires { vec_len out.old + length bytes.now ≤ vec_capacity out.old }
     ensures items { out.new.items ≡ out.old.items ++ bytes.now }

@@ -1,4 +1,4 @@
-//! Whether the bytes of a text may be in a plain key, or on a line of such.
+//! Tests of whether the bytes of a text may be in a plain key, or on a line of plain keys.
 ghost use Rattle.std.specs.Prelude.{◌≡◌, ◌<◌, ◌≤◌, length, take};
 ghost use Rattle.std.specs.List.{list_all};
 ghost use Rattle.mc_text.specs.Keys.{is_key_byte, is_line_byte};
@@ -7,13 +7,13 @@ ghost use Rattle.mc_text.specs.ByteTests.{is_from};
 use crate::places::LANES;
 use std::simd::prelude::*;
 
-/// How many bytes of a short text are looked at together.
+/// The number of bytes of a short text that are tested together.
 const HALF: usize = 8;
 
 /// The control byte above the others.
 const DELETE: u8 = 127;
 
-/// Whether each byte may be in a plain key.
+/// Returns whether each byte may be in a plain key.
 #[tactic(auto, using(crate::proofs::TestLemmas::key_bytes))]
 pub(crate) fn are_key_bytes(word: &[u8]) -> bool
     ensures { result ≡ list_all is_key_byte word.now }
@@ -21,15 +21,15 @@ pub(crate) fn are_key_bytes(word: &[u8]) -> bool
     are_from(b' ' + 1, word)
 }
 
-/// Whether each byte may be in a plain key, or is a space.
+/// Returns whether each byte may be in a plain key, or is a space.
 pub(crate) fn are_line_bytes(text: &[u8]) -> bool
     ensures { result ≡ list_all is_line_byte text.now }
 {
     are_from(b' ', text)
 }
 
-/// Whether each byte is at least this one, and not 127. They are looked at in steps of 16, and the last 16 together, so that some may
-/// be looked at twice.
+/// Returns whether each byte is at least `least`, and not 127. The bytes are tested in steps of 16, and the last 16 together, so that
+/// some may be tested twice.
 fn are_from(least: u8, text: &[u8]) -> bool
     ensures { result ≡ list_all (is_from least) text.now }
 {
@@ -48,7 +48,8 @@ fn are_from(least: u8, text: &[u8]) -> bool
     are_lanes_from(least, last)
 }
 
-/// Likewise for fewer than 16 bytes: the first 8 of them are looked at together, and the last 8.
+/// Returns whether each of fewer than 16 bytes is at least `least`, and not 127. The first 8 of them are tested together, and the
+/// last 8.
 fn are_few_from(least: u8, text: &[u8]) -> bool
     requires { length text.now < LANES }
     ensures { result ≡ list_all (is_from least) text.now }
@@ -60,7 +61,7 @@ fn are_few_from(least: u8, text: &[u8]) -> bool
     are_half_from(least, text) && are_half_from(least, last)
 }
 
-/// Likewise, one by one.
+/// Returns whether each byte is at least `least`, and not 127. The bytes are tested one by one.
 fn are_single_from(least: u8, text: &[u8]) -> bool
     ensures { result ≡ list_all (is_from least) text.now }
 {
@@ -71,7 +72,7 @@ fn are_single_from(least: u8, text: &[u8]) -> bool
     good
 }
 
-/// Likewise for the first 8 bytes of a text.
+/// Returns whether each of the first 8 bytes is at least `least`, and not 127.
 #[inline(always)]
 fn are_half_from(least: u8, text: &[u8]) -> bool
     requires { HALF ≤ length text.now }
@@ -83,7 +84,7 @@ fn are_half_from(least: u8, text: &[u8]) -> bool
     lower == 0 && deletes == 0
 }
 
-/// Likewise for the first 16 bytes of a text.
+/// Returns whether each of the first 16 bytes is at least `least`, and not 127.
 #[inline(always)]
 fn are_lanes_from(least: u8, text: &[u8]) -> bool
     requires { LANES ≤ length text.now }

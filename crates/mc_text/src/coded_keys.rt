@@ -1,4 +1,4 @@
-//! Keys in base64: words that say a key's bytes.
+//! Keys in base64: words that encode a key's bytes.
 ghost use Rattle.std.specs.Prelude.{◌≡◌, ◌≤◌, ◌+◌, ◌*◌, ◌/◌, ◌↔◌, ℕ, [], true, Some, None, is_some, length, IfOk, IfSome, IsErrOf, OnErr};
 ghost use Rattle.std.specs.Option.{option_copied};
 ghost use Rattle.mc_text.specs.Keys.{is_key};
@@ -10,10 +10,10 @@ use base64::engine::general_purpose::STANDARD;
 /// The most bytes that the word of a key in base64 has.
 pub const CODED_LIMIT: usize = 336;
 
-/// How many bytes there must be room for where a word in base64 is read.
+/// The bytes of room that decoding a word in base64 needs.
 pub const CODED_ROOM: usize = 252;
 
-/// Whether a word is a key in base64.
+/// Returns whether a word is a key in base64.
 #[inline(never)]
 pub fn is_coded_key(word: &[u8]) -> bool
     ensures { result ≡ is_some (coded_key word.now) }
@@ -22,7 +22,7 @@ pub fn is_coded_key(word: &[u8]) -> bool
     read_coded(word, &mut room).is_some()
 }
 
-/// The key that a word says in base64, written into the caller's room and lent from there.
+/// Decodes the key of a word in base64 into the caller's room, and returns a slice of that room.
 pub fn read_coded<'a>(word: &[u8], room: &'a mut [u8; CODED_ROOM]) -> Option<&'a [u8]>
     ensures key { option_copied result ≡ coded_key word.now }
     ensures valid { IfSome result (λ key. is_key key.now ≡ true) }
@@ -30,8 +30,8 @@ pub fn read_coded<'a>(word: &[u8], room: &'a mut [u8; CODED_ROOM]) -> Option<&'a
     decode_key(word, room).ok()
 }
 
-/// The word of a key in base64, written into the caller's room and lent from there. It has 4 bytes for each 3 of the
-/// key, and 4 for one or two that are left.
+/// Encodes a key in base64 into the caller's room, and returns a slice of that room. The word has 4 bytes for each 3
+/// of the key, and 4 for one or two that are left.
 #[tactic(auto, unfolding(crate::specs::CodedKeys::coded_of))]
 pub fn write_coded<'a>(key: &[u8], room: &'a mut [u8; CODED_LIMIT]) -> &'a [u8]
     requires { length key.now ≤ KEY_LIMIT }
@@ -44,7 +44,7 @@ pub fn write_coded<'a>(key: &[u8], room: &'a mut [u8; CODED_LIMIT]) -> &'a [u8]
     word
 }
 
-/// The key that a word says in base64, or why it says none.
+/// Decodes the key of a word in base64, or returns why the word encodes none.
 pub(crate) fn decode_key<'a>(
     word: &[u8],
     room: &'a mut [u8; CODED_ROOM],
@@ -73,7 +73,7 @@ pub(crate) fn decode_key<'a>(
     Ok(key)
 }
 
-/// The bytes that a word says in base64.
+/// Decodes the bytes of a word in base64.
 #[tactic(auto, unfolding(crate::specs::CodedKeys::bytes_of_base64, base64::specs::GeneralPurpose::decoded_of))]
 fn decode<'a>(word: &[u8], room: &'a mut [u8; CODED_ROOM]) -> Option<&'a [u8]>
     requires { length word.now ≤ CODED_LIMIT }

@@ -5,7 +5,7 @@ ghost use Rattle.mc_text.specs.FormsSeen.{seen_by, number_if_at};
 
 use crate::unready::Unready;
 
-/// The bytes after this text.
+/// Returns the bytes after this text.
 #[inline(always)]
 pub fn text<'a>(text: &[u8], unread: &'a [u8]) -> Result<&'a [u8], Unready>
     ensures { seen_by (λ rest. rest.now) result ≡ text_at text.now unread.now }
@@ -22,7 +22,8 @@ pub fn text<'a>(text: &[u8], unread: &'a [u8]) -> Result<&'a [u8], Unready>
     }
 }
 
-/// A number of at most so much without a leading zero, and the bytes after it. A byte that is no digit has come.
+/// Returns a number of at most `most` without a leading zero, and the bytes after it. The number ends at a byte
+/// that is no digit, which must have arrived.
 #[tactic(auto, unfolding(crate::specs::Forms::number_at))]
 pub fn number(most: u64, unread: &[u8]) -> Result<(u64, &[u8]), Unready>
     ensures read { seen_by (λ x. (x.0, x.1.now)) result ≡ number_at most unread.now }
@@ -37,7 +38,7 @@ pub fn number(most: u64, unread: &[u8]) -> Result<(u64, &[u8]), Unready>
     digits(most, u64::from(*first - b'0'), rest)
 }
 
-/// The same where the number has begun so.
+/// Reads the rest of a number whose digits so far have the value `begun`.
 #[tactic(auto, unfolding(crate::specs::Forms::digits_at))]
 fn digits(most: u64, begun: u64, unread: &[u8]) -> Result<(u64, &[u8]), Unready>
     requires { begun ≤ most }
@@ -56,7 +57,7 @@ fn digits(most: u64, begun: u64, unread: &[u8]) -> Result<(u64, &[u8]), Unready>
     Err(Unready::More(1))
 }
 
-/// A number with one digit more, where it is not 0 and the result is at most so much.
+/// Returns a number with one digit more, if the number is not 0 and the result is at most `most`.
 fn with_digit(most: u64, value: u64, digit: u64) -> Option<u64>
     requires { digit < 10 }
     ensures { result ≡ (if nat_lt 0 value && nat_le (10 * value + digit) most then Some (10 * value + digit) else None) }
@@ -68,7 +69,7 @@ fn with_digit(most: u64, value: u64, digit: u64) -> Option<u64>
     }
 }
 
-/// So many bytes, and the bytes after them, of which at least one has come.
+/// Returns `size` bytes, and the bytes after them, of which at least one has arrived.
 #[tactic(auto, unfolding(crate::specs::Forms::block_at))]
 pub fn block(size: u32, unread: &[u8]) -> Result<(&[u8], &[u8]), Unready>
     ensures { seen_by (λ x. (x.0.now, x.1.now)) result ≡ block_at size unread.now }
@@ -81,7 +82,7 @@ pub fn block(size: u32, unread: &[u8]) -> Result<(&[u8], &[u8]), Unready>
     }
 }
 
-/// A number after a text, where it is asked for, and the bytes after it.
+/// Returns a number after a text, if it was asked for, and the bytes after it.
 pub fn number_if<'a>(
     asked: bool,
     before: &[u8],

@@ -23,13 +23,13 @@ use thiserror::Error;
 /// The most bytes that a key has.
 pub const KEY_LIMIT: usize = 250;
 
-/// Why a word is no key. Where several causes hold, the least number is answered.
+/// Why a word is no key. If several causes hold, the one with the least number is returned.
 #[derive(Debug, Drop, Error)]
 pub enum KeyError {
     /// 1: the word has no byte.
     #[error("empty key")]
     Empty,
-    /// 2: the word has more than 250 bytes; in base64, it has more than 336, or says more than 250.
+    /// 2: the word has more than 250 bytes; in base64, it has more than 336, or encodes more than 250.
     #[error("key longer than 250 bytes")]
     TooLong,
     /// 3, of a plain key alone: a byte of the word is a control byte, a space or 127.
@@ -51,10 +51,10 @@ impl From<AllocError> for KeyError {
     }
 }
 
-/// The most bytes of a key that takes no memory beside itself: as many as leave it 32 bytes.
+/// The most bytes of a key that needs no memory of its own: with them the key has 32 bytes.
 const INLINE: usize = 30;
 
-/// Where the bytes of a key are.
+/// Where the bytes of a key are stored.
 #[derive(Debug, Drop)]
 enum Bytes {
     /// In the key: the first `len` of these.
@@ -122,7 +122,7 @@ impl Hash for Key {
 }
 
 impl Key {
-    /// The key that a plain word is.
+    /// Returns the key that a plain word is.
     pub fn plain(alloc: Global, word: &[u8]) -> Result<Key, KeyError>
         ensures key { IfOk result (λ key. (is_plain_key word.now ≡ true) × (key ≡ word.now)) }
         ensures empty { IsErrOf result KeyError.Empty ↔ (word.now ≡ []) }
@@ -143,7 +143,7 @@ impl Key {
         Ok(Key::of_bytes(alloc, word)?)
     }
 
-    /// The key that a word says in base64.
+    /// Returns the key that a word encodes in base64.
     pub fn coded(alloc: Global, word: &[u8]) -> Result<Key, KeyError>
         ensures key { IfOk result (λ key. coded_key word.now ≡ Some key) }
         ensures empty { IsErrOf result KeyError.Empty ↔ (word.now ≡ []) }
@@ -157,7 +157,7 @@ impl Key {
         Ok(Key::of_bytes(alloc, bytes)?)
     }
 
-    /// The key of bytes that are known to be one: they are copied, and not tested again. Up to 30 bytes take no memory.
+    /// Returns the key of bytes that are known to be one: they are copied, and not tested again. Up to 30 bytes take no memory.
     pub fn of_bytes(alloc: Global, bytes: &[u8]) -> Result<Key, AllocError>
         requires { is_key bytes.now ≡ true }
         ensures key { IfOk result (λ key. key ≡ bytes.now) }
@@ -178,7 +178,7 @@ impl Key {
         })
     }
 
-    /// The key's bytes.
+    /// Returns the key's bytes.
     pub fn as_bytes(&self) -> &[u8]
         ensures bytes { result.now ≡ self.now }
         ensures size { (0 < length self.now) × (length self.now ≤ KEY_LIMIT) }
@@ -191,14 +191,14 @@ impl Key {
     }
 }
 
-/// Whether a word is a plain key: 1 to 250 bytes, none a control byte, a space or 127.
+/// Returns whether a word is a plain key: 1 to 250 bytes, none a control byte, a space or 127.
 pub fn is_plain_key(word: &[u8]) -> bool
     ensures { result ≡ is_plain_key word.now }
 {
     !word.is_empty() && word.len() <= KEY_LIMIT && are_key_bytes(word)
 }
 
-/// Whether each word is a plain key. The bytes of all words are tested together, so that the processor tests many at once.
+/// Returns whether each word is a plain key. The bytes of all words are tested together, so that the processor tests many at once.
 pub fn are_plain_keys(words: &WordIter<'_>) -> bool
     ensures { result ≡ list_all is_plain_key words.now }
 {
@@ -206,8 +206,8 @@ pub fn are_plain_keys(words: &WordIter<'_>) -> bool
     are_line_bytes(text) && has_short_words(text)
 }
 
-/// Whether no word of a text is longer than a key. Most often two or three looks tell it: of so many bytes as a key may have and one
-/// more, one is a space, and what is before the last such space is short enough.
+/// Returns whether no word of a text is longer than a key. Most often two or three looks decide it: one of the next 251 bytes is a
+/// space, and what is before the last such space is short enough.
 fn has_short_words(text: &[u8]) -> bool
     ensures { result ≡ list_all is_short (words text.now) }
 {
@@ -223,7 +223,7 @@ fn has_short_words(text: &[u8]) -> bool
     true
 }
 
-/// Whether no word is longer than a key.
+/// Returns whether no word is longer than a key.
 fn are_short(words: WordIter<'_>) -> bool
     ensures { result ≡ list_all is_short words.entry }
 {

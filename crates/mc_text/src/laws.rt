@@ -6,8 +6,8 @@ ghost use Rattle.std.specs.List.{All};
 ghost use Rattle.mc_text.specs.Keys.{is_key};
 ghost use Rattle.mc_text.specs.CodedKeys.{coded_key, coded_of};
 
-/// A key has one word in base64: the one that it is spelled by, which is read as that key. `All (λ b. b < 256)` says
-/// that a list is bytes, as each word and each key of a program is.
+/// A key has one word in base64: the one that encodes it, which decodes to that key. `All (λ b. b < 256)` says that
+/// a list is bytes, as each word and each key of a program is.
 pub fn coded_keys_have_one_word()
     ensures spelled { (word key : List ℕ) → All (λ b. b < 256) word → coded_key word ≡ Some key → coded_of key ≡ word }
     ensures read { (key : List ℕ) → All (λ b. b < 256) key → is_key key ≡ true → coded_key (coded_of key) ≡ Some key }

@@ -1,44 +1,40 @@
-//! The text of memcached's protocol: lines, words, numbers, keys and data blocks, forms, which are rows of these, and addresses.
+//! The text of memcached's protocol: lines, words, numbers, keys, data blocks, forms (sequences of these) and addresses.
 //!
-//! A caller meets the calls in this order: [`next_line`] cuts a line from the bytes that have come,
-//! [`words`] gives its words ([`without_spaces`] only passes the spaces in front of one), [`read_u64`], [`read_i64`],
-//! [`read_len`] and [`read_flags`] read a word as a number, and [`Key::plain`] makes a key of one ([`Key::of_bytes`] where
-//! the bytes are known to be one).
-//! [`Key::coded`] makes one of a word in base64, [`read_coded`] writes its bytes into the caller's room and lends them,
-//! [`is_coded_key`] only says whether there is one, and [`write_coded`] gives the word of a key.
-//! [`KeyBytes`] asks a map of keys for some bytes: no key has to be made for a look-up.
-//! [`Block`] is the bytes of a data block.
-//! [`let_go`] and [`drop_front`] serve whoever keeps bytes that are taken from the front, [`give_back`] whoever will keep
-//! none for a while, and [`append`] whoever has made room for what is appended.
+//! A caller meets the calls in this order. [`next_line`] cuts a line from the bytes that have arrived. [`words`] returns its words, and
+//! [`without_spaces`] only skips the spaces in front of one. [`read_u64`], [`read_i64`], [`read_len`] and [`read_flags`] read a word as a
+//! number. [`Key::plain`] makes a key of a word, and [`Key::of_bytes`] if the bytes are known to be a key. [`Key::coded`] makes a key of
+//! a word in base64. [`read_coded`] decodes such a word into the caller's room, [`is_coded_key`] only says whether it is a key, and
+//! [`write_coded`] encodes a key. [`KeyBytes`] queries a map of keys by bytes: a look-up makes no key. [`Block`] is the bytes of a data
+//! block. [`let_go`] and [`drop_front`] are for buffers that are consumed from the front. [`give_back`] is for a buffer that is not
+//! needed for a while, and [`append`] for one that has room.
 //!
-//! Each call gives exactly what the definition of its name in `specs/` says of the bytes. Spaces, line ends and key bytes
-//! are looked at [`LANES`] at a time, if there are as many. Only what makes a key or a block takes memory.
-//! [`coded_keys_have_one_word`] is a law, and the other functions are worked examples: they do nothing.
+//! Each call returns exactly what the definition of its name in `specs/` says of the bytes. Spaces, line ends and key bytes are searched
+//! [`LANES`] at a time, if there are as many. Only what makes a key or a block takes memory. [`coded_keys_have_one_word`] is a law, and
+//! functions such as [`keys_by_their_bytes`] are worked examples: they do nothing.
 //!
 //! # Forms
 //!
-//! They say what can be spelled, field by field, and how it is read.
+//! A form says what can be spelled, field by field, and how that is read.
 //!
-//! A form (`specs/Forms.antt`) is a text, a number, a block of so many bytes, or one of two forms, and what follows it. Each
-//! field may depend on the ones before: a block's size is the number that was read. A form says three things of one: which
-//! values its fields can have (`Path`), how these are spelled (`word`) and what they stand for (`meant`). `read` is how it is
-//! read from bytes that come in pieces: it gives what was meant and the bytes after it, or says that more must come, or that
-//! nothing begins so.
+//! A form (`specs/Forms.antt`) is a text, a number, a block of a given size, or one of two forms. After it is the form of what follows. Each
+//! field may depend on the ones before: a block's size is the number that was read. A form defines three things: which values its fields can
+//! have (`Path`), how these are spelled (`word`) and what they stand for (`meant`). `read` reads it from bytes that arrive in pieces. It
+//! returns what was meant and the bytes after it, or says that more bytes must arrive, or that no spelling begins with these bytes.
 //!
-//! The law of forms (`proofs/FormLaws.antt`, `is_read`): where a form is clear, what is read is what is spelled, exactly. It
-//! is read whole as soon as its spelling has come, More while the bytes are the beginning of a spelling, and Strange from the
-//! first byte on after which none goes on. A form is clear where what follows a number does not begin with a digit, something
-//! follows each block, and no spelling of one of two forms begins one of the other; `proofs/LeadLemmas.antt` decides that by
-//! computing. `proofs/CoverLaws.antt` says the law for who has spellings of their own, and a form that covers them.
+//! The law of forms (`proofs/FormLaws.antt`, `is_read`): if a form is clear, exactly what is spelled is read. It is read whole as soon as
+//! its spelling has arrived. The reading is More while the bytes are the beginning of a spelling, and Strange from the first byte on with
+//! which no spelling goes on. A form is clear under three conditions: what follows a number does not begin with a digit, something
+//! follows each block, and no spelling of one of two forms begins one of the other. `proofs/LeadLemmas.antt` decides that by computing.
+//! `proofs/CoverLaws.antt` states the law for spellings that are defined by other means, and that a form covers.
 //!
-//! In code a form is a function that calls one function a field, in the form's order, with a `?` after each: [`text`],
-//! [`number`], [`number_if`] and [`block`]; where there are two forms, the second is read where the first is
-//! [`Unready::Strange`]. Each gives exactly what the definition of its name says. None takes memory.
+//! In code a form is a function that calls one function per field, in the form's order, with a `?` after each: [`text`], [`number`],
+//! [`number_if`] and [`block`]. Of two forms, the second is read if the first is [`Unready::Strange`]. Each function returns exactly what
+//! the definition of its name says. None takes memory.
 //!
 //! # Addresses
 //!
-//! An address is a text that says where to reach a server. [`is_address`] says whether a text is one: a host, a colon and a port, exactly
-//! as `specs/Addresses.antt` has it. It looks no name up, and takes no memory.
+//! An address is a text that says where to reach a server. [`is_address`] returns whether a text is one: a host, a colon and a port,
+//! exactly as `specs/Addresses.antt` defines it. It resolves no name, and takes no memory.
 #![tactic(auto)]
 
 mod addresses;

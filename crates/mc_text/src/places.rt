@@ -1,4 +1,4 @@
-//! Where a byte is first, and how many spaces are in front.
+//! The index of a byte's first occurrence, and the number of spaces in front.
 ghost use Rattle.std.specs.Prelude.{◌≡◌, ◌≤◌, ◌-◌, ◌==◌, not, length, take};
 ghost use Rattle.std.specs.List.{prefix_len};
 ghost use Rattle.memchr.specs.Find.{IsFirstByte, Nowhere, Passes, is_byte};
@@ -6,14 +6,14 @@ ghost use Rattle.memchr.specs.Find.{IsFirstByte, Nowhere, Passes, is_byte};
 use memchr::memchr;
 use std::simd::prelude::*;
 
-/// How many bytes are looked at together. In fewer a byte is found sooner one by one.
+/// The number of bytes that are searched together. Among fewer, a byte is found sooner one by one.
 pub const LANES: usize = 16;
 
-/// After so many bytes a search that takes longer to begin with is faster.
+/// The number of bytes after which a search with a slower start is faster.
 const FAR: usize = 64;
 
-/// Where a byte is first. Words and lines are short, so the first bytes are looked at in steps of 16, and the last 16 together, so that
-/// some may be looked at twice.
+/// Returns the index of a byte's first occurrence. Words and lines are short, so the first bytes are searched in steps of 16, and the
+/// last 16 together, so that some may be searched twice.
 #[inline(never)]
 pub(crate) fn first_place(byte: u8, text: &[u8]) -> Option<usize>
     ensures { IsFirstByte (is_byte byte) text.now result }
@@ -38,13 +38,13 @@ pub(crate) fn first_place(byte: u8, text: &[u8]) -> Option<usize>
     }
 }
 
-/// Whether the search goes on in steps, after so many bytes, where so many are left. Whichever it says costs time, and nothing else.
+/// Returns whether the search goes on in steps, after `passed` bytes and with `left` to search. Its answer affects only the speed.
 #[inline(always)]
 fn is_near(passed: usize, left: usize) -> bool {
     passed < FAR || left / 2 < LANES
 }
 
-/// Where a byte is first, if it is among the last 16.
+/// Returns the index of a byte's first occurrence, if it is among the last 16.
 #[inline(always)]
 fn place_in_last(byte: u8, text: &[u8]) -> Option<usize>
     requires long { LANES ≤ length text.now }
@@ -61,7 +61,7 @@ fn place_in_last(byte: u8, text: &[u8]) -> Option<usize>
     }
 }
 
-/// How many of the first bytes come before a byte: all if it is not among them.
+/// Returns how many of the first 16 bytes are before a byte: all if it is not among them.
 #[inline(always)]
 pub(crate) fn place_in_lanes(byte: u8, text: &[u8]) -> usize
     requires { LANES ≤ length text.now }
@@ -77,7 +77,7 @@ pub(crate) fn place_in_lanes(byte: u8, text: &[u8]) -> usize
     }
 }
 
-/// How many of the first 16 bytes are spaces in front of the others: all if no other is among them.
+/// Returns how many of the first 16 bytes are spaces in front of the others: all if no other is among them.
 #[inline(always)]
 pub(crate) fn spaces_in_lanes(text: &[u8]) -> usize
     requires { LANES ≤ length text.now }

@@ -16,7 +16,7 @@ pub fn lines_by_their_ends()
     ensures none { first_line (codes "get a\r") ≡ Partial }
 {}
 
-/// Spaces are between words and are none, in front and after too. A tab is a byte of its word.
+/// Spaces separate words and belong to none, at the front and the end too. A tab is a byte of its word.
 pub fn words_between_spaces()
     ensures three { words (codes "  set a\tb   5 ") ≡ codes "set" ∷ codes "a\tb" ∷ codes "5" ∷ [] }
     ensures none { words (codes "  ") ≡ [] }
@@ -39,7 +39,7 @@ pub fn numbers_within_limits()
     ensures flags { read_flags (codes "4294967296") ≡ None }
 {}
 
-/// A key is any bytes but control bytes, spaces and 127.
+/// A plain key may have any byte except control bytes, spaces and 127.
 pub fn keys_by_their_bytes()
     ensures plain { is_plain_key (codes "key:1") ≡ true }
     ensures empty { is_plain_key [] ≡ false }

@@ -1,11 +1,11 @@
-//! Why nothing is whole.
+//! Why bytes are no whole spelling.
 
-/// Why nothing is whole at the front of some bytes.
+/// Why there is no whole spelling at the front of some bytes.
 #[derive(Clone, Copy, Debug, PartialEq, Eq)]
 pub enum Unready {
-    /// They are the beginning of a spelling, and are no more than that, whatever comes, until at least so many bytes more
-    /// have come. It is at least 1.
+    /// They are the beginning of a spelling, and stay no more than that until at least this many more bytes have arrived,
+    /// whatever these are. The number is at least 1.
     More(usize),
-    /// Nothing is spelled so, whatever comes.
+    /// No spelling begins with these bytes, whatever follows.
     Strange,
 }

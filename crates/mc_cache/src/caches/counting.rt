@@ -25,7 +25,7 @@ use mc_store::Store;
 use mc_text::{Block, read_u64};
 
 impl<S: Store + Drop> Cache<S> {
-    /// The commands `incr`, `decr` and `ma`.
+    /// Executes `incr`, `decr` and `ma`.
     pub(super) fn count(
         &mut self,
         key: &[u8],
@@ -47,7 +47,7 @@ impl<S: Store + Drop> Cache<S> {
         }
     }
 
-    /// The same on a settled cache, where this was found under the key.
+    /// Counts on a settled cache, in which `found` is the item of the key.
     fn count_held(
         &mut self,
         key: &[u8],
@@ -79,7 +79,7 @@ impl<S: Store + Drop> Cache<S> {
         )
     }
 
-    /// The same on a settled cache where nothing is held under the key: an item is made, or not.
+    /// Counts on a settled cache in which the key is not stored: an item is made, or not.
     fn count_none(&mut self, key: &[u8], counting: &Counting, moment: u64) -> Reply<()>
         requires moment { moment < 2 ^ 63 }
         requires key { is_key key.now ≡ true }
@@ -101,8 +101,8 @@ impl<S: Store + Drop> Cache<S> {
         number_or_fault(self.make(key, lent), creation.initial)
     }
 
-    /// Stores a number's text in place of a held value of so many bytes, with the flags and the expiry of what is told as
-    /// found. It takes memory only where the text is longer.
+    /// Stores a number's text in place of a stored value of this length, with the flags and the expiry of `found`. It
+    /// takes memory only if the text is longer.
     fn write_number(
         &mut self,
         key: &[u8],
@@ -135,7 +135,7 @@ impl<S: Store + Drop> Cache<S> {
     }
 }
 
-/// A sum wraps at 64 bits, and a difference stops at 0.
+/// Returns the counted number. A sum wraps at 64 bits, and a difference stops at 0.
 fn counted(direction: Direction, delta: u64, number: u64) -> u64
     ensures { result ≡ counted direction delta number }
 {
@@ -145,7 +145,7 @@ fn counted(direction: Direction, delta: u64, number: u64) -> u64
     }
 }
 
-/// The reply to a command that stored a number, or why it did not.
+/// Returns the reply to a command that stored a number, or why it did not.
 fn number_or_fault(stored: Result<(), Fault>, number: u64) -> Reply<()>
     ensures reply { (value : List ℕ) → filled result value ≡ reply_or_fault stored (Number number) }
     ensures refusal { is_refusal result ≡ is_refused stored }

@@ -1,4 +1,4 @@
-//! Meta commands: what `mg` does, and how an update's reply is told to a meta command.
+//! Meta commands: `mg`, and the meta reply to an update.
 ghost use Rattle.std.specs.Prelude.{◌≡◌, ◌<◌, ◌^◌, ◌||◌, ℕ, List, Some, None, is_some, true, false};
 ghost use Rattle.mc_text.specs.Keys.{is_key};
 ghost use Rattle.mc_item.specs.Deadlines.{left_of};
@@ -22,7 +22,7 @@ use mc_request::{MetaGet, Show};
 use mc_store::Store;
 
 impl<S: Store + Drop> Cache<S> {
-    /// The command `mg`, given a guess of the key's item.
+    /// Executes `mg`, given a guess of the key's item.
     pub(super) fn show(&mut self, key: &[u8], guess: u32, get: &MetaGet, moment: u64) -> Reply<()>
         requires moment { moment < 2 ^ 63 }
         requires key { is_key key.now ≡ true }
@@ -45,7 +45,7 @@ impl<S: Store + Drop> Cache<S> {
         }
     }
 
-    /// The same on a settled cache, where this was found under the key and is first.
+    /// Executes `mg` on a settled cache, in which `found` is the item of the key and is first.
     fn show_found(&mut self, key: &[u8], get: &MetaGet, found: Found, moment: u64) -> Reply<()>
         requires moment { moment < 2 ^ 63 }
         requires found { body_at key.now self.old.items ≡ found_body (Some found) (front_value self.old.items) }
@@ -63,7 +63,7 @@ impl<S: Store + Drop> Cache<S> {
         self.show_front(&get.show, marks_by(found.stale, found.won, needs), moment)
     }
 
-    /// Notes at the first item, which was found under the key, that a client is told to fill it.
+    /// Notes at the first item, which is `found`, that a client is told to fill it.
     fn win(&mut self, key: &[u8], found: Found)
         requires found { body_at key.now self.old.items ≡ found_body (Some found) (front_value self.old.items) }
         ensures { self.new ≡ record self.old {
@@ -74,7 +74,7 @@ impl<S: Store + Drop> Cache<S> {
         let _ = self.mark(key, found.guess, found.stale, true, found.cas);
     }
 
-    /// The same on a settled cache where nothing is held under the key: an item is made, or not.
+    /// Executes `mg` on a settled cache in which the key is not stored: an item is made, or not.
     fn show_made(&mut self, key: &[u8], get: &MetaGet, moment: u64) -> Reply<()>
         requires moment { moment < 2 ^ 63 }
         requires key { is_key key.now ≡ true }
@@ -99,7 +99,7 @@ impl<S: Store + Drop> Cache<S> {
         }
     }
 
-    /// The reply to an update, told to a meta command. What was stored is first.
+    /// Turns the reply to an update into the reply to a meta command. What was stored is first.
     pub(super) fn tell(&self, reply: Reply<()>, show: &Show, moment: u64) -> Reply<()>
         ensures told { IsTold show.now moment self.now reply result }
         ensures refusal { is_refusal result ≡ is_refusal reply }
@@ -114,7 +114,7 @@ impl<S: Store + Drop> Cache<S> {
         }
     }
 
-    /// A reply that shows the first item at a moment, with these marks.
+    /// Returns a reply that shows the first item at a moment, with these marks.
     fn show_front(&self, show: &Show, marks: Marks, moment: u64) -> Reply<()>
         ensures shown { filled result (front_value self.now.items)
             ≡ item_shown show.now moment marks (front_body self.now.items) }
@@ -139,7 +139,8 @@ impl<S: Store + Drop> Cache<S> {
     }
 }
 
-/// Whether the seconds left are below those of a command, if it names any. What never ends has more than any.
+/// Returns whether the seconds until expiry are below those of a command, if it names any. An item that never expires
+/// has more than any.
 fn is_low(recache: Option<u64>, left: Option<u64>) -> bool
     ensures { result ≡ is_low recache left }
 {
@@ -149,7 +150,7 @@ fn is_low(recache: Option<u64>, left: Option<u64>) -> bool
     }
 }
 
-/// The marks of an item that is stale or not, where a client was told to fill it or not, and where it is to be filled.
+/// Returns the marks of an item, by whether it is stale, whether a client was told to fill it, and whether it needs filling.
 fn marks_by(stale: bool, won: bool, needs: bool) -> Marks
     ensures { result ≡ marks_by stale won needs }
 {

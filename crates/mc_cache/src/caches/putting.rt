@@ -1,4 +1,4 @@
-//! Putting: an item that is admitted is first, and the bounds are kept.
+//! Putting: an admitted item is put in front, and the bounds are kept by eviction.
 ghost use Rattle.std.specs.Prelude.{◌≡◌, ◌<◌, ◌≤◌, ◌^◌, ℕ, List, [], length, Some, None, Ok, is_some, is_ok, true, false, IfOk, IfErr, OnOk, OnErr, IfSome, OnSome, IfNone};
 ghost use Rattle.mc_text.specs.Keys.{is_key};
 ghost use Rattle.mc_request.specs.declared.faults.Fault.TheVariants.{OutOfMemory};
@@ -23,7 +23,7 @@ use mc_text::{Block, Key, VALUE_LIMIT};
 use std::alloc::AllocError;
 
 impl<S: Store + Drop> Cache<S> {
-    /// Stores a body of its own, with a number of its own, given a guess of the key's item. Where the key is held it takes no memory.
+    /// Stores an owned body, under a new number, given a guess of the key's item. If the key is stored it takes no memory.
     pub(super) fn put_own(
         &mut self,
         key: Key,
@@ -45,9 +45,9 @@ impl<S: Store + Drop> Cache<S> {
         self.put_new(key, body)
     }
 
-    /// Stores what is lent, with a number of its own, given a guess of the key's item.
+    /// Stores a borrowed item, under a new number, given a guess of the key's item.
     ///
-    /// `Err` where the key is held and there is no memory for the block: nothing has changed.
+    /// It returns `Err` if the key is stored and there is no memory for the block: nothing has changed.
     pub(super) fn put_lent(
         &mut self,
         key: &[u8],
@@ -77,7 +77,7 @@ impl<S: Store + Drop> Cache<S> {
         }
     }
 
-    /// Stores what is lent under a key that is not held, with a number of its own: then its item is first.
+    /// Stores a borrowed item under a key that is not stored, with a new number: then its item is first.
     pub(super) fn make(&mut self, key: &[u8], lent: Lent<'_>) -> Result<(), Fault>
         requires key { is_key key.now ≡ true }
         requires absent { body_at key.now self.old.items ≡ None }
@@ -92,9 +92,9 @@ impl<S: Store + Drop> Cache<S> {
         }
     }
 
-    /// Stores what is lent whatever is held under its key, given a guess of its item, and looks its key up only once.
+    /// Stores a borrowed item, whether its key is stored or not, given a guess of the key's item, and looks the key up only once.
     ///
-    /// `None` where it is not admitted, or where there is no memory for its block: nothing has changed.
+    /// It returns `None` if the item is not admitted, or if there is no memory for its block: nothing has changed.
     pub(super) fn set_at_once(
         &mut self,
         key: &[u8],
@@ -123,7 +123,7 @@ impl<S: Store + Drop> Cache<S> {
         }
     }
 
-    /// Stores a body that is admitted under a key that is not held, of which a copy is made.
+    /// Stores an admitted body under a copy of a key that is not stored.
     fn put_copied(&mut self, key: &[u8], body: Body) -> Result<(), Fault>
         requires key { is_key key.now ≡ true }
         requires absent { body_at key.now self.old.items ≡ None }
@@ -138,7 +138,7 @@ impl<S: Store + Drop> Cache<S> {
         }
     }
 
-    /// Stores a body that is admitted under a key that is not held.
+    /// Stores an admitted body under a key that is not stored.
     #[tactic(auto, using(mc_store::proofs::ItemLemmas::absent))]
     fn put_new(&mut self, key: Key, body: Body) -> Result<(), Fault>
         requires absent { body_at key self.old.items ≡ None }
@@ -159,7 +159,7 @@ impl<S: Store + Drop> Cache<S> {
         Ok(())
     }
 
-    /// Stores a body that is admitted under a held key, given a guess of its item. It takes no memory.
+    /// Stores an admitted body under a stored key, given a guess of its item. It takes no memory.
     pub(super) fn put_held(&mut self, key: &[u8], guess: u32, body: Body)
         requires held { is_some (body_at key.now self.old.items) ≡ true }
         requires admitted { admission self.old key.now (length body.value) ≡ Ok body.cas }
@@ -168,7 +168,7 @@ impl<S: Store + Drop> Cache<S> {
         let _ = self.put_if_held(key, guess, body);
     }
 
-    /// Stores a body that is admitted, if its key is held, given a guess of its item, and hands it back if not. It takes no memory.
+    /// Stores an admitted body, if its key is stored, given a guess of its item, and returns it if not. It takes no memory.
     fn put_if_held(&mut self, key: &[u8], guess: u32, body: Body) -> Option<Body>
         requires { admission self.old key.now (length body.value) ≡ Ok body.cas }
         ensures held { IfNone result (self.new ≡ with_item self.old key.now body) }
@@ -187,7 +187,7 @@ impl<S: Store + Drop> Cache<S> {
         }
     }
 
-    /// Stores a held body anew, with this number. It takes no memory.
+    /// Stores a stored body anew, with this number. It takes no memory.
     pub(super) fn renew(&mut self, key: &[u8], found: Found, cas: u64)
         requires found { body_at key.now self.old.items ≡ found_body (Some found) (value_at key.now self.old.items) }
         requires admitted { admission self.old key.now (length (value_at key.now self.old.items)) ≡ Ok cas }
@@ -199,8 +199,7 @@ impl<S: Store + Drop> Cache<S> {
         self.put_held(key, found.guess, body);
     }
 
-    /// Stores a text that is no longer than the held value, in its bytes, with the flags and the expiry of what is told as
-    /// found. It takes no memory.
+    /// Overwrites the stored value by a text that is no longer, with the flags and the expiry of `found`. It takes no memory.
     pub(super) fn overwrite(&mut self, key: &[u8], text: &[u8], found: Found, cas: u64)
         requires held { is_some (body_at key.now self.old.items) ≡ true }
         requires fits { length text.now ≤ length (value_at key.now self.old.items) }
@@ -212,7 +211,7 @@ impl<S: Store + Drop> Cache<S> {
         self.put_held(key, found.guess, found.with(value, cas));
     }
 
-    /// The value under a held key, given a guess of its item.
+    /// Returns the value under a stored key, given a guess of its item.
     pub(super) fn held(&self, key: &[u8], guess: u32) -> &[u8]
         requires { is_some (body_at key.now self.now.items) ≡ true }
         ensures { result.now ≡ value_at key.now self.now.items }
@@ -220,7 +219,7 @@ impl<S: Store + Drop> Cache<S> {
         self.store.find(key, guess).unwrap().1.value.as_slice()
     }
 
-    /// Takes the body from under a held key, given a guess of its item. The key stays held with no bytes.
+    /// Moves the body out from under a stored key, given a guess of its item. The key stays stored, with no bytes.
     fn lift(&mut self, key: &[u8], guess: u32) -> Body
         requires { is_some (body_at key.now self.old.items) ≡ true }
         ensures body { body_at key.now self.old.items ≡ Some result }
@@ -237,7 +236,7 @@ impl<S: Store + Drop> Cache<S> {
         self.store.replace_by(key, guess, bare).unwrap()
     }
 
-    /// The number of an item whose value has so many bytes, or why it is not stored under a key.
+    /// Returns the number of an item whose value has this many bytes, or why it is not stored under a key.
     pub(super) fn admit(&self, key: &[u8], bytes: usize) -> Result<u64, Fault>
         ensures { result ≡ admission self.now key.now bytes }
     {
@@ -249,7 +248,7 @@ impl<S: Store + Drop> Cache<S> {
     }
 }
 
-/// Gives a body that is stored anew its number, and takes its marks away.
+/// Gives a body that is stored anew its number, and clears its marks.
 fn number_anew(body: &mut Body, cas: u64)
     ensures { body.new ≡ numbered (content_of body.old) cas }
 {
@@ -258,7 +257,7 @@ fn number_anew(body: &mut Body, cas: u64)
     body.won = false;
 }
 
-/// The reply to a storage command that stored, or why it did not.
+/// Returns the reply to a storage command that stored, or why it did not.
 pub(super) fn stored_or_fault(stored: Result<(), Fault>) -> Reply<()>
     ensures reply { (value : List ℕ) → filled result value ≡ reply_or_fault stored Stored }
     ensures refusal { is_refusal result ≡ is_refused stored }

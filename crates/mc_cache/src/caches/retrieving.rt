@@ -1,4 +1,4 @@
-//! Commands that store no value: `touch`, `delete` and `md`, and the steps that they share with others.
+//! Commands that store no value, `touch`, `delete` and `md`, and steps that other commands share.
 ghost use Rattle.std.specs.Prelude.{◌≡◌, ◌<◌, ◌^◌, ℕ, List, Some, None, is_some, true, false};
 ghost use Rattle.std.specs.Option.{option_map};
 ghost use Rattle.mc_reply.specs.Replies.{filled};
@@ -19,7 +19,7 @@ use mc_request::Fault;
 use mc_store::Store;
 
 impl<S: Store + Drop> Cache<S> {
-    /// Sets the expiry of the first item, whose key this is, where an exptime is given.
+    /// Sets the expiry of the first item, whose key this is, if an exptime is given.
     pub(super) fn touch_front(&mut self, key: &[u8], exptime: Option<i64>, moment: u64)
         requires moment { moment < 2 ^ 63 }
         requires first { self.old.items ≡ brought key.now (body_at key.now self.old.items) self.old.items }
@@ -34,7 +34,7 @@ impl<S: Store + Drop> Cache<S> {
         }
     }
 
-    /// The command `touch`.
+    /// Executes `touch`.
     pub(super) fn touch(&mut self, key: &[u8], guess: u32, exptime: i64, moment: u64) -> Reply<()>
         requires { moment < 2 ^ 63 }
         ensures step { (value : List ℕ)
@@ -50,7 +50,7 @@ impl<S: Store + Drop> Cache<S> {
         }
     }
 
-    /// The commands `delete` and `md`.
+    /// Executes `delete` and `md`.
     pub(super) fn delete(
         &mut self,
         key: &[u8],
@@ -78,7 +78,7 @@ impl<S: Store + Drop> Cache<S> {
         Reply::Deleted
     }
 
-    /// Makes the item of a held key stale, with a number of its own.
+    /// Makes the item of a stored key stale, with a new number.
     fn invalidate(&mut self, key: &[u8], found: Found) -> Reply<()>
         requires { body_at key.now self.old.items ≡ found_body (Some found) (value_at key.now self.old.items) }
         ensures step { (value : List ℕ) → invalidated self.old key.now (body_of found (value_at key.now self.old.items))
@@ -94,7 +94,7 @@ impl<S: Store + Drop> Cache<S> {
         Reply::Deleted
     }
 
-    /// Takes the key's item out, given a guess of it, and says whether there was one.
+    /// Removes the key's item, given a guess of it, and returns whether it existed.
     pub(super) fn take(&mut self, key: &[u8], guess: u32) -> bool
         ensures held { result ≡ is_some (body_at key.now self.old.items) }
         ensures items { self.new ≡ record self.old { items = without key.now self.old.items } }
@@ -111,7 +111,7 @@ impl<S: Store + Drop> Cache<S> {
         self.store.bring_by(key, guess)
     }
 
-    /// Sets the expiry of the key's item, given a guess of it, moves it to the front, and says whether there is one.
+    /// Sets the expiry of the key's item, given a guess of it, moves it to the front, and returns whether it exists.
     pub(super) fn expire(&mut self, key: &[u8], guess: u32, expiry: Deadline) -> bool
         ensures held { result ≡ is_some (body_at key.now self.old.items) }
         ensures items { self.new
@@ -120,7 +120,7 @@ impl<S: Store + Drop> Cache<S> {
         self.store.expire_by(key, guess, expiry)
     }
 
-    /// Sets the marks and the number of the key's item, given a guess of it, moves it to the front, and says whether there is one.
+    /// Sets the marks and the number of the key's item, given a guess of it, moves it to the front, and returns whether it exists.
     pub(super) fn mark(&mut self, key: &[u8], guess: u32, stale: bool, won: bool, cas: u64) -> bool
         ensures held { result ≡ is_some (body_at key.now self.old.items) }
         ensures items { self.new

@@ -1,4 +1,4 @@
-//! What time does to a cache before a command, and the small steps that commands are made of.
+//! Settling: what time does to a cache before a command, and the small steps of which commands are made.
 ghost use Rattle.std.specs.Prelude.{◌≡◌, ◌<◌, ◌^◌, ℕ, List, Some, None, OnSome, false};
 ghost use Rattle.mc_request.specs.declared.parts.Atom.TheVariants.{Update as AnUpdate};
 ghost use Rattle.mc_request.specs.declared.parts.Update.TheVariants.{FlushAll};
@@ -16,27 +16,27 @@ use mc_reply::Reply;
 use mc_store::Store;
 use mc_text::Block;
 
-/// What a look at a held item tells a command.
+/// What a look-up found: a stored item, all but its value.
 #[derive(Clone, Copy)]
 pub struct Found {
     /// The client flags.
     pub flags: u32,
-    /// When the item is dead.
+    /// When the item expires.
     pub expiry: Deadline,
     /// The item's number.
     pub cas: u64,
-    /// Whether the value was said to be out of date.
+    /// Whether the value was marked as stale.
     pub stale: bool,
-    /// Whether a client was told that it is the one to fetch the value anew.
+    /// Whether a client was told to fetch the value anew.
     pub won: bool,
-    /// A guess of which item it is, for the calls of a store that are given one.
+    /// A guess of the item, for the store's calls that take one.
     pub guess: u32,
 }
 
 impl Found {
     ghost use Rattle.mc_cache.specs.Step.{numbered, expiry_by};
 
-    /// What a body tells: all but its value. Its item is guessed.
+    /// Returns all of a body but its value, with a guess of its item.
     fn of(body: &Body, guess: u32) -> Found
         ensures { found_body (Some result) body.now.value ≡ Some body.now }
     {
@@ -50,7 +50,7 @@ impl Found {
         }
     }
 
-    /// The body as it was found, with another value, another number and no mark.
+    /// Returns the found body with another value, another number and no mark.
     pub fn with(self, value: Block, cas: u64) -> Body
         ensures { result ≡ numbered (renewed self value) cas }
     {
@@ -64,7 +64,7 @@ impl Found {
         }
     }
 
-    /// The same with another expiry, where one is given.
+    /// Returns the found item with another expiry, if an exptime is given.
     pub fn touched(self, exptime: Option<i64>, moment: u64) -> Found
         requires { moment < 2 ^ 63 }
         ensures { result ≡ record self { expiry = expiry_by exptime moment self.expiry } }
@@ -80,8 +80,8 @@ impl Found {
 }
 
 impl<S: Store + Drop> Cache<S> {
-    /// Brings the cache to a moment for a command on a key, given a guess of its item, and looks at what is then held under it. Where
-    /// something is, that moment has changed nothing.
+    /// Brings the cache to a moment for a command on a key, given a guess of its item, and looks the key up. If it is stored, that
+    /// moment has changed nothing.
     pub(super) fn settle(&mut self, key: &[u8], guess: u32, moment: u64) -> Option<Found>
         ensures settled { self.new ≡ settled self.old (Some key.now) moment }
         ensures found { body_at key.now self.new.items ≡ found_body result (value_at key.now self.new.items) }
@@ -96,7 +96,7 @@ impl<S: Store + Drop> Cache<S> {
         Some(found)
     }
 
-    /// Takes all items out where the moment of a flush has come.
+    /// Removes all items if the moment of a flush has been reached.
     pub(super) fn flush_due(&mut self, moment: u64)
         ensures flushed { self.new ≡ flushed self.old moment }
         ensures distinct { (key : List ℕ) → body_at key (without key self.old.items) ≡ None }
@@ -107,7 +107,7 @@ impl<S: Store + Drop> Cache<S> {
         }
     }
 
-    /// The command `flush_all`.
+    /// Executes `flush_all`.
     pub(super) fn flush_all(&mut self, delay: i64, moment: u64) -> Reply<()>
         requires { moment < 2 ^ 63 }
         ensures step { (value : List ℕ) → step_of self.old (AnUpdate (FlushAll delay)) moment (is_refusal result)
@@ -119,7 +119,7 @@ impl<S: Store + Drop> Cache<S> {
         Reply::Flushed
     }
 
-    /// The command `flush_all` on a settled cache.
+    /// Executes `flush_all` on a settled cache.
     fn flush(&mut self, delay: i64, moment: u64)
         requires { moment < 2 ^ 63 }
         ensures { self.new ≡ flush_step self.old delay moment }
@@ -130,7 +130,7 @@ impl<S: Store + Drop> Cache<S> {
         }
     }
 
-    /// Moves the key's item to the front, given a guess of it, and looks at it.
+    /// Moves the key's item to the front, given a guess of it, and returns what it found.
     pub(super) fn find(&mut self, key: &[u8], guess: u32) -> Option<Found>
         ensures found { body_at key.now self.old.items ≡ found_body result (front_value self.new.items) }
         ensures items { self.new ≡ fronted self.old key.now }
@@ -143,7 +143,7 @@ impl<S: Store + Drop> Cache<S> {
         Some(Found::of(body, guess))
     }
 
-    /// Brings the cache to a moment for a command on a key, moves the key's item to the front, given a guess of it, and looks at it.
+    /// Brings the cache to a moment for a command on a key, moves the key's item to the front, given a guess of it, and returns what it found.
     pub(super) fn settle_in_front(&mut self, key: &[u8], guess: u32, moment: u64) -> Option<Found>
         ensures settled { self.new ≡ fronted (settled self.old (Some key.now) moment) key.now }
         ensures found { body_at key.now (settled self.old (Some key.now) moment).items

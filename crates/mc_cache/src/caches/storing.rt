@@ -25,12 +25,12 @@ use mc_store::Store;
 use mc_text::{Block, Key};
 use std::alloc::{AllocError, Global};
 
-/// What a storage command stores, with its block lent.
+/// The item that a storage command stores, with its block borrowed.
 #[derive(Clone, Copy)]
 pub struct Lent<'a> {
     /// The client flags.
     pub flags: u32,
-    /// When the item is dead.
+    /// When the item expires.
     pub expiry: Deadline,
     /// Whether a client is told to fetch the value.
     pub won: bool,
@@ -39,7 +39,7 @@ pub struct Lent<'a> {
 }
 
 impl Lent<'_> {
-    /// The body of this number, with a copy of the block.
+    /// Returns the body of this number, with a copy of the block.
     pub fn with(self, value: Block, cas: u64) -> Body
         requires { value ≡ (lent_content self).value }
         ensures { result ≡ numbered (lent_content self.entry) cas }
@@ -55,7 +55,7 @@ impl Lent<'_> {
     }
 }
 
-/// Where a block is joined to a held value.
+/// The side of a stored value at which a block is joined.
 #[derive(Clone, Copy)]
 pub enum Side {
     /// `prepend`.
@@ -65,7 +65,7 @@ pub enum Side {
 }
 
 impl Side {
-    /// A value with a block before or after it. It takes memory for both, once.
+    /// Joins a block to a value, before or after it. It allocates once, for both.
     fn join(self, alloc: Global, value: &[u8], block: &[u8]) -> Result<Block, AllocError>
         ensures { IfOk result (λ whole. whole ≡ joined self value.now block.now) }
     {
@@ -77,7 +77,7 @@ impl Side {
 }
 
 impl<S: Store + Drop> Cache<S> {
-    /// A storage command on a settled cache, where this was found under its key. The body's number is not read.
+    /// Executes a storage command on a settled cache, in which `found` is the item of its key. The body's number is not read.
     pub(super) fn store_own(
         &mut self,
         mode: StoreMode,
@@ -100,7 +100,7 @@ impl<S: Store + Drop> Cache<S> {
         }
     }
 
-    /// The command `set` on a settled cache in which this was found under its key. The body's number is not read.
+    /// Executes `set` on a settled cache, in which `found` is the item of its key. The body's number is not read.
     pub(super) fn set_own(&mut self, key: Key, body: Body, found: Option<Found>) -> Reply<()>
         requires found { body_at key self.old.items ≡ found_body found (value_at key self.old.items) }
         ensures step { (value : List ℕ)
@@ -112,9 +112,10 @@ impl<S: Store + Drop> Cache<S> {
         stored_or_fault(self.put_own(key, guess_of(found), body, found.is_some()))
     }
 
-    /// A storage command with the key and the block lent.
+    /// Executes a storage command with the key and the block borrowed.
     ///
-    /// `Err` where a whole value is stored under a held key, and there is no memory for its block: nothing has changed.
+    /// It returns `Err` if a whole value is to be stored under a stored key, and there is no memory for its block:
+    /// nothing has changed.
     pub(super) fn store_lent(
         &mut self,
         mode: StoreMode,
@@ -148,8 +149,8 @@ impl<S: Store + Drop> Cache<S> {
         }
     }
 
-    /// A storage command that stores nothing, or joins its block to what is held. `None` where it stores its block as
-    /// the whole value, which is not done here.
+    /// Executes a storage command that stores nothing, or joins its block to a stored value. It returns `None` if the
+    /// command stores its block as the whole value, and does not do that.
     fn store_but_whole(
         &mut self,
         mode: StoreMode,
@@ -181,7 +182,7 @@ impl<S: Store + Drop> Cache<S> {
         Some(stored_or_fault(self.join(side, key, block, found)))
     }
 
-    /// Stores a held value with a block before or after it. It takes memory where the block has bytes.
+    /// Stores a stored value with a block before or after it. It takes memory if the block has bytes.
     fn join(&mut self, side: Side, key: &[u8], block: &[u8], found: Found) -> Result<(), Fault>
         requires found { body_at key.now self.old.items ≡ found_body (Some found) (value_at key.now self.old.items) }
         ensures step { (reply : AReply (List ℕ))
@@ -205,7 +206,7 @@ impl<S: Store + Drop> Cache<S> {
     }
 }
 
-/// The body of what is stored at a moment, with a block of its own. It has no number yet.
+/// Returns the body of what is stored at a moment, with an owned block. It has no number yet.
 pub(super) fn own_body(flags: u32, exptime: i64, block: Block, moment: u64) -> Body
     requires { moment < 2 ^ 63 }
     ensures { result ≡ record { flags = flags; expiry = deadline_of exptime moment; cas = 0; stale = false; won = false; value = block } }
@@ -220,7 +221,7 @@ pub(super) fn own_body(flags: u32, exptime: i64, block: Block, moment: u64) -> B
     }
 }
 
-/// A guess of the item that was found; 0 if none was.
+/// Returns the guess of the item that was found; 0 if none was.
 pub(super) fn guess_of(found: Option<Found>) -> u32 {
     match found {
         Some(found) => found.guess,
@@ -228,7 +229,7 @@ pub(super) fn guess_of(found: Option<Found>) -> u32 {
     }
 }
 
-/// What a storage command answers that stores nothing, where this was found under its key.
+/// Returns the reply to a storage command that stores nothing, by what was found under its key.
 fn unstored(compare: Option<u64>, mode: StoreMode, found: Option<Found>) -> Option<Reply<()>>
     ensures reply { (before value : List ℕ)
         → option_map (λ reply. filled reply value) result ≡ unstored compare mode (found_body found before) }
@@ -240,7 +241,7 @@ fn unstored(compare: Option<u64>, mode: StoreMode, found: Option<Found>) -> Opti
     }
 }
 
-/// What a command answers that compares what was found with a number, and goes no further.
+/// Returns the reply to a command that compares what was found with a number, and goes no further.
 pub(super) fn compared(compare: Option<u64>, found: Option<Found>) -> Option<Reply<()>>
     ensures reply { (before value : List ℕ)
         → option_map (λ reply. filled reply value) result ≡ compared compare (found_body found before) }
@@ -254,7 +255,7 @@ pub(super) fn compared(compare: Option<u64>, found: Option<Found>) -> Option<Rep
     }
 }
 
-/// What a storage command answers whose condition is not met by what was found.
+/// Returns the reply to a storage command whose condition is not met by what was found.
 fn unmet(mode: StoreMode, found: Option<Found>) -> Option<Reply<()>>
     ensures reply { (before value : List ℕ)
         → option_map (λ reply. filled reply value) result ≡ unmet mode (found_body found before) }

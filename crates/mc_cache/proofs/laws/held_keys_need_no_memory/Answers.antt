@@ -1,7 +1,7 @@
 use Rattle.std.proofs.Common.{◌≡◌, ◌&&◌, Bool, true, false, refl}
 use Rattle.mc_cache.proofs.laws.held_keys_need_no_memory.Goals as goal
 
--- a whole value in the place of what is held needs no memory, whatever is compared
+-- a whole value in place of the stored one needs no memory, whatever is compared
 never : (stores : Bool) → (stores && false) ≡ false
 never true = refl
 never false = refl

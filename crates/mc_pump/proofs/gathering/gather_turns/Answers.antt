@@ -51,7 +51,7 @@ split_at-requires g c =
     let after : length c.output-in-Ok-Turned-Took.result.now ≡ length (output_of (connection_at c.turn_gathering.new.self c.args.number)) = ap (λ (bytes : List ℕ). length bytes) c.output-in-Ok-Turned-Took.ensures in
     omega (arith, grows, before, after)
 
--- none waits
+-- none is pending
 pub returns-in-Ok-Turned-Idle-clause-turns : goal.returns-in-Ok-Turned-Idle-clause-turns
 returns-in-Ok-Turned-Idle-clause-turns g c =
     let steps : Steps c.args.number c.loop-server.server c.turn_gathering.new.self (IsGatheredTurn c.args.number c.args.moment (Turned Idle) c.turn_gathering.new.went (g.W.Write.contents c.loop-server.writer) (g.W.Write.contents c.turn_gathering.new.writer)) =

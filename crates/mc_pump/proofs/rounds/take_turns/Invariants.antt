@@ -8,6 +8,6 @@ use Rattle.mc_pump.proofs.rounds.take_turns.Given as goal
 abbrev pub invariant-loop-server : goal.invariant-loop-server
 invariant-loop-server g l = TakesTurns l.number l.moment l.fn.server l.server l.fn.watch.no_memory l.watch.no_memory
 
--- each turn takes one of those that wait
+-- each turn takes one of those that are pending
 abbrev pub decreases-loop-server : goal.decreases-loop-server
 decreases-loop-server g l = length (waiting_of (connection_at l.server l.number))

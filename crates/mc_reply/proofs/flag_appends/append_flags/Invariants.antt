@@ -3,7 +3,7 @@ use Rattle.mc_reply.specs.MetaSpelling.{flags_onto}
 use Rattle.mc_reply.specs.MetaRooms.{flags_room}
 use Rattle.mc_reply.proofs.flag_appends.append_flags.Given as goal
 
--- what was appended and what the words to come give back are the whole, and there is room for it
+-- what was appended and what the other words return are the whole, and there is room for it
 abbrev pub invariant-loop-flag : goal.invariant-loop-flag
 invariant-loop-flag l = record {
   spelled : (rest : List ℕ) → l.out.items ++ flags_onto l.coded l.word l.shown l.flag-iterator rest ≡ l.fn.out.items ++ flags_onto l.coded l.word l.shown l.fn.flags rest;

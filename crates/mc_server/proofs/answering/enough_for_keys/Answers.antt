@@ -13,7 +13,7 @@ returns-then-by_bytes-le-ROOM_BY_LONGEST-clause-enough g c =
     keys_room-most 384 each most c.args.keys.now c.args.cache.now (omega (arith, c.longest-longest.ensures)) few in
     omega (arith, room, c.saturating_mul-by_bytes.ensures, c.if-by_bytes-le-ROOM_BY_LONGEST.true)
 
--- and so it is for each of as many keys as there are spaces
+-- likewise for each of as many keys as there are spaces
 pub returns-then-by_spaces-le-ROOM_BY_LONGEST-clause-enough : goal.returns-then-by_spaces-le-ROOM_BY_LONGEST-clause-enough
 returns-then-by_spaces-le-ROOM_BY_LONGEST-clause-enough g c =
     let each = c.longest-longest.result + 384 in

@@ -5,7 +5,7 @@ use Rattle.mc_server.specs.Rooms.{keys_room}
 use Rattle.mc_server.proofs.GetLemmas.{IsServing}
 use Rattle.mc_server.proofs.answering.serve_keys.Given as goal
 
--- the keys so far are served, and there is room for those to come and for the end
+-- the keys so far are served, and there is room for the others and for the end
 abbrev pub invariant-loop-key : goal.invariant-loop-key
 invariant-loop-key g l = record {
   good : list_all is_plain_key l.key-iterator ≡ true;

@@ -10,7 +10,7 @@ returns-then-not-serve_head-clause-put g c number =
     (served_behind number c.args.moment c.args.sent c.args.cache.now c.serve_head.new.cache _ c.args.output.now.items c.serve_head.new.output.items (omega arith)
     (c.serve_head.ensures.miss c.if-not-serve_head.true number))
 
--- the line, the value and the end are put out
+-- the line, the value and the end are written or appended
 pub returns-clause-put : goal.returns-clause-put
 returns-clause-put g c number =
     puts_hit number c.args.moment c.args.sent c.put_out.result.went _ _ c.args.cache.now c.serve_head.new.cache _

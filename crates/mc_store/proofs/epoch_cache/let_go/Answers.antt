@@ -4,7 +4,7 @@ use Rattle.mc_store.proofs.EpochLemmas.{goes_one}
 use Rattle.mc_store.proofs.epoch_cache.let_go.Goals as goal
 use Rattle.mc_store.proofs.epoch_cache.let_go.Goals.{else-gone-ge2-via-then-gone-ge2+else-freed-price, else-gone-ge2-via-else-gone-ge2}
 
--- one more is let go: too few were, or they cost too little
+-- one more is freed: too few were, or they cost too little
 pub loop-cache-preserved : goal.loop-cache-preserved
 loop-cache-preserved g c =
     let before = c.loop-cache.invariant in

@@ -6,7 +6,7 @@ use Rattle.mc_text.specs.ByteTests.{is_from}
 use Rattle.mc_text.proofs.TestLemmas.{overlap, fails_later, first_part, second_part}
 use Rattle.mc_text.proofs.byte_tests.are_from.Goals as goal
 
--- the first of a front of so many bytes are that front
+-- the first of a front of 16 bytes are that front
 front : (rest lanes : List ℕ) → lanes ≡ take 16 rest → take 16 lanes ≡ take 16 rest
 front rest lanes is = take_all 16 lanes (omega (arith, ap length is, length-take 16 rest)) ∙ is
 

@@ -15,6 +15,6 @@ returns-in-Ok-clause-ok g c =
 pub returns-in-Ok-clause-err : goal.returns-in-Ok-clause-err
 returns-in-Ok-clause-err g c = c.put_new.ensures.err
 
--- nor where it is not
+-- it changes nothing if the key was not copied
 pub returns-in-Err-clause-err : goal.returns-in-Err-clause-err
 returns-in-Err-clause-err g c = refl

@@ -4,7 +4,7 @@ use Rattle.std.proofs.lemmas.List.{with_items_is, places}
 use Rattle.mc_request_reader.proofs.ReadLemmas.{reads_behind}
 use Rattle.mc_request_reader.proofs.incoming.Incoming.read_from.Goals as goal
 
--- what was read is behind what had come
+-- what was read is behind what had arrived
 pub returns-clause-read : goal.returns-clause-read
 returns-clause-read g c =
     let r = c.self.inside in

@@ -15,7 +15,7 @@ returns-in_ok-extend_from_slice-in-Some-clause-fed c text =
     (piece_dropped (drop c.self.inside.start c.self.inside.buffer.items) (drop c.self.inside.start c.extend_from_slice-in-Some.new.self.items) c.args.piece.now c.split_at.result.1.now
     c.in-Some.fault c.in-Some.left c.min.result text empty.1 c.min.ensures new_is (c.split_at.ensures.back))
 
--- what is known of the bytes stays so when more come
+-- what is known of the bytes stays so when more arrive
 pub invariant_of-self : goal.invariant_of-self
 invariant_of-self c =
     let u = drop c.self.inside.start c.self.inside.buffer.items in

@@ -3,7 +3,7 @@ use Rattle.mc_request_reader.specs.Reader.{ReaderState}
 use Rattle.mc_request_reader.proofs.ReaderLemmas.{front_size}
 use Rattle.mc_request_reader.proofs.unread.Unread.consume.Goals as goal
 
--- what the look showed has come
+-- what the look showed has arrived
 pub overflow_add-self-inside : goal.overflow_add-self-inside
 overflow_add-self-inside c =
     let size = front_size c.args.self.now c.args.front c.requires in

@@ -8,7 +8,7 @@ use Rattle.mc_server.proofs.GatherLemmas.{gathered_none, keeps_same}
 use Rattle.mc_server.proofs.RoomLemmas.{room_within}
 use Rattle.mc_server.proofs.connections.Connection.turn_gathering.Goals as goal
 
--- nothing waits
+-- nothing is pending
 pub returns-then-is_short-clause-turn : goal.returns-then-is_short-clause-turn
 returns-then-is_short-clause-turn g c number =
     (refl, keeps_same _, rw (← c.self.view_is) (record { none = c.is_short.ensures.short c.if-is_short.true; cache = refl; output = refl }))

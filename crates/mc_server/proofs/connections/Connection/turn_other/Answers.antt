@@ -42,7 +42,7 @@ returns-else-not-branch-clause-turn g c number =
       },
     )
 
--- no more is written than was told
+-- no more is written than was reported
 pub returns-else-not-branch-clause-bounded : goal.returns-else-not-branch-clause-bounded
 returns-else-not-branch-clause-bounded g c =
     let what = asked_of c.in-Alone.asked in

@@ -36,7 +36,7 @@ returns-clause-turn g c number =
       },
     )
 
--- no more is written than was told
+-- no more is written than was reported
 pub returns-clause-bounded : goal.returns-clause-bounded
 returns-clause-bounded g c =
     let seen = rw c.in-First.is at c.peek.ensures.seen in

@@ -33,7 +33,7 @@ returns-clause-turn g c number =
       },
     )
 
--- no more is written than was told
+-- no more is written than was reported
 pub returns-clause-bounded : goal.returns-clause-bounded
 returns-clause-bounded g c =
     let what : Taken = set_of c.in_ok-set.set in

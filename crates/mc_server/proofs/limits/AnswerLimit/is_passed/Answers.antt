@@ -5,7 +5,7 @@ use Rattle.mc_server.specs.Rooms.{room_of, taken_bound}
 use Rattle.mc_server.proofs.RoomLemmas.{bound_within}
 use Rattle.mc_server.proofs.limits.AnswerLimit.is_passed.Goals as goal
 
--- where the room is small, so is the bound
+-- if the room is small, so is the bound
 pub returns-then-room-self : goal.returns-then-room-self
 returns-then-room-self g c =
     let what = asked_of c.args.asked.now in

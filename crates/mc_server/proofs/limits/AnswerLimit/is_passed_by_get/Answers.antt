@@ -7,7 +7,7 @@ use Rattle.mc_server.specs.Rooms.{room_of, taken_bound}
 use Rattle.mc_server.proofs.RoomLemmas.{bound_within}
 use Rattle.mc_server.proofs.limits.AnswerLimit.is_passed_by_get.Goals as goal
 
--- where the room is small, so is the bound
+-- if the room is small, so is the bound
 pub returns-then-room-self : goal.returns-then-room-self
 returns-then-room-self g c =
     let what : Taken = Whole (Get c.args.keys.now None false) in

@@ -20,7 +20,7 @@ returns-clause-others g c =
     let others = remove_there es c.self.inside.next c.args.number c.in_ok-place.place c.remove.result.1 c.self.invariant at in
     rw (← c.self.view_is, c.remove.ensures.items, others) refl
 
--- its number comes once
+-- its number occurs once
 pub returns-clause-is_free : goal.returns-clause-is_free
 returns-clause-is_free g c =
     let es = c.self.inside.entries.items in
@@ -36,6 +36,6 @@ invariant_of-self g c =
     let others = remove_there es c.self.inside.next c.args.number c.in_ok-place.place c.remove.result.1 c.self.invariant at in
     rw (c.remove.ensures.items, others) (rises_without 0 es c.self.inside.next c.args.number c.self.invariant)
 
--- there is nothing to take out
+-- there is nothing to remove
 pub returns-in_err-place-clause-others : goal.returns-in_err-place-clause-others
 returns-in_err-place-clause-others g c = rw (without_absent c.args.number c.args.self.now.entries c.in_err-place.ensures.absent) refl

@@ -3,7 +3,7 @@ use Rattle.std.proofs.lemmas.List.Sorted.{answers_always}
 use Rattle.mc_table.proofs.RisesLemmas.{searched}
 use Rattle.mc_table.proofs.numbered.Numbered.search.Goals as goal
 
--- the closure gives an entry's number
+-- the closure returns an entry's number
 pub returns : goal.returns
 returns g c =
     let facts = c.binary_search_by_key.ensures in
