@@ -47,7 +47,7 @@ fn is_short(word: &[u8]) -> bool
     }
 }
 
-/// The same of a word of five letters or more.
+/// Returns whether a word of five letters or more names another command.
 #[tactic(auto, using(crate::proofs::CommandLemmas::names_of_five))]
 fn is_long(word: &[u8]) -> bool
     requires { 5 ≤ length word.now }
