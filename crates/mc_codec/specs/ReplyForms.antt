@@ -28,7 +28,7 @@ update_line reply = line (reply_line reply) reply
 abbrev pub store_faults : Form Answer
 store_faults = Or (update_line (replies.Fault TooLarge)) (Or (update_line (replies.Fault CasUsedUp)) (update_line (replies.Fault OutOfMemory)))
 
--- why a count is refused: source protocol.txt, "Error strings"; the lines are this project's own
+-- why a count is refused
 abbrev pub count_faults : Form Answer
 count_faults = Or (update_line (replies.Fault NonNumeric)) store_faults
 
