@@ -45,8 +45,8 @@ abbrev pub as_waiting : List Tagged → List Waiting
 as_waiting commands = map (λ command. (head_of command.0, command.1)) commands
 
 -- Over a link that is up went the commands to its server of all requests that were taken since it came up, in that order. The bytes sent on it are
--- their joined spellings, the bytes that arrived are the joined spellings of the replies taken and the unread bytes, and those without a reply are
--- pending. No earlier command to it is pending.
+-- their joined spellings. The bytes that arrived are the joined spellings of the replies taken, and the unread bytes. The commands without a reply
+-- are pending. No earlier command to it is pending.
 pub record LaneHolds (place : ℕ) (order : Order) (lane : Lane) (link : LinkState) : Type 0 where
   pub since : lane.since ≤ length order
   pub put : lane.out ++ link.output ≡ spelled (commands_to place (drop lane.since order))

@@ -182,8 +182,8 @@ pub fn answered_requests_are_counted()
     ensures lost { (place : ℕ) (old : ProxyState) (other : ℕ) → answered_at (lost_at place old) other ≡ answered_at old other }
 {}
 
-/// If a link is up, the reply to each of its pending commands is awaited: also if the same outcome is noted of all of them, in
-/// sequence, and for the command that gets its reply.
+/// If a link is up, the reply to each of its pending commands is awaited. This holds too if the same outcome is noted of all of
+/// them, in sequence, and for the command that gets its reply.
 pub fn waiting_commands_are_awaited()
     ensures each { (texts sent : ℕ → List ℕ) (order : Order) (lanes : ℕ → Lane) (now : ProxyState)
         → ProxyHolds texts sent order lanes now → (place : ℕ) → (link_at now.links place).up ≡ true
@@ -205,8 +205,8 @@ pub fn awaited_commands_are_not_answered()
         → count ≤ tag.request }
 {}
 
-/// An answer that a client got stays its answer, whether its session is open or has left: after a request is taken, after an
-/// outcome is noted that was pending, and after bytes are consumed.
+/// An answer that a client got stays its answer, whether its session is open or has left. It stays after a request is taken,
+/// after an outcome is noted that was pending, and after bytes are consumed.
 pub fn answers_stay()
     ensures taken { (number : ℕ) (order : Order) (e : Entry) (count : ℕ) (sent unsent : List ℕ)
         → AreAnswers number order count sent unsent → AreAnswers number (order ++ e ∷ []) count sent unsent }
@@ -261,8 +261,8 @@ pub fn commands_are_found()
         → (command_at order command.1 ≡ Some (to_place place command.0)) × (outcome_at order command.1 ≡ Some outcome) }
 {}
 
-/// For one session, a command to a place with a known outcome was asked before all pending ones on its link, and those are
-/// pending in the order in which they were asked.
+/// For one session, a command to a place with a known outcome was asked before all pending ones on its link. Those are pending
+/// in the order in which they were asked.
 pub fn known_commands_come_first()
     ensures known { (texts sent : ℕ → List ℕ) (order : Order) (lanes : ℕ → Lane) (now : ProxyState)
         → ProxyHolds texts sent order lanes now → (place : ℕ) → (link_at now.links place).up ≡ true

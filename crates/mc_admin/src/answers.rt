@@ -178,7 +178,7 @@ fn words_of(refusal: Refusal) -> &'static [u8]
     }
 }
 
-/// Whether the connection is closed after what is asked was answered.
+/// Returns whether the connection is closed after what is asked was answered.
 pub fn ends(asked: Asked) -> bool
     ensures { result ≡ ends asked }
 {

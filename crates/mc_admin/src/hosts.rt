@@ -18,7 +18,7 @@ pub struct Hosts<'a> {
 }
 
 impl Hosts<'_> {
-    /// Whether a host is one of them, in any case of letters.
+    /// Returns whether a host is one of them, in any case of letters.
     #[tactic(auto, unfolding(crate::specs::Hosts::is_known))]
     pub fn is_known(&self, host: &[u8]) -> bool
         ensures { result ≡ is_known self.now host.now }
@@ -26,7 +26,7 @@ impl Hosts<'_> {
         !host.is_empty() && self.are_called(host)
     }
 
-    /// Whether a text is one of them.
+    /// Returns whether a text is one of them.
     fn are_called(&self, host: &[u8]) -> bool
         ensures { result ≡ are_called self.now host.now }
     {

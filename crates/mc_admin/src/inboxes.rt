@@ -76,7 +76,7 @@ impl Inbox {
         self.text.as_slice()
     }
 
-    /// Whether it has ended: nothing more is taken of it.
+    /// Returns whether it has ended: nothing more is taken of it.
     pub fn is_over(&self) -> bool
         ensures { result ≡ is_over self.now.phase }
     {
@@ -151,7 +151,7 @@ fn after_line(line: &[u8]) -> Phase
     }
 }
 
-/// Whether a line is the first of a request of HTTP.
+/// Returns whether a line is the first of a request of HTTP.
 fn is_http_line(line: &[u8]) -> bool
     ensures { result ≡ is_http_line line.now }
 {
@@ -192,7 +192,7 @@ fn too_long(phase: Phase) -> Phase
     }
 }
 
-/// Whether a request has ended.
+/// Returns whether a request has ended.
 fn is_over(phase: Phase) -> bool
     ensures { result ≡ is_over phase }
 {

@@ -3,11 +3,11 @@
 //! # Replies
 //!
 //! A [`ReplyReader`] is fed the bytes of a connection, in pieces of any size ([`ReplyReader::feed`]). [`ReplyReader::next`]
-//! returns the reply to a pending command, given that command's head: a [`mc_request::Head`] is the command without its
-//! data block. A [`NextReply`] is one of three: the reply; that more bytes are needed, and at least how many are; or a protocol
-//! violation (`Strange`), since no reply that the command can have is spelled so. [`ReplyReader::unread`] returns how many bytes
-//! belong to no returned reply, and [`ReplyReader::held`] how many are kept. [`ReplyReader::give_back`] frees the memory that an
-//! idle reader has reserved.
+//! returns the reply to a pending command, given that command's head: a [`mc_request::Head`] is the command without its data
+//! block. A [`NextReply`] is one of three: the reply; that more bytes are needed, and at least how many are; or a protocol
+//! violation (`Strange`). A violation is no beginning of a reply that the command can have. [`ReplyReader::unread`] returns how
+//! many bytes belong to no returned reply, and [`ReplyReader::held`] how many are kept. [`ReplyReader::give_back`] frees the
+//! memory that an idle reader has reserved.
 //!
 //! `specs/NextReply.antt` says what `next` returns, by the spellings of replies (`mc_reply`'s `spelling_of`) and the replies that
 //! a command can have (`can_have`); it has no grammar. A violation is found at its first wrong byte, since up to there the bytes

@@ -12,8 +12,8 @@ use std::marker::Model;
 
 /// The bytes that a server sent, from which its replies are read.
 ///
-/// Until a reply is returned, each call of `next` and `has_next` reads its line from the start, no further than a good one may go, and
-/// the two bytes behind its value. The value itself is read once, when it is copied.
+/// Until a reply is returned, each call of `next` and `has_next` reads its line from the start, but no further than a good line may
+/// go. It also reads the two bytes behind its value. The value itself is read once, when it is copied.
 #[derive(Drop)]
 pub struct ReplyReader {
     buffer: Vec<u8>,

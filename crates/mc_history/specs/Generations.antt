@@ -29,8 +29,8 @@ pub record IsFront (commands : List Tagged) (replies all : List (AReply (List �
   pub bytes_are : bytes ≡ told (drop (length replies) commands) later
   pub can : CanHave (drop (length replies) commands) later
 
--- A link that is up and the server's connection at its other end, by what the server made of the commands that arrived, and which others were sent:
--- both ways, the bytes that arrived are those that were sent.
+-- A link that is up and the server's connection at its other end, by what the server made of the commands that arrived, and which others were sent.
+-- Both ways, the bytes that arrived are those that were sent.
 pub record AreJoined (place : ℕ) (order : Order) (passed : Lane) (link : LinkState) (opening : CacheState) (all : List Made) (number : ℕ) (end : ConnectionState) (others : List Tagged) : Type 0 where
   pub lane : LaneHolds place order passed link
   pub connection : Holds opening number passed.out (map taking_of all) passed.came end

@@ -24,7 +24,7 @@ pub fn generations_carry()
         → AreJoined place order lane link opening made number connection others → IsCarried place order lane link made number connection others }
 {}
 
-/// Memory was refused to a command that was spelled to a server exactly if its answer is the line for lack of memory, provided that its
+/// Memory was refused to a command that was spelled to a server exactly if its answer is the line for lack of memory. This holds if its
 /// reply is one that it can have.
 pub fn refusals_are_told_by_their_line()
     ensures refused { (s : CacheState) (e : Taking) (atom : Atom (List ℕ)) → e.what ≡ Whole (request_of atom) → is_good_atom atom ≡ true

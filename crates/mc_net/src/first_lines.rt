@@ -4,7 +4,7 @@ use crate::first_words::FirstWord;
 use crate::openings::Opening;
 use crate::places::Place;
 
-/// What is kept of the first non-empty line of a connection, and of the empty ones in front of it: contracts see a text that says the
+/// What is kept of the first non-empty line of a connection, and of the empty ones in front of it. Contracts see a text that says the
 /// same as the bytes so far, whatever follows.
 #[derive(Clone, Copy, Debug)]
 pub struct FirstLine {

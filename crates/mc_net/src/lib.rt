@@ -3,14 +3,15 @@
 //! [`bind`] makes a listener, at the [`first_address`] of a host; [`spelled_address`] is that of a text that needs no look-up. An
 //! [`Acceptor`] is a listener and how many connections it has accepted. The poll with which it is [registered](Acceptor::register) reports
 //! it, which is [recorded](Acceptor::note), and [`Acceptor::accept`] returns the connections, one by one. If the system gives none, a
-//! [`Backlog`] says why. An [`Edge`] keeps what the events of a socket say ([`Edge::note`]), and an [`Input`] is the reader over both,
-//! which asks the system for no bytes that are known to be missing. [`step_after`] says what is done with a client whose pump ended, and a
+//! [`Backlog`] says why. An [`Edge`] keeps what the events of a socket say ([`Edge::note`]). An [`Input`] is the reader over both: it asks
+//! the system for no bytes that are known to be missing. [`step_after`] says what is done with a client whose pump ended, and a
 //! [`Stopwatch`] how long a program has served. [`keep_alive`] and [`keep_alive_by`] make the system detect peers that vanished, and
 //! [`reset`] gives a connection up. [`PIECE_LEN`] and [`KEPT_ROOM`] are limits shared by all programs on sockets.
 //!
 //! No call of these blocks except [`bind`] and [`first_address`], which look a name up. No contract says what a socket carries, or who
-//! connects. The contracts say that an address is the first IPv4 one of those that a look-up found, how many connections an acceptor
-//! accepts, that an input drops and repeats no byte of its stream, what is done after a pump, and that a stopwatch never goes back.
+//! connects. The contracts say that an address is the first IPv4 one of those that a look-up found, and how many connections an acceptor
+//! accepts. They say that an input drops and repeats no byte of its stream, what is done after a pump, and that a stopwatch never goes
+//! back.
 //!
 //! # Clients
 //!
@@ -26,8 +27,8 @@
 //! A client is served once its first bytes are known not to be a stranger's ([`opening_of`]). It is read through a [`Guard`], which reads
 //! no line that shows a stranger ([`FirstLine`]). A stranger is closed, and a line on standard error says so ([`Clients::tell`]).
 //!
-//! [`serve_rounds`] blocks, possibly for ever; no other of these calls does. It is proved that they are safe, that each except
-//! [`serve_rounds`] ends, and that no read of a [`Guard`] returns the whole first line of a stranger, in pieces of any size.
+//! [`serve_rounds`] blocks, possibly for ever; no other of these calls does. It is proved that they are safe, and that each except
+//! [`serve_rounds`] ends. It is proved too that no read of a [`Guard`] returns the whole first line of a stranger, in pieces of any size.
 //!
 //! # Operators
 //!
@@ -37,10 +38,10 @@
 //! round ([`Operators::before`]), and records the events of their tokens ([`Operators::note`]). At the end of a round, if one [is
 //! stirred](Operators::is_stirred), it answers them by its report ([`mc_admin::Sheet`], [`Operators::serve`]).
 //!
-//! No client waits for them: all that is done for operators in a second is a bounded number of steps ([`STEPS`]), each an accept, a read,
-//! an answer or a write. The memory of a connection is bounded. A connection that has sent nothing, or taken nothing, for [`PATIENCE`]
-//! seconds is closed, after [`QUIET`] seconds if another wants its place. One that got its last answer is read to its end, for at most
-//! [`LINGER`] seconds.
+//! No client waits for them: all that is done for operators in a second is a bounded number of steps ([`STEPS`]). A step is an accept, a
+//! read, an answer or a write. The memory of a connection is bounded. A connection that has sent nothing, and taken nothing, for
+//! [`PATIENCE`] seconds is closed, after [`QUIET`] seconds if another wants its place. One that got its last answer is read to its end, for
+//! at most [`LINGER`] seconds.
 //!
 //! [`process_number`], [`wall_clock`] and [`resident_memory`] are what the system says of the process.
 //!
@@ -50,9 +51,9 @@
 //!
 //! A stranger is a client that does not speak the text protocol: the first bytes of its connection say so.
 //!
-//! [`opening_of`] says of the first bytes of a connection whether a stranger sends them ([`Stranger`]: HTTP, memcached's binary protocol,
-//! TLS), whether they are the text protocol, or that more bytes are needed ([`Opening`]). A stranger's bytes are not read as the text
-//! protocol: a line of HTTP after the first could be a command that nobody meant. `specs/Openings.antt` says exactly which bytes are whose.
+//! [`opening_of`] returns what the first bytes of a connection are ([`Opening`]): a stranger's ([`Stranger`]: HTTP, memcached's binary
+//! protocol, TLS), the text protocol, or too few to know. A stranger's bytes are not read as the text protocol: a line of HTTP after the
+//! first could be a command that nobody meant. `specs/Openings.antt` says exactly which bytes are whose.
 //!
 //! A request of HTTP by another method has no such beginning, and one may follow empty lines. So [`FirstLine`] looks at the first non-empty
 //! line, in pieces of any size: a line that is no command and ends in a version of HTTP is a stranger's. `specs/FirstLines.antt` says which
@@ -60,9 +61,10 @@
 //! is known than after.
 //!
 //! [`what_is_settled_stays`], [`first_lines_stay`], [`openings_are_settled`], [`small_letters_are_text`] and [`commands_are_text`] are
-//! laws: where a stream is cut plays no part, after [`OPENING_LEN`] bytes its opening is known, a command in small letters has none of a
-//! stranger's, and a line that begins with a command is text once that has ended. [`openings_of_strangers`], [`openings_of_text`],
-//! [`first_lines_of_strangers`] and [`first_lines_of_text`] are examples. None of them does anything, and none of these calls takes memory.
+//! laws. It plays no part where a stream is cut, and after [`OPENING_LEN`] bytes its opening is known. A command in small letters has no
+//! opening of a stranger, and a line that begins with a command is text once that has ended. [`openings_of_strangers`],
+//! [`openings_of_text`], [`first_lines_of_strangers`] and [`first_lines_of_text`] are examples. None of them does anything, and none of
+//! these calls takes memory.
 #![tactic(auto)]
 
 mod acceptors;

@@ -6,7 +6,7 @@ use std::os::fd::AsRawFd;
 /// The length of an address of no family: that of an IPv4 one.
 const NOWHERE_LEN: u32 = 16;
 
-/// Gives a connection up. Its peer gets a reset (RST) and no end, and no undelivered byte reaches it any more: what the system has not
+/// Gives a connection up. Its peer gets a reset (RST) and no end, and no undelivered byte reaches it any more. What the system has not
 /// sent, or would send again, is dropped with the socket. After a plain close the system would go on for minutes.
 ///
 /// What the peer's system has received stays there for the peer to read. If this system refuses the call, the connection is closed as

@@ -6,7 +6,7 @@ use mc_program::{Pace, open_files, served};
 /// The seconds between two lines that say that no more clients are accepted.
 const TOLD_EVERY: u64 = 60;
 
-/// How many clients a program serves at a time, so that others have a descriptor left: waiting clients must take neither that of a lost
+/// How many clients a program serves at a time, so that others have a descriptor left. Waiting clients must take neither that of a lost
 /// server that comes back, nor that of an operator.
 #[derive(Clone, Copy, Debug)]
 pub struct Room {

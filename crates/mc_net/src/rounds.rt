@@ -27,7 +27,7 @@ const MOST_PATIENCE: u64 = 3_600_000;
 
 /// What a program on a runtime does in the rounds of its poll, in this order, by a clock.
 pub trait Rounds<R, C> {
-    /// Called once, before the first round, when all that the rounds need is reserved, and the listener is registered.
+    /// Begins to serve: called once, before the first round, when all that the rounds need is reserved, and the listener is registered.
     fn ready(&mut self, _rt: &R) {}
 
     /// Does what is due before a round, and returns how long the round waits: for ever if it returns nothing. `backlog` is what is known of
@@ -136,8 +136,8 @@ fn let_in<R, C, H: Rounds<R, C>>(
     }
 }
 
-/// Returns how long a round waits: not at all if a client goes on, a second at most if something must soon be done without an event, and
-/// else until something is due, in `left` milliseconds; for ever if nothing is.
+/// Returns how long a round waits: not at all if a client goes on, and for ever if nothing is due. Otherwise it waits until something is
+/// due, in `left` milliseconds, but a second at most if something must soon be done without an event.
 pub fn patience(goes_on: bool, soon: bool, left: Option<u64>) -> Option<Duration> {
     if goes_on {
         return Some(Duration::from_millis(0));

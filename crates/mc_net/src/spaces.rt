@@ -43,8 +43,8 @@ fn after_feed(text: &[u8]) -> Option<&[u8]>
     }
 }
 
-/// Returns how many bytes may be passed from the end of a text backwards, as none of them is the first of a word behind a space: 16
-/// that are all spaces, or 16 without a space, or else the last byte.
+/// Returns how many bytes may be passed from the end of a text backwards, as none of them is the first of a word behind a space.
+/// These are 16 that are all spaces, or 16 without a space, or else the last byte.
 #[inline(always)]
 pub(crate) fn alike_at_end(text: &[u8]) -> usize
     requires { 0 < length text.now }

@@ -45,14 +45,14 @@ impl<'a> AdminTerms<'a> {
     }
 }
 
-/// Whether a word is empty, or a host.
+/// Returns whether a word is empty, or a host.
 fn is_name(word: &[u8]) -> bool
     ensures { result ≡ is_name word.now }
 {
     word.is_empty() || is_host(word)
 }
 
-/// Whether a word is a host: 1 to 255 letters, digits, dots and hyphens.
+/// Returns whether a word is a host: 1 to 255 letters, digits, dots and hyphens.
 pub fn is_host(word: &[u8]) -> bool
     ensures { result ≡ is_host word.now }
 {

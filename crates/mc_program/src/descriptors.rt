@@ -19,8 +19,8 @@ pub fn open_files() -> Option<u64> {
     Some(limit.rlim_cur)
 }
 
-/// Prints on standard error, as the program of a name, how many connections can be served at a time beside `others` other files, if
-/// the system allows no more open files than `most` connections may need.
+/// Prints on standard error, as the program of a name, how many connections can be served at a time beside `others` other files. It
+/// does so if the system allows no more open files than `most` connections may need.
 pub fn tell_open_files<R: Eprint>(rt: &R, program: &str, others: u64, most: usize) {
     if let Some(files) = open_files() {
         let connections = served(files, others);

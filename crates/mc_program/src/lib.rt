@@ -7,13 +7,13 @@
 //! that the words ask for ([`log`], [`LogOption`]); by [`EprintSeldom`] a line says how many like it were suppressed. [`open_streams`] opens
 //! `/dev/null` for standard input, output and error, if they are closed at the start.
 //!
-//! The exit status is 0 if the program ended without a failure, or the words ask for the version. Otherwise standard error says why, and the status
-//! is one of these: 1 if standard output cannot be written; 2 if the words are refused, or ask for help; 3 if it cannot listen; 4 if there was no
-//! memory to start with, or none for as long as the words say.
+//! The exit status is 0 if the program ended without a failure, or the words ask for the version. It is 1 if standard output cannot be written, and
+//! 2 if the words are refused, or ask for help. It is 3 if the program cannot listen. It is 4 if there was no memory to start with, or none for as
+//! long as the words say. Standard error says why.
 //!
 //! # Lines for operators
 //!
-//! [`open_files`] asks the system how many files and sockets may be open at a time, and [`served`] returns how many connections that leaves;
+//! [`open_files`] asks the system how many files and sockets may be open at a time, and [`served`] returns how many connections that leaves.
 //! [`tell_open_files`] prints a line for the operator if these may be too few. A [`Pace`] says when something is due that is done once in a number
 //! of seconds. A [`Seldom`] limits lines to one a second, and counts those that it suppresses. [`earlier`] is the earlier of two moments, either of
 //! which may be missing. None of these blocks, allocates or knows a socket.

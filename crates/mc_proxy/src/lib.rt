@@ -24,13 +24,13 @@
 //! A session holds one client's requests, over links to servers.
 //!
 //! A [`Session`] is fed the client's bytes, in pieces of any size ([`Session::feed`]), and takes a request a turn ([`Session::turn`]). Each
-//! of the request's commands goes to the link of its key's owner, under a tag that says whose it is, or is lost at once if that link is
-//! down. The commands pass through a queue that the caller keeps, empty between turns. A storage command of a classic line does not: its
-//! data block goes to its link at once. [`Session::note`] records the outcome of a command under its tag. When the outcome of each command
-//! of the oldest unanswered request is known, its answer is emitted ([`Session::emit`]), by the choice for lost commands that its turn was
-//! given ([`mc_route::Losses`]), and the caller sends it ([`Session::output`], [`Session::taken_out`]). So answers are in the order of the
-//! requests, in whatever order replies arrive. [`Session::unanswered`], [`Session::is_finished`], [`Session::ready`] and
-//! [`Session::waits_for`] report its state, and [`Session::give_back`] frees large empty buffers.
+//! of the request's commands goes to the link of its key's owner, under a tag that says whose it is. If that link is down, the command is
+//! lost at once. The commands pass through a queue that the caller keeps, empty between turns. A storage command of a classic line does not:
+//! its data block goes to its link at once. [`Session::note`] records the outcome of a command under its tag. When the outcome of each
+//! command of the oldest unanswered request is known, its answer is emitted ([`Session::emit`]). The answer follows the choice for lost
+//! commands that its turn was given ([`mc_route::Losses`]). The caller sends it ([`Session::output`], [`Session::taken_out`]). So answers
+//! are in the order of the requests, in whatever order replies arrive. [`Session::unanswered`], [`Session::is_finished`], [`Session::ready`]
+//! and [`Session::waits_for`] report its state, and [`Session::give_back`] frees large empty buffers.
 //!
 //! A turn waits if a mark is reached: [`MAX_UNANSWERED`], [`UNSENT_MARK`] or [`LINK_MARK`]. `specs/SessionState.antt` says what a session
 //! is, `specs/SessionTurns.antt` what a turn does, `specs/Sending.antt` how commands are sent, and `specs/SessionNoting.antt` and

@@ -103,7 +103,7 @@ impl Proxy {
         Ok(self.sessions.push(Session::new(self.alloc))?)
     }
 
-    /// Whether a session is open.
+    /// Returns whether a session is open.
     pub fn is_open(&self, number: u64) -> bool
         ensures { IsTrue result ↔ (session_at self.now number ≢ None) }
     {

@@ -77,8 +77,8 @@ fn is_marked(links: &[Link], place: usize) -> bool
     }
 }
 
-/// Takes the memory that a request needs: for the immediate outcomes of its commands, which are returned; for its place among the
-/// unanswered requests; and for its commands on their links.
+/// Takes all the memory that a request needs: for the immediate outcomes of its commands, for its place among the unanswered
+/// requests, and for its commands on their links. It returns the outcomes.
 pub fn prepare(
     alloc: Global,
     unanswered: &mut VecDeque<Unanswered>,

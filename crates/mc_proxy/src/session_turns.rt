@@ -7,9 +7,9 @@ pub enum Turn {
     Took,
     /// There is no whole request or fault until more bytes arrive.
     Idle,
-    /// A whole request or fault waits while a mark is reached: [`MAX_UNANSWERED`](crate::MAX_UNANSWERED) requests are
-    /// unanswered, [`UNSENT_MARK`](crate::UNSENT_MARK) bytes are unsent to the client, or [`LINK_MARK`](crate::LINK_MARK)
-    /// bytes are unsent on a link that the request needs and that is up.
+    /// A whole request or fault waits while one of three marks is reached. [`MAX_UNANSWERED`](crate::MAX_UNANSWERED)
+    /// requests are unanswered; or [`UNSENT_MARK`](crate::UNSENT_MARK) bytes are unsent to the client; or
+    /// [`LINK_MARK`](crate::LINK_MARK) bytes are unsent on a link that the request needs and that is up.
     Waiting,
     /// The session is closed to input, after `quit` or a line too long.
     Closing,

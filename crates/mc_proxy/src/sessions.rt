@@ -79,7 +79,7 @@ impl Session {
         Ok(())
     }
 
-    /// Whether the session has reached a mark of its own.
+    /// Returns whether the session has reached a mark of its own.
     fn is_marked(&self) -> bool
         ensures { result ≡ is_session_marked self.now }
     {

@@ -117,8 +117,8 @@ fn kept_store(
     Ok(Taken::Whole(Request::Update { update, noreply }))
 }
 
-/// Takes the memory that a storage command needs: for its immediate outcome, which is returned; for its place among the unanswered
-/// requests; and for its spelling on the link at a place.
+/// Takes all the memory that a storage command needs: for its immediate outcome, for its place among the unanswered requests, and
+/// for its spelling on the link at a place. It returns the outcome.
 fn prepare_store(
     alloc: Global,
     unanswered: &mut VecDeque<Unanswered>,

@@ -39,7 +39,7 @@ pub record IsOver (ended : Bool) (session : Option SessionState) : Type 0 where
   pub all_sent : output_of session ≡ []
   pub no_more : (ended ≡ true) ⊎ (is_closed_at session ≡ true)
 
--- A session of a proxy is not over, but makes no progress alone: no whole request waits, or the first must wait for a mark; and no answer is known,
+-- A session of a proxy is not over, but makes no progress alone. No whole request waits, or the first must wait for a mark; and no answer is known,
 -- or the unsent bytes have reached the mark.
 pub record IsStuck (ended : Bool) (proxy : ProxyState) (session : Option SessionState) : Type 0 where
   pub taken : (waiting_of session ≡ []) ⊎ IsHeldUpAt proxy.ring proxy.links session

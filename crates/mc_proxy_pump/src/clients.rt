@@ -21,9 +21,9 @@ use std::io::{Read, Write};
 /// read returns no byte, and then reads no more; a caller passes `false` at first. The tally counts the requests that are taken,
 /// those whose answer hides a loss, and the bytes.
 ///
-/// After [`Pumped::Blocked`] the pump is called again when the stream may make progress, when a server may have answered one of
-/// the session's commands, or when a link may have sent more of its bytes and a request waits for its mark. If the session is not
-/// open, it returns [`Pumped::Failed`].
+/// After [`Pumped::Blocked`] the caller waits for one of three events. The stream may make progress; a server may answer one of
+/// the session's commands; or a link may send more of its bytes, if a request waits for its mark. Then the pump is called again.
+/// If the session is not open, it returns [`Pumped::Failed`].
 pub fn pump_client<R: Read, W: Write>(
     proxy: &mut Proxy,
     session: u64,

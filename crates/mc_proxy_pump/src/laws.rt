@@ -19,8 +19,8 @@ pub fn proxies_hold_after_a_client()
         → HoldsAfterClient number (sessions.came_of calls) (sessions.went_of calls) texts sent order lanes new }
 {}
 
-/// If a proxy is in the state of an order, then after calls for a link it is in the state of that order, in which more
-/// outcomes may be known. The link's bytes have grown by those that arrived and those that were sent.
+/// If a proxy is in the state of an order, then after calls for a link it is in the state of that order, with possibly more
+/// known outcomes. The link's bytes have grown by those that arrived and those that were sent.
 pub fn proxies_hold_after_a_link()
     ensures { (texts sent : ℕ → List ℕ) (order : Order) (lanes : ℕ → Lane) (place : ℕ) (calls : List links.LinkCall) (old new : ProxyState)
         → ProxyHolds texts sent order lanes old → links.LinkCalls place calls old new

@@ -3,8 +3,8 @@ use Rattle.std.specs.Prelude.{ℕ, ◌==◌, ◌+◌, ◌-◌, ◌^◌, ◌&&◌
 use Rattle.std.specs.Option.{option_or}
 use Rattle.mc_proxyd.specs.declared.limits.TheConstants.{QUIET_MILLIS}
 
--- Since when a link with this number of pending commands waits, at a moment: not at all without any; from that moment on if bytes arrived; and else
--- since the time before, or from that moment on if it did not wait before.
+-- Since when a link with this number of pending commands waits, at a moment: not at all without any, and from that moment on if bytes arrived. Else
+-- it waits since the time before, or from that moment on if it did not wait before.
 abbrev pub since_after : ℕ → Bool → Option ℕ → ℕ → Option ℕ
 since_after pending came since now =
     if pending == 0 then None else (if came then Some now else option_or since (Some now))

@@ -4,9 +4,9 @@ ghost use Rattle.mc_proxyd.specs.Delays.{least_delay};
 
 use crate::limits::{FIRST_DELAY, LONGEST_DELAY};
 
-/// Returns the milliseconds until a server is tried again after this number of failures in a row: 100 to 200 after the first, and
-/// twice as many after each further one, up to 4,000 to 8,000. A random number chooses within these bounds, so that proxies that lost
-/// a server together do not come back together.
+/// Returns the milliseconds until a server is tried again after this number of failures in a row. They are 100 to 200 after the
+/// first, and twice as many after each further one, up to 4,000 to 8,000. A random number chooses within these bounds, so that
+/// proxies that lost a server together do not come back together.
 pub fn delay_after(failures: u32, random: u64) -> u64
     ensures least { least_delay failures ≤ result }
     ensures most { result ≤ 2 * least_delay failures }

@@ -120,7 +120,7 @@ impl Handler<Held> for ProxyHandler {
         let _ = self.proxy.gone(number);
     }
 
-    /// If too many bytes are buffered for the client, the proxy only sends its answers.
+    /// Serves a client. If too many bytes are buffered for it, the proxy only sends its answers.
     fn serve(&mut self, client: &mut Client<Held>, _moment: u64) -> Step {
         if client.kept > self.most {
             return self.drain(client);

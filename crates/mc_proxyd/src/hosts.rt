@@ -137,8 +137,8 @@ impl<'a> Host<'a> {
         Some(due.saturating_sub(self.now))
     }
 
-    /// Carries the bytes to servers and from them, and then serves the clients that can go on: once for all bytes that arrived together,
-    /// so that their answers are sent together.
+    /// Carries the bytes to servers and from them, and then serves the clients that can go on. Each is served once for all bytes that
+    /// arrived together, so that its answers are sent together.
     fn carry(&mut self) {
         for _ in 0..MAX_PASSES {
             let others = self.pool.carry(
@@ -367,7 +367,8 @@ impl<'a, R: Net + Clock + Files + Print + EprintSeldom> Rounds<R, Stopwatch> for
         self.pool.is_tried() && !self.is_full()
     }
 
-    /// With the client that the settings name a server joins, and that client is let in once the server was tried.
+    /// Lets a client in. With the client that the settings name, a server joins first, and the client is let in once that server was
+    /// tried.
     fn admit(&mut self, rt: &R, registry: &Registry, stream: TcpStream, accepted: u64) {
         self.join(rt, registry, accepted);
         self.next = Some(stream);

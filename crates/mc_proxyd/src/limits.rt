@@ -46,7 +46,7 @@ pub const FIRST_DELAY: u64 = 100;
 /// A server that stays away is tried again at least this number of milliseconds after its last failure, at most twice as many.
 pub const LONGEST_DELAY: u64 = 4000;
 
-/// After an established connection, the next one to its server is begun at least this number of milliseconds later: a server that ends each
+/// After an established connection, the next one to its server is begun at least this number of milliseconds later. So a server that ends each
 /// connection at once is tried once a second. A host whose look-up found no address is looked up again that much later than another server is
 /// tried.
 pub const NEXT_DELAY: u64 = 1000;

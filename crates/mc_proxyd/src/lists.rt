@@ -194,7 +194,7 @@ fn name_mistake(servers: &[Server], name: &Address, number: u64) -> Option<Mista
     None
 }
 
-/// Whether one of the servers has this name.
+/// Returns whether one of the servers has this name.
 fn has_name(servers: &[Server], name: &Address) -> bool
     ensures { result ≡ list_any (λ other. bytes_eq other name.now) (map (λ server. server.name) servers.now) }
 {

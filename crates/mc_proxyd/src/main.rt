@@ -18,9 +18,9 @@
 //!
 //! The answer to a request whose command is lost is a choice of [`ProxySettings`] too, the same for all clients.
 //!
-//! On standard error it reports changes of its servers: a line `mc_proxyd: <server> <what>` if that differs from the last line about the server, at
-//! most one line a second for each. The line of a new address is printed at once, beside these. A server that is reachable from the start gets no
-//! line. A lost server is back with its first reply.
+//! On standard error it reports changes of its servers by lines `mc_proxyd: <server> <what>`. A line is printed if it differs from the last one about
+//! the server, and at most one a second for each. The line of a new address is printed at once, beside these. A server that is reachable from the
+//! start gets no line. A lost server is back with its first reply.
 //!
 //! [`serve`] blocks on its sockets, possibly for ever; it and [`Options::of`] block on the file of servers. No contract says what a socket or a file
 //! carries, what a look-up finds, or that a thread begins.

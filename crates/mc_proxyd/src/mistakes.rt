@@ -4,8 +4,8 @@ use crate::lists::Mistake;
 use crate::options::{PROGRAM, Place};
 use clap::ArgMatches;
 
-/// Prints on standard error the mistake of a list of servers, given the matches of the command that names the list: with the path of the file,
-/// or with the number and the text of the word.
+/// Prints on standard error the mistake of a list of servers: with the path of the file, or with the number and the text of the word. The
+/// matches are those of the command that names the list.
 pub fn tell_mistake<R: Eprint>(rt: &R, matches: &ArgMatches<'_>, place: Place, mistake: Mistake) {
     // Best effort: if this write fails, the exit status still says that the list is bad.
     let _ = match (place, mistake.in_word()) {

@@ -58,7 +58,7 @@ impl Pool {
         self.upstreams.len()
     }
 
-    /// Whether each upstream was tried.
+    /// Returns whether each upstream was tried.
     pub fn is_tried(&self) -> bool {
         self.upstreams.iter().all(|upstream| upstream.tried)
     }

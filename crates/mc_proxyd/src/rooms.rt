@@ -25,7 +25,7 @@ pub fn other_files(servers: usize, joins: bool, listed: bool, named: bool) -> u6
 }
 
 /// Returns how many files each server has open at most. If a file gives a server a new address, the look-up of the old one may go on beside
-/// the link to the new one; without a file a link begins once its look-up has ended.
+/// the link to the new one. Without a file a link begins once its look-up has ended.
 fn files_of_each(listed: bool, named: bool) -> u64
     ensures { result ≡ files_of_each listed named }
 {

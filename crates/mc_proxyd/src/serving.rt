@@ -27,8 +27,8 @@ use std::thread::Threads;
 /// that fails is closed, and the others go on. `rt` prints the changes of servers on standard error. If that fails nothing else changes, but a
 /// write that blocks stalls all clients.
 ///
-/// Hosts' names are looked up in threads of `system`, if a server may have one ([`ProxySettings::may_look_up`]): one thread begins the others,
-/// and each pending look-up has one, at most one a server. At the end it joins the first and no other. The error is `Memory` too if the system
+/// Hosts' names are looked up in threads of `system`, if a server may have one ([`ProxySettings::may_look_up`]). One thread begins the others.
+/// Each pending look-up has one, at most one a server. At the end it joins the first and no other. The error is `Memory` too if the system
 /// gives no first thread.
 pub fn serve<S, R>(
     system: &S,

@@ -45,7 +45,7 @@ impl ProxySettings {
     }
 }
 
-/// Whether the server that joins, if one does, has a host's name.
+/// Returns whether the server that joins, if one does, has a host's name.
 fn joins_by_name(join: &Option<(Server, u64)>) -> bool
     ensures { MatchBool result (IsSomeAnd join.now (λ joins. HasName joins.0.address)) (IfSome join.now (λ joins. IsSpelled joins.0.address)) }
 {
@@ -55,7 +55,7 @@ fn joins_by_name(join: &Option<(Server, u64)>) -> bool
     }
 }
 
-/// Whether one of these addresses has a host's name.
+/// Returns whether one of these addresses has a host's name.
 fn have_name(addresses: &[Address]) -> bool
     ensures { MatchBool result (HaveName addresses.now) (AreSpelled addresses.now) }
 {
@@ -68,7 +68,7 @@ fn have_name(addresses: &[Address]) -> bool
     have_name(addresses)
 }
 
-/// Whether an address has a host's name, and no IPv4 address.
+/// Returns whether an address has a host's name, and no IPv4 address.
 fn has_name(address: &Address) -> bool
     ensures { MatchBool result (HasName address.now) (IsSpelled address.now) }
 {

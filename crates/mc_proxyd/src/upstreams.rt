@@ -126,8 +126,8 @@ impl Upstream {
         }
     }
 
-    /// Tries the server if it is down and it is time for that, goes on with a try that waits for a look-up, and gives up a try that takes longer
-    /// than [`CONNECT_MILLIS`]. It blocks on neither. A random number decides when the next try begins if this one fails.
+    /// Tries the server if it is down and it is time for that, and goes on with a try that waits for a look-up. It gives up a try that takes
+    /// longer than [`CONNECT_MILLIS`]. It blocks on neither. A random number decides when the next try begins if this one fails.
     pub fn keep<R: Net>(
         &mut self,
         rt: &R,
@@ -214,7 +214,7 @@ impl Upstream {
         self.next = now.saturating_add(delay_after(failures, random));
     }
 
-    /// Returns when something must be done for it without an event, at the earliest: a connection must be begun or given up, a reply is late, or a
+    /// Returns when something must be done for it without an event, at the earliest. A connection must be begun or given up, a reply is late, or a
     /// notice is due. A server that sends nothing for `timeout` milliseconds is late; 0 for never.
     pub fn due(&self, now: u64, timeout: u64) -> Option<u64> {
         let own = match self.state {

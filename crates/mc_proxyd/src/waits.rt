@@ -44,8 +44,8 @@ impl Waits {
         done.saturating_add(waiting as u64)
     }
 
-    /// Returns whether the server is up at the moment `now`, if its connection is established, was begun at `begun`, and has `waiting` pending
-    /// commands: it is not silent, or nobody has asked it for [`QUIET_MILLIS`].
+    /// Returns whether the server is up at the moment `now`: it is not silent, or nobody has asked it for [`QUIET_MILLIS`]. Its connection is
+    /// established and was begun at `begun`, and `waiting` commands are pending.
     pub fn is_up(&self, waiting: usize, begun: u64, now: u64) -> bool
         ensures { result ≡ is_up_by self.now.silent waiting begun now }
     {

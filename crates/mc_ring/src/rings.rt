@@ -139,7 +139,7 @@ fn check(servers: &[Address]) -> Result<(), RingError>
     Ok(())
 }
 
-/// Whether two of the servers are alike.
+/// Returns whether two of the servers are alike.
 fn has_doubled(servers: &[Address]) -> bool
     ensures { result ≡ has_doubled servers.now }
 {

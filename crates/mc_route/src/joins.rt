@@ -59,7 +59,7 @@ pub fn join_with(
     Ok(())
 }
 
-/// Whether a request is answered by replies: no command was lost, or its lost commands count as misses.
+/// Returns whether a request is answered by replies: no command was lost, or its lost commands count as misses.
 fn is_answered(losses: Losses, request: &Request, outcomes: &[Outcome]) -> bool
     ensures { result ≡ (not (has_lost outcomes.now) || is_missed losses request.now) }
 {
@@ -74,14 +74,14 @@ pub fn hides_loss(losses: Losses, request: &Request, outcomes: &[Outcome]) -> bo
     is_unreported(losses, request) && has_lost(outcomes)
 }
 
-/// Whether the answer to a request says nothing of its lost commands.
+/// Returns whether the answer to a request says nothing of its lost commands.
 fn is_unreported(losses: Losses, request: &Request) -> bool
     ensures { result ≡ is_unreported losses request.now }
 {
     is_missed(losses, request) || is_silent(losses, request)
 }
 
-/// Whether a request counts its lost commands as misses.
+/// Returns whether a request counts its lost commands as misses.
 fn is_missed(losses: Losses, request: &Request) -> bool
     ensures { result ≡ is_missed losses request.now }
 {
@@ -91,7 +91,7 @@ fn is_missed(losses: Losses, request: &Request) -> bool
     }
 }
 
-/// Whether a request, if it is no retrieval, gets no answer if a command of it was lost.
+/// Returns whether a request, if it is no retrieval, gets no answer if a command of it was lost.
 fn is_silent(losses: Losses, request: &Request) -> bool
     ensures { result ≡ is_silent losses request.now }
 {
@@ -101,7 +101,7 @@ fn is_silent(losses: Losses, request: &Request) -> bool
     }
 }
 
-/// Whether a request asks for items.
+/// Returns whether a request asks for items.
 fn is_retrieval(request: &Request) -> bool
     ensures { result ≡ is_retrieval request.now }
 {
@@ -115,7 +115,7 @@ fn is_retrieval(request: &Request) -> bool
     }
 }
 
-/// Whether a request that hides this hides any of its replies.
+/// Returns whether a request that hides this hides any of its replies.
 fn hides_any(hides: Hides) -> bool
     ensures { result ≡ hides_any hides }
 {
@@ -168,7 +168,7 @@ fn shown_len(reply: &Reply<Block>) -> usize
     }
 }
 
-/// How many bytes a block has.
+/// Returns how many bytes a block has.
 fn block_len(block: &Block) -> usize
     ensures len { result ≡ length block.now }
     ensures bound { result < 2 ^ 63 }
@@ -176,7 +176,7 @@ fn block_len(block: &Block) -> usize
     block.as_slice().len()
 }
 
-/// Whether a command was lost.
+/// Returns whether a command was lost.
 fn has_lost(outcomes: &[Outcome]) -> bool
     ensures { result ≡ has_lost outcomes.now }
 {

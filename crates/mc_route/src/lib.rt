@@ -1,9 +1,9 @@
 //! Routes: from a request to its servers, and from the outcomes of its commands to its answer.
 //!
 //! [`route`] takes a request that a reader lends, and a ring. It appends the request's commands, each with its server ([`Routed`]), to a queue of
-//! the caller, and returns what is kept for the answer. It computes each key's digest once. For an owned request there are three calls: [`atoms`]
-//! returns its commands, and copies keys and blocks; [`into_atoms`] consumes the request and copies none; [`without_block`] copies what is kept
-//! for the answer. When each command has its [`Outcome`], its reply or that it was lost, [`join`] appends the answer to the output, for which
+//! the caller, and returns what is kept for the answer. It computes each key's digest once. Three calls take an owned request: [`atoms`] returns
+//! its commands, and copies keys and blocks. [`into_atoms`] consumes the request and copies none. [`without_block`] copies what is kept for the
+//! answer. When each command has its [`Outcome`], its reply or that it was lost, [`join`] appends the answer to the output, for which
 //! [`join_room`] is room enough.
 //!
 //! A key's command goes to the owner of the key, a flush to each server; `mn`, `version` and `quit` have no command. The answer is the one that a

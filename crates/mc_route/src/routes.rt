@@ -20,8 +20,8 @@ pub struct Routed {
     pub atom: Atom<Block>,
 }
 
-/// Returns the commands of a request, each with its server: one for each key, in order, to the key's owner; a flush to each
-/// server, in their order; none for `mn`, `version` and `quit`.
+/// Returns the commands of a request, each with its server. There is one for each key, in order, to the key's owner. A
+/// flush has one for each server, in their order. `mn`, `version` and `quit` have none.
 ///
 /// It copies the keys and blocks.
 pub fn atoms(alloc: Global, request: &Request, ring: &Ring) -> Result<Vec<Routed>, RouteError>
@@ -51,7 +51,7 @@ pub fn into_atoms(
     }
 }
 
-/// How many commands a request has.
+/// Returns how many commands a request has.
 fn command_count(request: &Request, ring: &Ring) -> usize
     ensures { result ≡ length (route_of ring.now request.now) }
 {
@@ -63,7 +63,7 @@ fn command_count(request: &Request, ring: &Ring) -> usize
     }
 }
 
-/// How many commands an update has.
+/// Returns how many commands an update has.
 #[tactic(auto, using(crate::proofs::RouteLemmas::each_steps))]
 pub fn update_count(update: &Update<Key, Block>, ring: &Ring) -> usize
     ensures { result ≡ length (route_of_update ring.now update.now) }
