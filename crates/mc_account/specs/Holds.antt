@@ -9,9 +9,9 @@ use Rattle.mc_proxy.specs.ProxyState.{ProxyState, session_at}
 use Rattle.mc_account.specs.Orders.{Order, AreInOrder, IsSized, IsToldAs, answers_of, entries_of, is_complete, taken_of, unanswered_of}
 use Rattle.mc_account.specs.Lanes.{Lane, LinkHolds}
 
--- The session of a number after a text has arrived and these bytes were consumed: what was taken of it is the first of the text, in order, and what
--- is left is the rest, whatever follows. Its first requests are complete, and the bytes consumed and those that were not are their answers; the
--- others are not answered.
+-- The session of a number after a text has arrived and these bytes were consumed: what was taken of it is the first of the
+-- text, in order, and what is left is the rest, whatever follows. Its first requests are complete, and the bytes consumed and
+-- those that were not are their answers; the others are not answered.
 pub record SessionHolds (number : ℕ) (order : Order) (text sent : List ℕ) (session : SessionState) : Type 0 where
   pub rest : (more : List ℕ) → taken_of number order ++ rest_of session.reader more ≡ requests_of (text ++ more)
   pub done : Order
@@ -45,8 +45,8 @@ pub record IsUnused (number : ℕ) (order : Order) (text sent : List ℕ) (sessi
   pub nothing_taken : entries_of number order ≡ []
   pub nothing_sent : sent ≡ []
 
--- A proxy is in the state of this order, if these texts have arrived for its sessions and these bytes were consumed, both by number, and this passed
--- over its links, by place.
+-- A proxy is in the state of this order, if these texts have arrived for its sessions and these bytes were consumed, both by
+-- number, and this passed over its links, by place.
 pub record ProxyHolds (texts sent : ℕ → List ℕ) (order : Order) (lanes : ℕ → Lane) (proxy : ProxyState) : Type 0 where
   pub sized : All IsSized order
   pub chosen : All (IsToldAs proxy.losses) order

@@ -11,8 +11,8 @@ use Rattle.mc_link.specs.LinkState.{LinkState, Waiting, down_link}
 use Rattle.mc_proxy.specs.Emits.{is_told}
 use Rattle.mc_account.specs.Orders.{Order, Tagged, commands_to, outcomes_to}
 
--- since a link came up: how many requests had been taken then, the replies that were taken, the bytes that were consumed for its server, and the
--- bytes that arrived from it
+-- since a link came up: how many requests had been taken then, the replies that were taken, the bytes that were consumed for its
+-- server, and the bytes that arrived from it
 pub record Lane : Type 0 where
   pub since : ℕ
   pub replies : List (AReply (List ℕ))
@@ -44,9 +44,9 @@ CanHave (command ∷ commands) (reply ∷ replies) = (can_have (head_of command.
 abbrev pub as_waiting : List Tagged → List Waiting
 as_waiting commands = map (λ command. (head_of command.0, command.1)) commands
 
--- Over a link that is up went the commands to its server of all requests that were taken since it came up, in that order. The bytes sent on it are
--- their joined spellings. The bytes that arrived are the joined spellings of the replies taken, and the unread bytes. The commands without a reply
--- are pending. No earlier command to it is pending.
+-- Over a link that is up went the commands to its server of all requests that were taken since it came up, in that order. The
+-- bytes sent on it are their joined spellings. The bytes that arrived are the joined spellings of the replies taken, and the
+-- unread bytes. The commands without a reply are pending. No earlier command to it is pending.
 pub record LaneHolds (place : ℕ) (order : Order) (lane : Lane) (link : LinkState) : Type 0 where
   pub since : lane.since ≤ length order
   pub put : lane.out ++ link.output ≡ spelled (commands_to place (drop lane.since order))

@@ -35,14 +35,14 @@ outcome_at order tag = outcome_in (asked_at order tag.session tag.request) tag.a
 abbrev pub IsBefore : Tag → Tag → Type 0
 IsBefore a b = (a.request < b.request) ⊎ ((a.request ≡ b.request) × (a.atom < b.atom))
 
--- a pending command of the link at a place is a command to it whose reply is pending
+-- a pending command of a link is one that the order has for the server at its place, with an outcome that is not known yet
 pub record IsAwaited (place : ℕ) (order : Order) (waiting : Waiting) : Type 0 where
   pub atom : Atom (List ℕ)
   pub head : head_of atom ≡ waiting.0
   pub command : command_at order waiting.1 ≡ Some (to_place place atom)
   pub outcome : outcome_at order waiting.1 ≡ Some Awaited
 
--- the reply to each of these commands is pending when it is its turn to be noted
+-- the outcome of each of these commands is not known yet when it is its turn to be noted
 abbrev pub AreAwaited : List Tag → Outcome → Order → Type 0
 AreAwaited [] outcome order = Unit {0}
 AreAwaited (tag ∷ tags) outcome order = (outcome_at order tag ≡ Some Awaited) × AreAwaited tags outcome (note tag outcome order)

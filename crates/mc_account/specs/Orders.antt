@@ -15,8 +15,8 @@ use Rattle.mc_proxy.specs.SessionNoting.{with_outcome}
 use Rattle.mc_proxy.specs.Sending.{tag_of}
 use Rattle.mc_proxy.specs.SessionState.{Unanswered}
 
--- a request or fault that was taken: its session, its number there, the request itself, the ring by which it was routed, the choice for its lost
--- commands, and the outcomes of its commands so far
+-- a request or fault that was taken: its session, its number there, the request itself, the ring by which it was routed,
+-- the choice for its lost commands, and the outcomes of its commands so far
 pub record Entry : Type 0 where
   pub session : ℕ
   pub request : ℕ

@@ -182,8 +182,8 @@ pub fn answered_requests_are_counted()
     ensures lost { (place : ℕ) (old : ProxyState) (other : ℕ) → answered_at (lost_at place old) other ≡ answered_at old other }
 {}
 
-/// If a link is up, the reply to each of its pending commands is awaited. This holds too if the same outcome is noted of all of
-/// them, in sequence, and for the command that gets its reply.
+/// If a link is up, the order has each of its pending commands, with an outcome that is not known yet. This holds too while one
+/// outcome is noted of all of them, in sequence, and for the command that gets its reply.
 pub fn waiting_commands_are_awaited()
     ensures each { (texts sent : ℕ → List ℕ) (order : Order) (lanes : ℕ → Lane) (now : ProxyState)
         → ProxyHolds texts sent order lanes now → (place : ℕ) → (link_at now.links place).up ≡ true

@@ -24,7 +24,8 @@ use Rattle.mc_admin.specs.declared.heads.Found.TheVariants.{Absent, One, Several
 abbrev pub without_blanks : List ℕ → List ℕ
 without_blanks text = reverse (skip_ows (reverse text))
 
--- a whole line without its line feed, without one carriage return in front of that, and without the blanks in front of it, which libmemcached sends
+-- a whole line without its line feed, without one carriage return in front of that, and without the blanks in front of it, which
+-- libmemcached sends
 abbrev pub content_of : List ℕ → List ℕ
 content_of line = without_blanks (strip_carriage_return (take (length line - 1) line))
 

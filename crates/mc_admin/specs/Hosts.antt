@@ -9,8 +9,8 @@ use Rattle.mc_admin.specs.declared.hosts.Hosts.{Hosts}
 unfoldable pub host_of : List ℕ → List ℕ
 host_of value = before_first (λ b. b == 58) value
 
--- a text is localhost, the host that the listener was given, a name that was given, or the address at which the connection arrived, in any case of
--- letters
+-- a text is localhost, the host that the listener was given, a name that was given, or the address at which the connection arrived,
+-- in any case of letters
 abbrev pub are_called : Hosts → List ℕ → Bool
 are_called hosts host =
     eq_ignore_case host (codes "localhost") || eq_ignore_case host hosts.listen.now || eq_ignore_case host hosts.name.now

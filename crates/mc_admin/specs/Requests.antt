@@ -21,8 +21,8 @@ abbrev pub is_http_line : List ℕ → Bool
 is_http_line line =
     let content = strip_carriage_return line in starts_with nat_eq (drop (length content - 9) content) (codes " HTTP/")
 
--- the phase of a request after one more byte, with these bytes in front of it: a line ends with its line feed (10), and a head with its first empty
--- line (13 is a carriage return)
+-- the phase of a request after one more byte, with these bytes in front of it: a line ends with its line feed (10), and a head
+-- with its first empty line (13 is a carriage return)
 -- source: memcached's protocol.txt; RFC 9112, section 2.1
 abbrev pub after : Phase → List ℕ → ℕ → Phase
 after Line text b = if b == 10 then (if is_http_line text then Start else LineEnded) else Line

@@ -160,8 +160,8 @@ abbrev pub block_lines : Option (List ℕ) → List ℕ
 block_lines None = []
 block_lines (Some block) = block ++ codes "\r\n"
 
--- the spelling of a command: its line, and the data block after it; which of the spellings that a server reads is the canonical one is this project's
--- own
+-- the spelling of a command: its line, and the data block after it; which of the spellings that a server reads is the
+-- canonical one is this project's own
 abbrev pub spelling_of_atom : Atom (List ℕ) → List ℕ
 spelling_of_atom atom = spaced (line_words atom) ++ (codes "\r\n" ++ block_lines (block_of_atom atom))
 

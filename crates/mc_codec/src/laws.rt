@@ -11,8 +11,8 @@ ghost use Rattle.mc_reply.specs.Spelling.{spelling_of};
 ghost use Rattle.mc_codec.specs.Spellings.{is_askable, is_good_atom};
 ghost use Rattle.mc_codec.specs.NextReply.{IsBegun};
 
-/// No spelling of a reply to a command begins that of another, and each is of one reply. So the front of some bytes is one
-/// reply or none.
+/// No spelling of a reply to a command begins that of another, and each is of one reply. So the front of some bytes is
+/// one reply or none.
 #[tactic(auto, using(crate::proofs::HeadLemmas::replies_apart))]
 pub fn replies_are_apart()
     ensures { (head : Atom (Unit {0})) → (r q : Reply (List ℕ)) → (xs ys : List ℕ)

@@ -96,8 +96,8 @@ fn append_block(out: &mut Vec<u8>, atom: &Atom<Block>)
     }
 }
 
-/// Appends the canonical spelling of a command, or nothing if there is no memory. It takes no memory if the vector has room
-/// for the [`spelled_len`] bytes of the spelling.
+/// Appends the canonical spelling of a command, or nothing if there is no memory. It takes no memory if the vector has
+/// room for the [`spelled_len`] bytes of the spelling.
 pub fn write_atom(atom: &Atom<Block>, out: &mut Vec<u8>) -> Result<(), ReadError>
     ensures ok { OnOk result (out.new.items ≡ out.old.items ++ spelling_of_atom atom.now) }
     ensures len { OnOk result (vec_len out.new ≡ vec_len out.old + length (spelling_of_atom atom.now)) }

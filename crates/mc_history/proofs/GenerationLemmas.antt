@@ -37,8 +37,8 @@ read_spelled (c ∷ cs) more good =
     ∙ requests-spelled c.0 (spelled cs ++ more) parts.0
     ∙ ap (λ (ts : List Taken). read_as c ∷ ts) (read_spelled cs more parts.1)
 
--- What a connection reads: if the bytes that arrived and those in flight spell these commands, and the first of these were taken, it reads the
--- others, and after them what follows.
+-- What a connection reads: if the bytes that arrived and those in flight spell these commands, and the first of these were taken,
+-- it reads the others, and after them what follows.
 pub reads_others : (opening : CacheState) (number : ℕ) (text going sent : List ℕ) (made : List Made) (connection : ConnectionState) (others : List Tagged)
     → Holds opening number text (map taking_of made) sent connection
     → text ++ going ≡ spelled (commands_on number made ++ others) → list_all is_good (commands_on number made ++ others) ≡ true

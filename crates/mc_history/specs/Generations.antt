@@ -29,8 +29,8 @@ pub record IsFront (commands : List Tagged) (replies all : List (AReply (List �
   pub bytes_are : bytes ≡ told (drop (length replies) commands) later
   pub can : CanHave (drop (length replies) commands) later
 
--- A link that is up and the server's connection at its other end, by what the server made of the commands that arrived, and which others were sent.
--- Both ways, the bytes that arrived are those that were sent.
+-- A link that is up and the server's connection at its other end, by what the server made of the commands that arrived, and which
+-- others were sent. Both ways, the bytes that arrived are those that were sent.
 pub record AreJoined (place : ℕ) (order : Order) (passed : Lane) (link : LinkState) (opening : CacheState) (all : List Made) (number : ℕ) (end : ConnectionState) (others : List Tagged) : Type 0 where
   pub lane : LaneHolds place order passed link
   pub connection : Holds opening number passed.out (map taking_of all) passed.came end
@@ -38,8 +38,8 @@ pub record AreJoined (place : ℕ) (order : Order) (passed : Lane) (link : LinkS
   pub commands : commands_of_lane place order passed ≡ commands_on number all ++ others
   pub good : list_all is_good (commands_of_lane place order passed) ≡ true
 
--- The server reads the other commands next, in order, and nothing else before what follows. The replies that the proxy took are the first that the
--- server gave to these commands, the bytes in flight back spell the later ones, and none of them is a violation.
+-- The server reads the other commands next, in order, and nothing else before what follows. The replies that the proxy took are the
+-- first that the server gave to these commands, the bytes in flight back spell the later ones, and none of them is a violation.
 pub record IsCarried (place : ℕ) (order : Order) (lane : Lane) (link : LinkState) (made : List Made) (number : ℕ) (connection : ConnectionState) (others : List Tagged) : Type 0 where
   pub reads : (more : List ℕ) → rest_of connection.reader (link.output ++ more) ≡ map read_as others ++ requests_of more
   pub front : IsFront (commands_of_lane place order lane) lane.replies (replies_on number made) (link.unread ++ connection.output)

@@ -23,8 +23,8 @@ pub record IsAnswered (s : CacheState) (atom : Atom (List ℕ)) (e : Entry) : Ty
   pub refused : e.refused ≡ is_refusal (step_of s atom e.moment e.refused).1
   pub reply : e.reply ≡ spelling_of atom (step_of s atom e.moment e.refused).1
 
--- A history is legal from a cache on: each of its entries is of a command of this server that was taken, and its answer is what the cache replies in
--- the state that the entry before has left.
+-- A history is legal from a cache on: each of its entries is of a command of this server that was taken, and its answer is
+-- what the cache replies in the state that the entry before has left.
 abbrev pub IsLegal : Order → ℕ → CacheState → List Entry → Type 0
 IsLegal order place s [] = Unit {0}
 IsLegal order place s (e ∷ es) =

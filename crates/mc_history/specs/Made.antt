@@ -51,8 +51,8 @@ commands_on number made = map (λ m. m.command) (made_on number made)
 abbrev pub replies_on : ℕ → List Made → List (AReply (List ℕ))
 replies_on number made = map (λ m. m.reply) (made_on number made)
 
--- a command was made in this state of the cache: it can be spelled; memory is refused only if that is possible, and exactly if the reply says so; and
--- the reply is that of the cache, and one that the command can have
+-- a command was made in this state of the cache: it can be spelled; memory is refused only if that is possible, and exactly if the
+-- reply says so; and the reply is that of the cache, and one that the command can have
 pub record IsMade (s : CacheState) (m : Made) : Type 0 where
   pub good : is_good_atom m.command.0 ≡ true
   pub legal : m.refused ≡ true → may_refuse s m.command.0 m.moment ≡ true

@@ -9,8 +9,8 @@ use Rattle.mc_link.specs.declared.turns.Tag.{Tag}
 abbrev pub Waiting : Type 0
 Waiting = Atom (Unit {0}) × Tag
 
--- a link: whether it is up, how often it came up, the output not yet consumed, the pending commands, oldest first, and the bytes that have arrived
--- and belong to no reply that was taken
+-- a link: whether it is up, how often it came up, the output not yet consumed, the pending commands, oldest first, and the
+-- bytes that have arrived and belong to no reply that was taken
 pub record LinkState : Type 0 where
   pub up : Bool
   pub generation : ℕ

@@ -31,8 +31,8 @@ is_shut acceptor = nat_lt 0 acceptor.limit && nat_le acceptor.limit acceptor.acc
 abbrev pub passed : AcceptorState → AcceptorState
 passed acceptor = record acceptor { accepted = min (acceptor.accepted + 1) (2 ^ 64 - 1); backlog = More }
 
--- What a call of an acceptor does. It accepts a connection only if the acceptor is not shut, and counts it. If it accepts none, all that may change
--- is what is known of the waiting connections, and for an acceptor that is shut none waits.
+-- What a call of an acceptor does. It accepts a connection only if the acceptor is not shut, and counts it. If it accepts none, all
+-- that may change is what is known of the waiting connections, and for an acceptor that is shut none waits.
 abbrev pub IsAccept : {A : Type 0} → Option A → (old new : AcceptorState) → Type 0
 IsAccept (Some stream) old new = (is_shut old ≡ false) × (new ≡ passed old)
 IsAccept None old new = (new ≡ record old { backlog = new.backlog }) × (is_shut old ≡ true → new.backlog ≡ Nobody)

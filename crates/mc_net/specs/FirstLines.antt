@@ -1,5 +1,5 @@
--- Which protocol a connection speaks, by its first non-empty line. Its words and its end are those that the reader of requests sees; which lines are
--- a stranger's is this project's own choice.
+-- Which protocol a connection speaks, by its first non-empty line. Its words and its end are those that the reader of requests
+-- sees; which lines are a stranger's is this project's own choice.
 use Rattle.std.specs.Prelude.{ℕ, ◌==◌, Bool, false, nat_eq, nat_lt, List, [], ◌∷◌, length, filter, is_some, codes, if◌then◌else◌}
 use Rattle.std.specs.List.{slice_split, starts_with}
 use Rattle.std.specs.Str.Lines.{strip_carriage_return}
@@ -24,8 +24,8 @@ end_in_version [] = false
 end_in_version (word ∷ []) = is_version word
 end_in_version (word ∷ next ∷ more) = end_in_version (next ∷ more)
 
--- What a line says by its words: a command's is text, another that ends in a version of HTTP is a stranger's, and every other is text. An empty line
--- says nothing: the lines after it decide.
+-- What a line says by its words: a command's is text, another that ends in a version of HTTP is a stranger's, and every other is
+-- text. An empty line says nothing: the lines after it decide.
 -- source: RFC 9112, sections 2.2 (empty lines in front) and 3 (the version ends the line)
 abbrev pub line_says : List (List ℕ) → Opening → Opening
 line_says [] after = after

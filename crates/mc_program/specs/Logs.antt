@@ -14,7 +14,8 @@ form_by option.Text true = Plain
 form_by option.Text false = Timed
 form_by option.Json shown = Json
 
--- the spelling of a character in a JSON text: a quotation mark (34) and a backslash (92) behind a backslash, a control character by its number
+-- the spelling of a character in a JSON text: a quotation mark (34) and a backslash (92) behind a backslash, a control
+-- character by its number
 -- source: RFC 8259, section 7
 abbrev pub spelling_of : ℕ → Spelling
 spelling_of c = if c == 34 || c == 92 then Escaped else if nat_lt c 32 then Number else Itself

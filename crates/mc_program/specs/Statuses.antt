@@ -23,7 +23,8 @@ abbrev pub status_of_words : ErrorKind → ℕ
 status_of_words DisplayVersion = 0
 status_of_words _ = 2
 
--- 1 if output fails, 2 if a word is no text or the program refuses the words, and else that of the words or of the error of serving
+-- 1 if output fails, 2 if a word is no text or the program refuses the words, and else that of the words or of the error of
+-- serving
 abbrev pub status_of : Failure → ℕ
 status_of Output = 1
 status_of (Words error) = status_of_words (kind_of error)

@@ -11,8 +11,8 @@ use Rattle.mc_proxy.specs.ProxyState.{ProxyState}
 abbrev pub joined_link : Bool → LinkState
 joined_link up = if up then up_link 1 else down_link 0
 
--- a server joins at the last place: the ring has its points beside those it had, and each key keeps its owner or goes to it; no request that was
--- taken is routed anew
+-- a server joins at the last place: the ring has its points beside those it had, and each key keeps its owner or goes to it;
+-- no request that was taken is routed anew
 pub record JoinsServer (address : List ℕ) (up : Bool) (place : ℕ) (old new : ProxyState) : Type 0 where
   pub last : place ≡ length old.ring.servers
   pub servers : new.ring.servers ≡ old.ring.servers ++ address ∷ []

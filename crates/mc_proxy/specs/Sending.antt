@@ -15,7 +15,8 @@ use Rattle.mc_proxy.specs.declared.session_limits.TheConstants.{MAX_UNANSWERED, 
 abbrev pub tag_of : ℕ → ℕ → ℕ → Tag
 tag_of session request atom = record { session = session; request = request; atom = atom }
 
--- a command sent to a link: if the link is up, the spelling is appended to its output, and the head to its pending commands
+-- a command sent to a link: if the link is up, the spelling is appended to its output, and the head to its pending
+-- commands
 abbrev pub handed_to : Tag → Atom (List ℕ) → LinkState → LinkState
 handed_to tag atom link =
     if link.up then sent atom tag link else link
@@ -54,8 +55,8 @@ roomy_at links place = slice_index_or links place (record { state = down_link 0;
 abbrev pub AreRoomy : List RoomyLink → List Routed → Type 0
 AreRoomy links commands = All (λ command. IsRoomy (spelled commands) (length commands) (roomy_at links command.server)) commands
 
--- whether a session has reached a mark of its own: the limit of unanswered requests, or that of bytes unsent to the client; or no number is left for
--- a request
+-- whether a session has reached a mark of its own: the limit of unanswered requests, or that of bytes unsent to the
+-- client; or no number is left for a request
 abbrev pub is_session_marked : SessionState → Bool
 is_session_marked session =
     nat_le MAX_UNANSWERED (length session.unanswered) || nat_le UNSENT_MARK (length session.output) || nat_le (2 ^ 64 - 1) session.taken

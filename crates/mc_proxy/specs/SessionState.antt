@@ -6,15 +6,15 @@ use Rattle.mc_route.specs.declared.losses.Losses.{Losses}
 use Rattle.mc_route.specs.declared.outcomes.Outcome.{Outcome}
 use Rattle.mc_link.specs.LinkState.{LinkState, RoomyLink, down_link}
 
--- a request or fault that was taken and is not answered: without its data block, with the choice for its lost commands, and with the outcomes of its
--- commands so far
+-- a request or fault that was taken and is not answered: without its data block, with the choice for its lost commands, and with the
+-- outcomes of its commands so far
 pub record Unanswered : Type 0 where
   pub what : Taken
   pub losses : Losses
   pub outcomes : List Outcome
 
--- a session: its reader, the answers that were not consumed, how many requests and faults were taken of it, and the unanswered ones of them, the
--- oldest first
+-- a session: its reader, the answers that were not consumed, how many requests and faults were taken of it, and the unanswered ones
+-- of them, the oldest first
 pub record SessionState : Type 0 where
   pub reader : ReaderState
   pub output : List ℕ

@@ -21,8 +21,8 @@ pub record IsFed (piece : List ℕ) (before after : SessionState) : Type 0 where
   pub after_end : before.reader.closed ≡ true → after ≡ before
   pub all_else : after ≡ record before { reader = after.reader }
 
--- the first request or fault of the session's rest is taken, and no mark is reached; its commands go to the links of their owners, in their order,
--- and it is the last unanswered one, with this choice for its lost commands
+-- the first request or fault of the session's rest is taken, and no mark is reached; its commands go to the links of their
+-- owners, in their order, and it is the last unanswered one, with this choice for its lost commands
 pub record Takes (number : ℕ) (ring : RingState) (losses : Losses) (links now : List LinkState) (before after : SessionState) (what : Taken) : Type 0 where
   pub first : IsFirst before.reader what after.reader
   pub closed : after.reader.closed ≡ ends what

@@ -9,7 +9,8 @@ use mc_ring::RingError;
 use std::alloc::{AllocError, AllocFailed};
 use thiserror::Error;
 
-/// Why a call of a proxy failed. Nothing has changed. If several causes hold, the least number is returned, `Memory` last.
+/// Why a call of a proxy failed. Nothing has changed. If several causes hold, the least number is returned, `Memory`
+/// last.
 #[derive(Debug, Drop, Error)]
 pub enum ProxyError {
     /// 1: no session of this number is open.
@@ -24,8 +25,8 @@ pub enum ProxyError {
     /// 4: the link is down and must be up, or is up and must be down, or no generation is left.
     #[error("link in the wrong state")]
     LinkState,
-    /// 5: no memory; returned if no other cause holds. No session was admitted, no piece, request or reply taken, no answer
-    /// emitted and no server joined.
+    /// 5: no memory; returned if no other cause holds. No session was admitted, no piece, request or reply taken, no
+    /// answer emitted and no server joined.
     #[error("out of memory")]
     Memory,
     /// 6: the ring has as many servers as it may have.

@@ -24,8 +24,8 @@ use std::mem;
 
 /// Moves the start of an empty queue to the front of its memory. It takes no memory, and frees none.
 ///
-/// A queue that is filled at its end and consumed from its start moves on through its memory. Commands that pass the memory's end
-/// are then in two parts, and each of them would be moved to borrow them as one slice.
+/// A queue that is filled at its end and consumed from its start moves on through its memory. Commands that pass the memory's
+/// end are then in two parts, and each of them would be moved to borrow them as one slice.
 pub fn start_at_front(alloc: Global, queue: &mut VecDeque<Routed>)
     requires { queue.old.items ≡ [] }
     ensures { queue.new.items ≡ [] }
@@ -34,8 +34,8 @@ pub fn start_at_front(alloc: Global, queue: &mut VecDeque<Routed>)
     *queue = VecDeque::from_vec(moved_on.into_vec());
 }
 
-/// Returns whether a link that a request needs has reached its mark of unsent bytes. It takes no memory, and looks at no key if
-/// no link has.
+/// Returns whether a link that a request needs has reached its mark of unsent bytes. It takes no memory, and looks at no key
+/// if no link has.
 pub fn is_any_marked(links: &[Link], asked: &Asked<'_>, ring: &Ring) -> bool
     requires { is_well_formed (asked_of asked.now) ≡ true }
     ensures { result ≡ list_any (λ command. is_link_marked (link_at (states links.now) command.server)) (route_of_taken ring.now (asked_of asked.now)) }

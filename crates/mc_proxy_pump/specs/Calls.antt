@@ -19,11 +19,11 @@ pub data Call : Type 0 where
   Emitted : Bool → Call
   -- no answer is known, and none is emitted
   Rested : Call
-  -- the first bytes of its output are consumed, this number of them, which are these: they were sent to its client
+  -- the first bytes of its output are consumed, by their number and the bytes themselves: they were sent to its client
   Sent : ℕ → List ℕ → Call
 
--- What a call for the session of a number does to the proxy. It is fed only if no whole request waits, and only while less is unsent than the mark.
--- Likewise an answer is emitted, or found not to be known, only while less is unsent than the mark.
+-- What a call for the session of a number does to the proxy. It is fed only if no whole request waits, and only while less is unsent
+-- than the mark. Likewise an answer is emitted, or found not to be known, only while less is unsent than the mark.
 abbrev pub IsCall : ℕ → Call → ProxyState → ProxyState → Type 0
 IsCall number (Fed came) old new =
     Steps number old new (Alone (IsFed came)) × (waiting_of (session_at old number) ≡ []) × (length (output_of (session_at old number)) < UNSENT_MARK)
@@ -63,8 +63,8 @@ missed_by [] missed = missed
 missed_by (Emitted hides ∷ calls) missed = missed_by calls (counted hides missed)
 missed_by (other ∷ calls) missed = missed_by calls missed
 
--- Calls for an open session by which these bytes arrived and these were sent. They take the one count of answers that hide a loss to the other. The
--- session is open after them.
+-- Calls for an open session by which these bytes arrived and these were sent. They take the one count of answers that hide a loss to
+-- the other. The session is open after them.
 pub record Stretch (number : ℕ) (old new : ProxyState) (came went : List ℕ) (missed missed' : Option ℕ) : Type 0 where
   pub calls : List Call
   pub chain : Calls number calls old new

@@ -39,8 +39,8 @@ pub record IsOver (ended : Bool) (session : Option SessionState) : Type 0 where
   pub all_sent : output_of session ≡ []
   pub no_more : (ended ≡ true) ⊎ (is_closed_at session ≡ true)
 
--- A session of a proxy is not over, but makes no progress alone. No whole request waits, or the first must wait for a mark; and no answer is known,
--- or the unsent bytes have reached the mark.
+-- A session of a proxy is not over, but makes no progress alone. No whole request waits, or the first must wait for a mark; and no
+-- answer is known, or the unsent bytes have reached the mark.
 pub record IsStuck (ended : Bool) (proxy : ProxyState) (session : Option SessionState) : Type 0 where
   pub taken : (waiting_of session ≡ []) ⊎ IsHeldUpAt proxy.ring proxy.links session
   pub answered : (emitted_at session ≡ None) ⊎ (UNSENT_MARK ≤ length (output_of session))
@@ -52,8 +52,9 @@ Leaves Blocked ended proxy session = IsStuck ended proxy session
 Leaves Done ended proxy session = IsOver ended session
 Leaves other ended proxy session = Unit {0}
 
--- What a pump of the session of a number does: calls for it, and nothing else. The bytes that arrived are those that the reader gave, or a prefix of
--- them if the pump failed. The bytes that were sent are those that the writer took. Of the emitted answers it counts just those that hide a loss.
+-- What a pump of the session of a number does: calls for it, and nothing else. The bytes that arrived are those that the reader gave,
+-- or a prefix of them if the pump failed. The bytes that were sent are those that the writer took. Of the emitted answers it counts
+-- just those that hide a loss.
 pub record PumpsClient (number : ℕ) (pump : Pumped) (old new : ProxyState) (unread unread' written written' : Option (List ℕ)) (ended ended' : Bool) (missed missed' : Option ℕ) : Type 0 where
   pub came : List ℕ
   pub went : List ℕ

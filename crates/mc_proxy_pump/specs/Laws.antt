@@ -10,8 +10,8 @@ abbrev pub AreOf : ℕ → Order → Type 0
 AreOf number [] = Unit {0}
 AreOf number (e ∷ es) = (e.session ≡ number) × AreOf number es
 
--- The proxy holds with a session's new input and sent bytes appended to the earlier ones, and with more taken of that session, all of it after what
--- was taken before.
+-- The proxy holds with a session's new input and sent bytes appended to the earlier ones, and with more taken of that session,
+-- all of it after what was taken before.
 pub record HoldsAfterClient (number : ℕ) (came went : List ℕ) (texts sent : ℕ → List ℕ) (order : Order) (lanes : ℕ → Lane) (new : ProxyState) : Type 0 where
   pub more : Order
   pub own : AreOf number more
@@ -21,8 +21,8 @@ pub record HoldsAfterClient (number : ℕ) (came went : List ℕ) (texts sent : 
 abbrev pub asked_in : Order → Order
 asked_in order = map (λ (e : Entry). record e { outcomes = [] }) order
 
--- The proxy holds with the bytes that arrived over a link and those sent over it appended to the earlier ones, and with the same requests taken in
--- the same order: more outcomes may be known.
+-- The proxy holds with the bytes that arrived over a link and those sent over it appended to the earlier ones, and with the
+-- same requests taken in the same order: more outcomes may be known.
 pub record HoldsAfterLink (place : ℕ) (came went : List ℕ) (texts sent : ℕ → List ℕ) (order : Order) (lanes : ℕ → Lane) (new : ProxyState) : Type 0 where
   pub order' : Order
   pub same : asked_in order' ≡ asked_in order

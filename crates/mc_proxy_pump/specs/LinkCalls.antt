@@ -11,7 +11,7 @@ use Rattle.mc_proxy.specs.declared.turns.LinkTurn.TheVariants.{Idle, Strange}
 pub data LinkCall : Type 0 where
   -- it is fed these bytes, which its server sent
   Fed : List ℕ → LinkCall
-  -- the first bytes of its output are consumed, this number of them, which are these: they were sent to its server
+  -- the first bytes of its output are consumed, by their number and the bytes themselves: they were sent to its server
   Sent : ℕ → List ℕ → LinkCall
   -- a turn matches a reply to the command of this tag
   Replied : Tag → LinkCall

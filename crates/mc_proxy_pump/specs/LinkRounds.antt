@@ -23,7 +23,8 @@ pub record ReceivesLink (place : ℕ) (side : Result Bool Pumped) (old new : Pro
   pub how : HowItCame side unread unread' ended' came (new ≡ old)
   pub still_up : (link_at new.links place).up ≡ true
 
--- how a turn leaves a link: one command fewer is pending, or no whole reply has arrived; the pump fails if the turn was refused or lost the link
+-- how a turn leaves a link: one command fewer is pending, or no whole reply has arrived; the pump fails if the turn was refused or lost
+-- the link
 abbrev pub HowItTurned : Result Bool Pumped → LinkState → LinkState → Type 0
 HowItTurned (Ok true) old new = (new.up ≡ true) × (length new.waiting < length old.waiting)
 HowItTurned (Ok false) old new = (new.up ≡ true) × IsIdle new.waiting new.unread

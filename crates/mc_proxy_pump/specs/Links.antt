@@ -21,9 +21,9 @@ abbrev pub is_done : Pumped → Bool
 is_done Done = true
 is_done other = false
 
--- What a pump of the link at a place does: calls for it, and nothing else. The bytes that arrived are those that the reader gave, or a prefix of them
--- if the pump failed, and all of them if it is done. The bytes that were sent are those that the writer took. The sessions that it woke are after
--- those that were woken before.
+-- What a pump of the link at a place does: calls for it, and nothing else. The bytes that arrived are those that the reader
+-- gave, or a prefix of them if the pump failed, and all of them if it is done. The bytes that were sent are those that the
+-- writer took. The sessions that it woke are after those that were woken before.
 pub record PumpsLink (place : ℕ) (pump : Pumped) (old new : ProxyState) (unread unread' written written' : Option (List ℕ)) (woken woken' : List ℕ) : Type 0 where
   pub came : List ℕ
   pub went : List ℕ

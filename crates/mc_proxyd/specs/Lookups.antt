@@ -10,8 +10,8 @@ use Rattle.mc_proxyd.specs.declared.lookups.Standing.TheVariants.{Wanted, Late, 
 use Rattle.mc_proxyd.specs.declared.notices.Cause.{Cause}
 use Rattle.mc_proxyd.specs.declared.notices.Cause.TheVariants.{UnknownHost, LookUp}
 
--- No second look-up is begun while one is pending. The result decides, even if an earlier try began the look-up, but not if it was begun for another
--- address.
+-- No second look-up is begun while one is pending. The result decides, even if an earlier try began the look-up, but not if it was begun
+-- for another address.
 abbrev pub next_by : Option Known → Next
 next_by None = Ask
 next_by (Some Nothing) = Wait
@@ -24,8 +24,8 @@ abbrev pub late_answer : Result SocketAddr Cause → Result SocketAddr Cause
 late_answer (Err UnknownHost) = Err LookUp
 late_answer found = found
 
--- What is known of a look-up, given its answer, if it has ended, and its state. The answer for an address that is no longer the server's is none of
--- its own, whenever it arrives.
+-- What is known of a look-up, given its answer, if it has ended, and its state. The answer for an address that is no longer the server's is
+-- none of its own, whenever it arrives.
 abbrev pub known_by : Option (Result SocketAddr Cause) → Standing → Known
 known_by None standing = Nothing
 known_by (Some found) Wanted = Answer found

@@ -4,8 +4,8 @@ use Rattle.mc_proxyd.specs.declared.limits.TheConstants.{LISTING_FILES, LOOKUP_F
 use Rattle.mc_ring.specs.declared.rings.TheConstants.{SERVER_LIMIT}
 use Rattle.mc_program.specs.declared.descriptors.TheConstants.{OWN_FILES}
 
--- The sockets of a server: one of its link, or those of its look-up, after which its link begins. If a file lists the servers, the look-up of an old
--- address may go on beside the link to the new one.
+-- The sockets of a server: one of its link, or those of its look-up, after which its link begins. If a file lists the servers, the look-up of
+-- an old address may go on beside the link to the new one.
 abbrev pub files_of_each : (listed named : Bool) → ℕ
 files_of_each listed named = if listed then 1 + LOOKUP_FILES else (if named then LOOKUP_FILES else 1)
 

@@ -3,14 +3,14 @@ use Rattle.std.specs.Prelude.{ℕ, ◌==◌, ◌+◌, ◌-◌, ◌^◌, ◌&&◌
 use Rattle.std.specs.Option.{option_or}
 use Rattle.mc_proxyd.specs.declared.limits.TheConstants.{QUIET_MILLIS}
 
--- Since when a link with this number of pending commands waits, at a moment: not at all without any, and from that moment on if bytes arrived. Else
--- it waits since the time before, or from that moment on if it did not wait before.
+-- Since when a link with this number of pending commands waits, at a moment: not at all without any, and from that moment on if bytes arrived.
+-- Else it waits since the time before, or from that moment on if it did not wait before.
 abbrev pub since_after : ℕ → Bool → Option ℕ → ℕ → Option ℕ
 since_after pending came since now =
     if pending == 0 then None else (if came then Some now else option_or since (Some now))
 
--- Whether a server is silent: commands were lost while they waited for it, and none got its reply since. It is silent after any such loss, and not
--- silent after any reply; without either it is as before.
+-- Whether a server is silent: commands were lost while they waited for it, and none got its reply since. It is silent after any such loss, and
+-- not silent after any reply; without either it is as before.
 abbrev pub silent_after_losses : ℕ → Bool → Bool
 silent_after_losses lost silent = if lost == 0 then silent else true
 

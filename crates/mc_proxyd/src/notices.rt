@@ -87,8 +87,8 @@ impl From<io::Error> for Cause {
     }
 }
 
-/// What became of a server, as it is printed: `back`, `refused: <cause>`, `lost: <cause>`, `joined`, `not joined: <cause>`; or of a list of
-/// servers, `not taken: <mistake>`, `taken again`.
+/// What became of a server, as it is printed: `back`, `refused: <cause>`, `lost: <cause>`, `joined`, `not joined: <cause>`; or of a list
+/// of servers, `not taken: <mistake>`, `taken again`.
 #[derive(Clone, Copy, Debug, PartialEq, Eq)]
 pub enum Notice {
     /// It has replied.
@@ -127,7 +127,8 @@ pub fn tell<R: Eprint>(rt: &R, server: &str, notice: Notice) {
     let _ = eprintln!(rt; "{PROGRAM}: {server} {notice}");
 }
 
-/// Prints on standard error a server's new address, which a list has changed: at once, even if another line about it was printed in this second.
+/// Prints on standard error a server's new address, which a list has changed: at once, even if another line about it was printed in this
+/// second.
 pub fn tell_address<R: Eprint>(rt: &R, server: &str, address: &str) {
     // Best effort: a failed write to standard error must not stop serving.
     let _ = eprintln!(rt; "{PROGRAM}: {server} now at {address}");

@@ -1,4 +1,5 @@
--- When an address or a ring is refused, and for which cause. Lack of memory is none of these causes. All of it is this project's own.
+-- When an address or a ring is refused, and for which cause. Lack of memory is none of these causes. All of it is
+-- this project's own.
 use Rattle.std.specs.Prelude.{ℕ, ◌==◌, nat_lt, nat_le, List, length, Option, Some, None, Result, Ok, Err, if◌then◌else◌}
 use Rattle.std.specs.List.{list_all, list_any}
 use Rattle.std.specs.Option.{option_or}

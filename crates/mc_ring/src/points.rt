@@ -110,8 +110,8 @@ pub fn put_in_order(points: &mut Vec<Point>)
     points.dedup();
 }
 
-/// Returns the points of a ring with those of one server more, in rising order, each once. The last sort keeps what rises
-/// already and merges it.
+/// Returns the points of a ring with those of one server more, in rising order, each once. The last sort keeps what
+/// rises already and merges it.
 pub fn points_with(
     alloc: Global,
     held: &[Point],

@@ -1,4 +1,4 @@
--- The answer to a request, a command of which was lost, by the site's choice.
+-- The answer to a request that lost a command, by the site's choice.
 use Rattle.std.proofs.Common.{◌≡◌, ◌≢◌, ℕ, ℤ, Bool, true, false, map, List, [], ◌∷◌, ◌++◌, Option, codes, if◌then◌else◌, not, ◌||◌, refl, sym, ap}
 use Rattle.mc_request.specs.Hides.{hides_of}
 use Rattle.mc_request.specs.declared.hides.Hides.TheVariants.{Nothing}

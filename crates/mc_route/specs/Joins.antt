@@ -27,8 +27,8 @@ abbrev pub outcome_part : List ℕ → Outcome → List ℕ
 outcome_part key (outcomes.Reply reply) = key_part key reply
 outcome_part key outcome = []
 
--- the whole answer to a request by the outcomes of its commands: if one was lost, the line of a lost link alone, also to a request that hides its
--- answer; else what one server would answer
+-- the whole answer to a request by the outcomes of its commands: if one was lost, the line of a lost link alone, also to
+-- a request that hides its answer; else what one server would answer
 -- source: this project's own
 abbrev pub joined_answer : Request → List Outcome → List ℕ
 joined_answer request outcomes = if has_lost outcomes then lost_line else answer_of request (replies_in outcomes)

@@ -53,7 +53,7 @@ abbrev pub reply_or_miss : Outcome → Reply (List ℕ)
 reply_or_miss (outcomes.Reply reply) = reply
 reply_or_miss outcome = Miss
 
--- the answer to a request, a command of which was lost
+-- the answer to a request that lost a command
 -- source: this project's own
 abbrev pub lost_answer : Losses → Request → List Outcome → List ℕ
 lost_answer losses request outcomes =

@@ -7,7 +7,7 @@ use Rattle.mc_reply.specs.declared.answers.TheConstants.{KEY_ROOM}
 use Rattle.mc_route.specs.declared.outcomes.Outcome.{Outcome}
 use Rattle.mc_route.specs.declared.outcomes.Outcome.TheVariants as outcomes
 
--- the most that a command adds: the value that its reply shows, and the other bytes of an item's line or of a reply
+-- the most that a command adds: the value that its reply shows, and `KEY_ROOM` bytes beside it
 abbrev pub outcome_room : Outcome → ℕ
 outcome_room (outcomes.Reply reply) = value_len reply + KEY_ROOM
 outcome_room outcome = 0

@@ -43,7 +43,8 @@ route_of_update ring (Delete key compare invalidate) = to_owner ring key (atoms.
 route_of_update ring (Count key counting) = to_owner ring key (atoms.Update (Count key counting)) ∷ []
 route_of_update ring (FlushAll delay) = to_each 0 ring.servers (atoms.Update (FlushAll delay))
 
--- the commands of a request, each with the place of its server: one for each key, in order, to its owner; a flush to each server, in their order
+-- the commands of a request, each with the place of its server: one for each key, in order, to its owner; a flush to each
+-- server, in their order
 -- source: this project's own, over the owner of a key
 abbrev pub route_of : RingState → Request → List Routed
 route_of ring (requests.Get keys exptime with_cas) = route_of_gets ring exptime with_cas keys

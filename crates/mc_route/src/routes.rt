@@ -32,8 +32,8 @@ pub fn atoms(alloc: Global, request: &Request, ring: &Ring) -> Result<Vec<Routed
     Ok(routed.into_vec())
 }
 
-/// Returns the commands of a request, which it consumes: no key and no block is copied. If there is no memory, the request
-/// is returned.
+/// Returns the commands of a request, which it consumes: no key and no block is copied. If there is no memory, the
+/// request is returned.
 pub fn into_atoms(
     alloc: Global,
     request: Request,
