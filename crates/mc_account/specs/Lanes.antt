@@ -40,7 +40,7 @@ CanHave commands [] = Unit {0}
 CanHave [] (reply ∷ replies) = ⊥
 CanHave (command ∷ commands) (reply ∷ replies) = (can_have (head_of command.0) reply ≡ true) × CanHave commands replies
 
--- commands as they are pending
+-- commands as a link has them while they are pending: each head with its tag
 abbrev pub as_waiting : List Tagged → List Waiting
 as_waiting commands = map (λ command. (head_of command.0, command.1)) commands
 

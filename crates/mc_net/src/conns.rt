@@ -75,8 +75,8 @@ pub struct Known {
     pub written: u64,
 }
 
-/// Returns the entry of a client: what is known of it, and its addresses, which the system is asked for now. A client with pending answers
-/// waits for those of `owed`.
+/// Returns the entry of a client: what is known of it, and its addresses, which the system is asked for now. If it has pending
+/// answers, `owed` says what it waits for.
 pub fn conn_of(
     alloc: Global,
     stream: &TcpStream,

@@ -16,7 +16,7 @@ const LISTENER: Token = Token(usize::MAX);
 /// The most events of a round.
 const MAX_EVENTS: usize = 1024;
 
-/// The most clients that are let in in a round.
+/// The most clients that a round lets in.
 const MAX_ACCEPTS: u32 = 64;
 
 /// How long a round waits at most if something must soon be done without an event, in milliseconds.

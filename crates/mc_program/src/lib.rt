@@ -16,7 +16,7 @@
 //! [`open_files`] asks the system how many files and sockets may be open at a time, and [`served`] returns how many connections that leaves.
 //! [`tell_open_files`] prints a line for the operator if these may be too few. A [`Pace`] says when something is due that is done once in a number
 //! of seconds. A [`Seldom`] limits lines to one a second, and counts those that it suppresses. [`earlier`] is the earlier of two moments, either of
-//! which may be missing. None of these blocks, allocates or knows a socket.
+//! which may be missing. None of these allocates or knows a socket, and only [`tell_open_files`] may block, on standard error.
 #![tactic(auto)]
 
 mod admins;

@@ -31,6 +31,6 @@ abbrev pub refusal_by : (servers list : List Server) → Option ℕ → Change
 refusal_by servers list (Some place) = Missing place
 refusal_by servers list None = move_by servers list (moved_from servers list 0)
 
--- the next step: none before every name is at its place; then addresses are taken over, the first first; then servers join
+-- the next step: none before every name is at its place; then addresses are taken over, in their order; then servers join
 abbrev pub change_by : (servers list : List Server) → Change
 change_by servers list = refusal_by servers list (missing_from servers list 0)

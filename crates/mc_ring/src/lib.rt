@@ -5,10 +5,10 @@
 //! key. [`Ring::with_server`] makes a ring with one server more, and [`Ring::of_points`] one with the caller's own points.
 //! [`Ring::servers`] and [`Ring::points`] show what a ring is made of.
 //!
-//! Each server has 160 points: four of each of the 40 MD5 digests of `host:port-k`. A key belongs to the server of the least point
-//! that is not below the key's hash or, if there is none, of the least point of all. The definitions in `specs/` say this of a set
-//! of pairs; the code keeps them sorted and finds an owner by binary search. A new server takes keys from the others and moves
-//! none between them.
+//! In a ring of [`Ring::new`] each server has 160 points: four of each of the 40 MD5 digests of `host:port-k`. A key belongs to
+//! the server of the least point that is not below the key's hash or, if there is none, of the least point of all. The definitions
+//! in `specs/` say this of a set of pairs; the code keeps them sorted and finds an owner by binary search. A new server takes keys
+//! from the others and moves none between them.
 //!
 //! `owner` and `owner_of_bytes` take no memory. A refused call keeps nothing.
 #![tactic(auto)]
