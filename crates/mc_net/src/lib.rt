@@ -26,6 +26,7 @@
 //!
 //! A client is served once its first bytes are known not to be a stranger's ([`opening_of`]). It is read through a [`Guard`], which reads
 //! no line that shows a stranger ([`FirstLine`]). A stranger is closed, and a line on standard error says so ([`Clients::tell`]).
+//!
 //! [`serve_rounds`] blocks, possibly for ever; of the other calls only those that print on standard error may. It is proved that they are
 //! safe, and that each except [`serve_rounds`] ends. It is proved too that no read of a [`Guard`] returns the whole first line of a
 //! stranger, in pieces of any size.
