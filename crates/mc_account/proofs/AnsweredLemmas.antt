@@ -1,4 +1,4 @@
--- What clients were answered, by where a proxy is.
+-- What clients were answered, by the state of a proxy.
 use Rattle.std.proofs.Common.{◌≡◌, ◌∙◌, ℕ, ◌+◌, true, List, ◌++◌, length, take, Option, Some, None, refl, ap, subst, arith}
 use Rattle.std.specs.List.{list_all}
 use Rattle.std.proofs.lemmas.List.{length-append, length-map}
@@ -10,7 +10,7 @@ use Rattle.mc_account.specs.Lanes.{Lane}
 use Rattle.mc_account.specs.Orders.{Order, answers_of, entries_of, is_complete, unanswered_of}
 use Rattle.mc_account.specs.Holds.{ProxyHolds, SessionHoldsAt}
 
--- what was put out are the answers to so many as are done
+-- the emitted bytes are the answers to the requests that are done
 answers_first : (number : ℕ) (order done others : Order) (count : ℕ) (sent unsent : List ℕ) → entries_of number order ≡ done ++ others → count ≡ length done
     → list_all is_complete done ≡ true → sent ++ unsent ≡ answers_of done → AreAnswers number order count sent unsent
 answers_first number order done others count sent unsent split is complete answers =
@@ -33,12 +33,12 @@ was_answered number order text sent (Some session) h =
     let many : answered session ≡ length h.done = omega (arith, size, open_ones) in
     answers_first number order h.done h.incomplete (answered session) sent session.output h.split many h.complete h.answered
 
--- of each number
+-- for each number
 pub holds-answered : (texts sent : ℕ → List ℕ) (order : Order) (lanes : ℕ → Lane) (now : ProxyState) → ProxyHolds texts sent order lanes now
     → (number : ℕ) → WasAnswered number order (sent number) (session_at now number)
 holds-answered texts sent order lanes now h number = was_answered number order (texts number) (sent number) (session_at now number) (h.sessions number)
 
--- of an open session: what was put out
+-- for an open session: the emitted bytes
 pub open_answered : (texts sent : ℕ → List ℕ) (order : Order) (lanes : ℕ → Lane) (now : ProxyState) → ProxyHolds texts sent order lanes now
     → (number : ℕ) (session : SessionState) → session_at now number ≡ Some session → AreAnswers number order (answered session) (sent number) session.output
 open_answered texts sent order lanes now h number session is =

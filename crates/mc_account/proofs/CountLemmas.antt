@@ -29,14 +29,14 @@ use Rattle.mc_account.specs.Holds.{ProxyHolds, SessionHolds}
 use Rattle.mc_account.proofs.OpenSessions.{at_each, noted_other, noted_own, updated_other, updated_own}
 use Rattle.mc_account.proofs.HoldsLemmas.{stood}
 
--- a session where as many are answered as of another one
+-- a session with as many answered requests as another one
 pub answered_there : (old new : Option SessionState) (after : SessionState) → option_map answered new ≡ option_map answered old → new ≡ Some after
     → (before : SessionState) × (old ≡ Some before) × (answered after ≡ answered before)
 answered_there None new after same is = absurd (none-some (answered after) (sym same ∙ ap (λ (s : Option SessionState). option_map answered s) is))
 answered_there (Some before) new after same is =
     (before, refl, same_Some (answered after) (answered before) (sym (ap (λ (s : Option SessionState). option_map answered s) is) ∙ same))
 
--- what a step leaves of the session of its number, and of the others
+-- the state of the session of its number after a step, and of the others
 pub steps_own : (number : ℕ) (old new : ProxyState) (before after : SessionState) → session_at old number ≡ Some before → new.sessions ≡ updated number after old.sessions
     → session_at new number ≡ Some after
 steps_own number old new before after was is =
@@ -60,7 +60,7 @@ pub answered-fed : (number : ℕ) (piece : List ℕ) (old new : ProxyState) → 
 answered-fed number piece old new steps m =
     answered_step number old new steps.before steps.after steps.was steps.is (ap (λ (s : SessionState). answered s) steps.step.1.all_else) m
 
--- `turn`: what is taken is not answered yet
+-- `turn`: a request that is taken is not answered yet
 turn_answers : (number : ℕ) (turn : Turn) (ring : RingState) (losses : Losses) (links now : List LinkState) (before after : SessionState) → IsTurn number turn ring losses links now before after
     → answered after ≡ answered before
 turn_answers number turns.Took ring losses links now before after step =
@@ -74,12 +74,12 @@ pub answered-turn : (number : ℕ) (turn : Turn) (ring : RingState) (losses : Lo
 answered-turn number turn ring losses old new steps m =
     answered_step number old new steps.before steps.after steps.was steps.is (turn_answers number turn ring losses old.links new.links steps.before steps.after steps.step) m
 
--- `emit`, where it put nothing out
+-- `emit` that emitted nothing
 pub answered-idle_emit : (number : ℕ) (old new : ProxyState) → Steps number old new (Alone (IsEmit emits.Idle)) → (m : ℕ) → answered_at new m ≡ answered_at old m
 answered-idle_emit number old new steps m =
     answered_step number old new steps.before steps.after steps.was steps.is (ap (λ (s : SessionState). answered s) steps.step.1.1) m
 
--- `emit`, where it answered: one more
+-- `emit` that answered: one more
 emitted_parts : (before after : SessionState) (unanswered : List Unanswered) → emitted_from before unanswered ≡ Some after
     → (after.taken ≡ before.taken) × (length unanswered ≡ length after.unanswered + 1)
 emitted_parts before after [] is = absurd (none-some after is)
@@ -93,7 +93,7 @@ emitted_parts before after (u ∷ us) is =
       | false ↦ λ now. absurd (none-some after now)
     ]) is
 
--- a session has taken what it has not answered
+-- a session has taken the requests that it has not answered
 pub unanswered_within : (number : ℕ) (order : Order) (text sent : List ℕ) (session : SessionState) → SessionHolds number order text sent session
     → length session.unanswered ≤ session.taken
 unanswered_within number order text sent session h =
@@ -151,11 +151,11 @@ answered-all_lost : (waiting : List Waiting) (sessions : Sessions) (m : ℕ) →
 answered-all_lost [] sessions m = refl
 answered-all_lost (w ∷ ws) sessions m = answered-all_lost ws (noted w.1 Lost sessions) m ∙ answered-noted w.1 Lost sessions m
 
--- `link_turn`, where it took a reply
+-- `link_turn` that took a reply
 pub answered-replied : (place : ℕ) (old new : ProxyState) → Answers place old new → (m : ℕ) → answered_at new m ≡ answered_at old m
 answered-replied place old new answers m =
     ap (λ (sessions : Sessions). option_map answered (session_in sessions m)) answers.sessions ∙ answered-noted answers.tag (Reply answers.reply) old.sessions m
 
--- `lost`, and a strange `link_turn`
+-- `lost`, and a `link_turn` with a violation
 pub answered-lost : (place : ℕ) (old : ProxyState) (m : ℕ) → answered_at (lost_at place old) m ≡ answered_at old m
 answered-lost place old m = answered-all_lost (link_at old.links place).waiting old.sessions m

@@ -1,4 +1,4 @@
--- Commands of a request that are handed to links.
+-- Commands of a request, sent to links.
 use Rattle.std.proofs.Common.{◌≡◌, ◌≢◌, ◌∙◌, ⊎_elim, ℕ, suc, ◌==◌, Bool, true, false, if◌then◌else◌, List, [], ◌∷◌, ◌++◌, length, map, drop, take, refl, sym, ap, ap₂, subst, append_assoc, append-nil, arith}
 use Rattle.std.specs.List.{list_all}
 use Rattle.std.proofs.lemmas.Bool.{cases_Bool, cases_lt, eqb-true}
@@ -22,7 +22,7 @@ use Rattle.mc_account.proofs.OpenSessions.{own_number}
 use Rattle.mc_account.proofs.OrderLemmas.{commands-push, outcomes-push, passes_joined}
 use Rattle.mc_account.proofs.LaneLemmas.{can-append, can_length, link_own, link_other, spelled-append, told-append}
 
--- a link to which commands were handed in order
+-- a link to which commands were sent in order
 abbrev pub received : List Tagged → LinkState → LinkState
 received [] link = link
 received (c ∷ cs) link = received cs (handed_to c.1 c.0 link)
@@ -59,7 +59,7 @@ handed_at place session request at (command ∷ commands) links =
           (link_other command.server place (handed_to (tag_of session request at) command.atom (link_at links command.server)) links differ)
     ]) refl
 
--- over a link that is up their spellings go, and their replies are awaited
+-- a link that is up sends their spellings, and their replies are pending
 pub received_up : (cs : List Tagged) (link : LinkState) → link.up ≡ true
     → received cs link ≡ record link { output = link.output ++ spelled cs; waiting = link.waiting ++ as_waiting cs }
 received_up [] link up =
@@ -71,14 +71,14 @@ received_up (c ∷ cs) link up =
     ∙ ap₂ (λ (bytes : List ℕ) (ws : List Waiting). record link { output = bytes; waiting = ws })
     (append_assoc link.output (spelling_of_atom c.0) (spelled cs)) (append_assoc link.waiting ((head_of c.0, c.1) ∷ []) (as_waiting cs))
 
--- over one that is down nothing goes
+-- a link that is down sends nothing
 pub received_down : (cs : List Tagged) (link : LinkState) → link.up ≡ false → received cs link ≡ link
 received_down [] link down = refl
 received_down (c ∷ cs) link down =
     let first : handed_to c.1 c.0 link ≡ link = ap (λ (v : Bool). if v then sent c.0 c.1 link else link) down in
     ap (λ (l : LinkState). received cs l) first ∙ received_down cs link down
 
--- what becomes at once of the commands to a place
+-- the immediate outcomes of the commands to a place
 at_once_up : (place session request at : ℕ) (commands : List Routed) (links : List LinkState) → (link_at links place).up ≡ true
     → outcomes_from place commands (map (at_once links) commands) ≡ map (λ (_ : Waiting). Awaited) (as_waiting (commands_from place session request at commands))
 at_once_up place session request at [] links up = refl
@@ -108,7 +108,7 @@ at_once_down place (command ∷ commands) links down =
       | false ↦ λ is. again
     ]) refl
 
--- a lane on which it goes
+-- a lane after a request is taken
 lane_taken : (place : ℕ) (order : Order) (e : Entry) (lane : Lane) (link : LinkState)
     → outcomes_in place e ≡ map (λ (_ : Waiting). Awaited) (as_waiting (commands_in place e)) → LaneHolds place order lane link
     → LaneHolds place (order ++ e ∷ []) lane (record link { output = link.output ++ spelled (commands_in place e); waiting = link.waiting ++ as_waiting (commands_in place e) })
@@ -143,7 +143,7 @@ lane_taken place order e lane link awaited h =
       before = ap (λ (es : Order). list_all is_told (outcomes_to place es)) taken ∙ h.before;
     }
 
--- the link of a place, where a request is taken
+-- the link at a place, after a request is taken
 pub link_taken : (place session request : ℕ) (order : Order) (e : Entry) (lane : Lane) (links now : List LinkState)
     → e.session ≡ session → e.request ≡ request → e.outcomes ≡ map (at_once links) (route_of_taken e.ring e.what)
     → now ≡ handed session request 0 (route_of_taken e.ring e.what) links

@@ -28,7 +28,7 @@ use Rattle.mc_account.proofs.HandingLemmas.{link_taken}
 use Rattle.mc_account.proofs.LaneLemmas.{nothing_waits, complete_order}
 use Rattle.mc_account.proofs.SessionLemmas.{session_emitted, session_fed, session_fresh, session_left, session_same, session_sent, session_took}
 
--- what is changed at its own place, and at another
+-- a changed function at its own place, and at another
 pub changed-own : {T : Type 0} (place : ℕ) (now : T) (old : ℕ → T) → changed place now old place ≡ now
 changed-own place now old = ap (λ (v : Bool). if v then now else old place) (own_number place)
 
@@ -43,13 +43,13 @@ grown-nothing number other count bytes =
     (λ e. changed-other number other (bytes number ++ take count []) bytes e.1)
     (eqb_tells number other)
 
--- where an open session of a proxy holds
+-- the state of an open session of a proxy
 pub stood : (texts sent : ℕ → List ℕ) (order : Order) (lanes : ℕ → Lane) (proxy : ProxyState) (number : ℕ) (session : SessionState)
     → ProxyHolds texts sent order lanes proxy → session_at proxy number ≡ Some session → SessionHolds number order (texts number) (sent number) session
 stood texts sent order lanes proxy number session h was =
     subst (λ (s : Option SessionState). SessionHoldsAt number order (texts number) (sent number) s) was (h.sessions number)
 
--- a number of an open session was given
+-- the number of an open session was given
 given : (texts sent : ℕ → List ℕ) (order : Order) (lanes : ℕ → Lane) (proxy : ProxyState) (number : ℕ) (session : SessionState)
     → ProxyHolds texts sent order lanes proxy → session_at proxy number ≡ Some session → number < proxy.admitted
 given texts sent order lanes proxy number session h was =
@@ -57,7 +57,7 @@ given texts sent order lanes proxy number session h was =
     (λ below. below.1)
     (leb_tells proxy.admitted number)
 
--- a session takes a step, and what is said of all others stays
+-- a session takes a step, and what holds of all others stays
 stepped : (texts texts' sent sent' : ℕ → List ℕ) (order longer : Order) (lanes : ℕ → Lane) (number : ℕ) (before after : SessionState) (old new : ProxyState)
     → session_at old number ≡ Some before → new.sessions ≡ updated number after old.sessions → new.admitted ≡ old.admitted → new.losses ≡ old.losses
     → SessionHolds number longer (texts' number) (sent' number) after
@@ -83,12 +83,12 @@ stepped texts texts' sent sent' order longer lanes number before after old new w
   links = links;
 }
 
--- the links, where they are the same
+-- the links, if they are the same
 same_links : (texts sent : ℕ → List ℕ) (order : Order) (lanes : ℕ → Lane) (old new : ProxyState) → new.links ≡ old.links → ProxyHolds texts sent order lanes old
     → (place : ℕ) → LinkHolds place order (lanes place) (link_at new.links place)
 same_links texts sent order lanes old new is h place = subst (λ (links : List LinkState). LinkHolds place order (lanes place) (link_at links place)) (sym is) (h.links place)
 
--- a session takes a step of its own: of nothing else is anything said
+-- a session takes a step of its own: nothing else is involved
 alone : (texts texts' : ℕ → List ℕ) (sent : ℕ → List ℕ) (order : Order) (lanes : ℕ → Lane) (number : ℕ) (before after : SessionState) (old new : ProxyState)
     → session_at old number ≡ Some before → new.sessions ≡ updated number after old.sessions → new.admitted ≡ old.admitted → new.losses ≡ old.losses → new.links ≡ old.links
     → ((m : ℕ) → number ≢ m → texts' m ≡ texts m)
@@ -135,7 +135,7 @@ holds-fed texts sent order lanes number piece old new h steps =
     (λ m differ. changed-other number m (texts number ++ piece) texts differ)
     (subst (λ (text : List ℕ). SessionHolds number order text (sent number) steps.after) (sym (changed-own number (texts number ++ piece) texts)) own) h
 
--- `turn`, where it took: the order has its entry more
+-- `turn` that took a request: the order has one entry more
 abbrev pub entry_taken : {number : ℕ} {old new : ProxyState} → Steps number old new (IsTurn number turns.Took old.ring old.losses) → Entry
 entry_taken {number = number} {old = old} steps = record {
   session = number;
@@ -179,7 +179,7 @@ holds-idle_turn texts sent order lanes number turn old new h differ steps =
     alone texts texts sent order lanes number steps.before steps.after old new steps.was steps.is steps.admitted steps.losses same.0 (λ _ _. refl)
     (subst (λ (s : SessionState). SessionHolds number order (texts number) (sent number) s) (sym same.1) (stood texts sent order lanes old number steps.before h steps.was)) h
 
--- `emit`, where it put nothing out, and where it answered
+-- `emit` that emitted nothing, and one that answered
 pub holds-idle_emit : (texts sent : ℕ → List ℕ) (order : Order) (lanes : ℕ → Lane) (number : ℕ) (old new : ProxyState)
     → ProxyHolds texts sent order lanes old → Steps number old new (Alone (IsEmit emits.Idle)) → ProxyHolds texts sent order lanes new
 holds-idle_emit texts sent order lanes number old new h steps =
@@ -192,7 +192,7 @@ holds-emitted texts sent order lanes number old new h steps =
     alone texts texts sent order lanes number steps.before steps.after old new steps.was steps.is steps.admitted steps.losses steps.step.0 (λ _ _. refl)
     (session_emitted number order (texts number) (sent number) steps.before steps.after (stood texts sent order lanes old number steps.before h steps.was) steps.step.1) h
 
--- `taken_out`: the bytes taken out grow by the first of the output
+-- `taken_out`: the bytes consumed grow by the first of the output
 holds_sent_from : (texts sent : ℕ → List ℕ) (order : Order) (lanes : ℕ → Lane) (number count : ℕ) (old : ProxyState) (session : Option SessionState)
     → session_at old number ≡ session → ProxyHolds texts sent order lanes old
     → ProxyHolds texts (grown number (take count (output_of session)) sent) order lanes (sent_by number count session old)
@@ -250,7 +250,7 @@ holds-gone texts sent order lanes number old h not_open =
       links = h.links;
     }
 
--- where nothing waits on any link, each entry is complete
+-- if no command is pending on any link, each entry is complete
 pub holds-complete : (texts sent : ℕ → List ℕ) (order : Order) (lanes : ℕ → Lane) (now : ProxyState) → ProxyHolds texts sent order lanes now
     → ((place : ℕ) → (link_at now.links place).waiting ≡ []) → list_all is_complete order ≡ true
 holds-complete texts sent order lanes now h none =

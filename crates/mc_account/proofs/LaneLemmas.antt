@@ -1,4 +1,4 @@
--- What passed over a link, where more is taken, where a reply is, and where an outcome is noted.
+-- What passed over a link, after more is taken, after a reply is taken, and after an outcome is noted.
 use Rattle.std.proofs.Common.{◌≡◌, ◌≢◌, ◌∙◌, ⊎_elim, ℕ, ◌+◌, ◌<◌, ◌≤◌, ◌==◌, Bool, true, false, if◌then◌else◌, List, [], ◌∷◌, ◌++◌, length, map, drop, take, refl, sym, ap, ap₂, subst, append_assoc, append-nil, arith}
 use Rattle.std.specs.Prelude.{All}
 use Rattle.std.specs.List.{list_all}
@@ -34,7 +34,7 @@ link_own place link links h = get_or-set_same links place link (down_link 0) h
 pub link_other : (place other : ℕ) (link : LinkState) (links : List LinkState) → place ≢ other → link_at (with_link place link links) other ≡ link_at links other
 link_other place other link links differ = get_or-set_other links place other link (down_link 0) (λ same. differ (sym same))
 
--- a link that is up is there
+-- a link that is up exists
 pub up_is_there : (place : ℕ) (links : List LinkState) → (link_at links place).up ≡ true → place < length links
 up_is_there place links up =
     ⊎_elim (λ inside. inside)
@@ -84,7 +84,7 @@ pub replies_told : (replies : List (AReply (List ℕ))) → list_all is_told (ma
 replies_told [] = refl
 replies_told (r ∷ rs) = replies_told rs
 
--- the commands of a link of which it is known what became, and those that wait, since so many requests had been taken
+-- the commands of a link with known outcomes, and its pending ones, since a number of requests had been taken
 pub record Pending (place since : ℕ) (order : Order) (known : List Outcome) (waiting : List Waiting) : Type 0 where
   pub front : List Tagged
   pub rest : List Tagged
@@ -110,13 +110,13 @@ pending_of place order lane link h =
       before = h.before;
     }
 
--- where none waits, it is known of each command what became of it
+-- if none is pending, the outcome of each command is known
 pub pending_none : (place since : ℕ) (order : Order) (known : List Outcome) → Pending place since order known [] → list_all is_told (outcomes_to place order) ≡ true
 pending_none place since order known h =
     let all : outcomes_to place (drop since order) ≡ known = h.outcomes ∙ append-nil known in
     told_whole place since order h.before (ap (λ (xs : List Outcome). list_all is_told xs) all ∙ h.known_told)
 
--- the command that waits longest
+-- the oldest pending command
 record Oldest (w : Waiting) (ws : List Waiting) (rest : List Tagged) : Type 0 where
   pub first : Tagged
   pub others : List Tagged
@@ -150,7 +150,7 @@ incomplete_since tag since order =
     let whole : incomplete_owners tag (take since order ++ drop since order) ≡ incomplete_owners tag order = ap (λ (es : Order). incomplete_owners tag es) (take-append-drop since order) in
     omega (arith, incomplete-append tag (take since order) (drop since order), whole)
 
--- what is said of the tag of the command that waits longest
+-- what holds of the tag of the oldest pending command
 pub record IsOldest (place : ℕ) (order : Order) (tag : Tag) : Type 0 where
   pub to_place : 1 ≤ count tag (commands_to place order)
   pub incomplete : 1 ≤ incomplete_owners tag order
@@ -176,7 +176,7 @@ is_oldest place since order known w ws sized h =
       incomplete = omega (arith, waited, one, awaited_to w.1 place (drop since order) (All-drop IsSized since order sized), incomplete_since w.1 since order);
     }
 
--- its outcome is noted: it is known, and the others wait
+-- its outcome is noted: it is known, and the others are pending
 pub pending_noted : (place since : ℕ) (order : Order) (known : List Outcome) (w : Waiting) (ws : List Waiting) (outcome : Outcome) → All IsSized order → owners w.1 order ≤ 1 → is_told outcome ≡ true
     → Pending place since order known (w ∷ ws) → Pending place since (note w.1 outcome order) (known ++ outcome ∷ []) ws
 pending_noted place since order known w ws outcome sized once known_now h =
@@ -212,7 +212,7 @@ pending_noted place since order known w ws outcome sized once known_now h =
           ∙ renoted_told w.1 outcome (commands_to place (take since order)) (outcomes_to place (take since order)) known_now h.before;
     }
 
--- a lane depends on nothing of an order but the commands to its place and their outcomes
+-- a lane depends only on an order's commands to its place and their outcomes
 lane_same : (place : ℕ) (order longer : Order) (lane : Lane) (link : LinkState) → length order ≤ length longer
     → commands_to place (drop lane.since longer) ≡ commands_to place (drop lane.since order)
     → outcomes_to place (drop lane.since longer) ≡ outcomes_to place (drop lane.since order)
@@ -228,7 +228,7 @@ lane_same place order longer lane link long commands outcomes before h = record 
   before = before;
 }
 
--- what an outcome that is noted leaves of the commands that were taken before some, and since
+-- the effect of noting an outcome on the commands that were taken before some request, and since
 commands_since-note : (place since : ℕ) (tag : Tag) (outcome : Outcome) (order : Order) → commands_to place (drop since (note tag outcome order)) ≡ commands_to place (drop since order)
 commands_since-note place since tag outcome order =
     ap (λ (es : Order). commands_to place es) (drop-map (note_in tag outcome) since order) ∙ commands-note place tag outcome (drop since order)
@@ -240,7 +240,7 @@ told_before-note place since tag outcome order sized known h =
     (ap (λ (es : Order). outcomes_to place es) (take-map (note_in tag outcome) since order) ∙ noted_to tag outcome place (take since order) (All-take IsSized since order sized))
     ∙ renoted_told tag outcome (commands_to place (take since order)) (outcomes_to place (take since order)) known h
 
--- the link of another place, where an outcome of a command to this place is noted
+-- the link of another place, after an outcome of a command to this place is noted
 pub lane_other : (place other : ℕ) (tag : Tag) (outcome : Outcome) (order : Order) (lane : Lane) (link : LinkState) → place ≢ other → All IsSized order → owners tag order ≤ 1
     → is_told outcome ≡ true → IsOldest place order tag → LaneHolds other order lane link → LaneHolds other (note tag outcome order) lane link
 lane_other place other tag outcome order lane link differ sized once known oldest h =
@@ -311,7 +311,7 @@ lane_replied place order lane old tag reply new sized once takes h =
       before = next.before;
     }
 
--- where nothing waits on a link, it is known of each command to its place what became of it
+-- if no command is pending on a link, the outcome of each command to its place is known
 pub nothing_waits : (place : ℕ) (order : Order) (lane : Lane) (link : LinkState) → link.waiting ≡ [] → LinkHolds place order lane link
     → list_all is_told (outcomes_to place order) ≡ true
 nothing_waits place order lane link none h =
@@ -321,7 +321,7 @@ nothing_waits place order lane link none h =
     (λ (down : link.up ≡ false). (h.1 (λ up. let clash : true ≡ false = sym up ∙ down in absurd cc)).outcomes)
     (cases_Bool link.up)
 
--- what is known of the commands to each place is known of all
+-- outcomes that are known of the commands to each place are known of all
 complete_from : (commands : List Routed) (xs : List Outcome) → length xs ≡ length commands → ((place : ℕ) → list_all is_told (outcomes_from place commands xs) ≡ true)
     → list_all is_told xs ≡ true
 complete_from [] [] h known = refl

@@ -29,7 +29,7 @@ use Rattle.mc_account.proofs.LaneLemmas.{IsOldest, Pending, is_oldest, lane_fres
 use Rattle.mc_account.proofs.SessionLemmas.{left_noted, note_absent, owners_elsewhere, session_noted, session_same}
 use Rattle.mc_account.proofs.HoldsLemmas.{changed-other, changed-own}
 
--- a proxy holds but for the link of one place, of which nothing is said
+-- a proxy holds except for the link at one place, of which nothing is claimed
 pub record HoldsBut (texts sent : ℕ → List ℕ) (order : Order) (lanes : ℕ → Lane) (place : ℕ) (losses : Losses) (sessions : Sessions) (admitted : ℕ) (links : List LinkState) : Type 0 where
   pub sized : All IsSized order
   pub chosen : All (IsToldAs losses) order
@@ -49,7 +49,7 @@ holds_but texts sent order lanes place old h = record {
   others = λ other differ. h.links other;
 }
 
--- it holds, where that link does too
+-- it holds, if that link does too
 holds_with : (texts sent : ℕ → List ℕ) (order : Order) (lanes lanes' : ℕ → Lane) (place : ℕ) (links : List LinkState) (new : ProxyState)
     → HoldsBut texts sent order lanes place new.losses new.sessions new.admitted links → LinkHolds place order (lanes' place) (link_at new.links place)
     → ((other : ℕ) → place ≢ other → lanes' other ≡ lanes other) → ((other : ℕ) → place ≢ other → link_at new.links other ≡ link_at links other)
@@ -67,7 +67,7 @@ holds_with texts sent order lanes lanes' place links new h own lane_is link_is =
       (eqb_tells place other);
 }
 
--- the session of a tag, open or not, where an outcome is noted that was awaited
+-- the session of a tag, open or not, after an outcome is noted that was pending
 at_noted : (tag : Tag) (outcome : Outcome) (order : Order) (text sent : List ℕ) (session : Option SessionState) → AreInOrder (entries_of tag.session order)
     → owners tag order ≤ 1 → 1 ≤ incomplete_owners tag order → SessionHoldsAt tag.session order text sent session
     → SessionHoldsAt tag.session (note tag outcome order) text sent (option_map (noted_in tag outcome) session)
@@ -117,7 +117,7 @@ but_noted texts sent order lanes place losses sessions admitted links tag outcom
       others = λ other differ. link_other_noted place other tag outcome order (lanes other) (link_at links other) differ h.sized once known oldest (h.others other differ);
     }
 
--- `link_turn`, where it took a reply
+-- `link_turn` that took a reply
 pub holds-replied : (texts sent : ℕ → List ℕ) (order : Order) (lanes : ℕ → Lane) (place : ℕ) (old new : ProxyState)
     → ProxyHolds texts sent order lanes old → (link_at old.links place).up ≡ true → (answers : Answers place old new)
     → ProxyHolds texts sent (note answers.tag (Reply answers.reply) order)
@@ -147,7 +147,7 @@ holds-replied texts sent order lanes place old new h up answers =
     (λ other differ. changed-other place other (record (lanes place) { replies = (lanes place).replies ++ answers.reply ∷ [] }) lanes differ)
     (λ other differ. ap (λ (links : List LinkState). link_at links other) answers.links ∙ link_other place other answers.link old.links differ)
 
--- each command that waits is lost
+-- each pending command is lost
 record IsLost (texts sent : ℕ → List ℕ) (order : Order) (lanes : ℕ → Lane) (place : ℕ) (losses : Losses) (sessions : Sessions) (admitted : ℕ) (links : List LinkState) : Type 0 where
   pub but : HoldsBut texts sent order lanes place losses sessions admitted links
   pub known : list_all is_told (outcomes_to place order) ≡ true

@@ -1,4 +1,4 @@
--- The commands to a place and their outcomes are what look-ups by their tags find; so what waits on a link is awaited.
+-- The commands to a place and their outcomes are what look-ups by their tags find; so the pending commands of a link are awaited.
 use Rattle.std.proofs.Common.{◌≡◌, ◌∙◌, ℕ, zero, suc, ◌+◌, ◌==◌, Bool, true, false, if◌then◌else◌, List, [], ◌∷◌, ◌++◌, length, map, drop, take, Option, Some, slice_get, refl, sym, ap, ap₂, subst, append_assoc, arith}
 use Rattle.std.specs.Prelude.{All}
 use Rattle.std.proofs.lemmas.Bool.{eqb-true}
@@ -26,7 +26,7 @@ use Rattle.mc_account.proofs.OrderLemmas.{entries-append, entries-note, in_order
 use Rattle.mc_account.proofs.TagLemmas.{tag_once}
 use Rattle.mc_account.proofs.LaneLemmas.{Pending, pending_noted, pending_of}
 
--- what is said of each command and its outcome
+-- a property of each command and its outcome
 abbrev pub Pairs : (Tagged → Outcome → Type 0) → List Tagged → List Outcome → Type 0
 Pairs P [] xs = Unit {0}
 Pairs P (c ∷ cs) [] = Unit {0}
@@ -61,7 +61,7 @@ pairs_weaker P Q [] xs to h = tt
 pairs_weaker P Q (c ∷ cs) [] to h = tt
 pairs_weaker P Q (c ∷ cs) (x ∷ xs) to h = (to c x h.0, pairs_weaker P Q cs xs to h.1)
 
--- what is in a list after some others
+-- an element of a list after some others
 pub get_after : {X : Type 0} (front back : List X) (x : X) (k : ℕ) → k ≡ length front → slice_get (front ++ x ∷ back) k ≡ Some x
 get_after [] back x zero h = refl
 get_after [] back x (suc k) h = absurd (omega (arith, h))
@@ -135,7 +135,7 @@ found_in place order front after e is numbered =
     })
     (commands_found place e.session e.request 0 (route_of_taken e.ring e.what) [] (route_of_taken e.ring e.what) e.outcomes [] e.outcomes refl refl refl refl)
 
--- of what was taken after some of an order
+-- for what was taken after some of an order
 pub found_since : (place : ℕ) (order front es : Order) → order ≡ front ++ es → ((number : ℕ) → AreInOrder (entries_of number order)) → All IsSized es
     → Pairs (IsFound place order) (commands_to place es) (outcomes_to place es)
 found_since place order front [] is numbered sized = tt
@@ -152,7 +152,7 @@ pub command_found : (place : ℕ) (order : Order) → ((number : ℕ) → AreInO
 command_found place order numbered sized k c x at is =
     pairs_get (IsFound place order) (commands_to place order) (outcomes_to place order) k c x (found_since place order [] order refl numbered sized) at is
 
--- commands that wait, of which each reply is awaited
+-- commands that wait, each of whose replies is pending
 waits_at : (place : ℕ) (order : Order) (rest : List Tagged) → Pairs (IsFound place order) rest (map (λ (_ : Waiting). Awaited) (as_waiting rest)) → (k : ℕ) (w : Waiting)
     → slice_get (as_waiting rest) k ≡ Some w → IsAwaited place order w
 waits_at place order [] h zero w at = absurd (none-some w at)
@@ -161,7 +161,7 @@ waits_at place order (c ∷ cs) h zero w at =
     subst (λ (v : Waiting). IsAwaited place order v) (same_Some (head_of c.0, c.1) w at) (record { atom = c.0; head = refl; command = h.0.command; outcome = h.0.outcome })
 waits_at place order (c ∷ cs) h (suc k) w at = waits_at place order cs h.1 k w at
 
--- what is pending, as look-ups find it
+-- the pending commands, as look-ups find them
 pub pending_found : (place since : ℕ) (order : Order) (known : List Outcome) (waiting : List Waiting) → ((number : ℕ) → AreInOrder (entries_of number order)) → All IsSized order
     → (h : Pending place since order known waiting) → Pairs (IsFound place order) h.rest (map (λ (_ : Waiting). Awaited) (as_waiting h.rest))
 pending_found place since order known waiting numbered sized h =
@@ -178,7 +178,7 @@ pending_waits : (place since : ℕ) (order : Order) (known : List Outcome) (wait
 pending_waits place since order known waiting numbered sized h k w at =
     waits_at place order h.rest (pending_found place since order known waiting numbered sized h) k w (ap (λ (ws : List Waiting). slice_get ws k) (sym h.waits) ∙ at)
 
--- requests stay numbered where an outcome is noted
+-- requests stay numbered after an outcome is noted
 pub numbered-note : (tag : Tag) (outcome : Outcome) (order : Order) → ((number : ℕ) → AreInOrder (entries_of number order)) → (number : ℕ) → AreInOrder (entries_of number (note tag outcome order))
 numbered-note tag outcome order numbered number =
     subst (λ (es : Order). AreInOrder es) (sym (entries-note number tag outcome order)) (in_order-note tag outcome (entries_of number order) (numbered number))
@@ -195,14 +195,14 @@ pending_awaited place since known (w ∷ ws) outcome order told numbered sized h
           (pending_noted place since order known w ws outcome sized once told h),
     )
 
--- each command that waits on a link that is up is awaited
+-- each pending command of a link that is up is awaited
 pub waiting_is_awaited : (texts sent : ℕ → List ℕ) (order : Order) (lanes : ℕ → Lane) (now : ProxyState) → ProxyHolds texts sent order lanes now
     → (place : ℕ) → (link_at now.links place).up ≡ true → (k : ℕ) (w : Waiting) → slice_get (link_at now.links place).waiting k ≡ Some w → IsAwaited place order w
 waiting_is_awaited texts sent order lanes now h place up k w at =
     pending_waits place (lanes place).since order (map (λ (reply : AReply (List ℕ)). Reply reply) (lanes place).replies) (link_at now.links place).waiting h.numbered h.sized
     (pending_of place order (lanes place) (link_at now.links place) ((h.links place).0 up)) k w at
 
--- so they are where the same is noted of all of them, one after another
+-- they are awaited too if the same outcome is noted of all of them, in sequence
 pub all_waiting_are_awaited : (texts sent : ℕ → List ℕ) (order : Order) (lanes : ℕ → Lane) (now : ProxyState) → ProxyHolds texts sent order lanes now
     → (place : ℕ) → (link_at now.links place).up ≡ true → (outcome : Outcome) → is_told outcome ≡ true
     → AreAwaited (map (λ (w : Waiting). w.1) (link_at now.links place).waiting) outcome order
@@ -210,7 +210,7 @@ all_waiting_are_awaited texts sent order lanes now h place up outcome told =
     pending_awaited place (lanes place).since (map (λ (reply : AReply (List ℕ)). Reply reply) (lanes place).replies) (link_at now.links place).waiting outcome order told h.numbered h.sized
     (pending_of place order (lanes place) (link_at now.links place) ((h.links place).0 up))
 
--- and so is the command that gets its reply
+-- the command that gets its reply was awaited too
 pub answered_was_awaited : (texts sent : ℕ → List ℕ) (order : Order) (lanes : ℕ → Lane) (place : ℕ) (old new : ProxyState) → ProxyHolds texts sent order lanes old
     → (link_at old.links place).up ≡ true → (answers : Answers place old new) → outcome_at order answers.tag ≡ Some Awaited
 answered_was_awaited texts sent order lanes place old new h up answers =

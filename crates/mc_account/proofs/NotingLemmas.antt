@@ -16,7 +16,7 @@ use Rattle.mc_account.proofs.OpenSessions.{other_number}
 use Rattle.mc_account.proofs.OrderLemmas.{lengths_from, lengths_in}
 use Rattle.mc_account.proofs.TagLemmas.{count, count_apart, count_past, same_tag, same_tag_self, weight}
 
--- outcomes of these commands, where what became of the command of a tag is this
+-- outcomes of these commands, with this one for the command of a tag
 abbrev pub renoted : Tag → Outcome → List Tagged → List Outcome → List Outcome
 renoted tag outcome [] xs = []
 renoted tag outcome (c ∷ cs) [] = []
@@ -30,7 +30,7 @@ renoted-append tag outcome (c ∷ cs) ds [] ys h = absurd cc
 renoted-append tag outcome (c ∷ cs) ds (x ∷ xs) ys h =
     ap (λ (zs : List Outcome). (if same_tag c.1 tag then outcome else x) ∷ zs) (renoted-append tag outcome cs ds xs ys (cc))
 
--- where it is among none of them, nothing changes
+-- if the command is not among them, nothing changes
 pub renoted_absent : (tag : Tag) (outcome : Outcome) (cs : List Tagged) (xs : List Outcome) → count tag cs ≡ 0 → length cs ≡ length xs → renoted tag outcome cs xs ≡ xs
 renoted_absent tag outcome [] [] none h = refl
 renoted_absent tag outcome [] (x ∷ xs) none h = absurd cc
@@ -42,7 +42,7 @@ renoted_absent tag outcome (c ∷ cs) (x ∷ xs) none h =
       | false ↦ λ sum. ap (λ (zs : List Outcome). x ∷ zs) (again (omega (arith, sum)))
     ]) none
 
--- what was known stays known
+-- known outcomes stay known
 pub renoted_told : (tag : Tag) (outcome : Outcome) (cs : List Tagged) (xs : List Outcome) → is_told outcome ≡ true → list_all is_told xs ≡ true
     → list_all is_told (renoted tag outcome cs xs) ≡ true
 renoted_told tag outcome [] xs known h = refl
@@ -53,7 +53,7 @@ renoted_told tag outcome (c ∷ cs) (x ∷ xs) known h =
     and_from (is_told (if same_tag c.1 tag then outcome else x)) (list_all is_told (renoted tag outcome cs xs))
     (elim (same_tag c.1 tag) as (λ v. is_told (if v then outcome else x) ≡ true) [ true ↦ known | false ↦ parts.0 ]) again
 
--- where it is once, one outcome changes
+-- if the command is among them once, one outcome changes
 pub renoted_at : (tag : Tag) (outcome : Outcome) (front back : List Tagged) (c : Tagged) (xs ys : List Outcome) (x : Outcome)
     → c.1 ≡ tag → length front ≡ length xs → length back ≡ length ys → count tag front ≡ 0 → count tag back ≡ 0
     → renoted tag outcome (front ++ c ∷ back) (xs ++ x ∷ ys) ≡ xs ++ outcome ∷ ys
@@ -94,7 +94,7 @@ noted_from tag outcome place session request own at (suc ahead) (command ∷ com
       | false ↦ again
     ])
 
--- in an entry
+-- likewise in an entry
 noted_in_entry : (tag : Tag) (outcome : Outcome) (place : ℕ) (e : Entry) → IsSized e → outcomes_in place (note_in tag outcome e) ≡ renoted tag outcome (commands_in place e) (outcomes_in place e)
 noted_in_entry tag outcome place e sized =
     (elim (owns tag e) as (λ v. owns tag e ≡ v
@@ -104,7 +104,7 @@ noted_in_entry tag outcome place e sized =
           (count_apart tag place e.session e.request 0 (route_of_taken e.ring e.what) is) (lengths_in place e sized))
     ]) refl
 
--- in an order
+-- likewise in an order
 pub noted_to : (tag : Tag) (outcome : Outcome) (place : ℕ) (es : Order) → All IsSized es → outcomes_to place (note tag outcome es) ≡ renoted tag outcome (commands_to place es) (outcomes_to place es)
 noted_to tag outcome place [] sized = refl
 noted_to tag outcome place (e ∷ es) sized =

@@ -1,4 +1,4 @@
--- Open sessions by their numbers, in what the calls of a proxy leave.
+-- Open sessions by their numbers, after the calls of a proxy.
 use Rattle.std.proofs.Common.{◌≡◌, ◌≢◌, ◌∙◌, ℕ, ◌==◌, true, false, if◌then◌else◌, [], ◌∷◌, Option, Some, ⊎_elim, refl, sym, ap, subst, arith}
 use Rattle.std.specs.Option.{option_map}
 use Rattle.std.proofs.lemmas.Bool.Decides.{eqb_tells, nat_tests}
@@ -23,7 +23,7 @@ noted_own tag outcome (s ∷ others) =
       | false ↦ λ is. rw is again
     ]) refl
 
--- and the others are as they were
+-- the other sessions are as they were
 pub noted_other : (tag : Tag) (outcome : Outcome) (other : ℕ) (open_ones : Sessions) → tag.session ≢ other
     → session_in (noted tag outcome open_ones) other ≡ session_in open_ones other
 noted_other tag outcome other [] differ = refl
@@ -35,7 +35,7 @@ noted_other tag outcome other (s ∷ others) differ =
       | false ↦ λ is. ap (λ (o : Option SessionState). if s.0 == other then Some s.1 else o) again
     ]) refl
 
--- what holds of the session that took a step and of all others, holds of each
+-- a property of the session that took a step and of all others is one of each
 pub at_each : (number : ℕ) (before after : SessionState) (old new : Sessions) → session_in old number ≡ Some before → new ≡ updated number after old
     → (P : ℕ → Option SessionState → Type 0) → P number (Some after) → ((other : ℕ) → number ≢ other → P other (session_in old other))
     → (m : ℕ) → P m (session_in new m)

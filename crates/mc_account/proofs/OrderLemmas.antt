@@ -1,4 +1,4 @@
--- An order that goes on, its parts, and what noting an outcome leaves of it.
+-- An order that goes on, its parts, and the effect of noting an outcome.
 use Rattle.std.proofs.Common.{◌≡◌, ◌≢◌, ◌∙◌, ℕ, zero, suc, ◌+◌, ◌==◌, Bool, true, false, if◌then◌else◌, List, [], ◌∷◌, ◌++◌, length, map, drop, take, refl, sym, ap, append_assoc, append-nil, arith}
 use Rattle.std.specs.Prelude.{All}
 use Rattle.std.specs.List.{list_all}
@@ -17,14 +17,14 @@ use Rattle.mc_proxy.specs.SessionNoting.{with_outcome}
 use Rattle.mc_account.specs.Orders.{Entry, Order, Tagged, AreInOrder, IsSized, answers_of, commands_from, commands_in, commands_to, entries_of, note, note_in, numbers_from, outcomes_from, outcomes_in, outcomes_to, owns, IsToldAs}
 use Rattle.mc_account.proofs.OpenSessions.{own_number, other_number}
 
--- what passes a test in each of two lists, and in both joined
+-- a test that the elements of two lists pass, the joined list passes
 pub passes_joined : {X : Type 0} (test : X → Bool) (xs ys : List X) → list_all test xs ≡ true → list_all test ys ≡ true → list_all test (xs ++ ys) ≡ true
 passes_joined test xs ys left right = list_all-append test xs ys ∙ and_from (list_all test xs) (list_all test ys) left right
 
 pub passes_parts : {X : Type 0} (test : X → Bool) (xs ys : List X) → list_all test (xs ++ ys) ≡ true → (list_all test xs ≡ true) × (list_all test ys ≡ true)
 passes_parts test xs ys both = and_parts (list_all test xs) (list_all test ys) (sym (list_all-append test xs ys) ∙ both)
 
--- what was taken of a session in an order and in another one after it
+-- the entries of a session in an order and in another one after it
 pub entries-append : (n : ℕ) (es fs : Order) → entries_of n (es ++ fs) ≡ entries_of n es ++ entries_of n fs
 entries-append n [] fs = refl
 entries-append n (e ∷ es) fs =
@@ -44,7 +44,7 @@ pub entries_push_other : (n : ℕ) (es : Order) (e : Entry) → e.session ≢ n 
 entries_push_other n es e differ =
     entries-append n es (e ∷ []) ∙ ap (λ (v : Bool). entries_of n es ++ (if v then e ∷ [] else [])) (other_number e.session n differ) ∙ append-nil (entries_of n es)
 
--- the commands to a place, and what became of them
+-- the commands to a place, and their outcomes
 pub commands-append : (place : ℕ) (es fs : Order) → commands_to place (es ++ fs) ≡ commands_to place es ++ commands_to place fs
 commands-append place [] fs = refl
 commands-append place (e ∷ es) fs =
@@ -61,7 +61,7 @@ commands-push place es e = commands-append place es (e ∷ []) ∙ ap (λ (cs : 
 pub outcomes-push : (place : ℕ) (es : Order) (e : Entry) → outcomes_to place (es ++ e ∷ []) ≡ outcomes_to place es ++ outcomes_in place e
 outcomes-push place es e = outcomes-append place es (e ∷ []) ∙ ap (λ (xs : List Outcome). outcomes_to place es ++ xs) (append-nil (outcomes_in place e))
 
--- what is known of all commands to a place, by what was taken before and since
+-- all outcomes of the commands to a place are known, if those taken before and since are
 pub told_whole : (place since : ℕ) (es : Order) → list_all is_told (outcomes_to place (take since es)) ≡ true → list_all is_told (outcomes_to place (drop since es)) ≡ true
     → list_all is_told (outcomes_to place es) ≡ true
 told_whole place since es before after =
@@ -101,7 +101,7 @@ numbered_after at (e ∷ front) back h =
     let same : suc at + length front ≡ at + suc (length front) = omega arith in
     rw (← same) (numbered_after (suc at) front back tail)
 
--- an outcome that is noted leaves all but outcomes as it was
+-- noting an outcome leaves all but outcomes as it was
 pub note-append : (tag : Tag) (outcome : Outcome) (es fs : Order) → note tag outcome (es ++ fs) ≡ note tag outcome es ++ note tag outcome fs
 note-append tag outcome es fs = map-append (note_in tag outcome) es fs
 
@@ -151,7 +151,7 @@ sized-note tag outcome [] h = All-nil IsSized
 sized-note tag outcome (e ∷ es) h =
     All-cons IsSized (note_in tag outcome e) (note tag outcome es) (sized-note_in tag outcome e (All-head IsSized e es h)) (sized-note tag outcome es (All-tail IsSized e es h))
 
--- what clients are told stays where an outcome is noted
+-- the choice for lost commands stays if an outcome is noted
 pub chosen-note : (losses : Losses) (tag : Tag) (outcome : Outcome) (es : Order) → All (IsToldAs losses) es → All (IsToldAs losses) (note tag outcome es)
 chosen-note losses tag outcome [] h = All-nil (IsToldAs losses)
 chosen-note losses tag outcome (e ∷ es) h =

@@ -1,4 +1,4 @@
--- Of one session the commands to a place rise; what waits on a link comes after all that is known.
+-- For one session the commands to a place rise; a link's pending commands come after all with known outcomes.
 use Rattle.std.proofs.Common.{◌≡◌, ◌∙◌, ◌⊎◌, inl, inr, ℕ, zero, suc, ◌+◌, ◌<◌, ◌≤◌, ◌==◌, Bool, true, false, if◌then◌else◌, List, [], ◌∷◌, ◌++◌, length, map, drop, take, Some, slice_get, refl, sym, ap, subst, append_assoc, arith}
 use Rattle.std.proofs.lemmas.List.{take-append-drop}
 use Rattle.std.proofs.lemmas.Option.{none-some, same_Some}
@@ -23,7 +23,7 @@ use Rattle.mc_account.proofs.OrderLemmas.{commands-append}
 use Rattle.mc_account.proofs.LaneLemmas.{pending_of}
 use Rattle.mc_account.proofs.LookupLemmas.{IsFound, Pairs, pending_found}
 
--- what is said of each of a list
+-- a property of each of a list
 abbrev Each : {X : Type 0} → (X → Type 0) → List X → Type 0
 Each P [] = Unit {0}
 Each P (x ∷ xs) = P x × Each P xs
@@ -42,7 +42,7 @@ each_at P [] (suc k) x h at = absurd (none-some x at)
 each_at P (y ∷ ys) zero x h at = subst P (same_Some y x at) h.0
 each_at P (y ∷ ys) (suc k) x h at = each_at P ys k x h.1 at
 
--- of one session this command was asked before that one
+-- two commands of one session, the first asked before the second
 abbrev Precedes : Tagged → Tagged → Type 0
 Precedes c d = c.1.session ≡ d.1.session → IsBefore c.1 d.1
 
@@ -62,7 +62,7 @@ rises_at (x ∷ xs) i zero c d h first second lt = absurd (omega (arith, lt))
 rises_at (x ∷ xs) zero (suc j) c d h first second lt = subst (λ (b : Tagged). Precedes b d) (same_Some x c first) (each_at (Precedes x) xs j d h.0 second)
 rises_at (x ∷ xs) (suc i) (suc j) c d h first second lt = rises_at xs i j c d h.1 first second (omega (arith, lt))
 
--- whose the commands of a request are, from one number on
+-- the tags of the commands of a request, from one number on
 record IsFrom (session request at : ℕ) (c : Tagged) : Type 0 where
   pub whose : c.1.session ≡ session
   pub number : c.1.request ≡ request
@@ -79,7 +79,7 @@ from_each place session request at (c ∷ cs) =
       | false ↦ later
     ])
 
--- so they rise
+-- these commands rise
 rises_from : (place session request at : ℕ) (commands : List Routed) → Rises (commands_from place session request at commands)
 rises_from place session request at [] = tt
 rises_from place session request at (c ∷ cs) =
@@ -163,7 +163,7 @@ pub commands_rise : (place : ℕ) (order : Order) → ((number : ℕ) → AreInO
 commands_rise place order numbered i j c d first second lt same =
     rises_at (commands_to place order) i j c d (rises_to place order (λ session. (0, numbered session))) first second lt same
 
--- what is in the first or the second of two lists
+-- an element of two joined lists is in the first or the second
 part_of : {X : Type 0} (xs ys : List X) (i : ℕ) (x : X) → slice_get (xs ++ ys) i ≡ Some x → (i < length xs) ⊎ ((k : ℕ) × (slice_get ys k ≡ Some x))
 part_of [] ys i x at = inr (i, at)
 part_of (y ∷ xs) ys zero x at = inl (omega arith)
@@ -177,7 +177,7 @@ past_front [] ys k i is = let same : i ≡ k = omega (arith, is) in ap (λ (n : 
 past_front (x ∷ xs) ys k zero is = absurd (omega (arith, is))
 past_front (x ∷ xs) ys k (suc i) is = past_front xs ys k i (omega (arith, is))
 
--- the commands to the place of a link that is up: those that wait come after all others, and each of them is awaited
+-- the commands to the place of a link that is up: the pending ones come after all others, and each of them is awaited
 record WaitsLast (place : ℕ) (order : Order) (waiting : List Waiting) : Type 0 where
   pub front : List Tagged
   pub rest : List Tagged
@@ -207,7 +207,7 @@ waits_of texts sent order lanes now h place up =
       awaited = awaited_each place order pending.rest found;
     }
 
--- which command it is that waits
+-- the command that is pending
 waiting_command : (rest : List Tagged) (k : ℕ) (w : Waiting) → slice_get (as_waiting rest) k ≡ Some w → (c : Tagged) × (slice_get rest k ≡ Some c) × (c.1 ≡ w.1)
 waiting_command [] zero w at = absurd (none-some w at)
 waiting_command [] (suc k) w at = absurd (none-some w at)
@@ -230,7 +230,7 @@ waiting_place place order waiting h k w i is at =
       tag = c.2;
     }
 
--- of one session what is known of a command was asked before all that waits
+-- for one session a command with a known outcome was asked before all pending ones
 pub told_before_waiting : (texts sent : ℕ → List ℕ) (order : Order) (lanes : ℕ → Lane) (now : ProxyState) → ProxyHolds texts sent order lanes now
     → (place : ℕ) → (link_at now.links place).up ≡ true
     → (i : ℕ) (c : Tagged) (x : Outcome) → slice_get (commands_to place order) i ≡ Some c → outcome_at order c.1 ≡ Some x → is_told x ≡ true
@@ -247,7 +247,7 @@ told_before_waiting texts sent order lanes now h place up i c x at known told k 
           let clash : false ≡ true = ap is_told is ∙ told in absurd cc
     ]
 
--- of two that wait the one that waits longer was asked before
+-- of two pending commands of a session the older one was asked before
 pub waiting_in_order : (texts sent : ℕ → List ℕ) (order : Order) (lanes : ℕ → Lane) (now : ProxyState) → ProxyHolds texts sent order lanes now
     → (place : ℕ) → (link_at now.links place).up ≡ true
     → (k l : ℕ) (v w : Waiting) → slice_get (link_at now.links place).waiting k ≡ Some v → slice_get (link_at now.links place).waiting l ≡ Some w → k < l

@@ -1,4 +1,4 @@
--- Where a session is, after each of its calls and where an outcome is noted.
+-- The state of a session, after each of its calls and after an outcome is noted.
 use Rattle.std.proofs.Common.{◌≡◌, ◌≢◌, ◌∙◌, ⊎_elim, ℕ, suc, ◌+◌, ◌-◌, ◌<◌, ◌≤◌, ◌==◌, Bool, true, false, if◌then◌else◌, List, [], ◌∷◌, ◌++◌, length, map, drop, take, Option, Some, None, refl, sym, ap, ap₂, subst, append_assoc, append-nil, arith}
 use Rattle.std.specs.Prelude.{nat_lt}
 use Rattle.std.specs.List.{list_all}
@@ -27,7 +27,7 @@ use Rattle.mc_account.proofs.OpenSessions.{other_number}
 use Rattle.mc_account.proofs.OrderLemmas.{answers-push, entries-note, entries_push_own, note-append, numbered_after, passes_joined, taken-note}
 use Rattle.mc_account.proofs.TagLemmas.{owners, owners-append, owners_later, owners_of, incomplete-append, incomplete_none, incomplete_of, incomplete_owners, incomplete_owners-le, weight}
 
--- where a session is depends on nothing of an order but what was taken of it
+-- the state of a session depends only on an order's entries of it
 pub session_same : (number : ℕ) (order longer : Order) (text text' sent sent' : List ℕ) (session : Option SessionState)
     → entries_of number longer ≡ entries_of number order → text' ≡ text → sent' ≡ sent
     → SessionHoldsAt number order text sent session → SessionHoldsAt number longer text' sent' session
@@ -67,7 +67,7 @@ session_fresh number order none = record {
   taken = ap (λ (es : Order). length es) (sym none);
 }
 
--- a session that is open holds, and so it does once it is left
+-- an open session holds, and so does one that has left
 pub session_left : (number : ℕ) (order : Order) (text sent : List ℕ) (session : Option SessionState) → SessionHoldsAt number order text sent session
     → SessionLeft number order text sent
 session_left number order text sent None h = h
@@ -82,7 +82,7 @@ session_left number order text sent (Some session) h = record {
   answered = h.answered;
 }
 
--- a piece comes
+-- a piece arrives
 pub session_fed : (number : ℕ) (order : Order) (text sent piece : List ℕ) (before after : SessionState)
     → SessionHolds number order text sent before → IsFed piece before after → SessionHolds number order (text ++ piece) sent after
 session_fed number order text sent piece before after h fed = record {
@@ -129,7 +129,7 @@ session_took number order text sent ring losses links now before after what h ta
           omega (arith, takes.taken, h.taken, longer, length-append (entries_of number order) (e ∷ []));
     }
 
--- the client is sent the first bytes of the output
+-- the first bytes of the output are sent to the client
 pub session_sent : (number : ℕ) (order : Order) (text sent : List ℕ) (session : SessionState) (count : ℕ) → SessionHolds number order text sent session
     → SessionHolds number order text (sent ++ take count session.output) (record session { output = drop count session.output })
 session_sent number order text sent session count h = record {
@@ -150,7 +150,7 @@ answer_kept : (losses : Losses) (what : Taken) (outcomes : List Outcome) → ans
 answer_kept losses (Whole request) outcomes = with-kept losses request outcomes
 answer_kept losses (Faulty fault) outcomes = refl
 
--- the oldest request that is not answered, where it can be: it is complete, and its answer is put out
+-- the oldest unanswered request, if it can be answered: it is complete, and its answer is emitted
 record Emits (before after : SessionState) (incomplete : Order) : Type 0 where
   pub first : Entry
   pub others : Order
@@ -187,7 +187,7 @@ session_emitted number order text sent before after h is =
       taken = ap (λ (s : SessionState). s.taken) e.now ∙ h.taken;
     }
 
--- all are of this session
+-- all entries are of this session
 abbrev AreOf : ℕ → Order → Type 0
 AreOf number [] = Unit {0}
 AreOf number (e ∷ es) = ((e.session == number) ≡ true) × AreOf number es
@@ -205,7 +205,7 @@ are_of_after : (number : ℕ) (front back : Order) → AreOf number (front ++ ba
 are_of_after number [] back h = h
 are_of_after number (e ∷ front) back h = are_of_after number front back h.1
 
--- where none has the tag, nothing changes
+-- if none has the tag, nothing changes
 pub note_absent : (tag : Tag) (outcome : Outcome) (es : Order) → owners tag es ≡ 0 → note tag outcome es ≡ es
 note_absent tag outcome [] none = refl
 note_absent tag outcome (e ∷ es) none =
@@ -216,7 +216,7 @@ note_absent tag outcome (e ∷ es) none =
       | false ↦ λ sum. ap (λ (xs : Order). e ∷ xs) (again (omega (arith, sum)))
     ]) none
 
--- no entry of another session has it
+-- no entry of another session has the tag
 pub owners_elsewhere : (tag : Tag) (number : ℕ) (es : Order) → tag.session ≢ number → owners tag (entries_of number es) ≡ 0
 owners_elsewhere tag number [] differ = refl
 owners_elsewhere tag number (e ∷ es) differ =
@@ -230,7 +230,7 @@ owners_elsewhere tag number (e ∷ es) differ =
       | false ↦ λ is. again
     ]) refl
 
--- an outcome is noted at its place among those that are not answered
+-- an outcome is noted at its place among the unanswered requests
 noted_among : (tag : Tag) (outcome : Outcome) (at : ℕ) (es : Order) → AreOf tag.session es → map (λ (e : Entry). e.request) es ≡ numbers_from at es → at ≤ tag.request
     → map unanswered_of (note tag outcome es) ≡ noted_at (tag.request - at) tag.atom outcome (map unanswered_of es)
 noted_among tag outcome at [] whose numbered h = refl
@@ -270,7 +270,7 @@ not_done tag order done incomplete split complete once open_one =
       there = there;
     }
 
--- what was taken of the tag's session, where its outcome is noted
+-- the entries of the tag's session, after its outcome is noted
 noted_split : (tag : Tag) (outcome : Outcome) (order done incomplete : Order) → entries_of tag.session order ≡ done ++ incomplete → owners tag done ≡ 0
     → entries_of tag.session (note tag outcome order) ≡ done ++ note tag outcome incomplete
 noted_split tag outcome order done incomplete split absent =
@@ -283,7 +283,7 @@ noted_taken : (tag : Tag) (outcome : Outcome) (number : ℕ) (order : Order) →
 noted_taken tag outcome number order =
     ap (λ (es : Order). map (λ (e : Entry). e.what) es) (entries-note number tag outcome order) ∙ taken-note tag outcome (entries_of number order)
 
--- the session keeps it at the same place
+-- the session notes it at the same place
 noted_unanswered : (tag : Tag) (outcome : Outcome) (session : SessionState) (done incomplete : Order) → AreOf tag.session incomplete
     → map (λ (e : Entry). e.request) incomplete ≡ numbers_from (length done) incomplete → session.unanswered ≡ map unanswered_of incomplete
     → session.taken ≡ length done + length incomplete → 1 ≤ owners tag incomplete
@@ -299,7 +299,7 @@ noted_unanswered tag outcome session done incomplete whose numbered unanswered t
     ∙ ap₂ (λ (n : ℕ) (us : List Unanswered). record session { unanswered = noted_at (tag.request - n) tag.atom outcome us }) first unanswered
     ∙ ap (λ (us : List Unanswered). record session { unanswered = us }) (sym (noted_among tag outcome (length done) incomplete whose numbered late))
 
--- an outcome is noted that was awaited: the session of its tag
+-- an outcome is noted that was pending: the session of its tag
 pub session_noted : (tag : Tag) (outcome : Outcome) (order : Order) (text sent : List ℕ) (session : SessionState) → AreInOrder (entries_of tag.session order)
     → owners tag order ≤ 1 → 1 ≤ incomplete_owners tag order
     → SessionHolds tag.session order text sent session → SessionHolds tag.session (note tag outcome order) text sent (noted_in tag outcome session)
@@ -327,7 +327,7 @@ session_noted tag outcome order text sent session numbered once open_one h =
           omega (arith, same, size, longer, length-append h.done (note tag outcome h.incomplete), length-map h.incomplete (note_in tag outcome));
     }
 
--- the same where it is open no more
+-- an outcome is noted that was pending: a session that has left
 pub left_noted : (tag : Tag) (outcome : Outcome) (order : Order) (text sent : List ℕ) → owners tag order ≤ 1 → 1 ≤ incomplete_owners tag order
     → SessionLeft tag.session order text sent → SessionLeft tag.session (note tag outcome order) text sent
 left_noted tag outcome order text sent once open_one h =

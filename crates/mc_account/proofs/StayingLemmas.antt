@@ -1,4 +1,4 @@
--- What a session was answered stays its answer as an order changes; and what is awaited is not answered.
+-- What a session was answered stays its answer as an order changes; and a pending command is not answered.
 use Rattle.std.proofs.Common.{◌≡◌, ◌∙◌, ⊎_elim, ℕ, zero, suc, ◌+◌, ◌<◌, ◌≤◌, ◌==◌, true, false, List, [], ◌∷◌, ◌++◌, length, map, drop, take, Some, slice_get, refl, sym, ap, subst, append_assoc, arith}
 use Rattle.std.specs.List.{list_all}
 use Rattle.std.proofs.lemmas.Bool.{and_parts, and_right, cases_lt}
@@ -31,7 +31,7 @@ told_at [] (suc k) x known at = absurd (none-some x at)
 told_at (y ∷ ys) zero x known at = subst (λ (z : Outcome). is_told z ≡ true) (same_Some y x at) (and_parts (is_told y) (list_all is_told ys) known).0
 told_at (y ∷ ys) (suc k) x known at = told_at ys k x (and_parts (is_told y) (list_all is_told ys) known).1 at
 
--- of entries of which so many are complete
+-- entries, the first `count` of which are complete
 complete_at : (es : Order) (count k atom : ℕ) (x : Outcome) → list_all is_complete (take count es) ≡ true → k < count → outcome_in (slice_get es k) atom ≡ Some x → is_told x ≡ true
 complete_at [] count zero atom x complete below at = absurd (none-some x at)
 complete_at [] count (suc k) atom x complete below at = absurd (none-some x at)
@@ -40,7 +40,7 @@ complete_at (e ∷ es) (suc count) zero atom x complete below at = told_at e.out
 complete_at (e ∷ es) (suc count) (suc k) atom x complete below at =
     complete_at es count k atom x (and_parts (is_complete e) (list_all is_complete (take count es)) complete).1 (omega (arith, below)) at
 
--- a command that is awaited is of no request that is answered
+-- a pending command is of no answered request
 pub awaited_not_answered : (number : ℕ) (order : Order) (count : ℕ) (sent unsent : List ℕ) (tag : Tag) → AreAnswers number order count sent unsent
     → outcome_at order tag ≡ Some Awaited → tag.session ≡ number → count ≤ tag.request
 awaited_not_answered number order count sent unsent tag h awaited own =
@@ -52,7 +52,7 @@ awaited_not_answered number order count sent unsent tag h awaited own =
     (λ (late : count ≤ tag.request). late)
     (cases_lt tag.request count)
 
--- answers depend on nothing of an order but the requests that they are to
+-- answers depend only on the requests of an order that they answer
 answers_same : (number : ℕ) (order longer : Order) (count : ℕ) (sent unsent : List ℕ) → count ≤ length (entries_of number longer)
     → take count (entries_of number longer) ≡ take count (entries_of number order)
     → AreAnswers number order count sent unsent → AreAnswers number longer count sent unsent
@@ -62,11 +62,11 @@ answers_same number order longer count sent unsent within same h = record {
   answers = h.answers ∙ ap (λ (es : Order). answers_of es) (sym same);
 }
 
--- a number of which nothing is answered
+-- a number without an answered request
 pub answers_nothing : (number : ℕ) (order : Order) → AreAnswers number order 0 [] []
 answers_nothing number order = record { within = omega arith; complete = refl; answers = refl }
 
--- bytes are taken out
+-- bytes are consumed
 pub answers_sent : (number : ℕ) (order : Order) (count : ℕ) (sent unsent : List ℕ) (bytes : ℕ) → AreAnswers number order count sent unsent
     → AreAnswers number order count (sent ++ take bytes unsent) (drop bytes unsent)
 answers_sent number order count sent unsent bytes h = record {
@@ -87,7 +87,7 @@ answers_push number order e count sent unsent h =
     (omega (arith, h.within, size, length-append (entries_of number order) (entries_of number (e ∷ []))))
     (ap (λ (es : Order). take count es) mine ∙ take-append-le count (entries_of number order) (entries_of number (e ∷ [])) h.within) h
 
--- of requests that are numbered, those with earlier numbers do not have a tag
+-- if requests are numbered, those with earlier numbers do not have a tag
 owners_earlier : (tag : Tag) (at count : ℕ) (es : Order) → map (λ (e : Entry). e.request) es ≡ numbers_from at es → at + count ≤ tag.request → owners tag (take count es) ≡ 0
 owners_earlier tag at zero es numbered h = refl
 owners_earlier tag at (suc count) [] numbered h = refl
@@ -102,7 +102,7 @@ owners_first tag count es none =
     let whole : owners tag (take count es ++ drop count es) ≡ owners tag es = ap (λ (fs : Order). owners tag fs) (take-append-drop count es) in
     omega (arith, whole, owners-append tag (take count es) (drop count es), none)
 
--- an outcome is noted of a command that was awaited: of no request that is answered
+-- an outcome is noted of a command that was pending: of no answered request
 pub answers_note : (number : ℕ) (order : Order) (tag : Tag) (outcome : Outcome) (count : ℕ) (sent unsent : List ℕ) → AreInOrder (entries_of number order)
     → outcome_at order tag ≡ Some Awaited → AreAnswers number order count sent unsent → AreAnswers number (note tag outcome order) count sent unsent
 answers_note number order tag outcome count sent unsent numbered awaited h =
@@ -121,7 +121,7 @@ answers_note number order tag outcome count sent unsent numbered awaited h =
     ∙ take-map (note_in tag outcome) count (entries_of number order)
     ∙ note_absent tag outcome (take count (entries_of number order)) absent) h
 
--- outcomes are noted of commands that were awaited, one after another
+-- outcomes are noted of commands that were pending, in sequence
 pub answers_note_all : (number : ℕ) (tags : List Tag) (outcome : Outcome) (order : Order) (count : ℕ) (sent unsent : List ℕ)
     → ((n : ℕ) → AreInOrder (entries_of n order)) → AreAwaited tags outcome order → AreAnswers number order count sent unsent
     → AreAnswers number (note_all tags outcome order) count sent unsent

@@ -15,7 +15,7 @@ use Rattle.mc_account.specs.Orders.{Entry, Order, Tagged, AreInOrder, IsSized, c
 use Rattle.mc_account.proofs.OpenSessions.{own_number, other_number}
 use Rattle.mc_account.proofs.OrderLemmas.{lengths_in}
 
--- 1 where something is so, and else 0
+-- 1 if a test holds, and else 0
 abbrev pub weight : Bool → ℕ
 weight true = 1
 weight false = 0
@@ -136,7 +136,7 @@ count_to_both tag place other (e ∷ es) differ =
 pub count_to : (tag : Tag) (place : ℕ) (es : Order) → count tag (commands_to place es) ≤ owners tag es
 count_to tag place es = omega (arith, count_to_both tag place (suc place) es (λ same. omega (arith, same)))
 
--- only entries of the tag's session have it
+-- only entries of the tag's session have the tag
 pub owners_of : (tag : Tag) (es : Order) → owners tag (entries_of tag.session es) ≡ owners tag es
 owners_of tag [] = refl
 owners_of tag (e ∷ es) =
@@ -147,7 +147,7 @@ owners_of tag (e ∷ es) =
       | false ↦ λ is. let apart : owns tag e ≡ false = and_left (e.session == tag.session) (e.request == tag.request) is in rw apart (omega (arith, again))
     ]) refl
 
--- of requests that are numbered, those with later numbers do not have it, and one has it at most
+-- if requests are numbered, those with later numbers do not have the tag, and one has it at most
 pub owners_later : (tag : Tag) (at : ℕ) (es : Order) → map (λ (e : Entry). e.request) es ≡ numbers_from at es → tag.request < at → owners tag es ≡ 0
 owners_later tag at [] numbered h = refl
 owners_later tag at (e ∷ es) numbered h =
@@ -209,7 +209,7 @@ incomplete_none tag (e ∷ es) h =
     let apart : (not (is_complete e) && owns tag e) ≡ false = and_left (not (is_complete e)) (owns tag e) (ap not parts.0) in
     rw apart (omega (arith, incomplete_none tag es parts.1))
 
--- how often a tag is among commands of which it is not known what became
+-- how often a tag is among commands with unknown outcomes
 abbrev pub awaited : Tag → List Tagged → List Outcome → ℕ
 awaited tag [] xs = 0
 awaited tag (c ∷ cs) [] = 0
@@ -235,7 +235,7 @@ awaited_none tag (c ∷ cs) (x ∷ xs) h =
     let apart : (not (is_told x) && same_tag c.1 tag) ≡ false = and_left (not (is_told x)) (same_tag c.1 tag) (ap not parts.0) in
     rw apart (omega (arith, awaited_none tag cs xs parts.1))
 
--- what is known of all commands of a request is known of those to a place
+-- outcomes that are known of all commands of a request are known of those to a place
 pub told_from : (place : ℕ) (commands : List Routed) (xs : List Outcome) → list_all is_told xs ≡ true → list_all is_told (outcomes_from place commands xs) ≡ true
 told_from place [] xs h = refl
 told_from place (command ∷ commands) [] h = refl
@@ -247,7 +247,7 @@ told_from place (command ∷ commands) (x ∷ xs) h =
       | false ↦ again
     ])
 
--- where a command is awaited, its entry is not complete
+-- if a command is pending, its entry is not complete
 awaited_in : (tag : Tag) (place : ℕ) (e : Entry) → awaited tag (commands_in place e) (outcomes_in place e) ≤ weight (not (is_complete e) && owns tag e)
 awaited_in tag place e =
     (elim (is_complete e) as (λ v. is_complete e ≡ v → awaited tag (commands_in place e) (outcomes_in place e) ≤ weight (not v && owns tag e)) [

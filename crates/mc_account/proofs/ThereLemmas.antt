@@ -19,19 +19,19 @@ use Rattle.mc_account.specs.Holds.{ProxyHolds}
 use Rattle.mc_account.proofs.OpenSessions.{own_number}
 use Rattle.mc_account.proofs.RisingLemmas.{past_front, told_before_waiting}
 
--- what is in the first of two lists is in both joined
+-- an element of the first of two lists is in both joined
 in_front : {X : Type 0} (xs ys : List X) (k : ℕ) (x : X) → slice_get xs k ≡ Some x → slice_get (xs ++ ys) k ≡ Some x
 in_front [] ys zero x at = absurd (none-some x at)
 in_front [] ys (suc k) x at = absurd (none-some x at)
 in_front (y ∷ xs) ys zero x at = at
 in_front (y ∷ xs) ys (suc k) x at = in_front xs ys k x at
 
--- what is in a list is its first, or is among the others
+-- an element of a list is its first, or is among the others
 first_or_later : {X : Type 0} (y : X) (ys : List X) (k : ℕ) (x : X) → slice_get (y ∷ ys) k ≡ Some x → ((k ≡ 0) × (y ≡ x)) ⊎ ((j : ℕ) × (k ≡ suc j) × (slice_get ys j ≡ Some x))
 first_or_later y ys zero x at = inl (refl, same_Some y x at)
 first_or_later y ys (suc k) x at = inr (k, refl, at)
 
--- of the commands of a request those to a place
+-- among the commands of a request, those to a place
 from_there : (place session request at : ℕ) (commands : List Routed) (k number : ℕ) (atom : Atom (List ℕ)) → number ≡ at + k → slice_get commands k ≡ Some (to_place place atom)
     → (i : ℕ) × (slice_get (commands_from place session request at commands) i ≡ Some (atom, tag_of session request number))
 from_there place session request at [] zero number atom is there = absurd (none-some (to_place place atom) there)
@@ -55,7 +55,7 @@ from_there place session request at (c ∷ cs) (suc k) number atom is there =
       | false ↦ again
     ])
 
--- of an order: the request of a number of a session is this
+-- in an order: the request of a number of a session is this one
 there_in : (place session at : ℕ) (es : Order) (e : Entry) (k request number : ℕ) (atom : Atom (List ℕ)) → map (λ (x : Entry). x.request) (entries_of session es) ≡ numbers_from at (entries_of session es)
     → request ≡ at + k → slice_get (entries_of session es) k ≡ Some e → slice_get (route_of_taken e.ring e.what) number ≡ Some (to_place place atom)
     → (i : ℕ) × (slice_get (commands_to place es) i ≡ Some (atom, tag_of session request number))
@@ -102,7 +102,7 @@ command_is_there place order numbered tag atom there =
     let e = asked_of (asked_at order tag.session tag.request) tag.atom (to_place place atom) there in
     there_in place tag.session 0 order e.0 tag.request tag.request tag.atom atom (numbered tag.session) (omega arith) e.1 e.2
 
--- of one session a command to a place of which it is known what became was asked before all that wait on its link
+-- for one session, a command to a place with a known outcome was asked before all pending ones on its link
 pub known_before_waiting : (texts sent : ℕ → List ℕ) (order : Order) (lanes : ℕ → Lane) (now : ProxyState) → ProxyHolds texts sent order lanes now
     → (place : ℕ) → (link_at now.links place).up ≡ true
     → (tag : Tag) (atom : Atom (List ℕ)) (x : Outcome) → command_at order tag ≡ Some (to_place place atom) → outcome_at order tag ≡ Some x → is_told x ≡ true

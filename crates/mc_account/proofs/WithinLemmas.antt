@@ -1,4 +1,4 @@
--- Each command of an order goes to a server that is there.
+-- Each command of an order goes to a server of the ring.
 use Rattle.std.proofs.Common.{◌≡◌, ℕ, zero, suc, ◌<◌, ◌≤◌, ◌==◌, true, false, if◌then◌else◌, List, [], ◌∷◌, ◌++◌, length, Option, Some, None, slice_get, refl, subst, arith}
 use Rattle.std.specs.Prelude.{All}
 use Rattle.std.proofs.lemmas.List.Elements.{All-cons, All-head, All-nil, All-push, All-tail}
@@ -14,7 +14,7 @@ use Rattle.mc_link.specs.declared.turns.Tag.{Tag}
 use Rattle.mc_account.specs.Lookups.{IsRoutedWithin, asked_at, command_at, command_in}
 use Rattle.mc_account.specs.Orders.{Entry, Order, entries_of, note, note_in}
 
--- what holds of each of a list, holds of the one at a place
+-- a property of each of a list is one of the element at a place
 all_at : {X : Type 0} (P : X → Type 0) (xs : List X) (k : ℕ) (x : X) → All P xs → slice_get xs k ≡ Some x → P x
 all_at P [] zero x h at = absurd (none-some x at)
 all_at P [] (suc k) x h at = absurd (none-some x at)
@@ -26,7 +26,7 @@ taken_inside : (ring : RingState) (what : Taken) → IsRing ring → All (λ (ro
 taken_inside ring (Whole request) good = route_inside ring request good
 taken_inside ring (Faulty fault) good = All-nil (λ (routed : Routed). routed.server < length ring.servers)
 
--- what holds of each entry, holds of those of a session
+-- a property of each entry is one of those of a session
 entries_all : (P : Entry → Type 0) (session : ℕ) (order : Order) → All P order → All P (entries_of session order)
 entries_all P session [] h = All-nil P
 entries_all P session (e ∷ es) h =
@@ -50,7 +50,7 @@ commands_within places order h tag routed at =
     command_within places (asked_at order tag.session tag.request) tag.atom routed
     (λ e is. all_at (IsRoutedWithin places) (entries_of tag.session order) tag.request e (entries_all (IsRoutedWithin places) tag.session order h) is) at
 
--- as an order changes, and where there are more servers
+-- as an order changes, and if there are more servers
 pub within-push : (places : ℕ) (order : Order) (e : Entry) → All (IsRoutedWithin places) order → IsRoutedWithin places e → All (IsRoutedWithin places) (order ++ e ∷ [])
 within-push places order e h own = All-push (IsRoutedWithin places) order e h own
 

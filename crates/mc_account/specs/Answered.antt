@@ -6,15 +6,15 @@ use Rattle.mc_proxy.specs.SessionState.{SessionState, answered}
 use Rattle.mc_proxy.specs.ProxyState.{ProxyState, session_at}
 use Rattle.mc_account.specs.Orders.{Order, answers_of, entries_of, is_complete}
 
--- So many of a session's first requests are complete, and the bytes that were taken out, with those that were put out and not
--- taken out, are their answers.
+-- The first `count` requests of a session are complete, and the bytes that were consumed, with those that were emitted and not
+-- consumed, are their answers.
 pub record AreAnswers (number : ℕ) (order : Order) (count : ℕ) (sent unsent : List ℕ) : Type 0 where
   pub within : count ≤ length (entries_of number order)
   pub complete : list_all is_complete (take count (entries_of number order)) ≡ true
   pub answers : sent ++ unsent ≡ answers_of (take count (entries_of number order))
 
--- what a client was sent: where its session is open, the answers to all requests that are answered, but for its output; where it
--- was left, the first bytes of the answers to some of its first requests
+-- the bytes that a client was sent: if its session is open, the answers to all answered requests, except its output; if it has
+-- left, the first bytes of the answers to some of its first requests
 abbrev pub WasAnswered : ℕ → Order → List ℕ → Option SessionState → Type 0
 WasAnswered number order sent None = (count : ℕ) × (unsent : List ℕ) × AreAnswers number order count sent unsent
 WasAnswered number order sent (Some session) = AreAnswers number order (answered session) sent session.output

@@ -11,15 +11,15 @@ use Rattle.mc_link.specs.LinkState.{LinkState, Waiting, down_link}
 use Rattle.mc_proxy.specs.Emits.{is_told}
 use Rattle.mc_account.specs.Orders.{Order, Tagged, commands_to, outcomes_to}
 
--- since a link came up: how many requests had been taken then, the replies that were taken, the bytes that were taken out for its
--- server, and the bytes that came from it
+-- since a link came up: how many requests had been taken then, the replies that were taken, the bytes that were consumed for its
+-- server, and the bytes that arrived from it
 pub record Lane : Type 0 where
   pub since : ℕ
   pub replies : List (AReply (List ℕ))
   pub out : List ℕ
   pub came : List ℕ
 
--- a lane of a link that came up when so many requests had been taken
+-- a lane of a link that came up when this number of requests had been taken
 abbrev pub fresh_lane : ℕ → Lane
 fresh_lane since = record { since = since; replies = []; out = []; came = [] }
 
@@ -40,13 +40,13 @@ CanHave commands [] = Unit {0}
 CanHave [] (reply ∷ replies) = ⊥
 CanHave (command ∷ commands) (reply ∷ replies) = (can_have (head_of command.0) reply ≡ true) × CanHave commands replies
 
--- commands as they wait for their replies
+-- commands as a link has them while they are pending: each head with its tag
 abbrev pub as_waiting : List Tagged → List Waiting
 as_waiting commands = map (λ command. (head_of command.0, command.1)) commands
 
--- Over a link that is up went the commands to its server of all that was taken since it came up, in that order: what was put on
--- it is their joined spellings, what came is the joined spellings of the replies taken and the unread bytes, and those without
--- a reply wait. Nothing is awaited of it that was taken before.
+-- Over a link that is up went the commands to its server of all requests that were taken since it came up, in that order. The
+-- bytes sent on it are their joined spellings. The bytes that arrived are the joined spellings of the replies taken, and the
+-- unread bytes. The commands without a reply are pending. No earlier command to it is pending.
 pub record LaneHolds (place : ℕ) (order : Order) (lane : Lane) (link : LinkState) : Type 0 where
   pub since : lane.since ≤ length order
   pub put : lane.out ++ link.output ≡ spelled (commands_to place (drop lane.since order))
@@ -56,11 +56,11 @@ pub record LaneHolds (place : ℕ) (order : Order) (lane : Lane) (link : LinkSta
   pub outcomes : outcomes_to place (drop lane.since order) ≡ map (λ reply. Reply reply) lane.replies ++ map (λ _. Awaited) link.waiting
   pub before : list_all is_told (outcomes_to place (take lane.since order)) ≡ true
 
--- nothing is awaited of a link that is down
+-- no command to a link that is down is pending
 pub record IsDown (place : ℕ) (order : Order) (link : LinkState) : Type 0 where
   pub nothing : link ≡ down_link link.generation
   pub outcomes : list_all is_told (outcomes_to place order) ≡ true
 
--- where the link of a place is
+-- the state of the link at a place
 abbrev pub LinkHolds : ℕ → Order → Lane → LinkState → Type 0
 LinkHolds place order lane link = (link.up ≡ true → LaneHolds place order lane link) × (link.up ≢ true → IsDown place order link)

@@ -1,4 +1,4 @@
--- The commands of an order by their tags, and what became of them.
+-- The commands of an order by their tags, and their outcomes.
 use Rattle.std.specs.Prelude.{ℕ, ◌≡◌, ◌<◌, ◌≤◌, ◌⊎◌, List, [], ◌∷◌, length, Option, Some, None, slice_get}
 use Rattle.mc_request.specs.Atoms.{head_of}
 use Rattle.mc_request.specs.declared.parts.Atom.{Atom}
@@ -15,7 +15,7 @@ use Rattle.mc_account.specs.Orders.{Entry, Order, entries_of, note}
 abbrev pub asked_at : Order → ℕ → ℕ → Option Entry
 asked_at order session request = slice_get (entries_of session order) request
 
--- of it the command of a number, with the place of its server, and what became of that
+-- the command of a number of a request, with the place of its server; and its outcome
 abbrev pub command_in : Option Entry → ℕ → Option Routed
 command_in None atom = None
 command_in (Some e) atom = slice_get (route_of_taken e.ring e.what) atom
@@ -24,30 +24,30 @@ abbrev pub outcome_in : Option Entry → ℕ → Option Outcome
 outcome_in None atom = None
 outcome_in (Some e) atom = slice_get e.outcomes atom
 
--- the command of a tag, with the place of its server, and what became of it
+-- the command of a tag, with the place of its server; and its outcome
 abbrev pub command_at : Order → Tag → Option Routed
 command_at order tag = command_in (asked_at order tag.session tag.request) tag.atom
 
 abbrev pub outcome_at : Order → Tag → Option Outcome
 outcome_at order tag = outcome_in (asked_at order tag.session tag.request) tag.atom
 
--- of one session the first was asked before the second
+-- two commands of one session, the first asked before the second
 abbrev pub IsBefore : Tag → Tag → Type 0
 IsBefore a b = (a.request < b.request) ⊎ ((a.request ≡ b.request) × (a.atom < b.atom))
 
--- what waits on the link of a place is a command to it whose reply is awaited
+-- a pending command of a link is one that the order has for the server at its place, with an outcome that is not known yet
 pub record IsAwaited (place : ℕ) (order : Order) (waiting : Waiting) : Type 0 where
   pub atom : Atom (List ℕ)
   pub head : head_of atom ≡ waiting.0
   pub command : command_at order waiting.1 ≡ Some (to_place place atom)
   pub outcome : outcome_at order waiting.1 ≡ Some Awaited
 
--- the reply to each of these commands is awaited when it is its turn to be noted
+-- the outcome of each of these commands is not known yet when it is its turn to be noted
 abbrev pub AreAwaited : List Tag → Outcome → Order → Type 0
 AreAwaited [] outcome order = Unit {0}
 AreAwaited (tag ∷ tags) outcome order = (outcome_at order tag ≡ Some Awaited) × AreAwaited tags outcome (note tag outcome order)
 
--- an entry was routed by a ring of at most so many servers
+-- an entry was routed by a ring of at most `places` servers
 pub record IsRoutedWithin (places : ℕ) (e : Entry) : Type 0 where
   pub ring : IsRing e.ring
   pub few : length e.ring.servers ≤ places

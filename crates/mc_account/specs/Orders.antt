@@ -1,4 +1,4 @@
--- What a proxy took, in order, and what became of it.
+-- The requests that a proxy took, in order, and their outcomes.
 use Rattle.std.specs.Prelude.{ℕ, suc, ◌≡◌, ◌==◌, ◌&&◌, Bool, List, [], ◌∷◌, ◌++◌, length, map, if◌then◌else◌}
 use Rattle.std.specs.List.{list_all}
 use Rattle.mc_request.specs.declared.parts.Atom.{Atom}
@@ -15,8 +15,8 @@ use Rattle.mc_proxy.specs.SessionNoting.{with_outcome}
 use Rattle.mc_proxy.specs.Sending.{tag_of}
 use Rattle.mc_proxy.specs.SessionState.{Unanswered}
 
--- a request or fault that was taken: of which session, its number there, what it was, the ring by which it was routed, the
--- choice for its lost commands, and what became of its commands so far
+-- a request or fault that was taken: its session, its number there, the request itself, the ring by which it was routed,
+-- the choice for its lost commands, and the outcomes of its commands so far
 pub record Entry : Type 0 where
   pub session : ℕ
   pub request : ℕ
@@ -37,7 +37,7 @@ entries_of session (e ∷ es) = if e.session == session then e ∷ entries_of se
 abbrev pub taken_of : ℕ → Order → List Taken
 taken_of session order = map (λ e. e.what) (entries_of session order)
 
--- so many numbers, from one on
+-- a number of consecutive numbers, from one on
 abbrev pub numbers_from : ℕ → List Entry → List ℕ
 numbers_from at [] = []
 numbers_from at (e ∷ es) = at ∷ numbers_from (suc at) es
@@ -46,11 +46,11 @@ numbers_from at (e ∷ es) = at ∷ numbers_from (suc at) es
 abbrev pub AreInOrder : Order → Type 0
 AreInOrder mine = map (λ e. e.request) mine ≡ numbers_from 0 mine
 
--- a command with whose it is
+-- a command with its tag
 abbrev pub Tagged : Type 0
 Tagged = Atom (List ℕ) × Tag
 
--- of the commands of a request those to the server of a place, in order; the first of the commands has this number
+-- the commands of a request to the server at a place, in order; the first of all its commands has this number
 abbrev pub commands_from : ℕ → ℕ → ℕ → ℕ → List Routed → List Tagged
 commands_from place session request at [] = []
 commands_from place session request at (command ∷ commands) =
@@ -60,7 +60,7 @@ commands_from place session request at (command ∷ commands) =
 abbrev pub commands_in : ℕ → Entry → List Tagged
 commands_in place e = commands_from place e.session e.request 0 (route_of_taken e.ring e.what)
 
--- what became of those commands
+-- the outcomes of those commands
 abbrev pub outcomes_from : ℕ → List Routed → List Outcome → List Outcome
 outcomes_from place [] outcomes = []
 outcomes_from place (command ∷ commands) [] = []
@@ -70,7 +70,7 @@ outcomes_from place (command ∷ commands) (outcome ∷ outcomes) =
 abbrev pub outcomes_in : ℕ → Entry → List Outcome
 outcomes_in place e = outcomes_from place (route_of_taken e.ring e.what) e.outcomes
 
--- the commands of an order to the server of a place, in that order, and what became of them
+-- the commands of an order to the server at a place, in that order, and their outcomes
 abbrev pub commands_to : ℕ → Order → List Tagged
 commands_to place [] = []
 commands_to place (e ∷ es) = commands_in place e ++ commands_to place es
@@ -87,7 +87,7 @@ IsSized e = length e.outcomes ≡ length (route_of_taken e.ring e.what)
 abbrev pub IsToldAs : Losses → Entry → Type 0
 IsToldAs losses e = e.losses ≡ losses
 
--- whether it is known of each command of an entry what became of it
+-- whether the outcome of each command of an entry is known
 abbrev pub is_complete : Entry → Bool
 is_complete e = list_all is_told e.outcomes
 
@@ -95,7 +95,7 @@ is_complete e = list_all is_told e.outcomes
 abbrev pub owns : Tag → Entry → Bool
 owns tag e = (e.session == tag.session) && (e.request == tag.request)
 
--- what becomes of a command, noted in its entry
+-- the outcome of a command, noted in its entry
 abbrev pub note_in : Tag → Outcome → Entry → Entry
 note_in tag outcome e = record e {
   outcomes = if owns tag e then with_outcome tag.atom outcome e.outcomes else e.outcomes;

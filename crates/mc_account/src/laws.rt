@@ -27,7 +27,7 @@ ghost use Rattle.mc_account.specs.Orders.{AreInOrder, Entry, IsSized, Order, Tag
 ghost use Rattle.mc_account.specs.Answered.{AreAnswers, WasAnswered, answered_at};
 ghost use Rattle.mc_account.specs.Holds.{ProxyHolds, changed, grown};
 
-/// A proxy that was just made is where nothing was taken.
+/// A proxy that was just made is in the state in which nothing was taken.
 pub fn a_proxy_opens()
     ensures { (losses : Losses) (ring : RingState)
         → ProxyHolds (λ _. []) (λ _. []) [] (λ _. fresh_lane 0)
@@ -40,15 +40,15 @@ pub fn admitted_sessions_hold()
         → ProxyHolds texts sent order lanes old → session_at old old.admitted ≡ None → ProxyHolds texts sent order lanes (with_fresh old) }
 {}
 
-/// `feed`: the session's text has the piece after it.
+/// `feed`: the session's text has the piece appended.
 pub fn pieces_hold()
     ensures { (texts sent : ℕ → List ℕ) (order : Order) (lanes : ℕ → Lane) (number : ℕ) (piece : List ℕ) (old new : ProxyState)
         → ProxyHolds texts sent order lanes old → number < old.admitted → Steps number old new (Alone (IsFed piece))
         → ProxyHolds (grown number piece texts) sent order lanes new }
 {}
 
-/// `turn`, where it took: the order has one request more, which was routed by the ring of that moment; a command whose link was
-/// down is lost.
+/// `turn` that took a request: the order has one request more, which was routed by the ring of that moment; a command whose link
+/// was down is lost.
 pub fn taken_requests_hold()
     ensures { (texts sent : ℕ → List ℕ) (order : Order) (lanes : ℕ → Lane) (number : ℕ) (old new : ProxyState)
         → ProxyHolds texts sent order lanes old → (step : Steps number old new (IsTurn number Took old.ring old.losses))
@@ -63,7 +63,7 @@ pub fn taken_requests_hold()
         }) ∷ []) lanes new }
 {}
 
-/// A `turn` that took nothing, and an `emit` that put nothing out.
+/// A `turn` that took nothing keeps the account, and so does an `emit` that emitted nothing.
 pub fn idle_calls_hold()
     ensures turn { (texts sent : ℕ → List ℕ) (order : Order) (lanes : ℕ → Lane) (number : ℕ) (turn : Turn) (old new : ProxyState)
         → ProxyHolds texts sent order lanes old → turn ≢ Took → Steps number old new (IsTurn number turn old.ring old.losses)
@@ -73,14 +73,14 @@ pub fn idle_calls_hold()
         → ProxyHolds texts sent order lanes new }
 {}
 
-/// `emit`, where it answered.
+/// `emit` that answered keeps the account.
 pub fn answers_put_out_hold()
     ensures { (texts sent : ℕ → List ℕ) (order : Order) (lanes : ℕ → Lane) (number : ℕ) (old new : ProxyState)
         → ProxyHolds texts sent order lanes old → Steps number old new (Alone (IsEmit emits.Done))
         → ProxyHolds texts sent order lanes new }
 {}
 
-/// `taken_out`: the client was sent the first bytes of its session's output.
+/// `taken_out`: the first bytes of its session's output were sent to the client.
 pub fn bytes_sent_to_clients_hold()
     ensures { (texts sent : ℕ → List ℕ) (order : Order) (lanes : ℕ → Lane) (number count : ℕ) (old : ProxyState)
         → ProxyHolds texts sent order lanes old → count ≤ length (output_of (session_at old number))
@@ -88,7 +88,7 @@ pub fn bytes_sent_to_clients_hold()
         (sent_by number count (session_at old number) old) }
 {}
 
-/// `gone`.
+/// `gone` keeps the account: the session has left.
 pub fn sessions_gone_hold()
     ensures { (texts sent : ℕ → List ℕ) (order : Order) (lanes : ℕ → Lane) (number : ℕ) (old : ProxyState)
         → ProxyHolds texts sent order lanes old
@@ -96,7 +96,7 @@ pub fn sessions_gone_hold()
         → ProxyHolds texts sent order lanes (record old { sessions = without number old.sessions }) }
 {}
 
-/// `link_taken_out`: the server was sent the first bytes of the link's output.
+/// `link_taken_out`: the first bytes of the link's output were sent to the server.
 pub fn bytes_sent_to_servers_hold()
     ensures { (texts sent : ℕ → List ℕ) (order : Order) (lanes : ℕ → Lane) (place count : ℕ) (old : ProxyState)
         → ProxyHolds texts sent order lanes old → count ≤ length (link_at old.links place).output
@@ -108,7 +108,7 @@ pub fn bytes_sent_to_servers_hold()
         }) }
 {}
 
-/// `link_feed`: these bytes came from the server.
+/// `link_feed`: these bytes arrived from the server.
 pub fn server_bytes_hold()
     ensures { (texts sent : ℕ → List ℕ) (order : Order) (lanes : ℕ → Lane) (place : ℕ) (piece : List ℕ) (old : ProxyState)
         → ProxyHolds texts sent order lanes old → (link_at old.links place).up ≡ true
@@ -119,7 +119,7 @@ pub fn server_bytes_hold()
         }) }
 {}
 
-/// `link_turn`, where it took a reply: it is noted in the order, and is after the replies of the link.
+/// `link_turn` that took a reply: the reply is noted in the order, and appended to the replies of the link.
 pub fn replies_hold()
     ensures { (texts sent : ℕ → List ℕ) (order : Order) (lanes : ℕ → Lane) (place : ℕ) (old new : ProxyState)
         → ProxyHolds texts sent order lanes old → (link_at old.links place).up ≡ true → (answers : Answers place old new)
@@ -127,14 +127,14 @@ pub fn replies_hold()
         (changed place (record (lanes place) { replies = (lanes place).replies ++ answers.reply ∷ [] }) lanes) new }
 {}
 
-/// `lost`, and a strange `link_turn`: what waits is lost, and nothing else.
+/// `lost`, and a `link_turn` with a violation: the pending commands are lost, and nothing else.
 pub fn lost_links_hold()
     ensures { (texts sent : ℕ → List ℕ) (order : Order) (lanes : ℕ → Lane) (place : ℕ) (old : ProxyState)
         → ProxyHolds texts sent order lanes old → (link_at old.links place).up ≡ true
         → ProxyHolds texts sent (note_all (map (λ waiting. waiting.1) (link_at old.links place).waiting) Lost order) lanes (lost_at place old) }
 {}
 
-/// `back`: what is taken from now on goes over the link.
+/// `back`: requests that are taken from now on go over the link.
 pub fn returned_links_hold()
     ensures { (texts sent : ℕ → List ℕ) (order : Order) (lanes : ℕ → Lane) (place : ℕ) (old : ProxyState)
         → ProxyHolds texts sent order lanes old → can_come_back (link_at old.links place) ≡ true → place < length old.links
@@ -142,30 +142,29 @@ pub fn returned_links_hold()
         (record old { links = with_link place (up_link ((link_at old.links place).generation + 1)) old.links }) }
 {}
 
-/// `join_server`: what was taken keeps its owners. Nothing was taken for the new place before.
+/// `join_server`: requests that were taken keep their owners. None was taken for the new place before.
 pub fn joined_servers_hold()
     ensures { (texts sent : ℕ → List ℕ) (order : Order) (lanes : ℕ → Lane) (address : List ℕ) (up : Bool) (place : ℕ) (old new : ProxyState)
         → ProxyHolds texts sent order lanes old → length old.links ≡ length old.ring.servers → JoinsServer address up place old new
         → ProxyHolds texts sent order (changed place (fresh_lane (length order)) lanes) new }
 {}
 
-/// What each client was sent is the answers to its first requests, in their order, each complete. Of an open session these are
-/// the requests that are answered, and its output is what of their answers was not taken out.
+/// The bytes sent to each client are the answers to its first requests, in their order, each complete. For an open session these
+/// are the answered requests, and its output is the part of their answers that was not consumed.
 pub fn clients_are_answered()
     ensures { (texts sent : ℕ → List ℕ) (order : Order) (lanes : ℕ → Lane) (now : ProxyState)
         → ProxyHolds texts sent order lanes now → (number : ℕ) → WasAnswered number order (sent number) (session_at now number) }
 {}
 
-/// Where no command waits on any link, it is known of each what became of it: so each session can be answered to its last
-/// request.
+/// If no command is pending on any link, the outcome of each is known: so each session can be answered to its last request.
 pub fn nothing_awaited_is_complete()
     ensures { (texts sent : ℕ → List ℕ) (order : Order) (lanes : ℕ → Lane) (now : ProxyState)
         → ProxyHolds texts sent order lanes now → ((place : ℕ) → (link_at now.links place).waiting ≡ [])
         → list_all is_complete order ≡ true }
 {}
 
-/// Only an `emit` that puts an answer out answers a request, and it answers one. After all other calls as many are answered of
-/// each session as before.
+/// Only an `emit` that emits an answer answers a request, and it answers one. All other calls leave the number of answered
+/// requests of each session.
 pub fn answered_requests_are_counted()
     ensures emit { (texts sent : ℕ → List ℕ) (order : Order) (lanes : ℕ → Lane) (number : ℕ) (old new : ProxyState)
         → ProxyHolds texts sent order lanes old → (step : Steps number old new (Alone (IsEmit emits.Done)))
@@ -183,8 +182,8 @@ pub fn answered_requests_are_counted()
     ensures lost { (place : ℕ) (old : ProxyState) (other : ℕ) → answered_at (lost_at place old) other ≡ answered_at old other }
 {}
 
-/// Where a link is up, the reply to each command that waits on it is awaited: also where the same is noted of all of them, one
-/// after another, and of the command that gets its reply.
+/// If a link is up, the order has each of its pending commands, with an outcome that is not known yet. This holds too while one
+/// outcome is noted of all of them, in sequence, and for the command that gets its reply.
 pub fn waiting_commands_are_awaited()
     ensures each { (texts sent : ℕ → List ℕ) (order : Order) (lanes : ℕ → Lane) (now : ProxyState)
         → ProxyHolds texts sent order lanes now → (place : ℕ) → (link_at now.links place).up ≡ true
@@ -199,15 +198,15 @@ pub fn waiting_commands_are_awaited()
         → outcome_at order answers.tag ≡ Some Awaited }
 {}
 
-/// A command whose reply is awaited is of no request that is answered.
+/// A command whose reply is pending is of no answered request.
 pub fn awaited_commands_are_not_answered()
     ensures { (number : ℕ) (order : Order) (count : ℕ) (sent unsent : List ℕ) (tag : Tag)
         → AreAnswers number order count sent unsent → outcome_at order tag ≡ Some Awaited → tag.session ≡ number
         → count ≤ tag.request }
 {}
 
-/// What a client was answered stays its answer, whether its session is open or was left: where a request is taken, where what was
-/// awaited is noted, and where bytes are taken out.
+/// An answer that a client got stays its answer, whether its session is open or has left. It stays after a request is taken,
+/// after an outcome is noted that was pending, and after bytes are consumed.
 pub fn answers_stay()
     ensures taken { (number : ℕ) (order : Order) (e : Entry) (count : ℕ) (sent unsent : List ℕ)
         → AreAnswers number order count sent unsent → AreAnswers number (order ++ e ∷ []) count sent unsent }
@@ -221,7 +220,7 @@ pub fn answers_stay()
         → AreAnswers number order count sent unsent → AreAnswers number order count (sent ++ take bytes unsent) (drop bytes unsent) }
 {}
 
-/// So it does after a `link_turn` that took a reply, and where a link is lost.
+/// It stays too after a `link_turn` that took a reply, and after a link is lost.
 pub fn answers_stay_at_links()
     ensures replied { (texts sent : ℕ → List ℕ) (order : Order) (lanes : ℕ → Lane) (place : ℕ) (old new : ProxyState)
         → ProxyHolds texts sent order lanes old → (link_at old.links place).up ≡ true → (answers : Answers place old new)
@@ -233,13 +232,13 @@ pub fn answers_stay_at_links()
         → AreAnswers number (note_all (map (λ waiting. waiting.1) (link_at old.links place).waiting) Lost order) count out unsent }
 {}
 
-/// Where each entry was routed by a ring of at most so many servers, each command goes to one of so many places.
+/// If each entry was routed by a ring of at most `places` servers, each command goes to one of that many places.
 pub fn commands_stay_within()
     ensures { (places : ℕ) (order : Order) → All (IsRoutedWithin places) order
         → (tag : Tag) (routed : Routed) → command_at order tag ≡ Some routed → routed.server < places }
 {}
 
-/// Of one session the commands to a place rise: by request, and then by their number in it.
+/// For one session the commands to a place rise: by request, and then by their number in it.
 pub fn commands_rise()
     ensures { (place : ℕ) (order : Order) → ((number : ℕ) → AreInOrder (entries_of number order))
         → (i j : ℕ) (first second : Tagged) → slice_get (commands_to place order) i ≡ Some first
@@ -262,8 +261,8 @@ pub fn commands_are_found()
         → (command_at order command.1 ≡ Some (to_place place command.0)) × (outcome_at order command.1 ≡ Some outcome) }
 {}
 
-/// Of one session a command to a place of which it is known what became was asked before all that wait on its link, and those
-/// wait in the order in which they were asked.
+/// For one session, a command to a place with a known outcome was asked before all pending ones on its link. Those are pending
+/// in the order in which they were asked.
 pub fn known_commands_come_first()
     ensures known { (texts sent : ℕ → List ℕ) (order : Order) (lanes : ℕ → Lane) (now : ProxyState)
         → ProxyHolds texts sent order lanes now → (place : ℕ) → (link_at now.links place).up ≡ true

@@ -1,14 +1,14 @@
-//! The account of a proxy: what was put on its links, what came back and what its clients were answered, as one relation.
+//! The account of a proxy: what was sent on its links, what arrived and what its clients were answered, as one relation.
 //!
-//! `specs/Orders.antt` has what was taken as one order of requests, each with what became of its commands; `specs/Lanes.antt`
-//! says what passed over a link since it came up, `specs/Holds.antt` where all of it leaves a proxy (`ProxyHolds`): what was
-//! put on each link is the joined spellings of that order's commands to its server, what came is the joined spellings of the
-//! replies taken and the unread bytes, and each client's output is the answers to its first requests. No server and no socket
-//! is in it. `specs/Lookups.antt` finds a command and what became of it by its tag, and `specs/Answered.antt` says which
-//! bytes are answers.
+//! `specs/Orders.antt` has all requests that were taken, as one order, each with the outcomes of its commands. `specs/Lanes.antt`
+//! says what passed over a link since it came up. `specs/Holds.antt` relates all of it to the state of a proxy (`ProxyHolds`). The
+//! bytes sent on each link are the joined spellings of that order's commands to its server. The bytes that arrived are the joined
+//! spellings of the replies taken, and the unread bytes. Each client's output is the answers to its first requests. The account
+//! has no server and no socket. `specs/Lookups.antt` finds a command and its outcome by its tag, and `specs/Answered.antt` says
+//! which bytes are answers.
 //!
-//! Each function is a law; all of them do nothing. Most say how a call of [`mc_proxy::Proxy`] keeps it, by what the call's contract
-//! says. [`clients_are_answered`] and [`nothing_awaited_is_complete`] say what follows from it.
+//! Each function is a law; all of them do nothing. Most say how a call of [`mc_proxy::Proxy`] keeps the account, by the call's
+//! contract. [`clients_are_answered`] and [`nothing_awaited_is_complete`] say what follows from the account.
 #![tactic(auto)]
 
 mod laws;

@@ -1,4 +1,4 @@
--- What is made of a head that was read.
+-- What a head that was read asks for.
 use Rattle.std.proofs.Common.{◌≡◌, ◌∙◌, ℕ, List, map, take, codes, sym, ap, Result, Ok, Err, IfOk}
 use Rattle.httparse.specs.declared.spans.HeaderSpan.{HeaderSpan}
 use Rattle.httparse.specs.declared.spans.RequestSpans.{RequestSpans}
@@ -35,7 +35,7 @@ pub given_by : (hosts : Hosts) (text : List ℕ) (h : RequestHead) (rest : List 
 given_by hosts text h rest (Ok page) reads is = (h, rest, reads, sym is)
 given_by hosts text h rest (Err e) reads is = tt
 
--- what is made of a head that was read, once it is known what its spans ask for
+-- the result of a head that was read, once it is known what its spans ask for
 pub page_is_read : (hosts : Hosts) (text : List ℕ) (fields : List HeaderSpan) (spans : RequestSpans) (r : Result Page Refusal)
     → IsRequestOf text fields spans → FindsRequest text FIELD_LIMIT fields (Ok (Complete spans))
     → r ≡ asked_by hosts (span_bytes text spans.method) (span_bytes text spans.path) spans.version

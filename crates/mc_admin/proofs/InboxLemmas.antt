@@ -9,7 +9,7 @@ unfolding taking
 taking_over s [] over = refl
 taking_over s (b ∷ bs) over = rw over refl
 
--- another takes the next byte
+-- a request that is not over takes the next byte
 pub taking_more : (s : InboxState) (b : ℕ) (bs : List ℕ) → is_over s.phase ≡ false
     → taking s (b ∷ bs) ≡ taking (with_byte s b) bs
 unfolding taking
@@ -27,7 +27,7 @@ pub taking_end : (s : InboxState) (piece : List ℕ) (i : ℕ) → length piece 
 unfolding taking
 taking_end s piece i past = rw (drop_all i piece past) refl
 
--- where the bytes are cut plays no part
+-- it plays no part where the bytes are cut
 pub taking_cut : (s : InboxState) (front more : List ℕ) → taking s (front ++ more) ≡ continued (taking s front) more
 unfolding taking continued
 taking_cut s [] more = refl

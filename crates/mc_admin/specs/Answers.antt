@@ -1,4 +1,4 @@
--- What is answered.
+-- The answers to operators.
 use Rattle.std.specs.Prelude.{ℕ, Bool, true, false, List, [], ◌∷◌, ◌++◌, length, codes, decimal, Option, Some, None, is_some}
 use Rattle.http1.specs.Fields.{Header}
 use Rattle.http1.specs.Head.{response_text}
@@ -23,7 +23,7 @@ status_of NoBody = 405
 status_of Misdirected = 421
 status_of TooLarge = 431
 
--- its reason
+-- the reason of a refusal
 -- source: the same
 abbrev pub reason_of : Refusal → List ℕ
 reason_of BadRequest = codes "Bad Request"
@@ -33,7 +33,7 @@ reason_of NoBody = codes "Method Not Allowed"
 reason_of Misdirected = codes "Misdirected Request"
 reason_of TooLarge = codes "Request Header Fields Too Large"
 
--- what it says
+-- the words of a refusal
 abbrev pub words_of : Refusal → List ℕ
 words_of BadRequest = codes "400: not a request of HTTP/1.0 or 1.1 with one Host\n"
 words_of NotFound = codes "404: there are /, /metrics and /healthz\n"
@@ -42,7 +42,7 @@ words_of NoBody = []
 words_of Misdirected = codes "421: the Host is none of this listener's: see --admin-name\n"
 words_of TooLarge = codes "431: a request has at most 4096 bytes\n"
 
--- the fields of a response with a body of this type and of so many bytes, in digits: after it the connection is closed
+-- the fields of a response with a body of this type and this length, in digits: after it the connection is closed
 -- source: RFC 9110, sections 8.3, 8.6 and 10.2.1; RFC 9112, section 9.6
 abbrev pub fields_of : List ℕ → List ℕ → List Header
 fields_of type len =
@@ -93,12 +93,12 @@ answer_to (Shown Metrics) sheet = response 200 (codes "OK") metrics_type [] (met
 answer_to (Shown Health) sheet = response 200 (codes "OK") plain_type [] (codes "ok\n")
 answer_to (Refused refusal) sheet = response (status_of refusal) (reason_of refusal) plain_type [] (words_of refusal)
 
--- a further part comes after this one, or the first one is not given yet
+-- whether a further part follows this one, or the first one is still missing
 abbrev pub has_next : Option Part → Bool
 has_next None = true
 has_next (Some part) = is_some part.next
 
--- the same request is answered further by the next turn: a list of clients comes in parts
+-- whether the next turn answers the same request further: a list of clients is sent in parts
 abbrev pub is_listed_on : Asked → Sheet → Bool
 is_listed_on Conns sheet = has_next sheet.part
 is_listed_on _ sheet = false

@@ -1,4 +1,4 @@
--- What is asked for: by a line, and by a request of HTTP.
+-- What a line, or a request of HTTP, asks for.
 use Rattle.std.specs.Prelude.{◌≡◌, ℕ, ◌≤◌, ◌-◌, ◌==◌, ◌||◌, Bool, true, false, List, [], ◌∷◌, length, take, map, reverse, codes, bytes_eq, if◌then◌else◌, Result, Ok, Err, Option, Some, None, IfOk}
 use Rattle.std.specs.List.{before_first}
 use Rattle.std.specs.Str.Lines.{strip_carriage_return}
@@ -49,11 +49,11 @@ page_at path =
     else if bytes_eq path (codes "/healthz") then Ok Health
     else Err NotFound
 
--- the page of a target: what stands behind a question mark (63) says nothing
+-- the page of a target: the text from a question mark (63) on is ignored
 abbrev pub page_of_target : List ℕ → Result Page Refusal
 page_of_target target = page_at (before_first (λ b. b == 63) target)
 
--- the page that the values of its fields Host let a request have: one of HTTP/1.1 has one, and one of HTTP/1.0 may have none
+-- the page of a request, given the values of its fields Host: a request of HTTP/1.1 has one, and one of HTTP/1.0 may have none
 -- source: RFC 9112, section 3.2
 abbrev pub page_for : Hosts → List ℕ → ℕ → List (List ℕ) → Result Page Refusal
 page_for hosts target minor [] = if minor == 0 then page_of_target target else Err BadRequest
@@ -72,7 +72,7 @@ asked_by hosts method target minor values =
 unfoldable pub asked_by_head : Hosts → RequestHead → Result Page Refusal
 asked_by_head hosts h = asked_by hosts h.method h.target h.minor (values_named (codes "host") (map name_and_value h.fields))
 
--- what is made of the bytes of a head: what they ask for if they are one, and else that they are refused
+-- the result of the bytes of a head: what they ask for if they are one, and else that they are refused
 pub record ReadsPage (hosts : Hosts) (text : List ℕ) (r : Result Page Refusal) : Type 0 where
   pub read : (h : RequestHead) (rest : List ℕ) → ReadsRequest text h rest → length h.fields ≤ FIELD_LIMIT → r ≡ asked_by_head hosts h
   pub given : IfOk r (λ page. (h : RequestHead) × (rest : List ℕ) × ReadsRequest text h rest × (asked_by_head hosts h ≡ Ok page))
@@ -95,7 +95,7 @@ asks_in _ hosts text r = r ≡ None
 abbrev pub Asks : Hosts → InboxState → Option Asked → Type 0
 Asks hosts s r = asks_in s.phase hosts s.text r
 
--- after it the connection is closed: lines but `quit` and one too long go on
+-- after it the connection is closed: lines except `quit` and one too long go on
 abbrev pub ends : Asked → Bool
 ends Stats = false
 ends Settings = false

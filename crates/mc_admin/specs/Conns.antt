@@ -1,4 +1,4 @@
--- How the clients that are connected are listed.
+-- The list of connected clients.
 use Rattle.std.specs.Prelude.{ℕ, List, [], ◌++◌, codes, decimal, string_bytes, Option, Some, None}
 use Rattle.std.specs.List.{flat_map}
 use Rattle.mc_admin.specs.Pages.{end_line}
@@ -10,7 +10,7 @@ use Rattle.mc_admin.specs.declared.conns.Part.{Part}
 abbrev pub conn_line : ℕ → List ℕ → List ℕ → List ℕ
 conn_line place name value = (codes "STAT " ++ decimal place ++ codes ":" ++ name ++ codes " ") ++ value ++ codes "\r\n"
 
--- one with an address
+-- a line of a client, with an address
 -- source: the same
 abbrev pub address_line : ℕ → List ℕ → List ℕ → List ℕ
 address_line place name address = conn_line place name (codes "tcp:" ++ address)
@@ -24,12 +24,12 @@ conn_lines c =
     ++ conn_line c.place (codes "age") (decimal c.age) ++ conn_line c.place (codes "bytes_read") (decimal c.read)
     ++ conn_line c.place (codes "bytes_written") (decimal c.written)
 
--- what ends a part: the end of the list after the last one
+-- the end of a part: the end of the list after the last one
 abbrev pub part_end : Option ℕ → List ℕ
 part_end None = end_line
 part_end (Some place) = []
 
--- what a part of the list is: nothing as long as none is given
+-- the text of a part of the list: empty while the part is missing
 abbrev pub part_text : Option Part → List ℕ
 part_text None = []
 part_text (Some part) = flat_map conn_lines part.conns.now ++ part_end part.next

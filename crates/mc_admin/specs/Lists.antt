@@ -1,4 +1,4 @@
--- Which figures a program shows.
+-- The figures that a program shows.
 use Rattle.std.specs.Prelude.{ℕ, ◌+◌, ◌%◌, ◌^◌, Bool, true, false, List, [], ◌∷◌, ◌++◌, Option, Some, None}
 use Rattle.mc_admin.specs.declared.names.Name.{Name}
 use Rattle.mc_admin.specs.declared.names.Name.TheVariants.{Up, Version as VersionName, Uptime, Time, Pid, Threads, CurrConnections, MaxConnections, TotalConnections, RejectedConnections, Requests, BytesRead, BytesWritten, Resident, CmdGet, GetHits, GetMisses, CmdSet, CurrItems, TotalItems, Bytes, LimitMaxbytes, LimitItems, Evictions, Expired, NoMemory, Missed, ServerUp, ServerLosses, ServerSent, ServerLost, ServerWaiting}
@@ -12,7 +12,7 @@ use Rattle.mc_admin.specs.declared.lists.LinkFigures.{LinkFigures}
 abbrev pub own : Name → ℕ → Figure
 own name n = record { name = name; server = None; value = Number n; first = true }
 
--- one that is not the first of its metric
+-- a number of the program's own that is not the first of its metric
 abbrev pub further : Name → ℕ → Figure
 further name n = record { name = name; server = None; value = Number n; first = false }
 
@@ -27,13 +27,13 @@ process_figures c =
     own Up 1 ∷ own Pid c.pid ∷ own Uptime c.uptime ∷ own Time c.time
     ∷ record { name = VersionName; server = None; value = Version; first = true } ∷ own Threads 1 ∷ []
 
--- the figures of its clients, and of what passed of them
+-- the figures of its clients, and of their traffic
 unfoldable pub traffic_figures : ClientFigures → List Figure
 traffic_figures c =
     own CurrConnections c.connected ∷ own MaxConnections c.most ∷ own TotalConnections c.accepted
     ∷ own RejectedConnections c.refused ∷ own Requests c.requests ∷ own BytesRead c.read ∷ own BytesWritten c.written ∷ []
 
--- the figures of whom a program serves
+-- the figures of the clients that a program serves
 abbrev pub client_figures : ClientFigures → List Figure
 client_figures c = process_figures c ++ traffic_figures c ++ resident_figures c.resident
 
@@ -48,7 +48,7 @@ unfoldable pub command_figures : StoreFigures → List Figure
 command_figures s =
     own CmdGet ((s.hits + s.misses) % 2 ^ 64) ∷ own GetHits s.hits ∷ further GetMisses s.misses ∷ further CmdSet s.stores ∷ []
 
--- the figures of items, and of what went
+-- the figures of items, stored and removed
 unfoldable pub item_figures : StoreFigures → List Figure
 item_figures s =
     own CurrItems s.items ∷ own TotalItems s.stores ∷ own Bytes s.used ∷ own LimitMaxbytes s.budget ∷ own LimitItems s.most
@@ -58,7 +58,7 @@ item_figures s =
 abbrev pub store_figures : StoreFigures → List Figure
 store_figures s = command_figures s ++ item_figures s
 
--- what a name is of, where it is of a proxy's server
+-- the number that a name stands for, if it is of a proxy's server
 abbrev pub link_number : Name → LinkFigures → ℕ
 link_number ServerUp l = l.up
 link_number ServerLosses l = l.losses
@@ -67,7 +67,7 @@ link_number ServerLost l = l.lost
 link_number ServerWaiting l = l.waiting
 link_number _ l = 0
 
--- a number of each server, of which the first may be the first of its metric
+-- a number of each server; that of the first server may be the first of its metric
 abbrev pub of_each : Bool → Name → List LinkFigures → List Figure
 of_each first name [] = []
 of_each first name (l ∷ ls) =

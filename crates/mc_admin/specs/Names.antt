@@ -1,10 +1,10 @@
--- What a figure is called: in memcached's statistics, and as a metric of Prometheus.
+-- The names of figures: in memcached's statistics, and as metrics of Prometheus.
 use Rattle.std.specs.Prelude.{ℕ, List, [], codes}
 use Rattle.mc_admin.specs.declared.names.Name.{Name}
 use Rattle.mc_admin.specs.declared.names.Name.TheVariants.{Up, Version, Uptime, Time, Pid, Threads, CurrConnections, MaxConnections, TotalConnections, RejectedConnections, Requests, BytesRead, BytesWritten, Resident, CmdGet, GetHits, GetMisses, CmdSet, CurrItems, TotalItems, Bytes, LimitMaxbytes, LimitItems, Evictions, Expired, NoMemory, Missed, ServerUp, ServerLosses, ServerSent, ServerLost, ServerWaiting}
 
--- its name among the statistics
--- source: memcached's protocol.txt, "General-purpose statistics", where that has it; of the others this project's own
+-- the name of a figure among the statistics
+-- source: memcached's protocol.txt, "General-purpose statistics", if that has it; of the others this project's own
 unfoldable pub stat_name : Name → List ℕ
 stat_name Up = codes "up"
 stat_name Version = codes "version"
@@ -39,9 +39,8 @@ stat_name ServerSent = codes "sent"
 stat_name ServerLost = codes "lost"
 stat_name ServerWaiting = codes "waiting"
 
--- its metric
--- source: memcached_exporter, where that has it; of the process's memory Prometheus, "Writing client libraries"; of the others this
--- project's own
+-- the metric of a figure
+-- source: memcached_exporter, if that has it; of the process's memory Prometheus, "Writing client libraries"; of the others this project's own
 unfoldable pub metric_name : Name → List ℕ
 metric_name Up = codes "memcached_up"
 metric_name Version = codes "memcached_version"
@@ -76,7 +75,7 @@ metric_name ServerSent = codes "wiersbol_server_sent_total"
 metric_name ServerLost = codes "wiersbol_server_lost_total"
 metric_name ServerWaiting = codes "wiersbol_server_waiting"
 
--- the labels that tell the samples of a metric apart: none of a metric that has one sample
+-- the labels that distinguish the samples of a metric: none if a metric has one sample
 -- source: memcached_exporter
 unfoldable pub labels_of : Name → List ℕ
 labels_of Version = codes "{version=\"1.6.0\"}"
@@ -85,7 +84,7 @@ labels_of GetMisses = codes "{command=\"get\",status=\"miss\"}"
 labels_of CmdSet = codes "{command=\"set\",status=\"hit\"}"
 labels_of _ = []
 
--- what a metric is of: what only grows since the start counts, and anything else is what it is now
+-- the type of a metric: a number that only grows since the start is a counter, and any other a gauge
 -- source: Prometheus, "Metric types"
 unfoldable pub kind_of : Name → List ℕ
 kind_of Up = codes "gauge"

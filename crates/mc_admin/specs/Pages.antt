@@ -1,4 +1,4 @@
--- How figures are spelled: as memcached's statistics, and as metrics of Prometheus.
+-- The spelling of figures: as memcached's statistics, and as metrics of Prometheus.
 use Rattle.std.specs.Prelude.{ℕ, List, [], ◌++◌, codes, if◌then◌else◌, Option, Some, None, decimal}
 use Rattle.std.specs.List.{flat_map}
 use Rattle.std.specs.Borrow.{Bor}
@@ -15,13 +15,13 @@ value_text (Number n) = decimal n
 value_text Version = codes "1.6.0"
 value_text (Word word) = word.now
 
--- a value among metrics, which are numbers: of the version its label says it
+-- a value among metrics, which are numbers: the version is in its label
 -- source: memcached_exporter, memcached_version
 abbrev pub number_text : Value → List ℕ
 number_text (Number n) = decimal n
 number_text _ = codes "1"
 
--- what a figure of a server of a proxy has in front of its name: server:<address>:
+-- the text in front of the name of a figure of a proxy's server: server:<address>:
 -- source: this project's own, as memcached's items:<class>:
 abbrev pub server_prefix : Option (Bor (List ℕ)) → List ℕ
 server_prefix None = []
@@ -40,19 +40,19 @@ figure_line f = stat_line (server_prefix f.server) (stat_name f.name) (value_tex
 abbrev pub setting_line : Setting → List ℕ
 setting_line s = stat_line [] s.name.now (value_text s.value)
 
--- what ends a list: source memcached's protocol.txt, "Statistics"
+-- the end of a list: source memcached's protocol.txt, "Statistics"
 abbrev pub end_line : List ℕ
 end_line = codes "END\r\n"
 
--- what `stats` is answered
+-- the answer to `stats`
 abbrev pub stats_text : List Figure → List ℕ
 stats_text figures = flat_map figure_line figures ++ end_line
 
--- what `stats settings` is answered
+-- the answer to `stats settings`
 abbrev pub settings_text : List Setting → List ℕ
 settings_text settings = flat_map setting_line settings ++ end_line
 
--- what is said of a metric in front of its first sample
+-- the lines about a metric in front of its first sample
 -- source: Prometheus, "Exposition formats", text format 0.0.4
 abbrev pub heading_of : Name → List ℕ
 heading_of name =
@@ -73,6 +73,6 @@ sample_line f = metric_name f.name ++ labels_text f.name f.server ++ codes " " +
 abbrev pub metric_lines : Figure → List ℕ
 metric_lines f = (if f.first then heading_of f.name else []) ++ sample_line f
 
--- what `/metrics` shows
+-- the text of `/metrics`
 abbrev pub metrics_text : List Figure → List ℕ
 metrics_text figures = flat_map metric_lines figures

@@ -1,4 +1,4 @@
--- The bytes of a connection, one by one: where its first request ends, however they are cut.
+-- The bytes of a connection, one by one, and the end of its first request, however they are cut.
 use Rattle.std.specs.Prelude.{◌≡◌, ℕ, ◌<◌, ◌≤◌, ◌+◌, ◌-◌, ◌==◌, Bool, true, false, nat_lt, nat_eq, List, [], ◌∷◌, ◌++◌, length, drop, codes, if◌then◌else◌}
 use Rattle.std.specs.List.{starts_with}
 use Rattle.std.specs.Str.Lines.{strip_carriage_return}
@@ -11,7 +11,7 @@ pub record InboxState : Type 0 where
   pub text : List ℕ
   pub phase : Phase
 
--- nothing has come of it
+-- a request of which no byte has arrived
 abbrev pub fresh_inbox : InboxState
 fresh_inbox = record { text = []; phase = Line }
 
@@ -21,8 +21,8 @@ abbrev pub is_http_line : List ℕ → Bool
 is_http_line line =
     let content = strip_carriage_return line in starts_with nat_eq (drop (length content - 9) content) (codes " HTTP/")
 
--- how far a request is after one more byte, where these stood in front of it: a line ends with its line feed (10), and a head with
--- its first empty line (13 is a carriage return)
+-- the phase of a request after one more byte, with these bytes in front of it: a line ends with its line feed (10), and a head
+-- with its first empty line (13 is a carriage return)
 -- source: memcached's protocol.txt; RFC 9112, section 2.1
 abbrev pub after : Phase → List ℕ → ℕ → Phase
 after Line text b = if b == 10 then (if is_http_line text then Start else LineEnded) else Line
@@ -60,12 +60,12 @@ unfoldable pub taking : InboxState → List ℕ → InboxState × List ℕ
 taking s [] = (s, [])
 taking s (b ∷ bs) = if is_over s.phase then (s, b ∷ bs) else taking (with_byte s b) bs
 
--- what comes later goes on where the bytes before it left
+-- bytes that arrive later go on after those before
 unfoldable pub continued : InboxState × List ℕ → List ℕ → InboxState × List ℕ
 continued (s, []) more = taking s more
 continued (s, (b ∷ bs)) more = (s, (b ∷ bs) ++ more)
 
--- of so many bytes with room for so many: there is room for all that may come
+-- a request of this length in a buffer of this capacity: there is room for all bytes that may arrive
 pub record HasRoom (len capacity : ℕ) (phase : Phase) : Type 0 where
   pub room : REQUEST_LIMIT ≤ capacity
   pub short : is_over phase ≡ false → len < REQUEST_LIMIT

@@ -1,4 +1,4 @@
--- A connection: what came of its request, what was read and is not taken, what is to be sent.
+-- A connection: its request so far, the bytes that were read and are not taken, and the unsent output.
 use Rattle.std.specs.Prelude.{◌≡◌, ℕ, Bool, true, false, List, [], Option, Some, None}
 use Rattle.mc_admin.specs.Requests.{InboxState, fresh_inbox, taking}
 use Rattle.mc_admin.specs.Asked.{Asks, ends}
@@ -14,11 +14,11 @@ pub record TalkState : Type 0 where
   pub output : List ℕ
   pub closing : Bool
 
--- one to which nothing has come
+-- a connection to which no byte has arrived
 abbrev pub fresh_talk : TalkState
 fresh_talk = record { inbox = fresh_inbox; unread = []; output = []; closing = false }
 
--- what is left of a request that was answered: all of it while it is answered further, else nothing
+-- the rest of a request that was answered: all of it while it is answered further, else nothing
 abbrev pub left_by : Bool → InboxState → InboxState
 left_by true inbox = inbox
 left_by false inbox = fresh_inbox

@@ -1,4 +1,4 @@
-//! What is answered.
+//! The answers to operators.
 ghost use Rattle.std.specs.Prelude.{◌≡◌, ◌++◌, [], IfOk, OnOk, codes};
 ghost use Rattle.http1.specs.Head.{pairs, header_parts};
 ghost use Rattle.mc_admin.specs.Answers.{answer_to, is_listed_on, response, fields_of, overview_fields, metrics_type, plain_type, status_of, reason_of, words_of};
@@ -15,7 +15,7 @@ use http1::head::write_response;
 use itoa::Buffer;
 use std::alloc::Global;
 
-/// What a response has of a text: its media type, as Prometheus's text format 0.0.4 has it.
+/// The media type of metrics, as Prometheus's text format 0.0.4 has it.
 const METRICS_TYPE: &[u8] = b"text/plain; version=0.0.4; charset=utf-8";
 
 /// The media type of all other texts.
@@ -24,7 +24,7 @@ const PLAIN_TYPE: &[u8] = b"text/plain; charset=utf-8";
 /// The media type of the page for people.
 const HTML_TYPE: &[u8] = b"text/html; charset=utf-8";
 
-/// The answer to what is asked, by what a program says of itself.
+/// Returns the answer to what is asked, given the program's report.
 #[tactic(auto, unfolding(crate::specs::Answers::answer_to))]
 pub fn answer_to(alloc: Global, asked: Asked, sheet: &Sheet<'_>) -> Result<Vec<u8>, AdminError>
     ensures { IfOk result (λ answer. answer.items ≡ answer_to asked sheet.now) }
@@ -45,7 +45,7 @@ pub fn answer_to(alloc: Global, asked: Asked, sheet: &Sheet<'_>) -> Result<Vec<u
     Ok(answer)
 }
 
-/// Puts a page at the end of an answer.
+/// Appends a page to an answer.
 #[tactic(auto, unfolding(crate::specs::Answers::answer_to))]
 fn push_page(
     alloc: Global,
@@ -73,7 +73,7 @@ fn push_page(
     }
 }
 
-/// Puts a response with further fields at the end of an answer.
+/// Appends a response with further fields to an answer.
 #[tactic(auto, unfolding(crate::specs::Answers::response))]
 fn push_response(
     status: u16,
@@ -94,7 +94,7 @@ fn push_response(
     Ok(())
 }
 
-/// The fields of a response with a body of this type and of so many bytes, in digits.
+/// Returns the fields of a response with a body of this type and this length, in digits.
 fn fields_of<'a>(media_type: &'a [u8], len: &'a [u8]) -> [Header<'a>; 4]
     ensures { pairs result ≡ fields_of media_type.entry.now len.entry.now }
 {
@@ -106,7 +106,7 @@ fn fields_of<'a>(media_type: &'a [u8], len: &'a [u8]) -> [Header<'a>; 4]
     ]
 }
 
-/// The fields that the page for people has beside those of any response.
+/// Returns the fields that the page for people has beside those of any response.
 fn overview_fields() -> [Header<'static>; 2]
     ensures { pairs result ≡ overview_fields }
 {
@@ -116,14 +116,14 @@ fn overview_fields() -> [Header<'static>; 2]
     ]
 }
 
-/// A field of a response.
+/// Makes a field of a response.
 fn field<'a>(name: &'a [u8], value: &'a [u8]) -> Header<'a>
     ensures { header_parts result ≡ (name.entry.now, value.entry.now) }
 {
     Header { name, value }
 }
 
-/// Puts the response of a refusal at the end of an answer.
+/// Appends the response of a refusal to an answer.
 fn push_refusal(refusal: Refusal, answer: &mut Vec<u8>) -> Result<(), AdminError>
     ensures { OnOk result (answer.new.items
         ≡ answer.old.items ++ response (status_of refusal) (reason_of refusal) plain_type [] (words_of refusal)) }
@@ -138,7 +138,7 @@ fn push_refusal(refusal: Refusal, answer: &mut Vec<u8>) -> Result<(), AdminError
     )
 }
 
-/// The status of a refusal.
+/// Returns the status of a refusal.
 fn status_of(refusal: Refusal) -> u16
     ensures { result ≡ status_of refusal }
 {
@@ -151,7 +151,7 @@ fn status_of(refusal: Refusal) -> u16
     }
 }
 
-/// Its reason.
+/// Returns the reason of a refusal.
 fn reason_of(refusal: Refusal) -> &'static [u8]
     ensures { result.now ≡ reason_of refusal }
 {
@@ -164,7 +164,7 @@ fn reason_of(refusal: Refusal) -> &'static [u8]
     }
 }
 
-/// What it says.
+/// Returns the words of a refusal.
 fn words_of(refusal: Refusal) -> &'static [u8]
     ensures { result.now ≡ words_of refusal }
 {
@@ -178,7 +178,7 @@ fn words_of(refusal: Refusal) -> &'static [u8]
     }
 }
 
-/// Whether the connection is closed after what is asked was answered.
+/// Returns whether the connection is closed after what is asked was answered.
 pub fn ends(asked: Asked) -> bool
     ensures { result ≡ ends asked }
 {
@@ -189,7 +189,7 @@ pub fn ends(asked: Asked) -> bool
     }
 }
 
-/// Whether the next turn answers the same request further: a list of clients comes in parts.
+/// Returns whether the next turn answers the same request further: a list of clients is sent in parts.
 pub fn is_listed_on(asked: Asked, sheet: &Sheet<'_>) -> bool
     ensures { result ≡ is_listed_on asked sheet.now }
 {

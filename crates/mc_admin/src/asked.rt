@@ -1,6 +1,6 @@
-//! What is asked for.
+//! What operators ask for.
 
-/// What operators are shown by HTTP.
+/// The pages that operators are shown by HTTP.
 #[derive(Clone, Copy, Debug, PartialEq, Eq)]
 pub enum Page {
     /// The figures, for people in a browser: at `/`.
@@ -14,7 +14,8 @@ pub enum Page {
 /// Why a request of HTTP is refused.
 #[derive(Clone, Copy, Debug, PartialEq, Eq)]
 pub enum Refusal {
-    /// 400: it is none of HTTP/1.0 or 1.1, has more fields than are read, or has not the one field `Host` that it must have.
+    /// 400: it is no request of HTTP/1.0 or 1.1, has more fields than are read, or lacks the one field `Host` that it must
+    /// have.
     BadRequest,
     /// 404: there is no such page.
     NotFound,
@@ -28,27 +29,27 @@ pub enum Refusal {
     TooLarge,
 }
 
-/// What is asked for, by a line or by a request of HTTP.
+/// What a line, or a request of HTTP, asks for.
 #[derive(Clone, Copy, Debug, PartialEq, Eq)]
 pub enum Asked {
     /// The figures, as memcached's statistics.
     Stats,
     /// The settings.
     Settings,
-    /// Who is connected.
+    /// The connected clients.
     Conns,
-    /// Statistics of which there are none.
+    /// Statistics that do not exist here.
     Nothing,
     /// The version of the protocol.
     Version,
     /// That the connection is closed.
     Quit,
-    /// Nothing that is known.
+    /// An unknown command.
     Unknown,
     /// The line has more bytes than are kept.
     TooLong,
     /// A page.
     Shown(Page),
-    /// What is refused.
+    /// A refusal.
     Refused(Refusal),
 }

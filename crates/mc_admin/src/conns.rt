@@ -1,4 +1,4 @@
-//! Who is connected, in parts.
+//! The connected clients, in parts.
 ghost use Rattle.std.specs.Prelude.{◌≡◌, ◌++◌, codes, decimal, OnOk};
 ghost use Rattle.std.specs.List.{flat_map};
 ghost use Rattle.mc_admin.specs.Conns.{conn_line, address_line, conn_lines, part_text};
@@ -13,13 +13,13 @@ pub struct Conn {
     pub place: u64,
     /// Its address.
     pub peer: String,
-    /// The address at which it came.
+    /// The address at which it connected.
     pub own: String,
     /// What it waits for, in memcached's words.
     pub state: &'static [u8],
-    /// Seconds since its socket had something, or it was owed an answer.
+    /// Seconds since its socket was ready, or since it had pending answers.
     pub quiet: u64,
-    /// Seconds since it came.
+    /// Seconds since it connected.
     pub age: u64,
     /// Bytes that were read from it.
     pub read: u64,
@@ -32,11 +32,11 @@ pub struct Conn {
 pub struct Part<'a> {
     /// The clients.
     pub conns: &'a [Conn],
-    /// From which place on the next part goes; none after the last part.
+    /// The place at which the next part begins; none after the last part.
     pub next: Option<usize>,
 }
 
-/// Puts the lines of some clients at the end of a text, and after the last of all the end of the list.
+/// Appends the lines of some clients to a text, and after the last of all the end of the list.
 pub fn push_part(part: Option<Part<'_>>, out: &mut Vec<u8>) -> Result<(), AllocError>
     ensures { OnOk result (out.new.items ≡ out.old.items ++ part_text part.entry) }
 {
@@ -50,7 +50,7 @@ pub fn push_part(part: Option<Part<'_>>, out: &mut Vec<u8>) -> Result<(), AllocE
     }
 }
 
-/// Puts the lines of some clients at the end of a text.
+/// Appends the lines of some clients to a text.
 #[tactic(auto, using(crate::proofs::PageLemmas::lines_more))]
 fn push_conns(conns: &[Conn], out: &mut Vec<u8>) -> Result<(), AllocError>
     ensures { OnOk result (out.new.items ≡ out.old.items ++ flat_map conn_lines conns.now) }
@@ -61,7 +61,7 @@ fn push_conns(conns: &[Conn], out: &mut Vec<u8>) -> Result<(), AllocError>
     Ok(())
 }
 
-/// Puts the lines of a client at the end of a text.
+/// Appends the lines of a client to a text.
 #[tactic(auto, unfolding(crate::specs::Conns::conn_lines))]
 fn push_conn(conn: &Conn, out: &mut Vec<u8>) -> Result<(), AllocError>
     ensures { OnOk result (out.new.items ≡ out.old.items ++ conn_lines conn.now) }
@@ -75,7 +75,7 @@ fn push_conn(conn: &Conn, out: &mut Vec<u8>) -> Result<(), AllocError>
     push_number(conn.place, b"bytes_written", conn.written, out)
 }
 
-/// Puts a line of a client with an address at the end of a text.
+/// Appends a line of a client with an address to a text.
 fn push_address(
     place: u64,
     name: &[u8],
@@ -90,7 +90,7 @@ fn push_address(
     out.extend_from_slice(b"\r\n")
 }
 
-/// Puts a line of a client with a number at the end of a text.
+/// Appends a line of a client with a number to a text.
 fn push_number(place: u64, name: &[u8], number: u64, out: &mut Vec<u8>) -> Result<(), AllocError>
     ensures { OnOk result (out.new.items ≡ out.old.items ++ conn_line place name.now (decimal number)) }
 {
@@ -98,7 +98,7 @@ fn push_number(place: u64, name: &[u8], number: u64, out: &mut Vec<u8>) -> Resul
     push_line(place, name, digits.format(number).as_bytes(), out)
 }
 
-/// Puts a line of a client at the end of a text.
+/// Appends a line of a client to a text.
 fn push_line(place: u64, name: &[u8], value: &[u8], out: &mut Vec<u8>) -> Result<(), AllocError>
     ensures { OnOk result (out.new.items ≡ out.old.items ++ conn_line place name.now value.now) }
 {
@@ -107,7 +107,7 @@ fn push_line(place: u64, name: &[u8], value: &[u8], out: &mut Vec<u8>) -> Result
     out.extend_from_slice(b"\r\n")
 }
 
-/// Puts the front of a line of a client at the end of a text: up to its value.
+/// Appends the front of a line of a client to a text, up to its value.
 fn push_name(place: u64, name: &[u8], out: &mut Vec<u8>) -> Result<(), AllocError>
     ensures { OnOk result (out.new.items
         ≡ out.old.items ++ (codes "STAT " ++ decimal place ++ codes ":" ++ name.now ++ codes " ")) }

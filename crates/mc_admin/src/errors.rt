@@ -25,7 +25,7 @@ impl From<AllocError> for AdminError {
 impl From<WriteError> for AdminError {
     ghost from_gives = { λ _ e. e ≡ Memory };
 
-    /// The fields that are written are always valid, so that only memory can be missing.
+    /// The fields that are written are always valid, so that memory is the only cause.
     fn from(_e: WriteError) -> AdminError {
         AdminError::Memory
     }

@@ -1,25 +1,25 @@
-//! Figures: numbers under their names.
+//! Figures: numbers with names.
 
 use crate::conns::Part;
 use crate::names::Name;
 
-/// What stands behind a name.
+/// The value of a name.
 #[derive(Clone, Copy, Debug)]
 pub enum Value<'a> {
     /// A number.
     Number(u64),
     /// The version of the protocol.
     Version,
-    /// A word, of settings alone.
+    /// A word, which only settings have.
     Word(&'a [u8]),
 }
 
-/// A number under its name.
+/// A number with its name.
 #[derive(Clone, Copy, Debug)]
 pub struct Figure<'a> {
-    /// What it is of.
+    /// Its name.
     pub name: Name,
-    /// The server of a proxy that it is of: its address. There is none of a figure that is the program's own.
+    /// The address of the proxy's server that it is about; none for a figure of the program's own.
     pub server: Option<&'a [u8]>,
     /// The number.
     pub value: Value<'a>,
@@ -27,22 +27,22 @@ pub struct Figure<'a> {
     pub first: bool,
 }
 
-/// A setting under its name.
+/// A setting with its name.
 #[derive(Clone, Copy, Debug)]
 pub struct Setting<'a> {
-    /// Its name, as memcached's `stats settings` has it where it has one.
+    /// Its name, as in memcached's `stats settings` if it is there.
     pub name: &'a [u8],
-    /// What it is set to.
+    /// Its value.
     pub value: Value<'a>,
 }
 
-/// What a program says of itself to operators.
+/// What a program reports of itself to operators.
 #[derive(Clone, Copy, Debug)]
 pub struct Sheet<'a> {
-    /// What `stats` lists and `/metrics` shows: figures of one metric stand together, and the first of them says that it is.
+    /// What `stats` lists and `/metrics` shows: figures of one metric are adjacent, and the first of them is marked.
     pub figures: &'a [Figure<'a>],
     /// What `stats settings` lists.
     pub settings: &'a [Setting<'a>],
-    /// What `stats conns` lists next; none as long as nobody has asked.
+    /// What `stats conns` lists next; none until an operator has asked.
     pub part: Option<Part<'a>>,
 }

@@ -13,7 +13,7 @@ use httparse::spans::{EMPTY_HEADER_SPAN, HeaderSpan, parse_request};
 /// The most fields of a head.
 pub const FIELD_LIMIT: usize = 64;
 
-/// What a head has of a field.
+/// The values that a head has for a field.
 #[derive(Clone, Copy, Debug)]
 pub enum Found<'a> {
     /// There is none.
@@ -24,7 +24,7 @@ pub enum Found<'a> {
     Several,
 }
 
-/// What a head asks for; which ends with its empty line.
+/// Returns what a head asks for; a head ends with its empty line.
 pub fn page_of(head: &[u8], hosts: &Hosts<'_>) -> Result<Page, Refusal>
     ensures { ReadsPage hosts.now head.now result }
 {
@@ -40,7 +40,7 @@ pub fn page_of(head: &[u8], hosts: &Hosts<'_>) -> Result<Page, Refusal>
     }
 }
 
-/// The field `Host` among fields.
+/// Returns the field `Host` among fields.
 fn host_among<'a>(head: &'a [u8], fields: &[HeaderSpan]) -> Found<'a>
     requires { All (IsHeaderWithin (length head.now)) fields.now }
     ensures { IsFound (values_named (codes "host") (map (header_bytes head.now) fields.now)) result }
@@ -54,7 +54,7 @@ fn host_among<'a>(head: &'a [u8], fields: &[HeaderSpan]) -> Found<'a>
     found
 }
 
-/// What is found with one more value.
+/// Returns what is found with one more value.
 fn with<'a>(found: Found<'a>, value: &'a [u8]) -> Found<'a>
     ensures { (values : List (List ℕ)) → IsFound values found.entry → IsFound (values ++ value.now ∷ []) result }
 {
@@ -64,7 +64,7 @@ fn with<'a>(found: Found<'a>, value: &'a [u8]) -> Found<'a>
     }
 }
 
-/// What is asked for by a method, a target, the minor version, and the field `Host`.
+/// Returns what a method, a target, the minor version and the field `Host` ask for.
 fn asked_by(
     hosts: &Hosts<'_>,
     method: &[u8],
@@ -84,7 +84,7 @@ fn asked_by(
     }
 }
 
-/// What `GET` is given.
+/// Returns the page that `GET` asks for.
 fn page_for(hosts: &Hosts<'_>, target: &[u8], minor: u8, host: Found<'_>) -> Result<Page, Refusal>
     ensures { (values : List (List ℕ)) → IsFound values host.entry
         → result ≡ page_for hosts.now target.now minor values }
@@ -102,14 +102,14 @@ fn page_for(hosts: &Hosts<'_>, target: &[u8], minor: u8, host: Found<'_>) -> Res
     }
 }
 
-/// The page of a target.
+/// Returns the page of a target.
 fn page_of_target(target: &[u8]) -> Result<Page, Refusal>
     ensures { result ≡ page_of_target target.now }
 {
     page_at(before(b'?', target))
 }
 
-/// The page at a path.
+/// Returns the page at a path.
 fn page_at(path: &[u8]) -> Result<Page, Refusal>
     ensures { result ≡ page_at path.now }
 {

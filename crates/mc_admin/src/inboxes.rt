@@ -9,7 +9,7 @@ use std::marker::Model;
 /// The most bytes of a request.
 pub const REQUEST_LIMIT: usize = 4096;
 
-/// How far a request is.
+/// The phase of a request.
 #[derive(Clone, Copy, Debug, PartialEq, Eq)]
 pub enum Phase {
     /// In its first line.
@@ -30,8 +30,8 @@ pub enum Phase {
     HeadTooLarge,
 }
 
-/// A request while it comes. It takes no memory after it was made, and looks at each byte a constant number of times. Contracts see
-/// its bytes, and how far it is.
+/// A request while it arrives. It takes no memory after it was made, and looks at each byte a constant number of times. Contracts
+/// see its bytes, and its phase.
 #[derive(Drop)]
 pub struct Inbox {
     text: Vec<u8>,
@@ -52,7 +52,7 @@ impl Model for Inbox {
 impl Inbox {
     ghost use Rattle.mc_admin.specs.Requests.{fresh_inbox, with_byte, taking};
 
-    /// A request of which nothing has come, with room for all of it.
+    /// Makes a request of which no byte has arrived, with room for all of it.
     pub fn new(alloc: Global) -> Result<Inbox, AllocError>
         ensures { IfOk result (λ inbox. inbox ≡ fresh_inbox) }
     {
@@ -62,28 +62,28 @@ impl Inbox {
         })
     }
 
-    /// How far the request is.
+    /// Returns the phase of the request.
     pub fn phase(&self) -> Phase
         ensures { result ≡ self.now.phase }
     {
         self.phase
     }
 
-    /// Its bytes so far.
+    /// Returns its bytes so far.
     pub fn text(&self) -> &[u8]
         ensures { result.now ≡ self.now.text }
     {
         self.text.as_slice()
     }
 
-    /// Whether it has ended: nothing more is taken of it.
+    /// Returns whether it has ended: nothing more is taken of it.
     pub fn is_over(&self) -> bool
         ensures { result ≡ is_over self.now.phase }
     {
         is_over(self.phase)
     }
 
-    /// Takes bytes until the request ends, and says how many were taken.
+    /// Takes bytes until the request ends, and returns how many were taken.
     #[tactic(auto, using(crate::proofs::InboxLemmas::taking_over, crate::proofs::InboxLemmas::taking_next, crate::proofs::InboxLemmas::taking_end))]
     pub fn take(&mut self, piece: &[u8]) -> usize
         ensures taken { taking self.old piece.now ≡ (self.new, drop result piece.now) }
@@ -111,7 +111,7 @@ impl Inbox {
         self.phase = bounded(phase, self.text.len());
     }
 
-    /// Forgets the request: the next one begins.
+    /// Drops the request: the next one begins.
     pub fn clear(&mut self)
         ensures { self.new ≡ fresh_inbox }
     {
@@ -120,7 +120,7 @@ impl Inbox {
     }
 }
 
-/// How far a request is after one more byte, where these stand in front of it.
+/// Returns the phase of a request after one more byte, with these bytes in front of it.
 fn after(phase: Phase, text: &[u8], byte: u8) -> Phase
     ensures { result ≡ after phase text.now byte }
 {
@@ -140,7 +140,7 @@ fn after(phase: Phase, text: &[u8], byte: u8) -> Phase
     }
 }
 
-/// How far a request is after its first line.
+/// Returns the phase of a request after its first line.
 fn after_line(line: &[u8]) -> Phase
     ensures { result ≡ (if is_http_line line.now then Phase.Start else Phase.LineEnded) }
 {
@@ -151,7 +151,7 @@ fn after_line(line: &[u8]) -> Phase
     }
 }
 
-/// Whether a line is the first of a request of HTTP.
+/// Returns whether a line is the first of a request of HTTP.
 fn is_http_line(line: &[u8]) -> bool
     ensures { result ≡ is_http_line line.now }
 {
@@ -160,7 +160,7 @@ fn is_http_line(line: &[u8]) -> bool
     version.starts_with(b" HTTP/")
 }
 
-/// A line without one carriage return at its end.
+/// Returns a line without one carriage return at its end.
 pub fn without_carriage_return(line: &[u8]) -> &[u8]
     ensures { result.now ≡ strip_carriage_return line.now }
 {
@@ -170,7 +170,7 @@ pub fn without_carriage_return(line: &[u8]) -> &[u8]
     }
 }
 
-/// How far a request of so many bytes is: one that may have no more has ended.
+/// Returns the phase of a request of this length: one at its limit has ended.
 fn bounded(phase: Phase, len: usize) -> Phase
     ensures { result ≡ bounded phase len }
 {
@@ -181,7 +181,7 @@ fn bounded(phase: Phase, len: usize) -> Phase
     }
 }
 
-/// What a request is that has not ended in as many bytes as it may have.
+/// Returns the final phase of a request that has not ended within its limit.
 fn too_long(phase: Phase) -> Phase
     ensures { result ≡ too_long phase }
 {
@@ -192,7 +192,7 @@ fn too_long(phase: Phase) -> Phase
     }
 }
 
-/// Whether a request has ended.
+/// Returns whether a request has ended.
 fn is_over(phase: Phase) -> bool
     ensures { result ≡ is_over phase }
 {

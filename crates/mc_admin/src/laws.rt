@@ -3,7 +3,7 @@ ghost use Rattle.std.specs.Prelude.{◌≡◌, ℕ, ◌++◌, List, [], codes};
 ghost use Rattle.mc_admin.specs.Requests.{InboxState, fresh_inbox, taking, continued};
 ghost use Rattle.mc_admin.specs.declared.inboxes.Phase.TheVariants.{Line, Field, LineEnded, HeadEnded};
 
-/// Where the bytes of a connection are cut plays no part: those that come later are taken where the ones before them left.
+/// It plays no part where the bytes of a connection are cut: later ones are taken after those before.
 pub fn cuts_say_nothing()
     ensures { (s : InboxState) (front more : List ℕ) → taking s (front ++ more) ≡ continued (taking s front) more }
 {}

@@ -1,4 +1,5 @@
-//! What operators are shown: what they ask for in a line or a request of HTTP, and what is answered.
+//! The answers of a program to its operators, without sockets: what a line or a request of HTTP asks for, and the text of
+//! the answer. A [`Talk`] is one operator's connection, and a [`Sheet`] what the program reports of itself.
 #![tactic(auto)]
 
 mod answers;

@@ -8,7 +8,7 @@ use crate::hosts::Hosts;
 use crate::inboxes::{Inbox, Phase, without_carriage_return};
 use httparse::is_space_or_tab;
 
-/// What a request asks for, where these are the program's own hosts; none until it has ended.
+/// Returns what a request asks for, given the program's own hosts; none until it has ended.
 pub fn asked_of(inbox: &Inbox, hosts: &Hosts<'_>) -> Option<Asked>
     ensures { Asks hosts.now inbox.now result }
 {
@@ -21,7 +21,7 @@ pub fn asked_of(inbox: &Inbox, hosts: &Hosts<'_>) -> Option<Asked>
     }
 }
 
-/// A page, or its refusal.
+/// Returns a page, or its refusal.
 fn shown(page: Result<Page, Refusal>) -> Asked
     ensures { result ≡ shown page }
 {
@@ -31,7 +31,8 @@ fn shown(page: Result<Page, Refusal>) -> Asked
     }
 }
 
-/// A whole line without its line feed, without one carriage return in front of that, and without the blanks in front of it.
+/// Returns a whole line without its line feed, without one carriage return in front of that, and without the blanks in
+/// front of it.
 fn content_of(line: &[u8]) -> &[u8]
     ensures { result.now ≡ content_of line.now }
 {
@@ -39,7 +40,7 @@ fn content_of(line: &[u8]) -> &[u8]
     without_blanks(without_carriage_return(content))
 }
 
-/// A text without the spaces and tabs at its end.
+/// Returns a text without the spaces and tabs at its end.
 fn without_blanks(text: &[u8]) -> &[u8]
     ensures { result.now ≡ without_blanks text.now }
 {
@@ -52,7 +53,7 @@ fn without_blanks(text: &[u8]) -> &[u8]
     rest
 }
 
-/// What a line asks for.
+/// Returns what a line asks for.
 fn named(word: &[u8]) -> Asked
     ensures { result ≡ named word.now }
 {

@@ -1,4 +1,4 @@
-//! Which figures a program shows.
+//! The figures that a program shows.
 ghost use Rattle.std.specs.Prelude.{◌≡◌, ◌++◌, true, OnOk};
 ghost use Rattle.mc_admin.specs.Lists.{own, further, client_figures, process_figures, traffic_figures, resident_figures, missed_figures, store_figures, command_figures, item_figures, link_number, of_each, link_figures};
 
@@ -6,7 +6,7 @@ use crate::figures::{Figure, Value};
 use crate::names::Name;
 use std::alloc::AllocError;
 
-/// What is known of whom a program serves, and of the program.
+/// What is known of a program, and of the clients that it serves.
 #[derive(Clone, Copy, Debug)]
 pub struct ClientFigures {
     /// The number of the process.
@@ -21,7 +21,7 @@ pub struct ClientFigures {
     pub most: u64,
     /// Clients that were accepted.
     pub accepted: u64,
-    /// Clients that were closed as they came.
+    /// Clients that were closed as they connected.
     pub refused: u64,
     /// Requests and faulty lines that were taken.
     pub requests: u64,
@@ -36,15 +36,15 @@ pub struct ClientFigures {
 /// What is known of what a server stores.
 #[derive(Clone, Copy, Debug)]
 pub struct StoreFigures {
-    /// Keys of retrievals that an item answered.
+    /// Keys of retrievals with a stored item.
     pub hits: u64,
-    /// Keys of retrievals that no item answered.
+    /// Keys of retrievals without a stored item.
     pub misses: u64,
     /// Values that were stored.
     pub stores: u64,
-    /// Items that went to make room.
+    /// Items that were evicted to make room.
     pub evictions: u64,
-    /// Expired items that were taken out or replaced.
+    /// Expired items that were removed or replaced.
     pub expired: u64,
     /// How often the system gave no memory for a request.
     pub no_memory: u64,
@@ -67,7 +67,7 @@ pub struct LinkFigures<'a> {
     pub up: u64,
     /// How often its connection was lost.
     pub losses: u64,
-    /// Commands that were put on it.
+    /// Commands that were sent on its connection.
     pub sent: u64,
     /// Commands of these that had no reply when it was lost.
     pub lost: u64,
@@ -75,7 +75,7 @@ pub struct LinkFigures<'a> {
     pub waiting: u64,
 }
 
-/// Puts the figures of whom a program serves at the end of a list.
+/// Appends the figures of the clients that a program serves to a list.
 pub fn push_client_figures(
     clients: &ClientFigures,
     figures: &mut Vec<Figure<'_>>,
@@ -87,7 +87,7 @@ pub fn push_client_figures(
     push_resident(clients.resident, figures)
 }
 
-/// The figures of a process.
+/// Returns the figures of a process.
 #[tactic(auto, unfolding(crate::specs::Lists::process_figures))]
 fn process_figures(clients: &ClientFigures) -> [Figure<'static>; 6]
     ensures { result ≡ process_figures clients.now }
@@ -107,7 +107,7 @@ fn process_figures(clients: &ClientFigures) -> [Figure<'static>; 6]
     ]
 }
 
-/// The figures of its clients, and of what passed of them.
+/// Returns the figures of its clients, and of their traffic.
 #[tactic(auto, unfolding(crate::specs::Lists::traffic_figures))]
 fn traffic_figures(clients: &ClientFigures) -> [Figure<'static>; 7]
     ensures { result ≡ traffic_figures clients.now }
@@ -123,7 +123,7 @@ fn traffic_figures(clients: &ClientFigures) -> [Figure<'static>; 7]
     ]
 }
 
-/// Puts the memory of the process at the end of a list, if the system says it.
+/// Appends the memory of the process to a list, if the system says it.
 fn push_resident(resident: Option<u64>, figures: &mut Vec<Figure<'_>>) -> Result<(), AllocError>
     ensures { OnOk result (figures.new.items ≡ figures.old.items ++ resident_figures resident) }
 {
@@ -134,7 +134,7 @@ fn push_resident(resident: Option<u64>, figures: &mut Vec<Figure<'_>>) -> Result
     Ok(())
 }
 
-/// Puts the requests of a proxy's clients whose answers hide a loss at the end of a list, if they are counted.
+/// Appends the requests of a proxy's clients whose answers hide a loss to a list, if they are counted.
 pub fn push_missed(missed: Option<u64>, figures: &mut Vec<Figure<'_>>) -> Result<(), AllocError>
     ensures { OnOk result (figures.new.items ≡ figures.old.items ++ missed_figures missed) }
 {
@@ -145,7 +145,7 @@ pub fn push_missed(missed: Option<u64>, figures: &mut Vec<Figure<'_>>) -> Result
     Ok(())
 }
 
-/// Puts the figures of what a server stores at the end of a list.
+/// Appends the figures of what a server stores to a list.
 pub fn push_store_figures(
     store: &StoreFigures,
     figures: &mut Vec<Figure<'_>>,
@@ -156,7 +156,7 @@ pub fn push_store_figures(
     figures.extend_from_slice(&item_figures(store))
 }
 
-/// The figures of commands.
+/// Returns the figures of commands.
 #[tactic(auto, unfolding(crate::specs::Lists::command_figures))]
 fn command_figures(store: &StoreFigures) -> [Figure<'static>; 4]
     ensures { result ≡ command_figures store.now }
@@ -169,7 +169,7 @@ fn command_figures(store: &StoreFigures) -> [Figure<'static>; 4]
     ]
 }
 
-/// The figures of items, and of what went.
+/// Returns the figures of items, stored and removed.
 #[tactic(auto, unfolding(crate::specs::Lists::item_figures))]
 fn item_figures(store: &StoreFigures) -> [Figure<'static>; 8]
     ensures { result ≡ item_figures store.now }
@@ -186,7 +186,7 @@ fn item_figures(store: &StoreFigures) -> [Figure<'static>; 8]
     ]
 }
 
-/// Puts the figures of a proxy's servers at the end of a list.
+/// Appends the figures of a proxy's servers to a list.
 pub fn push_link_figures<'a>(
     links: &[LinkFigures<'a>],
     figures: &mut Vec<Figure<'a>>,
@@ -200,7 +200,7 @@ pub fn push_link_figures<'a>(
     push_of_each(Name::ServerWaiting, links, figures)
 }
 
-/// Puts a number of each server at the end of a list.
+/// Appends a number of each server to a list.
 fn push_of_each<'a>(
     name: Name,
     links: &[LinkFigures<'a>],
@@ -221,7 +221,7 @@ fn push_of_each<'a>(
     Ok(())
 }
 
-/// A number of the program's own, the first of its metric.
+/// Makes a number of the program's own, the first of its metric.
 fn own(name: Name, number: u64) -> Figure<'static>
     ensures { result ≡ own name number }
 {
@@ -233,7 +233,7 @@ fn own(name: Name, number: u64) -> Figure<'static>
     }
 }
 
-/// One that is not the first of its metric.
+/// Makes a number of the program's own that is not the first of its metric.
 fn further(name: Name, number: u64) -> Figure<'static>
     ensures { result ≡ further name number }
 {
@@ -245,7 +245,7 @@ fn further(name: Name, number: u64) -> Figure<'static>
     }
 }
 
-/// What a name is of, where it is of a proxy's server.
+/// Returns the number that a name stands for, if it is of a proxy's server.
 fn link_number(name: Name, link: &LinkFigures<'_>) -> u64
     ensures { result ≡ link_number name link.now }
 {

@@ -1,11 +1,11 @@
-//! What figures are called.
+//! The names of figures.
 ghost use Rattle.std.specs.Prelude.{◌≡◌};
 ghost use Rattle.mc_admin.specs.Names.{stat_name, metric_name, labels_of, kind_of, help_of};
 
-/// What a figure is of.
+/// The name of a figure.
 #[derive(Clone, Copy, Debug, PartialEq, Eq)]
 pub enum Name {
-    /// That the program answers: 1.
+    /// Whether the program answers: 1.
     Up,
     /// The version of the protocol, as the command `version` answers it.
     Version,
@@ -23,7 +23,7 @@ pub enum Name {
     MaxConnections,
     /// Clients that were accepted since the start.
     TotalConnections,
-    /// Clients that were closed as they came: for want of a place or of memory, or as strangers.
+    /// Clients that were closed as they connected: for lack of a place or of memory, or as strangers.
     RejectedConnections,
     /// Requests and faulty lines that were taken.
     Requests,
@@ -35,15 +35,15 @@ pub enum Name {
     Resident,
     /// Keys of retrievals.
     CmdGet,
-    /// Keys of retrievals that an item answered.
+    /// Keys of retrievals with a stored item.
     GetHits,
-    /// Keys of retrievals that no item answered.
+    /// Keys of retrievals without a stored item.
     GetMisses,
-    /// Values that were stored, by whatever command.
+    /// Values that were stored, by any command.
     CmdSet,
     /// Items that are stored, expired ones among them.
     CurrItems,
-    /// Values that were stored, by whatever command.
+    /// Values that were stored, by any command.
     TotalItems,
     /// What the stored items cost, in bytes of the budget.
     Bytes,
@@ -51,9 +51,9 @@ pub enum Name {
     LimitMaxbytes,
     /// The most items.
     LimitItems,
-    /// Items that went to make room.
+    /// Items that were evicted to make room.
     Evictions,
-    /// Expired items that were taken out or replaced.
+    /// Expired items that were removed or replaced.
     Expired,
     /// How often the system gave no memory for a request.
     NoMemory,
@@ -63,7 +63,7 @@ pub enum Name {
     ServerUp,
     /// How often the connection to a server was lost.
     ServerLosses,
-    /// Commands that were put on the connection to a server.
+    /// Commands that were sent on the connection to a server.
     ServerSent,
     /// Commands of these that had no reply when the connection was lost.
     ServerLost,
@@ -72,7 +72,7 @@ pub enum Name {
 }
 
 impl Name {
-    /// Its name among the statistics.
+    /// Returns its name among the statistics.
     #[tactic(auto, unfolding(crate::specs::Names::stat_name))]
     pub fn stat(self) -> &'static [u8]
         ensures { result.now ≡ stat_name self }
@@ -113,7 +113,7 @@ impl Name {
         }
     }
 
-    /// Its metric.
+    /// Returns its metric.
     #[tactic(auto, unfolding(crate::specs::Names::metric_name))]
     pub fn metric(self) -> &'static [u8]
         ensures { result.now ≡ metric_name self }
@@ -154,7 +154,7 @@ impl Name {
         }
     }
 
-    /// The labels of its sample; none if its metric has one sample.
+    /// Returns the labels of its sample; none if its metric has one sample.
     #[tactic(auto, unfolding(crate::specs::Names::labels_of))]
     pub fn labels(self) -> &'static [u8]
         ensures { result.now ≡ labels_of self }
@@ -168,7 +168,7 @@ impl Name {
         }
     }
 
-    /// Whether its metric counts since the start, or is what it is now: `counter` or `gauge`.
+    /// Returns the type of its metric: `counter` if it counts since the start, or `gauge`.
     #[tactic(auto, unfolding(crate::specs::Names::kind_of))]
     pub fn kind(self) -> &'static [u8]
         ensures { result.now ≡ kind_of self }
@@ -193,7 +193,7 @@ impl Name {
         }
     }
 
-    /// Its metric's meaning in words.
+    /// Returns its metric's meaning in words.
     #[tactic(auto, unfolding(crate::specs::Names::help_of))]
     pub fn help(self) -> &'static [u8]
         ensures { result.now ≡ help_of self }

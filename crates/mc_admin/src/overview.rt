@@ -7,7 +7,7 @@ ghost use Rattle.mc_admin.specs.Answers.{overview_text, policy_text};
 const POLICY: &[u8] =
     b"default-src 'none'; script-src 'sha256-7JQwHGg6u62PortZePzaYnpium0wOLaVO1T32I/ygP8='; style-src 'sha256-eTACCqm3Olx0bmzwYsT85WSghINSo5ClEYbRAAjwunM='; connect-src 'self'; img-src data:; base-uri 'none'; form-action 'none'; frame-ancestors 'none'";
 
-/// The page: it asks for `/metrics` once a second, and shows what is there, of a server or of a proxy.
+/// The page: it asks for `/metrics` once a second, and shows the figures of a server or of a proxy.
 const OVERVIEW: &[u8] = br#"<!doctype html>
 <html lang="en">
 <head>
@@ -152,7 +152,7 @@ ask();
 </html>
 "#;
 
-/// The page.
+/// Returns the page.
 #[tactic(auto, unfolding(crate::specs::Answers::overview_text))]
 pub fn overview() -> &'static [u8]
     ensures { result.now ≡ overview_text }
@@ -160,7 +160,7 @@ pub fn overview() -> &'static [u8]
     OVERVIEW
 }
 
-/// What a browser may do with it.
+/// Returns what a browser may do with it.
 #[tactic(auto, unfolding(crate::specs::Answers::policy_text))]
 pub fn policy() -> &'static [u8]
     ensures { result.now ≡ policy_text }

@@ -1,4 +1,4 @@
-//! What is shown: statistics, settings, metrics.
+//! The text of statistics, settings and metrics.
 ghost use Rattle.std.specs.Prelude.{◌≡◌, ◌++◌, [], codes, decimal, OnOk, if◌then◌else◌};
 ghost use Rattle.mc_admin.specs.Names.{metric_name, kind_of};
 ghost use Rattle.mc_admin.specs.Pages.{value_text, number_text, server_prefix, stat_line, figure_line, setting_line, stats_text, settings_text, heading_of, labels_text, sample_line, metric_lines, metrics_text};
@@ -11,7 +11,7 @@ use std::alloc::AllocError;
 /// The version that the command `version` answers: that of the protocol.
 const VERSION: &[u8] = b"1.6.0";
 
-/// Puts statistics at the end of a text.
+/// Appends statistics to a text.
 #[tactic(auto, using(crate::proofs::PageLemmas::lines_more))]
 pub fn push_stats(figures: &[Figure<'_>], out: &mut Vec<u8>) -> Result<(), AllocError>
     ensures { OnOk result (out.new.items ≡ out.old.items ++ stats_text figures.now) }
@@ -22,7 +22,7 @@ pub fn push_stats(figures: &[Figure<'_>], out: &mut Vec<u8>) -> Result<(), Alloc
     out.extend_from_slice(b"END\r\n")
 }
 
-/// Puts settings at the end of a text.
+/// Appends settings to a text.
 #[tactic(auto, using(crate::proofs::PageLemmas::lines_more))]
 pub fn push_settings(settings: &[Setting<'_>], out: &mut Vec<u8>) -> Result<(), AllocError>
     ensures { OnOk result (out.new.items ≡ out.old.items ++ settings_text settings.now) }
@@ -33,7 +33,7 @@ pub fn push_settings(settings: &[Setting<'_>], out: &mut Vec<u8>) -> Result<(), 
     out.extend_from_slice(b"END\r\n")
 }
 
-/// Puts metrics at the end of a text.
+/// Appends metrics to a text.
 #[tactic(auto, using(crate::proofs::PageLemmas::lines_more))]
 pub fn push_metrics(figures: &[Figure<'_>], out: &mut Vec<u8>) -> Result<(), AllocError>
     ensures { OnOk result (out.new.items ≡ out.old.items ++ metrics_text figures.now) }
@@ -44,7 +44,7 @@ pub fn push_metrics(figures: &[Figure<'_>], out: &mut Vec<u8>) -> Result<(), All
     Ok(())
 }
 
-/// The line of a figure among statistics.
+/// Appends the line of a figure among statistics.
 fn push_figure_line(figure: &Figure<'_>, out: &mut Vec<u8>) -> Result<(), AllocError>
     ensures { OnOk result (out.new.items ≡ out.old.items ++ figure_line figure.now) }
 {
@@ -54,7 +54,7 @@ fn push_figure_line(figure: &Figure<'_>, out: &mut Vec<u8>) -> Result<(), AllocE
     push_value(figure.value, out)
 }
 
-/// The line of a setting.
+/// Appends the line of a setting.
 fn push_setting_line(setting: &Setting<'_>, out: &mut Vec<u8>) -> Result<(), AllocError>
     ensures { OnOk result (out.new.items ≡ out.old.items ++ setting_line setting.now) }
 {
@@ -63,7 +63,7 @@ fn push_setting_line(setting: &Setting<'_>, out: &mut Vec<u8>) -> Result<(), All
     push_value(setting.value, out)
 }
 
-/// What a figure of a server has in front of its name.
+/// Appends the text in front of the name of a server's figure.
 fn push_server_prefix(server: Option<&[u8]>, out: &mut Vec<u8>) -> Result<(), AllocError>
     ensures { OnOk result (out.new.items ≡ out.old.items ++ server_prefix server.entry) }
 {
@@ -75,7 +75,7 @@ fn push_server_prefix(server: Option<&[u8]>, out: &mut Vec<u8>) -> Result<(), Al
     out.extend_from_slice(b":")
 }
 
-/// A space, a value among statistics, and the end of its line.
+/// Appends a space, a value among statistics, and the end of its line.
 fn push_value(value: Value<'_>, out: &mut Vec<u8>) -> Result<(), AllocError>
     ensures { OnOk result (out.new.items ≡ out.old.items ++ (codes " " ++ value_text value.entry ++ codes "\r\n")) }
 {
@@ -88,7 +88,7 @@ fn push_value(value: Value<'_>, out: &mut Vec<u8>) -> Result<(), AllocError>
     out.extend_from_slice(b"\r\n")
 }
 
-/// A number in digits.
+/// Appends a number in digits.
 fn push_number(number: u64, out: &mut Vec<u8>) -> Result<(), AllocError>
     ensures { OnOk result (out.new.items ≡ out.old.items ++ decimal number) }
 {
@@ -96,7 +96,7 @@ fn push_number(number: u64, out: &mut Vec<u8>) -> Result<(), AllocError>
     out.extend_from_slice(digits.format(number).as_bytes())
 }
 
-/// The lines of a figure among metrics.
+/// Appends the lines of a figure among metrics.
 fn push_metric_lines(figure: &Figure<'_>, out: &mut Vec<u8>) -> Result<(), AllocError>
     ensures { OnOk result (out.new.items ≡ out.old.items ++ metric_lines figure.now) }
 {
@@ -106,7 +106,7 @@ fn push_metric_lines(figure: &Figure<'_>, out: &mut Vec<u8>) -> Result<(), Alloc
     push_sample(figure, out)
 }
 
-/// What is said of a metric in front of its first sample.
+/// Appends the lines about a metric in front of its first sample.
 fn push_heading(name: Name, out: &mut Vec<u8>) -> Result<(), AllocError>
     ensures { OnOk result (out.new.items ≡ out.old.items ++ heading_of name) }
 {
@@ -117,7 +117,7 @@ fn push_heading(name: Name, out: &mut Vec<u8>) -> Result<(), AllocError>
     push_type(name, out)
 }
 
-/// The line that says whether a metric counts.
+/// Appends the line of a metric's type.
 fn push_type(name: Name, out: &mut Vec<u8>) -> Result<(), AllocError>
     ensures { OnOk result (out.new.items
         ≡ out.old.items ++ (codes "\n# TYPE " ++ metric_name name ++ codes " " ++ kind_of name ++ codes "\n")) }
@@ -129,7 +129,7 @@ fn push_type(name: Name, out: &mut Vec<u8>) -> Result<(), AllocError>
     out.extend_from_slice(b"\n")
 }
 
-/// A sample: its metric, its labels and its number.
+/// Appends a sample: its metric, its labels and its number.
 fn push_sample(figure: &Figure<'_>, out: &mut Vec<u8>) -> Result<(), AllocError>
     ensures { OnOk result (out.new.items ≡ out.old.items ++ sample_line figure.now) }
 {
@@ -143,7 +143,7 @@ fn push_sample(figure: &Figure<'_>, out: &mut Vec<u8>) -> Result<(), AllocError>
     out.extend_from_slice(b"\n")
 }
 
-/// The labels of a figure.
+/// Appends the labels of a figure.
 fn push_labels(name: Name, server: Option<&[u8]>, out: &mut Vec<u8>) -> Result<(), AllocError>
     ensures { OnOk result (out.new.items ≡ out.old.items ++ labels_text name server.entry) }
 {

@@ -11,16 +11,16 @@ use crate::lines::asked_of;
 use std::alloc::Global;
 use std::marker::Model;
 
-/// A connection of an operator, without its socket: a request while it comes, at most [`REQUEST_LIMIT`] bytes that were read and are
-/// not taken, and one answer. Contracts see these, and whether the connection is to be closed once the answer is sent.
+/// A connection of an operator, without its socket: a request while it arrives, at most [`REQUEST_LIMIT`] bytes that were read and
+/// are not taken, and one answer. Contracts see these, and whether the connection must be closed once the answer is sent.
 #[derive(Drop)]
 pub struct Talk {
     alloc: Global,
     inbox: Inbox,
-    /// What was read last, of which so many bytes are taken.
+    /// The last bytes that were read, some of which are taken.
     piece: Vec<u8>,
     taken: usize,
-    /// What is answered, of which so many bytes are sent.
+    /// The answer, some bytes of which are sent.
     answer: Vec<u8>,
     sent: usize,
     closing: bool,
@@ -46,7 +46,7 @@ impl Talk {
     ghost use Rattle.std.specs.Prelude.{◌≡◌, ◌==◌, [], drop, true, IfOk, OnOk, OnErr, length};
     ghost use Rattle.mc_admin.specs.Talks.{TalkState, fresh_talk, Turns};
 
-    /// A connection to which nothing has come, with room for a request.
+    /// Makes a connection to which no byte has arrived, with room for a request.
     pub fn new(alloc: Global) -> Result<Talk, AdminError>
         ensures { IfOk result (λ talk. talk ≡ fresh_talk) }
     {
@@ -61,14 +61,14 @@ impl Talk {
         })
     }
 
-    /// Whether all that was read is taken: only then more is read.
+    /// Returns whether all that was read is taken: only then more is read.
     pub fn is_read(&self) -> bool
         ensures { result ≡ (length self.now.unread == 0) }
     {
         self.taken == self.piece.len()
     }
 
-    /// What is to be sent.
+    /// Returns the unsent output.
     pub fn output(&self) -> &[u8]
         ensures { result.now ≡ self.now.output }
     {
@@ -76,14 +76,14 @@ impl Talk {
         output
     }
 
-    /// Whether the connection is to be closed once its answer is sent.
+    /// Returns whether the connection must be closed once its answer is sent.
     pub fn is_closing(&self) -> bool
         ensures { result ≡ self.now.closing }
     {
         self.closing
     }
 
-    /// Takes in what was read, once all before it is taken. At an error nothing has changed.
+    /// Takes the bytes that were read, once all before them are taken. At an error nothing has changed.
     pub fn feed(&mut self, piece: &[u8]) -> Result<(), AdminError>
         requires { self.old.unread ≡ [] }
         ensures fed { OnOk result (self.new ≡ record self.old { unread = piece.now }) }
@@ -95,7 +95,8 @@ impl Talk {
         Ok(())
     }
 
-    /// Goes on with what was read, until a request is answered, and says what that asked for, if one was. No answer waits to be sent.
+    /// Goes on with what was read, until a request is answered, and returns what that asked for, if one was. The answer before must
+    /// be sent.
     pub fn turn(
         &mut self,
         hosts: &Hosts<'_>,
@@ -119,7 +120,7 @@ impl Talk {
         Ok(Some(asked))
     }
 
-    /// Notes that so many bytes of the output were sent.
+    /// Records that `count` bytes of the output were sent.
     pub fn note_sent(&mut self, count: usize)
         requires { count ≤ length self.old.output }
         ensures { self.new ≡ record self.old { output = drop count self.old.output } }

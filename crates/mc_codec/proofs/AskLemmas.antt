@@ -16,17 +16,17 @@ use Rattle.mc_request.specs.Faults.{◌>>=◌}
 use Rattle.mc_request.specs.Flags.{letters_of, is_one_of, flag_of, bare, valued, opaque_of, mode_of, direction_of, with_mode, by_flag, by_letter, with_flag, flags_from, fresh_flags}
 use Rattle.mc_request.specs.WellFormed.{is_where_some}
 
--- what holds of a part, where it was read
+-- what holds of a part that was read
 abbrev pub Whenever : {A : Type 0} → (A → Type 0) → Result A Fault → Type 0
 Whenever P (Ok part) = P part
 Whenever P (Err fault) = Unit {0}
 
--- of what is read after a part
+-- the same holds of what is read after a part
 pub after : {A B : Type 0} (Q : B → Type 0) (r : Result A Fault) (f : A → Result B Fault) → ((a : A) → r ≡ Ok a → Whenever Q (f a)) → Whenever Q (r >>= f)
 after Q (Ok a) f next = next a refl
 after Q (Err fault) f next = tt
 
--- of a choice between two
+-- it holds of a choice between two
 pub choice : {A : Type 0} (Q : A → Type 0) (b : Bool) (x y : Result A Fault) → Whenever Q x → Whenever Q y → Whenever Q (if b then x else y)
 choice Q true x y h k = h
 choice Q false x y h k = k
@@ -126,6 +126,6 @@ words_ask name read (word ∷ ws) h =
 fresh_asks : (name : Name) → Asks name fresh_flags
 fresh_asks name = record { cas = λ _. refl; flags = λ _. refl; size = λ _. refl; left = λ _. refl; value = λ _. refl }
 
--- what the flags of a command ask for, where they are read
+-- what the flags of a command ask for, if they can be read
 pub asked : (name : Name) (ws : List (List ℕ)) (read : MetaFlags) → flags_from name fresh_flags ws ≡ Ok read → AsksOnly name read.show
 asked name ws read is = where_read (Asks name) (flags_from name fresh_flags ws) read (words_ask name fresh_flags ws (fresh_asks name)) is

@@ -1,4 +1,4 @@
--- What is asked for by a spelled command is answered by canonical spellings.
+-- A spelled command is answered by the canonical spelling of its reply.
 use Rattle.std.proofs.Common.{◌≡◌, ℕ, ℤ, ◌&&◌, Bool, true, false, not, List, [], ◌∷◌, ◌++◌, filter, Option, Some, None, decimal, codes, refl, append-nil, arith}
 use Rattle.std.proofs.lemmas.Bool.{and_parts, not-true}
 use Rattle.std.specs.Fmt.{signed_decimal}
@@ -38,7 +38,7 @@ given : {ws back : List (List ℕ)} (b : Bool) (word : List ℕ) → gives_back 
 given true word gives rest = record { is = rw (gives, rest.is) refl }
 given false word gives rest = rest
 
--- one that does not
+-- a word that gives nothing back
 passed : {ws back : List (List ℕ)} (word : List ℕ) → gives_back word ≡ false → Gives ws back → Gives (word ∷ ws) back
 passed word gives rest = record { is = rw (gives, rest.is) refl }
 
@@ -99,7 +99,7 @@ gives (metas.Update (Count key counting) show) asks =
 gives (metas.Update (Touch key exptime) show) asks = absurd cc
 gives (metas.Update (FlushAll delay) show) asks = absurd cc
 
--- a part that was not asked for is not there
+-- a part that was not asked for is missing
 unasked : {A : Type 0} (test : A → Bool) (b : Bool) (o : Option A) → is_as_asked test b o ≡ true → b ≡ false → o ≡ None
 unasked test true o h off = absurd cc
 unasked test false (Some part) h off = absurd cc

@@ -28,7 +28,7 @@ use Rattle.mc_codec.proofs.ShownLemmas.{of_number, to_number}
 abbrev pub Head : Type 0
 Head = Atom (Unit {0})
 
--- faults
+-- errors
 
 pub of_store_faults : (may : Answer → Bool) (spell : Answer → List ℕ) → ((fault : Fault) → is_store_fault fault ≡ true → may (replies.Fault fault) ≡ true)
     → ((fault : Fault) → spell (replies.Fault fault) ≡ reply_line (replies.Fault fault)) → (p : Path store_faults) → Holds store_faults may spell p
@@ -183,7 +183,7 @@ to_flush : (delay : ℤ) (r : Answer) → can_have (update_head (updates.FlushAl
 to_flush delay replies.Flushed can = to_line _ _
 to_flush delay other can = absurd (cc)
 
--- one line, or that the key is not held
+-- one line, or the line of a missing key
 of_lines : (head : Head) (r : Answer) → can_have head r ≡ true → can_have head replies.NotFound ≡ true → spelling_of head r ≡ reply_line r
     → spelling_of head replies.NotFound ≡ reply_line replies.NotFound → (p : Path (Or (update_line r) (update_line replies.NotFound)))
     → Holds (Or (update_line r) (update_line replies.NotFound)) (can_have head) (spelling_of head) p

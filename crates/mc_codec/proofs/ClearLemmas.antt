@@ -1,5 +1,5 @@
--- The forms of replies are clear: no two rows of a command begin alike, no digit is after a number, and something
--- is after each block.
+-- The forms of replies are clear: no two forms of a command begin alike, no digit follows a number, and something
+-- follows each block.
 use Rattle.std.proofs.Common.{◌≡◌, ℕ, Bool, true, false, List, Option, Some, None, codes, refl, arith}
 use Rattle.mc_text.specs.declared.blocks.TheConstants.{VALUE_LIMIT}
 use Rattle.mc_text.specs.Forms.{Form, Text, Number, Or}

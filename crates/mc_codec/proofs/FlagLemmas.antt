@@ -19,7 +19,7 @@ use Rattle.mc_request.specs.WellFormed.{is_i64, is_u64, is_where_some, is_good_c
 use Rattle.mc_codec.specs.Spellings.{word_if, number_if, signed_if, mode_word, direction_word, creation_words, mg_flags, ms_flags, md_flags, ma_flags}
 use Rattle.mc_codec.proofs.SpellingClassicLemmas.{read_i64-signed, read_u64-spelled}
 
--- after what was read of a command's flag words, the others are read to this end
+-- after these flag words of a command, the others are read to this end
 pub record Reads (name : Name) (read : MetaFlags) (ws : List (List ℕ)) (end : MetaFlags) : Type 0 where
   pub is : flags_from name read ws ≡ Ok end
 
@@ -31,13 +31,13 @@ one_flag : {name : Name} {next : MetaFlags} {ws : List (List ℕ)} {end : MetaFl
     → with_flag name read word ≡ Ok next → Reads name next ws end → Reads name read (word ∷ ws) end
 one_flag read word e rest = record { is = rw e rest.is }
 
--- a flag without a token, where it is asked for
+-- a flag without a token, if it is asked for
 bare_where : {name : Name} {ws : List (List ℕ)} {end : MetaFlags} (set : Bool → MetaFlags) (b : Bool) (word : List ℕ)
     → with_flag name (set false) word ≡ Ok (set true) → Reads name (set b) ws end → Reads name (set false) (word_if b word ws) end
 bare_where set true word e rest = one_flag (set false) word e rest
 bare_where set false word e rest = rest
 
--- a flag with a number, where there is one
+-- a flag with a number, if there is one
 number_flag : {name : Name} {ws : List (List ℕ)} {end : MetaFlags} (set : Option ℕ → MetaFlags) (letter : ℕ) (o : Option ℕ) → is_where_some is_u64 o ≡ true
     → ((n : ℕ) (token : List ℕ) → read_u64 token ≡ Some n → with_flag name (set None) (letter ∷ token) ≡ Ok (set (Some n)))
     → Reads name (set o) ws end → Reads name (set None) (number_if (letter ∷ []) o ws) end
@@ -71,7 +71,7 @@ flags-mg get e n r =
     (number_flag (λ o. mg_read get.show get.exptime get.create o) 82 get.recache r (λ number token is. rw is refl)
     (all_read names.MetaGet (mg_read get.show get.exptime get.create get.recache))))))))))
 
--- of those of `ms`
+-- what is read of the flags of `ms`
 abbrev pub ms_read : Show → Option ℤ → Option ℕ → Option ℕ → Option StoreMode → MetaFlags
 ms_read show exptime flags compare mode = record fresh_flags { coded = true; show = show; exptime = exptime; flags = flags; compare = compare; mode = mode }
 
@@ -107,7 +107,7 @@ flags-ms mode compare flags exptime cas size c f e =
     (mode_flag mode (ms_read show (Some exptime) (Some flags) compare None) refl)
     (all_read names.MetaSet (ms_read show (Some exptime) (Some flags) compare (Some mode)))))))))
 
--- of those of `md`
+-- what is read of the flags of `md`
 abbrev pub md_read : Option ℕ → Bool → MetaFlags
 md_read compare invalidate = record fresh_flags { coded = true; compare = compare; invalidate = invalidate }
 
@@ -119,7 +119,7 @@ flags-md compare invalidate c =
     (bare_where (λ b. md_read compare b) invalidate (codes "I") refl
     (all_read names.MetaDelete (md_read compare invalidate))))
 
--- of those of `ma`
+-- what is read of the flags of `ma`
 abbrev pub ma_read : Show → Option ℤ → Option ℕ → Option ℤ → Option ℕ → Option ℕ → Option Direction → MetaFlags
 ma_read show exptime compare create initial delta direction =
     record fresh_flags { coded = true; show = show; exptime = exptime; compare = compare; create = create; initial = initial; delta = delta; direction = direction }

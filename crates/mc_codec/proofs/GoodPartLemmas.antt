@@ -10,7 +10,7 @@ use Rattle.mc_request.specs.declared.parts.Update.TheVariants.{Store, Touch, Del
 use Rattle.mc_request.specs.Parts.{key_in}
 use Rattle.mc_request.specs.WellFormed.{is_good_block, is_good_counting, is_good_creation, is_good_get, is_good_update, is_i64, is_u64, is_where_some}
 
--- of a storage command, whose key passes a test
+-- the parts of a storage command, whose key passes a test
 pub record AreStoreParts (test : List ℕ → Bool) (compare : Option ℕ) (key : List ℕ) (flags : ℕ) (exptime : ℤ) (block : List ℕ) : Type 0 where
   pub valid : test key ≡ true
   pub number : is_where_some is_u64 compare ≡ true
@@ -22,7 +22,7 @@ pub store_parts : (test : List ℕ → Bool) (mode : StoreMode) (compare : Optio
     → is_good_update test is_good_block (Store mode compare key flags exptime block) ≡ true → AreStoreParts test compare key flags exptime block
 store_parts test mode compare key flags exptime block h = grind (arith, nat_lt, and_parts, nat_tests)
 
--- of a count
+-- the parts of a count
 pub record AreCountParts (counting : Counting) : Type 0 where
   pub delta : is_u64 counting.delta ≡ true
   pub compare : is_where_some is_u64 counting.compare ≡ true
@@ -32,7 +32,7 @@ pub record AreCountParts (counting : Counting) : Type 0 where
 pub count_parts : (counting : Counting) → is_good_counting counting ≡ true → AreCountParts counting
 count_parts counting h = grind (arith, and_parts)
 
--- of what `mg` does
+-- the parts of what `mg` does
 pub record AreGetParts (get : MetaGet) : Type 0 where
   pub exptime : is_where_some is_i64 get.exptime ≡ true
   pub create : is_where_some is_i64 get.create ≡ true
@@ -41,7 +41,7 @@ pub record AreGetParts (get : MetaGet) : Type 0 where
 pub get_parts : (get : MetaGet) → is_good_get get ≡ true → AreGetParts get
 get_parts get h = grind (arith, and_parts)
 
--- an update is good by another test where its key passes that one too
+-- an update is good by another test if its key passes that one too
 pub another_test : (p q : List ℕ → Bool) (update : Update (List ℕ) (List ℕ)) → ((key : List ℕ) → key_in update ≡ Some key → p key ≡ true → q key ≡ true)
     → is_good_update p is_good_block update ≡ true → is_good_update q is_good_block update ≡ true
 another_test p q (Store mode compare key flags exptime block) passes h = grind (arith, lt-ltb, le-leb, store_parts)

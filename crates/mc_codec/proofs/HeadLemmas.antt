@@ -94,7 +94,7 @@ begun_is_not_whole head u begun has =
     let size : length (has.rest ++ begun.more) ≡ 0 = ap (λ (bytes : List ℕ). length bytes) rest in
     omega (arith, size, length-append has.rest begun.more, begun.missing)
 
--- what is read is a whole reply or none
+-- the reader reads a whole reply or none
 pub reply_whole : (head : Head) (u : List ℕ) (x : Answer × List ℕ) → read_if (form_of head) u ≡ Ok x → HasReply head u
 reply_whole head u x e =
     let begins = reply_read head u x e in
@@ -114,7 +114,7 @@ whole_if_read view head u (Ok x) e = (λ _. reply_whole head u (view x) (sym e),
 whole_if_read view head u (Err (More n)) e = (λ never. absurd cc, λ has. absurd (not_more head u n (sym e) has))
 whole_if_read view head u (Err Strange) e = (λ never. absurd cc, λ has. absurd (not_strange head u (sym e) has))
 
--- what is so is so at an error
+-- what holds in any case holds at an error
 pub at_error : {T E P : Type 0} (r : Result T E) → P → OnErr r P
 at_error (Ok x) is = tt
 at_error (Err e) is = is
@@ -125,7 +125,7 @@ pub strange_from : (head : Head) (count : ℕ) (text : List ℕ) → read_if (fo
     → read_if (form_of head) (take count text) ≡ Err Strange → IsStrangeFrom head count text
 strange_from head count text before at_count = (reply_begun head (take (count - 1) text) before, reply_strange head (take count text) at_count)
 
--- BEFORE ANYTHING HAS COME
+-- BEFORE ANY BYTE HAS ARRIVED
 
 abbrev NeedsOne : Form Answer → Type 0
 NeedsOne f = read f [] ≡ Err (More 1)
@@ -189,7 +189,7 @@ atom_begins (atoms.Get key exptime with_cas) is = get_begins key exptime with_ca
 atom_begins (atoms.Update update) is = update_begins (update_map (λ key. key) (λ _. tt) update)
 atom_begins (atoms.Meta command) is = grind (arith, two_of, meta_begins, askable_head)
 
--- before a byte has come a reply has only begun, where the command has one; so none is spelled by no bytes
+-- before any byte has arrived a reply has only begun, if the command has one; so none is spelled by no bytes
 begins_if : (head : Head) (r : Answer) → can_have head r ≡ true → IsBegun head []
 begins_if (atoms.Get key exptime with_cas) r can = get_begins key exptime with_cas
 begins_if (atoms.Update update) r can = update_begins update

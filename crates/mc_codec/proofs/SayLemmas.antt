@@ -44,11 +44,11 @@ use Rattle.mc_codec.proofs.AskLemmas.{Whenever, after, choice, asked, where_read
 use Rattle.mc_codec.proofs.GoodPartLemmas.{another_test}
 use Rattle.mc_request.proofs.WellFormedLemmas.{requests_good}
 
--- the bytes of the key of an update, where it has one
+-- the bytes of the key of an update, if it has one
 abbrev HasBytes : Option (List ℕ) → Type 0
 HasBytes key = is_where_some all_bytes key ≡ true
 
--- what is said can be spelled, beside what every request keeps to
+-- what a line says can be spelled, beside what every request keeps to
 abbrev Says : Request → Type 0
 Says (requests.Get keys exptime with_cas) = Unit {0}
 Says (requests.Update update noreply) = is_classic update ≡ true
@@ -216,7 +216,7 @@ says : (ws : List (List ℕ)) → list_all all_bytes ws ≡ true → SaysMeaning
 says [] are = tt
 says (name ∷ ws) are = says_by (name_of name) ws (and_parts (all_bytes name) (list_all all_bytes ws) are).1
 
--- a data block changes nothing of that
+-- a data block changes nothing of this
 classic_block : (update : Update (List ℕ) (Unit {0})) (block : List ℕ) → is_classic (parts.with_block update block) ≡ is_classic update
 classic_block (Store Set compare key flags exptime none) block = refl
 classic_block (Store Add compare key flags exptime none) block = refl
@@ -273,7 +273,7 @@ next_says : (text : List ℕ) → all_bytes text ≡ true → SaysFirst (next_re
 unfolding next_request
 next_says text are = next_says_by (first_line text) text refl are
 
--- all that was taken
+-- all that was taken can be spelled
 abbrev SayAll : List Taken → Type 0
 SayAll [] = Unit {0}
 SayAll (taken ∷ more) = SaysTaken taken × SayAll more

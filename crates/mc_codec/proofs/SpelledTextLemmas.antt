@@ -31,7 +31,7 @@ goes_on (atoms.Get key exptime with_cas) = refl
 goes_on (atoms.Update update) = refl
 goes_on (atoms.Meta command) = refl
 
--- after it the others are read
+-- after it the other requests are read
 pub requests-spelled : (atom : Atom (List ℕ)) (more : List ℕ) → is_good_atom atom ≡ true
     → requests_of (spelling_of_atom atom ++ more) ≡ Whole (request_of atom) ∷ requests_of more
 requests-spelled atom more h =
@@ -52,7 +52,7 @@ request_same a b m n e = let whole : Whole a ≡ Whole b = ap (λ (x : Taken × 
 head_same : (a b : Atom (List ℕ)) → a ∷ [] ≡ b ∷ [] → a ≡ b
 head_same a b e = cc
 
--- texts that are the same begin with the same command, and go on in the same way
+-- equal texts begin with the same command, and go on in the same way
 pub apart : (a b : Atom (List ℕ)) (xs ys : List ℕ) → is_good_atom a ≡ true → is_good_atom b ≡ true
     → spelling_of_atom a ++ xs ≡ spelling_of_atom b ++ ys → (a ≡ b) × (xs ≡ ys)
 apart a b xs ys g h e =
@@ -67,7 +67,7 @@ apart a b xs ys g h e =
 abbrev pub taken_of : Atom (List ℕ) → Taken
 taken_of atom = Whole (request_of atom)
 
--- what is read of one spelling after the other
+-- what is read of spellings in sequence
 pub all_spelled : (commands : List (Atom (List ℕ))) (more : List ℕ) → list_all is_good_atom commands ≡ true
     → requests_of (spellings_of commands ++ more) ≡ map taken_of commands ++ requests_of more
 all_spelled [] more h = refl

@@ -123,7 +123,7 @@ store_line_words : (mode : StoreMode) (compare : Option ℕ) (key : List ℕ) (f
 store_line_words mode compare key flags exptime block are =
     grind (arith, decimal, is_word-key, is_word-decimal, one_word, as_many, is_word-signed, store_name_word, number_word)
 
--- what is said of the text of each command: it is its text's first request
+-- what is claimed of each command's text: the command is its first request
 abbrev pub IsFirst : Atom (List ℕ) → Type 0
 IsFirst atom = (more : List ℕ) → next_request (spelling_of_atom atom ++ more) ≡ Some (Whole (request_of atom), length (spelling_of_atom atom))
 

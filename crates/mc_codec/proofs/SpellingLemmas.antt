@@ -16,7 +16,7 @@ use Rattle.mc_request.specs.WellFormed.{is_i64, is_u64, is_where_some}
 use Rattle.mc_codec.specs.Spellings.{spaced, block_lines, word_if, number_if, signed_if}
 use Rattle.mc_codec.proofs.SpacedLemmas.{words-spaced, bytes_of_spaced, length-spaced}
 
--- words, of which there are no more than so many
+-- words, at most `most` of them
 pub record AreWords (most : ℕ) (ws : List (List ℕ)) : Type 0 where
   pub each : list_all is_word ws ≡ true
   pub few : length ws ≤ most
@@ -30,12 +30,12 @@ one_word {n} {ws} word is are = let few = are.few in record { each = and_from (i
 pub as_many : {n : ℕ} {ws : List (List ℕ)} (m : ℕ) → n ≤ m → AreWords n ws → AreWords m ws
 as_many m h are = let few = are.few in record { each = are.each; few = omega arith }
 
--- a word where it is asked for
+-- a word, if it is asked for
 pub word_where : {n : ℕ} {ws : List (List ℕ)} (b : Bool) (word : List ℕ) → is_word word ≡ true → AreWords n ws → AreWords (suc n) (word_if b word ws)
 word_where true word is are = one_word word is are
 word_where {n} false word is are = as_many (suc n) (omega arith) are
 
--- a number where there is one, after a letter
+-- a number after a letter, if there is one
 pub number_where : {n : ℕ} {ws : List (List ℕ)} (letter : ℕ) (o : Option ℕ) → 32 < letter → is_where_some is_u64 o ≡ true → AreWords n ws
     → AreWords (suc n) (number_if (letter ∷ []) o ws)
 number_where {n} letter None high h are = as_many (suc n) (omega arith) are
@@ -60,7 +60,7 @@ by_first_line : (text : List ℕ) (l : FirstLine) → first_line text ≡ l → 
 unfolding next_request
 by_first_line text l e = rw e refl
 
--- what the words of a line ask for is what is taken
+-- the reader takes what the words of a line ask for
 next_by_words : (word : List ℕ) (more : List (List ℕ)) (rest : List ℕ) → AreWords 20 (word ∷ more)
     → next_request (spaced (word ∷ more) ++ (13 ∷ 10 ∷ rest)) ≡ taken_by (meaning (word ∷ more)) (length (spaced (word ∷ more)) + 2) rest
 next_by_words word more rest are =

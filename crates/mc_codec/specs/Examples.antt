@@ -29,6 +29,6 @@ mg_of_a = atoms.Meta (metas.Get (codes "a") (record {
   recache = None;
 }))
 
--- a text is strange from its byte of this number on, counted from 1, and is the beginning of a reply up to it
+-- a text is a violation from its byte of this number on, counted from 1, and is the beginning of a reply up to it
 abbrev pub IsStrangeFrom : Atom (Unit {0}) → ℕ → List ℕ → Type 0
 IsStrangeFrom head count text = IsBegun head (take (count - 1) text) × IsStrange head (take count text)

@@ -1,4 +1,4 @@
--- A storage command whose data block is lent, as the command that it is.
+-- A storage command whose data block is borrowed, as the command that it is.
 use Rattle.std.specs.Prelude.{ℕ, List}
 use Rattle.mc_request.specs.declared.parts.Atom.{Atom}
 use Rattle.mc_request.specs.declared.parts.Atom.TheVariants as atoms

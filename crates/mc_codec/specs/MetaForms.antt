@@ -24,7 +24,7 @@ use Rattle.mc_codec.specs.declared.limits.TheConstants.{FLAGS_LIMIT, NUMBER_LIMI
 abbrev pub code_line : Answer → Form Answer
 code_line reply = line (meta_spelling reply) reply
 
--- the seconds left, where they are asked for; `-1` where the item never ends: source protocol.txt, "Meta Get", flag t
+-- the seconds left, if they are asked for; `-1` if the item never expires: source protocol.txt, "Meta Get", flag t
 abbrev pub left_if : Bool → (Option (Option ℕ) → Form Answer) → Form Answer
 left_if true f = Text (codes " t") (Or (Text (codes "-1") (f (Some None))) (Number NUMBER_LIMIT (λ n. f (Some (Some n)))))
 left_if false f = f None
@@ -35,7 +35,7 @@ mark_end f =
     Or (Text (codes " W\r\n") (f Won)) (Or (Text (codes " W X\r\n") (f WonStale))
     (Or (Text (codes " X Z\r\n") (f StaleSent)) (Text (codes " Z\r\n") (f Sent))))
 
--- the end of the line, after a mark where there may be one: source protocol.txt, "Meta Get", W, X and Z
+-- the end of the line, after a mark if one is possible: source protocol.txt, "Meta Get", W, X and Z
 abbrev pub end_if : Bool → (Marks → Form Answer) → Form Answer
 end_if true f = Or (Text (codes "\r\n") (f Plain)) (mark_end f)
 end_if false f = Text (codes "\r\n") (f Plain)
@@ -50,17 +50,17 @@ shown_by marked show f =
     end_if marked (λ marks.
     f (record { cas = cas; flags = flags; size = size; left = left; marks = marks }))))))
 
--- what is after the line: where the size of a value is in it, the value
+-- what follows the line: the value, if the line has its size
 abbrev pub after_line : Option ℕ → Shown → Form Answer
 after_line None shown = Done (replies.Meta shown None)
 after_line (Some size) shown = Block size (λ value. Text (codes "\r\n") (Done (replies.Meta shown (Some value))))
 
--- what a meta command that was done shows, and where it is asked for the value
+-- what a meta command that succeeded shows, and the value if it is asked for
 abbrev pub shown_form : Bool → Show → Bool → Form Answer
 shown_form marked show false = Text (codes "HD") (shown_by marked show (after_line None))
 shown_form marked show true = Text (codes "VA ") (Number VALUE_LIMIT (λ size. shown_by marked show (after_line (Some size))))
 
--- an item that is held has another number, or none is held
+-- the item has another number, or the key is missing
 abbrev pub unmet_form : Form Answer
 unmet_form = Or (code_line replies.Exists) (code_line replies.NotFound)
 
@@ -81,7 +81,7 @@ meta_delete_form invalidate show =
 abbrev pub meta_count_form : Show → Form Answer
 meta_count_form show = Or (shown_form false show show.value) (Or unmet_form count_faults)
 
--- the replies to a meta command; what has no meta form has none
+-- the replies to a meta command; a command without a meta form has none
 abbrev pub meta_form : {K B : Type 0} → MetaCommand K B → Option (Form Answer)
 meta_form (metas.Get key get) = Some (meta_get_form (is_some get.create) get.show)
 meta_form (metas.Update (updates.Store mode compare key flags exptime block) show) = Some (meta_store_form show)
@@ -96,7 +96,7 @@ form_of (atoms.Get key exptime with_cas) = Some (get_form key with_cas)
 form_of (atoms.Update update) = Some (update_form update)
 form_of (atoms.Meta command) = meta_form command
 
--- what is at the front of the bytes: where there is no reply, everything is strange
+-- the reading of the front of the bytes; if the command has no reply, anything is a violation
 abbrev pub read_if : Option (Form Answer) → List ℕ → Result (Answer × List ℕ) Unready
 read_if None u = Err Strange
 read_if (Some form) u = read form u

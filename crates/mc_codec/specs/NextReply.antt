@@ -1,4 +1,4 @@
--- What a reader of replies gives: a whole reply, more to come, or bytes that are no reply.
+-- What a reader of replies returns: a whole reply, that more bytes are needed, or that the bytes are a violation.
 use Rattle.std.specs.Prelude.{ℕ, ◌≡◌, ◌≢◌, ◌<◌, true, List, [], ◌++◌, length}
 use Rattle.mc_request.specs.declared.parts.Atom.{Atom}
 use Rattle.mc_reply.specs.declared.replies.Reply.{Reply}
@@ -9,12 +9,12 @@ use Rattle.mc_codec.specs.declared.next_replies.NextReply.TheVariants as nexts
 
 -- a reader, as contracts see it
 pub record ReplyReaderState : Type 0 where
-  -- the bytes that have come and are of no reply that was given
+  -- the bytes that have arrived and belong to no returned reply
   pub unread : List ℕ
-  -- how many bytes are kept: those, and of the ones that were read those that are not let go yet
+  -- how many bytes are kept: those, and those of returned replies that are not freed yet
   pub held : ℕ
 
--- a reader to which nothing has come
+-- a reader to which no byte has arrived
 abbrev pub fresh_reply_reader : ReplyReaderState
 fresh_reply_reader = record { unread = []; held = 0 }
 
@@ -33,7 +33,7 @@ pub record IsBegun (head : Atom (Unit {0})) (unread : List ℕ) : Type 0 where
   pub missing : 0 < length more
   pub spelled : unread ++ more ≡ spelling_of head reply
 
--- whatever comes next, these and the bytes after them, as long as there are fewer than so many, are such a beginning
+-- whatever follows, these bytes and the next ones are such a beginning while they are fewer than `wanted` in all
 pub record IsShortOf (head : Atom (Unit {0})) (wanted : ℕ) (unread : List ℕ) : Type 0 where
   pub short : length unread < wanted
   pub begun : (more : List ℕ) → length (unread ++ more) < wanted → IsBegun head (unread ++ more)

@@ -16,7 +16,7 @@ use Rattle.mc_codec.specs.declared.limits.TheConstants.{FLAGS_LIMIT, NUMBER_LIMI
 abbrev pub Answer : Type 0
 Answer = Reply (List ℕ)
 
--- a line that is the same whatever is held
+-- a line that is the same whatever is stored
 abbrev pub line : List ℕ → Answer → Form Answer
 line text reply = Text text (Done reply)
 
@@ -28,11 +28,11 @@ update_line reply = line (reply_line reply) reply
 abbrev pub store_faults : Form Answer
 store_faults = Or (update_line (replies.Fault TooLarge)) (Or (update_line (replies.Fault CasUsedUp)) (update_line (replies.Fault OutOfMemory)))
 
--- why a count is
+-- why a count is refused
 abbrev pub count_faults : Form Answer
 count_faults = Or (update_line (replies.Fault NonNumeric)) store_faults
 
--- the replies to a store after which nothing is stored for the number that it compares, or for a fault
+-- the replies to a store that stores nothing because of the number that it compares, or because of an error
 abbrev pub compared_form : Bool → Form Answer
 compared_form compares = or_if compares (Or (update_line replies.Exists) (update_line replies.NotFound)) store_faults
 
@@ -64,7 +64,7 @@ update_form (updates.FlushAll delay) = update_line replies.Flushed
 abbrev pub hit_value : ℕ → ℕ → Option ℕ → Form Answer
 hit_value flags size cas = Text (codes "\r\n") (Block size (λ value. Text (codes "\r\nEND\r\n") (Done (replies.Hit flags cas value))))
 
--- the size of a hit's value, the item's number where it is asked for, and the value
+-- the size of a hit's value, the item's number if it is asked for, and the value
 abbrev pub hit_size : Bool → ℕ → Form Answer
 hit_size with_cas flags = Text (codes " ") (Number VALUE_LIMIT (λ size. number_if with_cas (codes " ") NUMBER_LIMIT (hit_value flags size)))
 

@@ -25,17 +25,17 @@ use Rattle.mc_request.specs.declared.parts.StoreMode.TheVariants.{Set, Add, Repl
 use Rattle.mc_request.specs.declared.parts.Update.{Update}
 use Rattle.mc_request.specs.declared.parts.Update.TheVariants.{Store, Touch, Delete, Count, FlushAll}
 
--- a word that is where it is asked for, before the words that follow
+-- a word, if it is asked for, before the words that follow
 abbrev pub word_if : Bool → List ℕ → List (List ℕ) → List (List ℕ)
 word_if true word words = word ∷ words
 word_if false word words = words
 
--- a number after a flag's letter, where there is one
+-- a number after a flag's letter, if there is one
 abbrev pub number_if : List ℕ → Option ℕ → List (List ℕ) → List (List ℕ)
 number_if letter None words = words
 number_if letter (Some number) words = (letter ++ decimal number) ∷ words
 
--- the same of a number with a sign
+-- a number with a sign after a flag's letter, if there is one
 abbrev pub signed_if : List ℕ → Option ℤ → List (List ℕ) → List (List ℕ)
 signed_if letter None words = words
 signed_if letter (Some number) words = (letter ++ signed_decimal number) ∷ words
@@ -83,7 +83,7 @@ abbrev pub direction_word : Direction → List ℕ
 direction_word Up = codes "MI"
 direction_word Down = codes "MD"
 
--- the item that `ma` makes, where it makes one, before the words that follow; without one, `J` says 0
+-- the item that `ma` creates, if it creates one, before the words that follow; without one, `J` says 0
 -- source: protocol.txt, "Meta Arithmetic", flags N and J
 abbrev pub creation_words : Option Creation → List (List ℕ) → List (List ℕ)
 creation_words None words = codes "J0" ∷ words
@@ -96,24 +96,24 @@ mg_flags get =
     (word_if get.show.left (codes "t") (word_if get.show.value (codes "v") (signed_if (codes "T") get.exptime
     (signed_if (codes "N") get.create (number_if (codes "R") get.recache [])))))))
 
--- those of `ms`, after the length of its block: source protocol.txt, "Meta Set"
+-- the flag words of `ms`, after the length of its block: source protocol.txt, "Meta Set"
 abbrev pub ms_flags : StoreMode → Option ℕ → ℕ → ℤ → Show → List (List ℕ)
 ms_flags mode compare flags exptime show =
     codes "b" ∷ word_if show.cas (codes "c") (word_if show.size (codes "s") ((codes "T" ++ signed_decimal exptime)
     ∷ (codes "F" ++ decimal flags) ∷ number_if (codes "C") compare (mode_word mode ∷ [])))
 
--- those of `md`: source protocol.txt, "Meta Delete"
+-- the flag words of `md`: source protocol.txt, "Meta Delete"
 abbrev pub md_flags : Option ℕ → Bool → List (List ℕ)
 md_flags compare invalidate = codes "b" ∷ number_if (codes "C") compare (word_if invalidate (codes "I") [])
 
--- those of `ma`: source protocol.txt, "Meta Arithmetic"
+-- the flag words of `ma`: source protocol.txt, "Meta Arithmetic"
 abbrev pub ma_flags : Counting → Show → List (List ℕ)
 ma_flags counting show =
     codes "b" ∷ word_if show.cas (codes "c") (word_if show.left (codes "t") (word_if show.value (codes "v")
     (signed_if (codes "T") counting.exptime (number_if (codes "C") counting.compare (creation_words counting.create
     ((codes "D" ++ decimal counting.delta) ∷ direction_word counting.direction ∷ []))))))
 
--- the flag words of a meta command; what has no meta form has none
+-- the flag words of a meta command; a command without a meta form has none
 abbrev pub flag_words : {K B : Type 0} → MetaCommand K B → List (List ℕ)
 flag_words (metas.Get key get) = mg_flags get
 flag_words (metas.Update (Store mode compare key flags exptime block) show) = ms_flags mode compare flags exptime show
@@ -121,7 +121,7 @@ flag_words (metas.Update (Delete key compare invalidate) show) = md_flags compar
 flag_words (metas.Update (Count key counting) show) = ma_flags counting show
 flag_words command = []
 
--- the words of a meta command: its key is sent in base64; what has no meta form has none
+-- the words of a meta command: its key is sent in base64; a command without a meta form has none
 -- source: protocol.txt, "Meta Get", "Meta Set", "Meta Delete", "Meta Arithmetic"
 abbrev pub meta_words : MetaCommand (List ℕ) (List ℕ) → List (List ℕ)
 meta_words (metas.Get key get) = codes "mg" ∷ coded_of key ∷ mg_flags get
@@ -137,25 +137,25 @@ line_words (atoms.Get key exptime with_cas) = get_words key exptime with_cas
 line_words (atoms.Update update) = update_words update
 line_words (atoms.Meta command) = meta_words command
 
--- words, and a space between any two
+-- words with a space between any two
 abbrev pub spaced : List (List ℕ) → List ℕ
 spaced [] = []
 spaced (word ∷ []) = word
 spaced (word ∷ other ∷ words) = word ++ (codes " " ++ spaced (other ∷ words))
 
--- the data block of an update, where it has one
+-- the data block of an update, if it has one
 abbrev pub block_in : {K B : Type 0} → Update K B → Option B
 block_in (Store mode compare key flags exptime block) = Some block
 block_in update = None
 
--- the data block of a command, likewise
+-- the data block of a command, if it has one
 abbrev pub block_of_atom : {B : Type 0} → Atom B → Option B
 block_of_atom (atoms.Get key exptime with_cas) = None
 block_of_atom (atoms.Update update) = block_in update
 block_of_atom (atoms.Meta (metas.Get key get)) = None
 block_of_atom (atoms.Meta (metas.Update update show)) = block_in update
 
--- a data block with its end, where there is one: source protocol.txt, "Storage commands"
+-- a data block with its end, if there is one: source protocol.txt, "Storage commands"
 abbrev pub block_lines : Option (List ℕ) → List ℕ
 block_lines None = []
 block_lines (Some block) = block ++ codes "\r\n"
@@ -165,7 +165,7 @@ block_lines (Some block) = block ++ codes "\r\n"
 abbrev pub spelling_of_atom : Atom (List ℕ) → List ℕ
 spelling_of_atom atom = spaced (line_words atom) ++ (codes "\r\n" ++ block_lines (block_of_atom atom))
 
--- the spellings of commands, one after the other
+-- the spellings of commands in sequence
 abbrev pub spellings_of : List (Atom (List ℕ)) → List ℕ
 spellings_of [] = []
 spellings_of (atom ∷ atoms) = spelling_of_atom atom ++ spellings_of atoms
@@ -202,12 +202,12 @@ is_askable command = false
 abbrev pub is_byte_key : List ℕ → Bool
 is_byte_key key = is_key key && list_all (λ b. nat_lt b 256) key
 
--- a command that a client's request can say, in whatever form: keys, blocks and numbers within their limits
+-- a command that a client's request can say, in any form: keys, blocks and numbers within their limits
 abbrev pub is_good_atom : Atom (List ℕ) → Bool
 is_good_atom (atoms.Get key exptime with_cas) = is_plain_key key && is_where_some is_i64 exptime
 is_good_atom (atoms.Update update) = is_classic update && is_good_update is_plain_key is_good_block update
 is_good_atom (atoms.Meta command) = is_askable command && is_good_meta is_byte_key is_good_block command
 
--- what was taken asks for nothing but commands that can be spelled; this project's own
+-- a request that asks for no command without a spelling; this project's own
 abbrev pub can_be_spelled : Taken → Bool
 can_be_spelled taken = list_all is_good_atom (atoms_taken taken)

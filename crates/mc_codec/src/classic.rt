@@ -1,4 +1,4 @@
-//! The replies to classic commands.
+//! Parsers of the replies to classic commands.
 ghost use Rattle.std.specs.Prelude.{◌≡◌};
 ghost use Rattle.mc_text.specs.Forms.{read, Or};
 ghost use Rattle.mc_text.specs.FormsSeen.{seen_by};
@@ -12,7 +12,7 @@ use mc_reply::Reply;
 use mc_request::{StoreMode, Update};
 use mc_text::{Key, Unready, VALUE_LIMIT, block, number, number_if, text};
 
-/// The reply to a retrieval command on one key.
+/// Reads the reply to a retrieval command on one key.
 pub fn get_reply<'a>(key: &[u8], with_cas: bool, unread: &'a [u8]) -> Reading<'a>
     ensures { seen_by (λ x. (bytes_seen x.0, x.1.now)) result ≡ read (get_form key.now with_cas) unread.now }
 {
@@ -22,7 +22,7 @@ pub fn get_reply<'a>(key: &[u8], with_cas: bool, unread: &'a [u8]) -> Reading<'a
     )
 }
 
-/// A hit under this key, and the end of the answer.
+/// Reads a hit under this key, and the end of the answer.
 fn hit<'a>(key: &[u8], with_cas: bool, unread: &'a [u8]) -> Reading<'a>
     ensures { seen_by (λ x. (bytes_seen x.0, x.1.now)) result ≡ read (hit key.now with_cas) unread.now }
 {
@@ -46,7 +46,7 @@ fn hit<'a>(key: &[u8], with_cas: bool, unread: &'a [u8]) -> Reading<'a>
     ))
 }
 
-/// The reply to an update.
+/// Reads the reply to an update.
 pub fn update_reply<'a>(update: &Update<Key, ()>, unread: &'a [u8]) -> Reading<'a>
     ensures { seen_by (λ x. (bytes_seen x.0, x.1.now)) result ≡ read (update_form update.now) unread.now }
 {
@@ -61,14 +61,14 @@ pub fn update_reply<'a>(update: &Update<Key, ()>, unread: &'a [u8]) -> Reading<'
     }
 }
 
-/// Whether a mode asks that its key be held, or that it be not.
+/// Returns whether a mode requires the key to be stored, or to be missing.
 fn is_conditional(mode: StoreMode) -> bool
     ensures { result ≡ is_conditional mode }
 {
     !matches!(mode, StoreMode::Set)
 }
 
-/// The reply to a store.
+/// Reads the reply to a store.
 fn store_reply(conditional: bool, compares: bool, unread: &[u8]) -> Reading<'_>
     ensures { seen_by (λ x. (bytes_seen x.0, x.1.now)) result ≡ read (store_form conditional compares) unread.now }
 {
@@ -79,7 +79,7 @@ fn store_reply(conditional: bool, compares: bool, unread: &[u8]) -> Reading<'_>
     }
 }
 
-/// The reply to a store whose condition may not be met.
+/// Reads the reply to a store whose condition may not be met.
 fn unstored(compares: bool, unread: &[u8]) -> Reading<'_>
     ensures { seen_by (λ x. (bytes_seen x.0, x.1.now)) result
         ≡ read (Or (update_line Reply.NotStored) (compared_form compares)) unread.now }
@@ -90,7 +90,7 @@ fn unstored(compares: bool, unread: &[u8]) -> Reading<'_>
     )
 }
 
-/// The reply to a store that stored nothing for another cause.
+/// Reads the reply to a store that stored nothing for another cause.
 fn compared(compares: bool, unread: &[u8]) -> Reading<'_>
     ensures { seen_by (λ x. (bytes_seen x.0, x.1.now)) result ≡ read (compared_form compares) unread.now }
 {
@@ -100,7 +100,7 @@ fn compared(compares: bool, unread: &[u8]) -> Reading<'_>
     or!(unmet(unread), store_fault(unread))
 }
 
-/// The reply to a store whose item is held under another number, or not at all.
+/// Reads the reply to a store whose item has another number, or whose key is missing.
 fn unmet(unread: &[u8]) -> Reading<'_>
     ensures { seen_by (λ x. (bytes_seen x.0, x.1.now)) result
         ≡ read (Or (update_line Reply.Exists) (update_line Reply.NotFound)) unread.now }
@@ -111,14 +111,14 @@ fn unmet(unread: &[u8]) -> Reading<'_>
     )
 }
 
-/// The key is not held.
+/// Reads the line that says that the key is missing.
 fn not_found(unread: &[u8]) -> Reading<'_>
     ensures { seen_by (λ x. (bytes_seen x.0, x.1.now)) result ≡ read (update_line Reply.NotFound) unread.now }
 {
     line(b"NOT_FOUND\r\n", Reply::NotFound, unread)
 }
 
-/// The reply to `touch`.
+/// Reads the reply to `touch`.
 fn touch_reply(unread: &[u8]) -> Reading<'_>
     ensures { seen_by (λ x. (bytes_seen x.0, x.1.now)) result
         ≡ read (Or (update_line Reply.Touched) (update_line Reply.NotFound)) unread.now }
@@ -129,7 +129,7 @@ fn touch_reply(unread: &[u8]) -> Reading<'_>
     )
 }
 
-/// The reply to `delete`.
+/// Reads the reply to `delete`.
 fn delete_reply(unread: &[u8]) -> Reading<'_>
     ensures { seen_by (λ x. (bytes_seen x.0, x.1.now)) result
         ≡ read (Or (update_line Reply.Deleted) (update_line Reply.NotFound)) unread.now }
@@ -140,21 +140,21 @@ fn delete_reply(unread: &[u8]) -> Reading<'_>
     )
 }
 
-/// The reply to a count.
+/// Reads the reply to a count.
 fn count_reply(unread: &[u8]) -> Reading<'_>
     ensures { seen_by (λ x. (bytes_seen x.0, x.1.now)) result ≡ read count_form unread.now }
 {
     or!(number_line(unread), uncounted(unread))
 }
 
-/// The reply to a count that counted nothing.
+/// Reads the reply to a count that counted nothing.
 fn uncounted(unread: &[u8]) -> Reading<'_>
     ensures { seen_by (λ x. (bytes_seen x.0, x.1.now)) result ≡ read (Or (update_line Reply.NotFound) count_faults) unread.now }
 {
     or!(not_found(unread), count_fault(unread))
 }
 
-/// A number and the end of its line.
+/// Reads a number and the end of its line.
 fn number_line(unread: &[u8]) -> Reading<'_>
     ensures { seen_by (λ x. (bytes_seen x.0, x.1.now)) result ≡ read number_line unread.now }
 {

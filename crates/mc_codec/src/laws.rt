@@ -11,8 +11,8 @@ ghost use Rattle.mc_reply.specs.Spelling.{spelling_of};
 ghost use Rattle.mc_codec.specs.Spellings.{is_askable, is_good_atom};
 ghost use Rattle.mc_codec.specs.NextReply.{IsBegun};
 
-/// No spelling of a reply to a command begins that of another, and each is of one reply: what is at the front of some
-/// bytes is one reply or none.
+/// No spelling of a reply to a command begins that of another, and each is of one reply. So the front of some bytes is
+/// one reply or none.
 #[tactic(auto, using(crate::proofs::HeadLemmas::replies_apart))]
 pub fn replies_are_apart()
     ensures { (head : Atom (Unit {0})) → (r q : Reply (List ℕ)) → (xs ys : List ℕ)
@@ -20,7 +20,7 @@ pub fn replies_are_apart()
         → spelling_of head r ++ xs ≡ spelling_of head q ++ ys → (r ≡ q) × (xs ≡ ys) }
 {}
 
-/// Before a byte has come, a reply to any command may begin that a client's request can say.
+/// Before any byte has arrived, a reply may begin to any command that a client's request can say.
 pub fn nothing_is_a_beginning()
     ensures get { (key : List ℕ) → (exptime : Option ℤ) → (with_cas : Bool) → IsBegun (Get key exptime with_cas) [] }
     ensures update { (update : Update (List ℕ) (Unit {0})) → IsBegun (AnUpdate update) [] }

@@ -1,4 +1,4 @@
-//! Lines that are the same whatever is held.
+//! Lines that are the same whatever is stored.
 ghost use Rattle.std.specs.Prelude.{◌≡◌};
 ghost use Rattle.mc_text.specs.Forms.{read};
 ghost use Rattle.mc_text.specs.FormsSeen.{seen_by};
@@ -12,7 +12,7 @@ use mc_text::{Unready, text};
 /// A reply whose value is in the bytes, and the bytes after it.
 pub type Reading<'a> = Result<(Reply<&'a [u8]>, &'a [u8]), Unready>;
 
-/// This line, which says this reply.
+/// Reads this line as this reply.
 pub fn line<'a>(bytes: &[u8], reply: Reply<&'a [u8]>, unread: &'a [u8]) -> Reading<'a>
     ensures { seen_by (λ x. (bytes_seen x.0, x.1.now)) result ≡ read (line bytes.now (bytes_seen reply.entry)) unread.now }
 {
@@ -20,14 +20,14 @@ pub fn line<'a>(bytes: &[u8], reply: Reply<&'a [u8]>, unread: &'a [u8]) -> Readi
     Ok((reply, rest))
 }
 
-/// The line of this fault.
+/// Reads the line of this error.
 pub fn fault_line(fault: Fault, unread: &[u8]) -> Reading<'_>
     ensures { seen_by (λ x. (bytes_seen x.0, x.1.now)) result ≡ read (update_line (Reply.Fault fault)) unread.now }
 {
     line(fault.line(), Reply::Fault(fault), unread)
 }
 
-/// Why a store is refused.
+/// Reads why a store is refused.
 pub fn store_fault(unread: &[u8]) -> Reading<'_>
     ensures { seen_by (λ x. (bytes_seen x.0, x.1.now)) result ≡ read store_faults unread.now }
 {
@@ -38,7 +38,7 @@ pub fn store_fault(unread: &[u8]) -> Reading<'_>
     )
 }
 
-/// Why a count is refused.
+/// Reads why a count is refused.
 pub fn count_fault(unread: &[u8]) -> Reading<'_>
     ensures { seen_by (λ x. (bytes_seen x.0, x.1.now)) result ≡ read count_faults unread.now }
 {

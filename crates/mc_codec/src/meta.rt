@@ -1,4 +1,4 @@
-//! The replies to meta commands.
+//! Parsers of the replies to meta commands.
 ghost use Rattle.std.specs.Prelude.{◌≡◌, ◌<◌, ◌^◌, IfSome, Some, None, codes};
 ghost use Rattle.mc_text.specs.Forms.{Or, Text, Number, number_if, or_if, read};
 ghost use Rattle.mc_text.specs.FormsSeen.{seen_by};
@@ -12,7 +12,7 @@ use mc_reply::{Marks, Reply, Shown};
 use mc_request::{Fault, MetaCommand, Show, Update};
 use mc_text::{Key, Unready, VALUE_LIMIT, block, number, number_if, text};
 
-/// The reply to a meta command. What has no meta form has none.
+/// Reads the reply to a meta command. A command without a meta form has no reply.
 pub fn meta_reply<'a>(command: &MetaCommand<Key, ()>, unread: &'a [u8]) -> Reading<'a>
     ensures { seen_by (λ x. (bytes_seen x.0, x.1.now)) result ≡ read_if (meta_form command.now) unread.now }
 {
@@ -27,14 +27,14 @@ pub fn meta_reply<'a>(command: &MetaCommand<Key, ()>, unread: &'a [u8]) -> Readi
     }
 }
 
-/// The reply to `mg`.
+/// Reads the reply to `mg`.
 fn meta_get_reply(creates: bool, show: Show, unread: &[u8]) -> Reading<'_>
     ensures { seen_by (λ x. (bytes_seen x.0, x.1.now)) result ≡ read (meta_get_form creates show) unread.now }
 {
     or!(shown(true, show, unread), unfound(creates, unread))
 }
 
-/// The reply to `mg` that shows no item.
+/// Reads the reply to `mg` that shows no item.
 fn unfound(creates: bool, unread: &[u8]) -> Reading<'_>
     ensures { seen_by (λ x. (bytes_seen x.0, x.1.now)) result
         ≡ read (or_if creates store_faults (code_line Reply.Miss)) unread.now }
@@ -45,14 +45,14 @@ fn unfound(creates: bool, unread: &[u8]) -> Reading<'_>
     or!(store_fault(unread), line(b"EN\r\n", Reply::Miss, unread))
 }
 
-/// The reply to `ms`.
+/// Reads the reply to `ms`.
 fn meta_store_reply(show: Show, unread: &[u8]) -> Reading<'_>
     ensures { seen_by (λ x. (bytes_seen x.0, x.1.now)) result ≡ read (meta_store_form show) unread.now }
 {
     or!(shown(false, show, unread), unstored(unread))
 }
 
-/// The reply to `ms` that stored nothing.
+/// Reads the reply to `ms` that stored nothing.
 fn unstored(unread: &[u8]) -> Reading<'_>
     ensures { seen_by (λ x. (bytes_seen x.0, x.1.now)) result
         ≡ read (Or (code_line Reply.NotStored) (Or unmet_form store_faults)) unread.now }
@@ -64,7 +64,7 @@ fn unstored(unread: &[u8]) -> Reading<'_>
     )
 }
 
-/// The item that is held has another number, or none is held.
+/// Reads the line that says that the item has another number, or that the key is missing.
 fn unmet(unread: &[u8]) -> Reading<'_>
     ensures { seen_by (λ x. (bytes_seen x.0, x.1.now)) result ≡ read unmet_form unread.now }
 {
@@ -74,14 +74,14 @@ fn unmet(unread: &[u8]) -> Reading<'_>
     )
 }
 
-/// The reply to `md`.
+/// Reads the reply to `md`.
 fn meta_delete_reply(invalidate: bool, show: Show, unread: &[u8]) -> Reading<'_>
     ensures { seen_by (λ x. (bytes_seen x.0, x.1.now)) result ≡ read (meta_delete_form invalidate show) unread.now }
 {
     or!(shown(false, show, unread), undeleted(invalidate, unread))
 }
 
-/// The reply to `md` that took nothing out and left nothing stale.
+/// Reads the reply to `md` that deleted nothing and left nothing stale.
 fn undeleted(invalidate: bool, unread: &[u8]) -> Reading<'_>
     ensures { seen_by (λ x. (bytes_seen x.0, x.1.now)) result
         ≡ read (or_if invalidate (update_line (Reply.Fault Fault.CasUsedUp)) unmet_form) unread.now }
@@ -92,21 +92,21 @@ fn undeleted(invalidate: bool, unread: &[u8]) -> Reading<'_>
     or!(fault_line(Fault::CasUsedUp, unread), unmet(unread))
 }
 
-/// The reply to `ma`.
+/// Reads the reply to `ma`.
 fn meta_count_reply(show: Show, unread: &[u8]) -> Reading<'_>
     ensures { seen_by (λ x. (bytes_seen x.0, x.1.now)) result ≡ read (meta_count_form show) unread.now }
 {
     or!(shown(false, show, unread), uncounted(unread))
 }
 
-/// The reply to `ma` that counted nothing.
+/// Reads the reply to `ma` that counted nothing.
 fn uncounted(unread: &[u8]) -> Reading<'_>
     ensures { seen_by (λ x. (bytes_seen x.0, x.1.now)) result ≡ read (Or unmet_form count_faults) unread.now }
 {
     or!(unmet(unread), count_fault(unread))
 }
 
-/// What a meta command that was done shows.
+/// Reads what a meta command that succeeded shows.
 fn shown(marked: bool, show: Show, unread: &[u8]) -> Reading<'_>
     ensures { seen_by (λ x. (bytes_seen x.0, x.1.now)) result ≡ read (shown_form marked show show.value) unread.now }
 {
@@ -120,7 +120,7 @@ fn shown(marked: bool, show: Show, unread: &[u8]) -> Reading<'_>
     }
 }
 
-/// What was asked to be shown, the end of the line, and where a size is given the value.
+/// Reads what the command asked to be shown, the end of the line, and the value if a size is given.
 fn shown_by(marked: bool, show: Show, size: Option<u32>, unread: &[u8]) -> Reading<'_>
     ensures { seen_by (λ x. (bytes_seen x.0, x.1.now)) result ≡ read (shown_by marked show (after_line size)) unread.now }
 {
@@ -134,7 +134,7 @@ fn shown_by(marked: bool, show: Show, size: Option<u32>, unread: &[u8]) -> Readi
     size_if(marked, show, shown, size, rest)
 }
 
-/// Client flags, where there are any, in 32 bits.
+/// Returns client flags, if any, in 32 bits.
 fn flags_of(flags: Option<u64>) -> Option<u32>
     requires { IfSome flags (λ n. n < 2 ^ 32) }
     ensures { result ≡ flags }
@@ -145,7 +145,7 @@ fn flags_of(flags: Option<u64>) -> Option<u32>
     }
 }
 
-/// The size, where it was asked for, and what is after it.
+/// Reads the size, if it was asked for, and what follows it.
 fn size_if(marked: bool, show: Show, shown: Shown, size: Option<u32>, unread: &[u8]) -> Reading<'_>
     ensures { seen_by (λ x. (bytes_seen x.0, x.1.now)) result
         ≡ read (number_if show.size (codes " s") VALUE_LIMIT (λ own. left_if show.left (λ left. end_if marked (λ marks.
@@ -159,7 +159,7 @@ fn size_if(marked: bool, show: Show, shown: Shown, size: Option<u32>, unread: &[
     left_if(show.left, marked, shown, size, rest)
 }
 
-/// A size, where there is one.
+/// Returns a size, if there is one.
 fn size_of(size: Option<u64>) -> Option<usize>
     ensures { result ≡ size }
 {
@@ -169,7 +169,7 @@ fn size_of(size: Option<u64>) -> Option<usize>
     }
 }
 
-/// The seconds left, where they were asked for, and what is after them.
+/// Reads the seconds left, if they were asked for, and what follows them.
 fn left_if(asked: bool, marked: bool, shown: Shown, size: Option<u32>, unread: &[u8]) -> Reading<'_>
     ensures { seen_by (λ x. (bytes_seen x.0, x.1.now)) result
         ≡ read (left_if asked (λ left. end_if marked (λ marks. after_line size (record shown { left = left; marks = marks })))) unread.now }
@@ -185,7 +185,7 @@ fn left_if(asked: bool, marked: bool, shown: Shown, size: Option<u32>, unread: &
     )
 }
 
-/// After the letter of the seconds: an item that never ends.
+/// Reads, after the letter of the seconds, an item that never expires.
 fn endless(marked: bool, shown: Shown, size: Option<u32>, unread: &[u8]) -> Reading<'_>
     ensures { seen_by (λ x. (bytes_seen x.0, x.1.now)) result
         ≡ read (Text (codes "-1") (end_if marked (λ marks. after_line size (record shown { left = Some None; marks = marks })))) unread.now }
@@ -195,7 +195,7 @@ fn endless(marked: bool, shown: Shown, size: Option<u32>, unread: &[u8]) -> Read
     end_if(marked, Shown { left, ..shown }, size, rest)
 }
 
-/// After the letter of the seconds: an item that ends.
+/// Reads, after the letter of the seconds, an item that expires.
 fn ending(marked: bool, shown: Shown, size: Option<u32>, unread: &[u8]) -> Reading<'_>
     ensures { seen_by (λ x. (bytes_seen x.0, x.1.now)) result
         ≡ read (Number NUMBER_LIMIT (λ n. end_if marked (λ marks. after_line size (record shown { left = Some (Some n); marks = marks })))) unread.now }
@@ -205,7 +205,7 @@ fn ending(marked: bool, shown: Shown, size: Option<u32>, unread: &[u8]) -> Readi
     end_if(marked, Shown { left, ..shown }, size, rest)
 }
 
-/// The end of the line, after a mark where there may be one, and what is after it.
+/// Reads the end of the line, after a mark if one is possible, and what follows it.
 fn end_if(marked: bool, shown: Shown, size: Option<u32>, unread: &[u8]) -> Reading<'_>
     ensures { seen_by (λ x. (bytes_seen x.0, x.1.now)) result
         ≡ read (end_if marked (λ marks. after_line size (record shown { marks = marks }))) unread.now }
@@ -216,7 +216,7 @@ fn end_if(marked: bool, shown: Shown, size: Option<u32>, unread: &[u8]) -> Readi
     }
 }
 
-/// A mark and the end of the line, and what is after it.
+/// Reads a mark and the end of the line, and what follows it.
 fn mark_end(shown: Shown, size: Option<u32>, unread: &[u8]) -> Reading<'_>
     ensures { seen_by (λ x. (bytes_seen x.0, x.1.now)) result
         ≡ read (mark_end (λ marks. after_line size (record shown { marks = marks }))) unread.now }
@@ -229,7 +229,7 @@ fn mark_end(shown: Shown, size: Option<u32>, unread: &[u8]) -> Reading<'_>
     )
 }
 
-/// The end of a line with these marks, and what is after it.
+/// Reads the end of a line with these marks, and what follows it.
 fn end_by<'a>(
     end: &[u8],
     marks: Marks,

@@ -1,16 +1,16 @@
-//! What a reader of replies gives.
+//! What a reader of replies returns.
 
 use mc_reply::Reply;
 use mc_text::Block;
 
-/// What the bytes that have come are for the command that they answer.
+/// What the bytes that have arrived are to the command that they answer.
 #[derive(Debug, Drop)]
 pub enum NextReply {
     /// A whole reply.
     Reply(Reply<Block>),
-    /// The beginning of a reply. It is no more than that, whatever comes, until so many bytes are unread in all: who asks
-    /// again only then has each byte of a value looked at once, however small the pieces are.
+    /// The beginning of a reply. Whatever arrives, it is no more than that until this number of bytes is unread in all. A
+    /// caller that asks again only then has each byte of a value looked at once, however small the pieces are.
     More(usize),
-    /// Neither: no reply that the command can have is spelled so, whatever comes.
+    /// A protocol violation: no reply that the command can have is spelled so, whatever arrives.
     Strange,
 }

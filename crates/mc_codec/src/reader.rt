@@ -12,12 +12,12 @@ use std::marker::Model;
 
 /// The bytes that a server sent, from which its replies are read.
 ///
-/// Until a reply is given, each call of `next` and `has_next` reads its line from the start, no further than a good one may go, and the
-/// two bytes behind its value. The value itself is read once, when it is copied.
+/// Until a reply is returned, each call of `next` and `has_next` reads its line from the start, but no further than a good line may
+/// go. It also reads the two bytes behind its value. The value itself is read once, when it is copied.
 #[derive(Drop)]
 pub struct ReplyReader {
     buffer: Vec<u8>,
-    /// How many bytes in front were given.
+    /// How many bytes in front belong to returned replies.
     start: usize,
 }
 
@@ -33,7 +33,7 @@ impl Model for ReplyReader {
 }
 
 impl ReplyReader {
-    /// A reader to which nothing has come. It takes no memory.
+    /// Makes a reader to which no byte has arrived. It takes no memory.
     pub fn new(alloc: Global) -> ReplyReader
         ensures { result ≡ fresh_reply_reader }
     {
@@ -43,7 +43,7 @@ impl ReplyReader {
         }
     }
 
-    /// Takes the bytes that came next, in whatever pieces they come. Where there is no memory, no byte is taken.
+    /// Takes the bytes that arrived next, in pieces of any size. If there is no memory, no byte is taken.
     pub fn feed(&mut self, piece: &[u8]) -> Result<(), ReplyError>
         ensures fed { OnOk result (self.new.unread ≡ self.old.unread ++ piece.now) }
         ensures err { OnErr result (self.new ≡ self.old) }
@@ -52,8 +52,8 @@ impl ReplyReader {
         Ok(())
     }
 
-    /// What is next, for the command that it answers. A reply is taken out, and its value is copied, once; else nothing
-    /// changes, nor where there is no memory for the value.
+    /// Returns what is next, for the command that it answers. A whole reply is removed, and its value is copied, once. Otherwise
+    /// nothing changes, nor does it if there is no memory for the value.
     pub fn next(&mut self, alloc: Global, head: &Head) -> Result<NextReply, ReplyError>
         ensures given { IfOk result (λ next. Gives head.now self.old next self.new) }
         ensures cause { OnErr result (HasReply head.now self.old.unread) }
@@ -74,7 +74,7 @@ impl ReplyReader {
         }
     }
 
-    /// Whether a whole reply is next, for the command that it answers. It takes no memory.
+    /// Returns whether a whole reply is next, for the command that it answers. It takes no memory.
     pub fn has_next(&self, head: &Head) -> bool
         ensures { IsTrue result ↔ HasReply head.now self.now.unread }
     {
@@ -82,15 +82,14 @@ impl ReplyReader {
         read_reply(head, unread).is_ok()
     }
 
-    /// How many bytes have come that are of no reply that was given.
+    /// Returns how many bytes have arrived that belong to no returned reply.
     pub fn unread(&self) -> usize
         ensures { result ≡ length self.now.unread }
     {
         self.buffer.len() - self.start
     }
 
-    /// How many bytes are kept: those that are unread, and of the ones that were read those that are not dropped yet, which are
-    /// never more.
+    /// Returns how many bytes are kept: the unread ones, and those of returned replies that are not dropped yet, which are never more.
     pub fn held(&self) -> usize
         ensures held { result ≡ self.now.held }
         ensures little { result ≤ 2 * length self.now.unread }
@@ -98,8 +97,8 @@ impl ReplyReader {
         self.buffer.len()
     }
 
-    /// Gives back the memory that is reserved, where no byte is held and more than `kept` bytes are reserved. It is for a
-    /// reader that will be idle for a while: the next feeds reserve anew.
+    /// Frees the reserved memory, if no byte is kept and more than `kept` bytes are reserved. It is for a reader that will be idle for
+    /// a while: the next feeds reserve anew.
     pub fn give_back(&mut self, kept: usize)
         ensures { self.new ≡ self.old }
     {

@@ -12,7 +12,7 @@ use mc_request::{Atom, Head};
 use mc_text::Block;
 use std::alloc::Global;
 
-/// The reply to a command, by its head, at the front of the bytes. Nothing is copied.
+/// Reads the reply to a command, by its head, at the front of the bytes. Nothing is copied.
 pub fn read_reply<'a>(head: &Head, unread: &'a [u8]) -> Reading<'a>
     ensures { seen_by (λ x. (bytes_seen x.0, x.1.now)) result ≡ read_if (form_of head.now) unread.now }
 {
@@ -23,7 +23,7 @@ pub fn read_reply<'a>(head: &Head, unread: &'a [u8]) -> Reading<'a>
     }
 }
 
-/// A reply with a copy of its value.
+/// Returns a reply with a copy of its value.
 pub fn owned(alloc: Global, reply: Reply<&[u8]>) -> Result<Reply<Block>, ReplyError>
     ensures { IfOk result (λ copy. copy ≡ bytes_seen reply.entry) }
 {

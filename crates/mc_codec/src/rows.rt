@@ -1,4 +1,4 @@
-//! Worked examples: how early what comes is strange, and how much is waited for.
+//! Worked examples: how early a violation is found, and how many bytes a reader waits for.
 ghost use Rattle.std.specs.Prelude.{codes};
 ghost use Rattle.mc_codec.specs.NextReply.{IsShortOf};
 ghost use Rattle.mc_codec.specs.Examples.{IsStrangeFrom, get_of_a, set_of_a, incr_of_a, mg_of_a};
@@ -8,7 +8,7 @@ pub fn another_key()
     ensures { IsStrangeFrom get_of_a 7 (codes "VALUE b") }
 {}
 
-/// An error line, which a `get` is never answered.
+/// An error line, which is no reply to a `get`.
 pub fn error_to_a_get()
     ensures { IsStrangeFrom get_of_a 2 (codes "ERROR") }
 {}
@@ -38,12 +38,13 @@ pub fn number_too_large()
     ensures { IsStrangeFrom incr_of_a 20 (codes "18446744073709551616") }
 {}
 
-/// Seconds that nobody asked for: only a mark may be there.
+/// Seconds that the command did not ask for: only a mark is possible there.
 pub fn seconds_not_asked_for()
     ensures { IsStrangeFrom mg_of_a 6 (codes "VA 1 t") }
 {}
 
-/// A block that has begun to come: the rest of it is waited for, and one byte after it, which may be strange.
+/// A block that has begun to arrive. The reader waits for the rest of it and for one byte after it, which may be a
+/// violation.
 pub fn block_is_waited_for()
     ensures { IsShortOf get_of_a 17 (codes "VALUE a 0 3\r\nx") }
 {}

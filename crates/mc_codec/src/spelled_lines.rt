@@ -1,4 +1,4 @@
-//! The line of a command: how long it is, and how it is appended where there is room for it.
+//! The line of a command: its length, and how it is appended to a vector that has room for it.
 ghost use Rattle.std.specs.Prelude.{◌≡◌, ◌+◌, ◌≤◌, ◌<◌, ◌++◌, ◌∷◌, [], length, vec_len, vec_capacity, codes};
 ghost use Rattle.std.specs.Fmt.{decimal, signed_decimal};
 ghost use Rattle.mc_codec.specs.Spellings.{store_name, count_name, number_if, get_words, update_words, spaced};
@@ -11,7 +11,7 @@ use crate::spelled_words::{
 use mc_request::{Direction, StoreMode, Update};
 use mc_text::{Block, Key, append};
 
-/// The name of a storage command.
+/// Returns the name of a storage command.
 pub fn store_name(mode: StoreMode, compare: Option<u64>) -> &'static [u8]
     ensures name { result.now ≡ store_name mode compare }
     ensures short { length result.now ≤ 7 }
@@ -26,7 +26,7 @@ pub fn store_name(mode: StoreMode, compare: Option<u64>) -> &'static [u8]
     }
 }
 
-/// The name of a count.
+/// Returns the name of a count.
 fn count_name(direction: Direction) -> &'static [u8]
     ensures name { result.now ≡ count_name direction }
     ensures short { length result.now ≡ 4 }
@@ -37,7 +37,7 @@ fn count_name(direction: Direction) -> &'static [u8]
     }
 }
 
-/// How many bytes the line of a retrieval command on one key has.
+/// Returns how many bytes the line of a retrieval command on one key has.
 pub fn get_len(key: &Key, exptime: Option<i64>, with_cas: bool) -> usize
     ensures len { result ≡ length (spaced (get_words key.now exptime with_cas)) }
     ensures bound { result ≤ 1000 }
@@ -91,7 +91,7 @@ fn append_dated(out: &mut Vec<u8>, name: &[u8], exptime: i64, key: &[u8])
     append_word(out, key);
 }
 
-/// How many bytes the line of an update has.
+/// Returns how many bytes the line of an update has.
 pub fn update_len(update: &Update<Key, Block>) -> usize
     ensures len { result ≡ length (spaced (update_words update.now)) }
     ensures bound { result ≤ 1000 }
@@ -115,7 +115,7 @@ pub fn update_len(update: &Update<Key, Block>) -> usize
     }
 }
 
-/// How many bytes the words after the name of a storage command have.
+/// Returns how many bytes the words after the name of a storage command have.
 pub fn stored_len(key: &Key, flags: u32, exptime: i64, block: &[u8], compare: Option<u64>) -> usize
     ensures len { result ≡ length (after_spaces (key.now ∷ decimal flags ∷ signed_decimal exptime ∷ decimal (length block.now) ∷ number_if [] compare [])) }
     ensures bound { result ≤ 400 }

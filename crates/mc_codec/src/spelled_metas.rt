@@ -1,4 +1,4 @@
-//! The line of a meta command: how long it is, and how it is appended where there is room for it.
+//! The line of a meta command: its length, and how it is appended to a vector that has room for it.
 ghost use Rattle.std.specs.Prelude.{◌≡◌, ◌+◌, ◌≤◌, ◌<◌, ◌++◌, ◌∷◌, [], length, vec_len, vec_capacity, codes};
 ghost use Rattle.mc_codec.specs.Spellings.{mode_word, direction_word, mg_flags, ms_flags, md_flags, ma_flags, meta_words, spaced};
 ghost use Rattle.mc_codec.specs.SpelledPieces.{after_spaces, mg_show_pieces, ms_show_pieces, ma_show_pieces};
@@ -11,7 +11,7 @@ use crate::spelled_words::{
 use mc_request::{Counting, Direction, MetaCommand, MetaGet, Show, StoreMode, Update};
 use mc_text::{Block, Key, append};
 
-/// The mode of an `ms`, as its flag says it.
+/// Returns the mode of an `ms`, as its flag says it.
 fn mode_word(mode: StoreMode) -> &'static [u8]
     ensures word { result.now ≡ codes " " ++ mode_word mode }
     ensures short { length result.now ≡ 3 }
@@ -25,7 +25,7 @@ fn mode_word(mode: StoreMode) -> &'static [u8]
     }
 }
 
-/// The mode of an `ma`, as its flag says it.
+/// Returns the mode of an `ma`, as its flag says it.
 fn direction_word(direction: Direction) -> &'static [u8]
     ensures word { result.now ≡ codes " " ++ direction_word direction }
     ensures short { length result.now ≡ 3 }
@@ -36,7 +36,7 @@ fn direction_word(direction: Direction) -> &'static [u8]
     }
 }
 
-/// How many bytes the line of a meta command has. What has no meta form has none.
+/// Returns how many bytes the line of a meta command has. A command without a meta form has no line.
 pub fn meta_len(command: &MetaCommand<Key, Block>) -> usize
     ensures len { result ≡ length (spaced (meta_words command.now)) }
     ensures bound { result ≤ 1000 }
@@ -47,7 +47,7 @@ pub fn meta_len(command: &MetaCommand<Key, Block>) -> usize
     }
 }
 
-/// How many bytes the line of a meta update has.
+/// Returns how many bytes the line of a meta update has.
 fn meta_update_len(update: &Update<Key, Block>, show: &Show) -> usize
     ensures len { result ≡ length (spaced (meta_words (MetaCommand.Update update.now show.now))) }
     ensures bound { result ≤ 900 }
@@ -76,7 +76,7 @@ fn meta_update_len(update: &Update<Key, Block>, show: &Show) -> usize
     }
 }
 
-/// How many bytes the flag words of an `mg` have.
+/// Returns how many bytes the flag words of an `mg` have.
 #[tactic(auto, using(crate::proofs::PieceLemmas::mg_flags_length))]
 fn mg_flags_len(get: &MetaGet) -> usize
     ensures len { result ≡ length (after_spaces (mg_flags get.now)) }
@@ -92,7 +92,7 @@ fn mg_flags_len(get: &MetaGet) -> usize
         + number_len_if(b" R", get.recache)
 }
 
-/// How many bytes the flag words of an `ms` have.
+/// Returns how many bytes the flag words of an `ms` have.
 #[tactic(auto, using(crate::proofs::PieceLemmas::ms_flags_length))]
 fn ms_flags_len(
     mode: StoreMode,
@@ -114,7 +114,7 @@ fn ms_flags_len(
         + mode_word(mode).len()
 }
 
-/// How many bytes the flag words of an `md` have.
+/// Returns how many bytes the flag words of an `md` have.
 #[tactic(auto, using(crate::proofs::PieceLemmas::after_word_if, crate::proofs::PieceLemmas::after_number_if))]
 fn md_flags_len(compare: Option<u64>, invalidate: bool) -> usize
     ensures len { result ≡ length (after_spaces (md_flags compare invalidate)) }
@@ -123,7 +123,7 @@ fn md_flags_len(compare: Option<u64>, invalidate: bool) -> usize
     2 + number_len_if(b" C", compare) + len_if(invalidate, b" I")
 }
 
-/// How many bytes the flag words of an `ma` have.
+/// Returns how many bytes the flag words of an `ma` have.
 #[tactic(auto, using(crate::proofs::PieceLemmas::ma_flags_length))]
 fn ma_flags_len(counting: &Counting, show: &Show) -> usize
     ensures len { result ≡ length (after_spaces (ma_flags counting.now show.now)) }
@@ -140,7 +140,7 @@ fn ma_flags_len(counting: &Counting, show: &Show) -> usize
         + direction_word(counting.direction).len()
 }
 
-/// Appends the line of a meta command. What has no meta form has none.
+/// Appends the line of a meta command. A command without a meta form has no line.
 pub fn append_meta(out: &mut Vec<u8>, command: &MetaCommand<Key, Block>)
     requires { vec_len out.old + length (spaced (meta_words command.now)) ≤ vec_capacity out.old }
     ensures items { out.new.items ≡ out.old.items ++ spaced (meta_words command.now) }

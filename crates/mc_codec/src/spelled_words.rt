@@ -1,4 +1,4 @@
-//! The words of a command's line: how long they are, and how they are appended where there is room for them.
+//! The words of a command's line: their length, and how they are appended to a vector that has room for them.
 ghost use Rattle.std.specs.Prelude.{◌≡◌, ◌+◌, ◌≤◌, ◌<◌, ◌++◌, length, vec_len, vec_capacity, codes};
 ghost use Rattle.std.specs.Fmt.{decimal, signed_decimal};
 ghost use Rattle.mc_text.specs.CodedKeys.{coded_of};
@@ -8,7 +8,7 @@ use itoa::Buffer;
 use mc_request::Creation;
 use mc_text::{CODED_LIMIT, Key, append, write_coded};
 
-/// How many digits a number has.
+/// Returns how many digits a number has.
 #[tactic(auto, using(crate::proofs::PieceLemmas::digits_by_four, crate::proofs::PieceLemmas::digits_bound))]
 pub fn digits_len(number: u64) -> usize
     ensures len { result ≡ length (decimal number) }
@@ -23,7 +23,7 @@ pub fn digits_len(number: u64) -> usize
     len + short_digits_len(left)
 }
 
-/// How many digits a number below 10,000 has.
+/// Returns how many digits a number below 10,000 has.
 #[tactic(auto, using(crate::proofs::PieceLemmas::one_digit, crate::proofs::PieceLemmas::two_digits, crate::proofs::PieceLemmas::three_digits, crate::proofs::PieceLemmas::four_digits))]
 fn short_digits_len(number: u64) -> usize
     requires { number < 10000 }
@@ -41,7 +41,7 @@ fn short_digits_len(number: u64) -> usize
     }
 }
 
-/// How many bytes a number with a sign has.
+/// Returns how many bytes a number with a sign has.
 pub fn signed_len(number: i64) -> usize
     ensures len { result ≡ length (signed_decimal number) }
     ensures bound { result ≤ 21 }
@@ -50,14 +50,14 @@ pub fn signed_len(number: i64) -> usize
     if number < 0 { digits + 1 } else { digits }
 }
 
-/// How many bytes a word has where it is asked for.
+/// Returns how many bytes a word has if it is asked for, and 0 if not.
 pub fn len_if(asked: bool, word: &[u8]) -> usize
     ensures { result ≡ length (piece_if asked word.now) }
 {
     if asked { word.len() } else { 0 }
 }
 
-/// How many bytes a number after its label has, where there is one.
+/// Returns how many bytes a number after its label has, and 0 if there is no number.
 pub fn number_len_if(label: &[u8], number: Option<u64>) -> usize
     requires { length label.now ≤ 2 }
     ensures len { result ≡ length (number_piece label.now number) }
@@ -69,7 +69,7 @@ pub fn number_len_if(label: &[u8], number: Option<u64>) -> usize
     }
 }
 
-/// The same of a number with a sign.
+/// Returns how many bytes a number with a sign after its label has, and 0 if there is no number.
 pub fn signed_len_if(label: &[u8], number: Option<i64>) -> usize
     requires { length label.now ≤ 2 }
     ensures len { result ≡ length (signed_piece label.now number) }
@@ -81,7 +81,7 @@ pub fn signed_len_if(label: &[u8], number: Option<i64>) -> usize
     }
 }
 
-/// How many bytes the item that `ma` makes has, or that it makes none.
+/// Returns how many bytes the item that `ma` creates has, or the statement that it creates none.
 pub fn creation_len(create: Option<Creation>) -> usize
     ensures len { result ≡ length (creation_piece create) }
     ensures bound { result ≤ 45 }
@@ -92,7 +92,7 @@ pub fn creation_len(create: Option<Creation>) -> usize
     }
 }
 
-/// How many bytes a key has in base64.
+/// Returns how many bytes a key has in base64.
 pub fn coded_len(key: &Key) -> usize
     ensures len { result ≡ length (coded_of key.now) }
     ensures bound { result ≤ CODED_LIMIT }
@@ -111,7 +111,7 @@ pub fn append_word(out: &mut Vec<u8>, word: &[u8])
     append(out, word);
 }
 
-/// Appends a word where it is asked for.
+/// Appends a word if it is asked for.
 pub fn append_if(out: &mut Vec<u8>, asked: bool, word: &[u8])
     requires { vec_len out.old + length (piece_if asked word.now) ≤ vec_capacity out.old }
     ensures items { out.new.items ≡ out.old.items ++ piece_if asked word.now }
@@ -147,7 +147,7 @@ pub fn append_signed(out: &mut Vec<u8>, label: &[u8], number: i64)
     append(out, digits.format(number).as_bytes());
 }
 
-/// Appends a number after its label, where there is one.
+/// Appends a number after its label, if there is a number.
 pub fn append_number_if(out: &mut Vec<u8>, label: &[u8], number: Option<u64>)
     requires { vec_len out.old + length (number_piece label.now number) ≤ vec_capacity out.old }
     ensures items { out.new.items ≡ out.old.items ++ number_piece label.now number }
@@ -159,7 +159,7 @@ pub fn append_number_if(out: &mut Vec<u8>, label: &[u8], number: Option<u64>)
     }
 }
 
-/// The same of a number with a sign.
+/// Appends a number with a sign after its label, if there is a number.
 pub fn append_signed_if(out: &mut Vec<u8>, label: &[u8], number: Option<i64>)
     requires { vec_len out.old + length (signed_piece label.now number) ≤ vec_capacity out.old }
     ensures items { out.new.items ≡ out.old.items ++ signed_piece label.now number }
@@ -171,7 +171,7 @@ pub fn append_signed_if(out: &mut Vec<u8>, label: &[u8], number: Option<i64>)
     }
 }
 
-/// Appends the item that `ma` makes, or that it makes none.
+/// Appends the item that `ma` creates, or the statement that it creates none.
 pub fn append_creation(out: &mut Vec<u8>, create: Option<Creation>)
     requires { vec_len out.old + length (creation_piece create) ≤ vec_capacity out.old }
     ensures items { out.new.items ≡ out.old.items ++ creation_piece create }

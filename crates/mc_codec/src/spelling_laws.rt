@@ -11,8 +11,8 @@ ghost use Rattle.mc_codec.specs.Spellings.{can_be_spelled, is_good_atom, request
 
 use mc_request::{Request, Taken};
 
-/// The canonical spelling of a command is read as that command, whatever follows: it is the first request of its text,
-/// which takes the bytes of the spelling and no other, and after it the others are read.
+/// The canonical spelling of a command is read as that command, whatever follows. It is the first request of its text, which
+/// takes the bytes of the spelling and no other, and the others are read after it.
 pub fn spelled_commands_are_read()
     ensures first { (atom : Atom (List ℕ)) (more : List ℕ) → is_good_atom atom ≡ true
         → next_request (spelling_of_atom atom ++ more) ≡ Some (Taken.Whole (request_of atom), length (spelling_of_atom atom)) }
@@ -25,14 +25,14 @@ pub fn spelled_command_is_one()
     ensures { (atom : Atom (List ℕ)) → atoms_of (request_of atom) ≡ atom ∷ [] }
 {}
 
-/// No spelling begins another: texts that are the same begin with the same command, and go on in the same way.
+/// No spelling begins another: equal texts begin with the same command, and go on in the same way.
 pub fn spellings_are_apart()
     ensures { (a b : Atom (List ℕ)) (xs ys : List ℕ) → is_good_atom a ≡ true → is_good_atom b ≡ true
         → spelling_of_atom a ++ xs ≡ spelling_of_atom b ++ ys → (a ≡ b) × (xs ≡ ys) }
 {}
 
-/// Spellings one after the other are read as their commands in order, and what follows them as by itself. So a `quit`
-/// after them is the last request.
+/// Spellings in sequence are read as their commands in order, and what follows them as by itself. So a `quit` after them is
+/// the last request.
 pub fn quit_after_commands_is_read()
     ensures more { (commands : List (Atom (List ℕ))) (more : List ℕ) → list_all is_good_atom commands ≡ true
         → requests_of (spellings_of commands ++ more) ≡ map (λ atom. Taken.Whole (request_of atom)) commands ++ requests_of more }
@@ -41,20 +41,20 @@ pub fn quit_after_commands_is_read()
         ≡ map (λ atom. Taken.Whole (request_of atom)) commands ++ Taken.Whole Request.Quit ∷ [] }
 {}
 
-/// Each command of a client's text can be said in its canonical spelling: `All (λ b. b < 256)` says that a list is bytes, as
-/// each text of a program is.
+/// Each command of a client's text has a canonical spelling. `All (λ b. b < 256)` says that a list is bytes, as each text of
+/// a program is.
 pub fn commands_of_texts_can_be_spelled()
     ensures { (text : List ℕ) → All (λ b. b < 256) text → list_all can_be_spelled (requests_of text) ≡ true }
 {}
 
-/// The request that the canonical spelling of a command is read as is answered, by a reply that this command can have, by
-/// the canonical spelling of that reply.
+/// A server that reads the canonical spelling of a command answers the request by the canonical spelling of a reply that
+/// this command can have.
 pub fn canonical_answers()
     ensures { (atom : Atom (List ℕ)) → (reply : Reply (List ℕ)) → is_good_atom atom ≡ true → can_have atom reply ≡ true
         → answer_of (request_of atom) (reply ∷ []) ≡ spelling_of atom reply }
 {}
 
-/// What a command can have, and how it is spelled, its head tells: a data block plays no part.
+/// The head of a command decides which replies it can have, and how they are spelled: its data block plays no part.
 pub fn heads_tell_of_replies()
     ensures can_have { (atom : Atom (List ℕ)) → (reply : Reply (List ℕ)) → can_have (head_of atom) reply ≡ can_have atom reply }
     ensures spelling { (atom : Atom (List ℕ)) → (reply : Reply (List ℕ)) → spelling_of (head_of atom) reply ≡ spelling_of atom reply }

@@ -8,14 +8,14 @@ use crate::spelled_metas::{append_meta, meta_len};
 use mc_request::{Atom, MetaCommand, ReadError, Update};
 use mc_text::{Block, Key, append};
 
-/// How many bytes the canonical spelling of a command has. It takes no memory.
+/// Returns how many bytes the canonical spelling of a command has. It takes no memory.
 pub fn spelled_len(atom: &Atom<Block>) -> usize
     ensures { result ≡ length (spelling_of_atom atom.now) }
 {
     line_len(atom) + 2 + block_len(atom)
 }
 
-/// The data block of an update, where it has one.
+/// Returns the data block of an update, if it has one.
 fn block_in(update: &Update<Key, Block>) -> Option<&Block>
     ensures { option_copied result ≡ block_in update.now }
 {
@@ -25,7 +25,7 @@ fn block_in(update: &Update<Key, Block>) -> Option<&Block>
     }
 }
 
-/// The data block of a command, where it has one.
+/// Returns the data block of a command, if it has one.
 fn block_of(atom: &Atom<Block>) -> Option<&Block>
     ensures { option_copied result ≡ block_of_atom atom.now }
 {
@@ -35,7 +35,7 @@ fn block_of(atom: &Atom<Block>) -> Option<&Block>
     }
 }
 
-/// How many bytes a data block and its end have, where there is one.
+/// Returns how many bytes a data block and its end have, and 0 if there is no block.
 fn block_len(atom: &Atom<Block>) -> usize
     ensures len { result ≡ length (block_lines (block_of_atom atom.now)) }
     ensures bound { result < 2 ^ 63 + 2 }
@@ -49,7 +49,7 @@ fn block_len(atom: &Atom<Block>) -> usize
     }
 }
 
-/// How many bytes the line of a command has, without its end.
+/// Returns how many bytes the line of a command has, without its end.
 fn line_len(atom: &Atom<Block>) -> usize
     ensures len { result ≡ length (spaced (line_words atom.now)) }
     ensures bound { result ≤ 1000 }
@@ -83,7 +83,7 @@ fn append_line(out: &mut Vec<u8>, atom: &Atom<Block>)
     }
 }
 
-/// Appends the data block of a command and its end, where it has one.
+/// Appends the data block of a command and its end, if it has one.
 fn append_block(out: &mut Vec<u8>, atom: &Atom<Block>)
     requires { vec_len out.old + length (block_lines (block_of_atom atom.now)) ≤ vec_capacity out.old }
     ensures items { out.new.items ≡ out.old.items ++ block_lines (block_of_atom atom.now) }
@@ -96,8 +96,8 @@ fn append_block(out: &mut Vec<u8>, atom: &Atom<Block>)
     }
 }
 
-/// Appends the canonical spelling of a command, or nothing where there is no memory. It takes no memory where a vector has
-/// room for as many bytes as the spelling has ([`spelled_len`]).
+/// Appends the canonical spelling of a command, or nothing if there is no memory. It takes no memory if the vector has
+/// room for the [`spelled_len`] bytes of the spelling.
 pub fn write_atom(atom: &Atom<Block>, out: &mut Vec<u8>) -> Result<(), ReadError>
     ensures ok { OnOk result (out.new.items ≡ out.old.items ++ spelling_of_atom atom.now) }
     ensures len { OnOk result (vec_len out.new ≡ vec_len out.old + length (spelling_of_atom atom.now)) }

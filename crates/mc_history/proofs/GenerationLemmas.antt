@@ -1,4 +1,4 @@
--- One generation: what was put on it is read as its commands in order, and what comes back is told of them in order.
+-- One generation: the server reads the commands that were sent, in order, and the bytes that come back spell its replies, in order.
 use Rattle.std.proofs.Common.{◌≡◌, ◌∙◌, ℕ, zero, suc, true, List, [], ◌∷◌, ◌++◌, length, map, drop, refl, sym, ap, subst, append_assoc, append-nil, arith}
 use Rattle.std.specs.List.{list_all}
 use Rattle.std.proofs.lemmas.Bool.{and_parts}
@@ -37,8 +37,8 @@ read_spelled (c ∷ cs) more good =
     ∙ requests-spelled c.0 (spelled cs ++ more) parts.0
     ∙ ap (λ (ts : List Taken). read_as c ∷ ts) (read_spelled cs more parts.1)
 
--- What a connection reads: where what came and what is on its way spell these commands, of which the first were taken, it reads the
--- others, and after them what follows.
+-- What a connection reads: if the bytes that arrived and those in flight spell these commands, and the first of these were taken,
+-- it reads the others, and after them what follows.
 pub reads_others : (opening : CacheState) (number : ℕ) (text going sent : List ℕ) (made : List Made) (connection : ConnectionState) (others : List Tagged)
     → Holds opening number text (map taking_of made) sent connection
     → text ++ going ≡ spelled (commands_on number made ++ others) → list_all is_good (commands_on number made ++ others) ≡ true
@@ -52,7 +52,7 @@ reads_others opening number text going sent made connection others holds put goo
     ∙ ap (λ (ts : List Taken). ts ++ requests_of more) (map-append read_as (commands_on number made) others)
     ∙ append_assoc (map read_as (commands_on number made)) (map read_as others) (requests_of more))
 
--- before a byte has come a reply has only begun; so no reply is spelled by no byte
+-- before any byte has arrived a reply has only begun; so no reply is spelled by no byte
 pub not_nothing : (head : Atom (Unit {0})) (reply : AReply (List ℕ)) → can_have head reply ≡ true → IsBegun head [] → spelling_of head reply ≡ [] → ⊥
 not_nothing head reply can begun none =
     let both : spelling_of head reply ++ spelling_of head begun.reply ≡ spelling_of head begun.reply ++ [] =
@@ -62,7 +62,7 @@ not_nothing head reply can begun none =
     let size : length begun.more ≡ 0 = ap (λ (bytes : List ℕ). length bytes) more in
     omega (arith, begun.missing, size)
 
--- the first part of joined bytes that are none is none
+-- if joined bytes are empty, their first part is
 front_none : (xs ys : List ℕ) → xs ++ ys ≡ [] → xs ≡ []
 front_none [] ys e = refl
 front_none (x ∷ xs) ys e = absurd cc
@@ -87,7 +87,7 @@ told_front (c ∷ cs) (r ∷ rs) (q ∷ qs) bytes good can can_all same =
       can = others.can;
     }
 
--- what is told of some commands is not strange to those who wait for their replies
+-- replies to some commands are no violation to the pending ones
 pub not_strange : (commands : List Tagged) (later : List (AReply (List ℕ))) (unread after : List ℕ) → list_all is_good commands ≡ true
     → CanHave commands later → unread ++ after ≡ told commands later → HasStrange (as_waiting commands) unread → ⊥
 not_strange [] [] unread after good can is strange =
@@ -101,13 +101,13 @@ not_strange (c ∷ cs) [] unread after good can is strange =
     (ap (λ (bytes : List ℕ). bytes ++ begun.more) (front_none unread after is) ∙ begun.spelled ∙ sym (append-nil (spelling_of (head_of c.0) begun.reply)))
 not_strange (c ∷ cs) (r ∷ rs) unread after good can is strange = strange r after (told cs rs) can.0 is
 
--- goodness of the later commands
+-- if commands are good, so are the later ones
 good_after : (count : ℕ) (commands : List Tagged) → list_all is_good commands ≡ true → list_all is_good (drop count commands) ≡ true
 good_after zero commands good = good
 good_after (suc count) [] good = refl
 good_after (suc count) (c ∷ cs) good = good_after count cs (and_parts (is_good c) (list_all is_good cs) good).1
 
--- the heart: what a living generation carries
+-- the main lemma: what a living generation carries
 pub carried : (place : ℕ) (order : Order) (lane : Lane) (link : LinkState) (opening : CacheState) (made : List Made) (number : ℕ) (connection : ConnectionState) (others : List Tagged)
     → AreJoined place order lane link opening made number connection others → IsCarried place order lane link made number connection others
 carried place order lane link opening made number connection others h =

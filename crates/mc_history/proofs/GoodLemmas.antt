@@ -39,7 +39,7 @@ good_each place [] atom h = refl
 good_each place (server ∷ servers) atom h =
     and_from (is_good_atom atom) (list_all is_good_routed (to_each (suc place) servers atom)) h (good_each (suc place) servers atom h)
 
--- what can be spelled is sent in commands that can be
+-- a request that can be spelled is sent in commands that can be
 pub good_routes : (ring : RingState) (what : Taken) → can_be_spelled what ≡ true → list_all is_good_routed (route_of_taken ring what) ≡ true
 good_routes ring (Whole (requests.Get keys exptime with_cas)) h = good_gets ring exptime with_cas keys h
 good_routes ring (Whole (requests.Update (Store mode compare key flags exptime block) noreply)) h = h

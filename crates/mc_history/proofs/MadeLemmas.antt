@@ -1,4 +1,4 @@
--- What a server made is what its history has, and what its answers tell.
+-- What a server made is what its history has, and what its answers say.
 use Rattle.std.proofs.Common.{◌≡◌, ◌∙◌, ℕ, ◌==◌, true, false, if◌then◌else◌, List, [], ◌∷◌, ◌++◌, map, refl, sym, ap}
 use Rattle.mc_request.specs.Atoms.{head_of}
 use Rattle.mc_request.specs.declared.meta.MetaCommand.TheVariants as metas
@@ -69,7 +69,7 @@ taken_on number (m ∷ ms) =
       | false ↦ again
     ])
 
--- what was answered to it
+-- what was answered to a connection
 pub told_on : (number : ℕ) (s : CacheState) (made : List Made) → AreMade s made
     → answers_to number s (map taking_of made) ≡ told (commands_on number made) (replies_on number made)
 told_on number s [] h = refl
@@ -94,7 +94,7 @@ can_on number s (m ∷ ms) h =
       | false ↦ again
     ])
 
--- the cache after all of it
+-- the cache after all that was made
 abbrev pub cache_of : CacheState → List Made → CacheState
 cache_of s [] = s
 cache_of s (m ∷ ms) = cache_of (step_of s m.command.0 m.moment m.refused).0 ms

@@ -1,4 +1,4 @@
--- Commands that an order has, as it goes on and as outcomes are noted in it.
+-- Commands of an order, as it goes on and as outcomes are noted in it.
 use Rattle.std.proofs.Common.{◌≡◌, ◌∙◌, ℕ, zero, suc, ◌==◌, true, false, if◌then◌else◌, List, [], ◌∷◌, ◌++◌, length, drop, take, Option, Some, slice_get, refl, sym, ap, ap₂, subst, append_assoc, arith}
 use Rattle.std.proofs.lemmas.Bool.{eqb-true}
 use Rattle.std.proofs.lemmas.List.{length_push, take-append-drop}
@@ -13,7 +13,7 @@ use Rattle.mc_history.specs.Made.{Each}
 use Rattle.mc_account.specs.Lookups.{command_at, command_in}
 use Rattle.mc_history.specs.Named.{IsNamed}
 
--- each of a list
+-- a property of each of a list, and of one more
 pub each_push : {X : Type 0} (P : X → Type 0) (xs : List X) (x : X) → Each P xs → P x → Each P (xs ++ x ∷ [])
 each_push P [] x h k = (k, tt)
 each_push P (y ∷ ys) x h k = (h.0, each_push P ys x h.1 k)
@@ -30,7 +30,7 @@ pub each_weaker : {X : Type 0} (P Q : X → Type 0) (xs : List X) → ((x : X) �
 each_weaker P Q [] f h = tt
 each_weaker P Q (x ∷ xs) f h = (f x h.0, each_weaker P Q xs f h.1)
 
--- the commands that an order has, another has
+-- the second order has all commands of the first
 abbrev pub Keeps : Order → Order → Type 0
 Keeps order longer = (tag : Tag) (routed : Routed) → command_at order tag ≡ Some routed → command_at longer tag ≡ Some routed
 
@@ -48,7 +48,7 @@ keeps_push order e tag routed h =
     ap (λ (es : Order). command_in (slice_get es tag.request) tag.atom) (entries-append tag.session order (e ∷ []))
     ∙ still_there (entries_of tag.session order) (entries_of tag.session (e ∷ [])) tag.request tag.atom routed h
 
--- an outcome that is noted leaves the commands as they are
+-- noting an outcome leaves the commands as they are
 pub noted_there : (tag : Tag) (outcome : Outcome) (es : Order) (k atom : ℕ) → command_in (slice_get (note tag outcome es) k) atom ≡ command_in (slice_get es k) atom
 noted_there tag outcome [] zero atom = refl
 noted_there tag outcome [] (suc k) atom = refl
@@ -101,7 +101,7 @@ named_in place order e number =
     ∙ h.2)
     (whole_from place e.session e.request 0 (route_of_taken e.ring e.what) [] (route_of_taken e.ring e.what) refl refl)
 
--- of the commands of an order those since
+-- the commands of an order since a request are among all of them
 pub named_since : (place since : ℕ) (order : Order) → Each (IsNamed place order) (commands_to place order) → Each (IsNamed place order) (commands_to place (drop since order))
 named_since place since order h =
     let whole : commands_to place order ≡ commands_to place (take since order) ++ commands_to place (drop since order) =

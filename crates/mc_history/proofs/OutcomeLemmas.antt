@@ -1,4 +1,4 @@
--- What became of commands, as an order goes on and as outcomes are noted in it; and the entries after the replies that were taken.
+-- Outcomes of commands, as an order goes on and as outcomes are noted in it; and the entries after the replies that were taken.
 use Rattle.std.proofs.Common.{◌≡◌, ◌≢◌, ◌∙◌, ℕ, zero, suc, ◌+◌, ◌==◌, ◌⊎◌, inl, inr, true, false, if◌then◌else◌, List, [], ◌∷◌, ◌++◌, map, Option, Some, slice_get, refl, sym, ap, subst, arith}
 use Rattle.std.proofs.lemmas.Bool.{and_parts, eqb-true}
 use Rattle.std.proofs.lemmas.Option.{none-some, same_Some}
@@ -21,7 +21,7 @@ use Rattle.mc_history.proofs.NamedLemmas.{noted_there}
 use Rattle.mc_account.specs.Lookups.{command_at, command_in, outcome_at, outcome_in}
 use Rattle.mc_history.specs.Named.{AreReplied, IsNamed}
 
--- of the commands to a place no reply is known that was not before
+-- among the commands to a place no reply is known that was not known before
 abbrev pub NoNews : ℕ → Order → Order → Type 0
 NoNews place order longer = (tag : Tag) (atom : Atom (List ℕ)) (reply : AReply (List ℕ)) → command_at longer tag ≡ Some (to_place place atom) → outcome_at longer tag ≡ Some (Reply reply)
     → (command_at order tag ≡ Some (to_place place atom)) × (outcome_at order tag ≡ Some (Reply reply))
@@ -86,7 +86,7 @@ news_push place order e fresh tag atom reply is known =
     (ap (λ (es : Order). outcome_in (slice_get es tag.request) tag.atom) (sym mine) ∙ known) in
     (ap (λ (o : Option Asked). command_in o tag.atom) (sym same) ∙ is, ap (λ (o : Option Asked). outcome_in o tag.atom) (sym same) ∙ known)
 
--- an outcome that is noted: what is known of a command was before, or is that
+-- after an outcome is noted, a known outcome was known before, or is that one
 with_back : (at : ℕ) (outcome : Outcome) (xs : List Outcome) (a : ℕ) (q : Outcome) → slice_get (with_outcome at outcome xs) a ≡ Some q → (slice_get xs a ≡ Some q) ⊎ ((a ≡ at) × (q ≡ outcome))
 with_back at outcome [] a q e = inl e
 with_back zero outcome (x ∷ xs) zero q e = inr (refl, sym (same_Some outcome q e))
@@ -147,7 +147,7 @@ command_note t outcome order tag =
     ap (λ (es : Order). command_in (slice_get es tag.request) tag.atom) (entries-note tag.session t outcome order)
     ∙ noted_there t outcome (entries_of tag.session order) tag.request tag.atom
 
--- where a command of another place gets its reply, and where commands are lost
+-- a command of another place gets its reply, or commands are lost
 pub news_elsewhere : (place other : ℕ) (t : Tag) (atom : Atom (List ℕ)) (outcome : Outcome) (order : Order) → ((number : ℕ) → AreInOrder (entries_of number order)) → place ≢ other
     → command_at order t ≡ Some (to_place place atom) → NoNews other order (note t outcome order)
 news_elsewhere place other t atom outcome order numbered differ named tag atom' reply is known =
@@ -176,7 +176,7 @@ news_all_lost place (t ∷ ts) order numbered tag atom reply is known =
     (λ n. subst (λ (es : Order). AreInOrder es) (sym (entries-note n t Lost order)) (in_order-note t Lost (entries_of n order) (numbered n))) tag atom reply is known in
     news_lost place t order numbered tag atom reply again.0 again.1
 
--- what is on a connection was made
+-- a command on a connection was made
 front_case : (x : Made) (ys : List Made) (n : ℕ) (m : Made) → slice_get (x ∷ ys) n ≡ Some m → (x ≡ m) ⊎ ((j : ℕ) × (slice_get ys j ≡ Some m))
 front_case x ys zero m e = inl (same_Some x m e)
 front_case x ys (suc n) m e = inr (n, e)

@@ -1,4 +1,4 @@
--- Of the replies that a command can have, the one for want of memory alone is spelled as its line.
+-- Of the replies that a command can have, only the refusal for lack of memory is spelled as its line.
 use Rattle.std.proofs.Common.{◌≡◌, ◌∙◌, ℕ, true, false, ◌||◌, List, [], ◌∷◌, ◌++◌, map, refl, sym, ap}
 use Rattle.std.specs.Prelude.{◌==◌, Some, None, slice_index_or}
 use Rattle.mc_request.specs.Atoms.{head_of}
@@ -51,7 +51,7 @@ number_not (atoms.Meta (metas.Update (Delete key compare invalidate) show)) n ca
 number_not (atoms.Meta (metas.Update (Count key counting) show)) n can e = absurd cc
 number_not (atoms.Meta (metas.Update (FlushAll delay) show)) n can e = absurd cc
 
--- no other fault has that line
+-- no other error has that line
 fault_refused : (fault : _) → fault_line fault ≡ fault_line OutOfMemory → is_refusal {V = List ℕ} (Fault fault) ≡ true
 fault_refused UnknownCommand e = absurd (apart_at 0 e refl)
 fault_refused BadFormat e = absurd (apart_at 0 e refl)
@@ -65,7 +65,7 @@ fault_refused TooLarge e = absurd (apart_at 14 e refl)
 fault_refused CasUsedUp e = absurd (apart_at 13 e refl)
 fault_refused OutOfMemory e = refl
 
--- nor has another reply, to a retrieval of a key, to a meta command, or to an update, but for a number
+-- no other reply has it, to a retrieval of a key, to a meta command, or to an update, except perhaps a number
 get_refused : (key : List ℕ) (reply : AReply (List ℕ)) → key_onto key reply end_line ≡ fault_line OutOfMemory → is_refusal reply ≡ true
 get_refused key Stored e = absurd (apart_at 0 e refl)
 get_refused key NotStored e = absurd (apart_at 0 e refl)
@@ -116,7 +116,7 @@ refusal_spelled (atoms.Update update) reply can e =
     (ap (λ (r : AReply (List ℕ)). spelling_of (atoms.Update update) r) (sym is) ∙ e)) e
 refusal_spelled (atoms.Meta command) reply can e = meta_refused reply e
 
--- and a reply that is that one is spelled so, where a command can have it
+-- the refusal is spelled so, if a command can have it
 fault_is : (fault : _) → is_refusal {V = List ℕ} (Fault fault) ≡ true → fault_line fault ≡ fault_line OutOfMemory
 fault_is UnknownCommand is = absurd cc
 fault_is BadFormat is = absurd cc
@@ -149,7 +149,7 @@ spelled_refusal atom (Hit flags cas value) can is = absurd cc
 spelled_refusal atom (Meta shown value) can is = absurd cc
 spelled_refusal atom (Fault fault) can is = of_fault atom fault can ∙ fault_is fault is
 
--- whether one reply tells it
+-- whether one reply is the refusal
 pub one_tells : (reply : AReply (List ℕ)) → tells_refusal (reply ∷ []) ≡ is_refusal reply
 one_tells reply = elim (is_refusal reply) as (λ v. (v || false) ≡ v) [
   | true ↦ refl
@@ -165,7 +165,7 @@ one_command e atom is =
     ap (λ (what : Taken). commands_of (record e { what = what })) is
     ∙ ap (λ (ones : List (Atom (List ℕ))). map (command_by e) ones) (one_atom atom)
 
--- what such an entry is answered, and what its refusal is
+-- the answer to such an entry, and its refusal
 entry_answer : (s : CacheState) (e : Taking) (atom : Atom (List ℕ)) → e.what ≡ Whole (request_of atom) → is_good_atom atom ≡ true
     → can_have atom (step_of s atom e.moment e.refused).1 ≡ true → answer_after s e ≡ spelling_of atom (step_of s atom e.moment e.refused).1
 entry_answer s e atom is good can =
@@ -178,7 +178,7 @@ pub entry_refused : (s : CacheState) (e : Taking) (atom : Atom (List ℕ)) → e
 entry_refused s e atom is legal =
     legal.1 ∙ ap (λ (cs : List Command). tells_refusal (replies s cs)) (one_command e atom is) ∙ one_tells (step_of s atom e.moment e.refused).1
 
--- so the answer tells whether memory was refused
+-- the answer says whether memory was refused
 pub told_by_line : (s : CacheState) (e : Taking) (atom : Atom (List ℕ)) → e.what ≡ Whole (request_of atom) → is_good_atom atom ≡ true
     → can_have atom (step_of s atom e.moment e.refused).1 ≡ true → IsLegalAt s e → answer_after s e ≡ fault_line OutOfMemory → e.refused ≡ true
 told_by_line s e atom is good can legal line =

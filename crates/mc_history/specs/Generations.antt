@@ -1,4 +1,4 @@
--- One generation of a link: what is said of it where its proxy's lane and its server's connection are joined.
+-- One generation of a link: what its proxy's lane and its server's connection have in common.
 use Rattle.std.specs.Prelude.{ℕ, ◌≡◌, Bool, true, List, ◌++◌, length, map, drop}
 use Rattle.std.specs.List.{list_all}
 use Rattle.mc_request.specs.Requests.{requests_of}
@@ -22,15 +22,15 @@ is_good command = is_good_atom command.0
 abbrev pub commands_of_lane : ℕ → Order → Lane → List Tagged
 commands_of_lane place order lane = commands_to place (drop lane.since order)
 
--- What was told first of some commands is the first of what is told: the same replies, and the bytes after them tell the later ones.
+-- The first replies to some commands are the first of all replies: the same ones, and the bytes after them spell the later ones.
 pub record IsFront (commands : List Tagged) (replies all : List (AReply (List ℕ))) (bytes : List ℕ) : Type 0 where
   pub later : List (AReply (List ℕ))
   pub all_is : all ≡ replies ++ later
   pub bytes_are : bytes ≡ told (drop (length replies) commands) later
   pub can : CanHave (drop (length replies) commands) later
 
--- A link that is up and the server's connection at its other end, by what the server made of the commands that came and which others
--- were sent: the bytes that came are those that left, both ways.
+-- A link that is up and the server's connection at its other end, by what the server made of the commands that arrived, and which
+-- others were sent. Both ways, the bytes that arrived are those that were sent.
 pub record AreJoined (place : ℕ) (order : Order) (passed : Lane) (link : LinkState) (opening : CacheState) (all : List Made) (number : ℕ) (end : ConnectionState) (others : List Tagged) : Type 0 where
   pub lane : LaneHolds place order passed link
   pub connection : Holds opening number passed.out (map taking_of all) passed.came end
@@ -38,8 +38,8 @@ pub record AreJoined (place : ℕ) (order : Order) (passed : Lane) (link : LinkS
   pub commands : commands_of_lane place order passed ≡ commands_on number all ++ others
   pub good : list_all is_good (commands_of_lane place order passed) ≡ true
 
--- So the server reads the others next, in order, and nothing else before what follows; the replies that the proxy took are the first
--- that the server gave to these commands, and what is on its way back tells the later ones; and none of it is strange.
+-- The server reads the other commands next, in order, and nothing else before what follows. The replies that the proxy took are the
+-- first that the server gave to these commands, the bytes in flight back spell the later ones, and none of them is a violation.
 pub record IsCarried (place : ℕ) (order : Order) (lane : Lane) (link : LinkState) (made : List Made) (number : ℕ) (connection : ConnectionState) (others : List Tagged) : Type 0 where
   pub reads : (more : List ℕ) → rest_of connection.reader (link.output ++ more) ≡ map read_as others ++ requests_of more
   pub front : IsFront (commands_of_lane place order lane) lane.replies (replies_on number made) (link.unread ++ connection.output)

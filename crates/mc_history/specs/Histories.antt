@@ -1,4 +1,4 @@
--- What a server's history tells, by the order in which a proxy took the requests.
+-- When a server's history is legal, by the order in which a proxy took the requests.
 use Rattle.std.specs.Prelude.{ℕ, ◌≡◌, ◌≢◌, true, List, [], ◌∷◌, Some, slice_get}
 use Rattle.mc_request.specs.declared.parts.Atom.{Atom}
 use Rattle.mc_reply.specs.Spelling.{spelling_of}
@@ -13,18 +13,18 @@ use Rattle.mc_account.specs.Lookups.{command_at}
 use Rattle.mc_account.specs.Orders.{Order}
 use Rattle.mc_history.specs.declared.entries.Entry.{Entry}
 
--- whose command an entry is of
+-- the tag of an entry's command
 abbrev pub tag_in : Entry → Tag
 tag_in e = tag_of e.client e.request e.atom
 
--- what a server answers a command at its turn: memory is refused only where that may be, and exactly where the reply says so
+-- what a server answers a command at its turn: memory is refused only if that is possible, and exactly if the reply says so
 pub record IsAnswered (s : CacheState) (atom : Atom (List ℕ)) (e : Entry) : Type 0 where
   pub legal : e.refused ≡ true → may_refuse s atom e.moment ≡ true
   pub refused : e.refused ≡ is_refusal (step_of s atom e.moment e.refused).1
   pub reply : e.reply ≡ spelling_of atom (step_of s atom e.moment e.refused).1
 
--- A history is legal from a cache on: each of its entries is of a command of this server that was taken, and is answered what
--- the cache replies there, which the one before has left.
+-- A history is legal from a cache on: each of its entries is of a command of this server that was taken, and its answer is
+-- what the cache replies in the state that the entry before has left.
 abbrev pub IsLegal : Order → ℕ → CacheState → List Entry → Type 0
 IsLegal order place s [] = Unit {0}
 IsLegal order place s (e ∷ es) =

@@ -1,4 +1,4 @@
--- What a server made of the commands that came to it.
+-- What a server made of the commands that arrived.
 use Rattle.std.specs.Prelude.{ℕ, ◌≡◌, ◌==◌, Bool, true, List, [], ◌∷◌, map, if◌then◌else◌}
 use Rattle.mc_request.specs.declared.parts.Taken.{Taken}
 use Rattle.mc_request.specs.declared.parts.Taken.TheVariants.{Whole}
@@ -14,8 +14,7 @@ use Rattle.mc_server.specs.Served.{Entry as Taking}
 use Rattle.mc_account.specs.Orders.{Tagged}
 use Rattle.mc_history.specs.declared.entries.Entry.{Entry}
 
--- a command that a server took: on which of its connections, which command it is and whose, when, whether memory was refused to it,
--- and the reply
+-- a command that a server took: its connection, the command and its tag, the moment, whether memory was refused to it, and the reply
 pub record Made : Type 0 where
   pub connection : ℕ
   pub command : Tagged
@@ -23,11 +22,11 @@ pub record Made : Type 0 where
   pub refused : Bool
   pub reply : AReply (List ℕ)
 
--- what a server reads of a command that is spelled to it
+-- what a server reads when a command is spelled to it
 abbrev pub read_as : Tagged → Taken
 read_as command = Whole (request_of command.0)
 
--- the same as the server's history has it, and as the world's
+-- the command as the server's history has it, and as the world's has it
 abbrev pub taking_of : Made → Taking
 taking_of m = record { connection = m.connection; what = read_as m.command; moment = m.moment; refused = m.refused }
 
@@ -41,7 +40,7 @@ entry_of m = record {
   reply = spelling_of m.command.0 m.reply;
 }
 
--- what was made on a connection, of which commands, and with which replies
+-- what was made on a connection, its commands, and its replies
 abbrev pub made_on : ℕ → List Made → List Made
 made_on number [] = []
 made_on number (m ∷ ms) = if m.connection == number then m ∷ made_on number ms else made_on number ms
@@ -52,8 +51,8 @@ commands_on number made = map (λ m. m.command) (made_on number made)
 abbrev pub replies_on : ℕ → List Made → List (AReply (List ℕ))
 replies_on number made = map (λ m. m.reply) (made_on number made)
 
--- a command was made where the cache stood so: it can be spelled, memory is refused only where that may be and exactly where the reply
--- says so, and the reply is that of the cache, and one that the command can have
+-- a command was made in this state of the cache: it can be spelled; memory is refused only if that is possible, and exactly if the
+-- reply says so; and the reply is that of the cache, and one that the command can have
 pub record IsMade (s : CacheState) (m : Made) : Type 0 where
   pub good : is_good_atom m.command.0 ≡ true
   pub legal : m.refused ≡ true → may_refuse s m.command.0 m.moment ≡ true
@@ -61,12 +60,12 @@ pub record IsMade (s : CacheState) (m : Made) : Type 0 where
   pub told : m.refused ≡ is_refusal m.reply
   pub can : can_have m.command.0 m.reply ≡ true
 
--- each was, from a cache on
+-- each command was made, from a cache on
 abbrev pub AreMade : CacheState → List Made → Type 0
 AreMade s [] = Unit {0}
 AreMade s (m ∷ ms) = IsMade s m × AreMade (step_of s m.command.0 m.moment m.refused).0 ms
 
--- what holds of each of a list
+-- a property of each of a list
 abbrev pub Each : {X : Type 0} → (X → Type 0) → List X → Type 0
 Each P [] = Unit {0}
 Each P (x ∷ xs) = P x × Each P xs

@@ -1,4 +1,4 @@
--- Commands by their tags, as an order has them and as a history does.
+-- Commands by their tags, in an order and in a history.
 use Rattle.std.specs.Prelude.{ℕ, ◌≡◌, ◌+◌, ◌==◌, ◌&&◌, Bool, List, [], ◌∷◌, map, Some, if◌then◌else◌}
 use Rattle.mc_request.specs.declared.parts.Atom.{Atom}
 use Rattle.mc_reply.specs.Spelling.{spelling_of}
@@ -12,16 +12,16 @@ use Rattle.mc_history.specs.declared.entries.Entry.{Entry}
 use Rattle.mc_history.specs.Histories.{HasReply}
 use Rattle.mc_history.specs.Made.{Made}
 
--- a command is one of those that the order has for the server of a place
+-- a command is one that the order has for the server at a place
 abbrev pub IsNamed : ℕ → Order → Tagged → Type 0
 IsNamed place order command = command_at order command.1 ≡ Some (to_place place command.0)
 
--- a reply that is known of a command to this place is that of its entry
+-- a known reply to a command to this place is that of its entry
 abbrev pub AreReplied : ℕ → Order → List Entry → Type 0
 AreReplied place order history = (tag : Tag) (atom : Atom (List ℕ)) (reply : AReply (List ℕ)) → command_at order tag ≡ Some (to_place place atom)
     → outcome_at order tag ≡ Some (Reply reply) → HasReply history tag (spelling_of atom reply)
 
--- how often a tag is among tags
+-- whether two tags are the same, and how often a tag is among tags
 abbrev pub is_tag : Tag → Tag → Bool
 is_tag tag other = ((other.session == tag.session) && (other.request == tag.request)) && (other.atom == tag.atom)
 

@@ -1,4 +1,4 @@
-//! Laws of what servers made of commands that were spelled to them. The functions do nothing: their contracts are the laws.
+//! Laws of what servers make of the commands that are spelled to them. The functions do nothing: their contracts are the laws.
 ghost use Rattle.std.specs.Prelude.{ℕ, ◌≡◌, true, List};
 ghost use Rattle.mc_request.specs.Faults.{fault_line};
 ghost use Rattle.mc_request.specs.declared.faults.Fault.TheVariants.{OutOfMemory};
@@ -16,16 +16,16 @@ ghost use Rattle.mc_account.specs.Orders.{Order, Tagged};
 ghost use Rattle.mc_history.specs.Generations.{AreJoined, IsCarried};
 ghost use Rattle.mc_history.specs.Made.{Made};
 
-/// Where the bytes that came are those that left, both ways, a server takes the commands that were sent, in order, and the replies that
-/// the proxy takes are those that the server gave to them; what comes back is never strange.
+/// If, both ways, the bytes that arrived are those that were sent, a server takes the commands that were sent, in order. The replies that
+/// the proxy takes are those that the server gave to them, and the bytes that come back are never a violation.
 pub fn generations_carry()
     ensures { (place : ℕ) (order : Order) (lane : Lane) (link : LinkState) (opening : CacheState) (made : List Made) (number : ℕ)
         (connection : ConnectionState) (others : List Tagged)
         → AreJoined place order lane link opening made number connection others → IsCarried place order lane link made number connection others }
 {}
 
-/// Memory was refused to a command that was spelled to a server exactly where it is answered by the line for want of memory, if its reply
-/// is one that it can have.
+/// Memory was refused to a command that was spelled to a server exactly if its answer is the line for lack of memory. This holds if its
+/// reply is one that it can have.
 pub fn refusals_are_told_by_their_line()
     ensures refused { (s : CacheState) (e : Taking) (atom : Atom (List ℕ)) → e.what ≡ Whole (request_of atom) → is_good_atom atom ≡ true
         → can_have atom (step_of s atom e.moment e.refused).1 ≡ true → IsLegalAt s e → answer_after s e ≡ fault_line OutOfMemory → e.refused ≡ true }

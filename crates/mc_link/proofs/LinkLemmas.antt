@@ -1,4 +1,4 @@
--- What is known of the oldest reply stays so as bytes come, and room stays as bytes go.
+-- What is known of the oldest reply stays true as bytes arrive, and room stays as bytes are consumed.
 use Rattle.std.proofs.Common.{ℕ, ◌≡◌, ◌∙◌, ◌*◌, ◌≤◌, List, [], ◌∷◌, ◌++◌, length, drop, refl, sym, ap, subst, append_assoc, length-drop, inl, inr, arith}
 use Rattle.mc_request.specs.declared.parts.Atom.{Atom}
 use Rattle.std.specs.Prelude.{◌↔◌, ◌<◌, slice_index_or}
@@ -8,7 +8,7 @@ use Rattle.mc_link.specs.LinkState.{LinkState, Waiting}
 use Rattle.mc_link.specs.LinkFields.{IsShortOf}
 use Rattle.mc_link.specs.Turns.{HasReply}
 
--- more bytes are a part of those to come
+-- with more bytes, fewer are missing
 pub short_of_more : (wanted : ℕ) (waiting : List Waiting) (unread piece : List ℕ) → IsShortOf wanted waiting unread → IsShortOf wanted waiting (unread ++ piece)
 short_of_more wanted [] unread piece short = short
 short_of_more wanted (oldest ∷ others) unread piece short = λ more below.

@@ -12,13 +12,13 @@ link_of l = record {
   heads = deque_capacity l.waiting - deque_len l.waiting;
 }
 
--- with fewer unread bytes than this, the reply to the command that waits longest has only begun
+-- with fewer unread bytes than this, the reply to the oldest pending command has only begun
 abbrev pub IsShortOf : ℕ → List Waiting → List ℕ → Type 0
 IsShortOf wanted [] unread = wanted ≡ 0
 IsShortOf wanted (oldest ∷ others) unread = (more : List ℕ) → length (unread ++ more) < wanted → IsBegun oldest.0 (unread ++ more)
 
 pub record IsLink (l : Inside) : Type 0 where
-  -- at most half of the output that is kept was taken out
+  -- at most half of the output that is kept was consumed
   pub half : 2 * l.sent ≤ vec_len l.output
   -- a link that is down keeps nothing
   pub output : l.up ≡ false → drop l.sent l.output.items ≡ []

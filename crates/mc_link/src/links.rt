@@ -17,12 +17,12 @@ pub struct Link {
     up: bool,
     generation: u64,
     output: Vec<u8>,
-    /// How many bytes of the output were taken out.
+    /// How many bytes of the output were consumed.
     sent: usize,
-    /// The commands whose replies have not come, oldest first.
+    /// The pending commands, oldest first.
     waiting: VecDeque<(Head, Tag)>,
     reader: ReplyReader,
-    /// With fewer unread bytes than this the oldest command's reply has only begun. 0 where nothing is known.
+    /// With fewer unread bytes than this, the reply to the oldest pending command has only begun. 0 if nothing is known.
     wanted: usize,
 }
 
@@ -45,7 +45,7 @@ impl Link {
     ghost use Rattle.mc_link.specs.LinkState.{LinkState, KeepsRoom, down_link, up_link, sent, can_come_back};
     ghost use Rattle.mc_link.specs.Turns.{HasReply, IsLinkTurn};
 
-    /// A link that is down and has never been up: its generation is 0. It takes no memory.
+    /// Makes a link that is down and has never been up: its generation is 0. It takes no memory.
     pub fn new(alloc: Global) -> Link
         ensures { result.state ≡ down_link 0 }
     {
@@ -60,7 +60,7 @@ impl Link {
         }
     }
 
-    /// Whether the link is up. One that is down has no output, no command that waits and no unread byte.
+    /// Returns whether the link is up. A link that is down has no output, no pending command and no unread byte.
     pub fn is_up(&self) -> bool
         ensures up { result ≡ self.now.state.up }
         ensures down { OnFalse result (self.now.state ≡ down_link self.now.state.generation) }
@@ -68,7 +68,7 @@ impl Link {
         self.up
     }
 
-    /// Refuses what only a link that is up can do.
+    /// Refuses a call that only a link that is up can do.
     fn needs_up(&self) -> Result<(), LinkError>
         ensures state { IsErrOf result LinkError.State ↔ (self.now.state.up ≡ false) }
         ensures up { OnOk result (self.now.state.up ≡ true) }
@@ -81,28 +81,28 @@ impl Link {
         }
     }
 
-    /// How often the link has come up.
+    /// Returns how often the link has come up.
     pub fn generation(&self) -> u64
         ensures { result ≡ self.now.state.generation }
     {
         self.generation
     }
 
-    /// How many commands wait for their replies.
+    /// Returns how many commands are pending.
     pub fn waiting(&self) -> usize
         ensures { result ≡ length self.now.state.waiting }
     {
         self.waiting.len()
     }
 
-    /// The tag of the command number `place` of those that wait, the oldest being number 0.
+    /// Returns the tag of the pending command number `place`, the oldest being number 0.
     pub fn tag(&self, place: usize) -> Option<Tag>
         ensures { result ≡ option_map (λ waiting. waiting.1) (slice_get self.now.state.waiting place) }
     {
         self.waiting.get(place).map(|(_, tag)| *tag)
     }
 
-    /// Comes up, and gives the new generation: one more than before.
+    /// Comes up, and returns the new generation: one more than before.
     pub fn back(&mut self) -> Result<u64, LinkError>
         ensures back { IfOk result (λ generation.
             (generation ≡ self.old.state.generation + 1) × (self.new.state ≡ up_link generation)) }
@@ -119,8 +119,8 @@ impl Link {
         Ok(self.generation)
     }
 
-    /// Takes the memory for commands to come: after it, so many sends of commands whose spellings have so many bytes in all
-    /// take none.
+    /// Takes the memory for commands to come: after it, `heads` sends take none, if their spellings have at most `bytes`
+    /// bytes in all.
     pub fn make_room(&mut self, bytes: usize, heads: usize) -> Result<(), LinkError>
         ensures made { OnOk result ((bytes ≤ self.new.bytes) × (heads ≤ self.new.heads)) }
         ensures state { IsErrOf result LinkError.State ↔ (self.old.state.up ≡ false) }
@@ -134,7 +134,7 @@ impl Link {
         Ok(())
     }
 
-    /// Sends a command: appends its canonical spelling to the output, and its head and tag to what waits.
+    /// Sends a command: appends its canonical spelling to the output, and its head and tag to the pending commands.
     ///
     /// At an error the command is dropped.
     pub fn send(&mut self, atom: Atom<Block>, tag: Tag) -> Result<(), LinkError>
@@ -154,8 +154,8 @@ impl Link {
         Ok(())
     }
 
-    /// Sends a storage command whose data block is lent, as [`Link::send`] sends one that has its own. The block is copied
-    /// once, to the output.
+    /// Sends a storage command whose data block is borrowed, as [`Link::send`] sends one that owns its block. The block is
+    /// copied once, to the output.
     ///
     /// At an error the command is dropped.
     pub fn send_store(&mut self, store: LentStore<'_>, tag: Tag) -> Result<(), LinkError>
@@ -175,7 +175,7 @@ impl Link {
         Ok(())
     }
 
-    /// Puts the head of a storage command after those that wait.
+    /// Appends the head of a storage command to the pending commands.
     fn wait_for_store(&mut self, store: LentStore<'_>, tag: Tag)
         requires up { self.old.state.up ≡ true }
         requires room { 0 < self.old.heads }
@@ -205,8 +205,7 @@ impl Link {
         ));
     }
 
-    /// Puts the head of a command after those that wait. That of a retrieval, which is asked for most, is made where it is to
-    /// are.
+    /// Appends the head of a command to the pending commands. The hot case, a retrieval's head, is built in place.
     fn wait_for(&mut self, atom: Atom<Block>, tag: Tag)
         requires up { self.old.state.up ≡ true }
         requires room { 0 < self.old.heads }
@@ -231,7 +230,7 @@ impl Link {
         }
     }
 
-    /// The bytes that were not taken out.
+    /// Returns the output that was not consumed.
     pub fn output(&self) -> &[u8]
         ensures { result.now ≡ self.now.state.output }
     {
@@ -239,7 +238,7 @@ impl Link {
         output
     }
 
-    /// Releases the first `count` bytes of the output, which the server was sent. It takes no memory.
+    /// Consumes the first `count` bytes of the output, which were sent to the server. It takes no memory.
     pub fn taken_out(&mut self, count: usize)
         requires { count ≤ length self.old.state.output }
         ensures taken { self.new.state ≡ record self.old.state { output = drop count self.old.state.output } }
@@ -248,7 +247,7 @@ impl Link {
         self.sent = let_go(&mut self.output, self.sent + count);
     }
 
-    /// Takes the bytes that came next from the server.
+    /// Takes the bytes that arrived next from the server.
     #[tactic(auto, using(crate::proofs::LinkLemmas::short_of_more))]
     pub fn feed(&mut self, piece: &[u8]) -> Result<(), LinkError>
         ensures fed { OnOk result (self.new.state ≡ record self.old.state { unread = self.old.state.unread ++ piece.now }) }
@@ -261,7 +260,7 @@ impl Link {
         Ok(())
     }
 
-    /// Takes the reply to the command that waits longest, where it has come whole.
+    /// Takes the reply to the oldest pending command, if it has arrived whole.
     ///
     /// It takes memory only for a value, which is copied out once.
     pub fn turn(&mut self, alloc: Global) -> Result<LinkTurn, LinkError>
@@ -298,7 +297,7 @@ impl Link {
         }
     }
 
-    /// Whether a whole reply to the command that waits longest has come, which a turn takes. It takes no memory.
+    /// Returns whether a whole reply to the oldest pending command has arrived, which a turn takes. It takes no memory.
     pub fn has_reply(&self) -> bool
         ensures { IsTrue result ↔ HasReply self.now.state }
     {
@@ -308,8 +307,8 @@ impl Link {
         }
     }
 
-    /// Goes down, and hands out the bytes that were not taken out and the commands that wait. The generation stays, and
-    /// all else is empty. It takes no memory.
+    /// Goes down, and returns the output that was not consumed and the pending commands. The generation stays, and all else
+    /// is empty. It takes no memory.
     pub fn lose(&mut self, alloc: Global) -> Result<LostLink, LinkError>
         ensures bytes { IfOk result (λ lost. lost.bytes.items ≡ self.old.state.output) }
         ensures waiting { IfOk result (λ lost. lost.waiting.items ≡ self.old.state.waiting) }
@@ -332,8 +331,8 @@ impl Link {
         })
     }
 
-    /// Gives back the memory of what holds nothing, of the output, of the bytes that came and of what waits, where there is
-    /// room for more than `kept` bytes or commands.
+    /// Frees the memory of each empty buffer (output, received bytes, pending commands) that has room for more than `kept`
+    /// bytes or commands.
     pub fn give_back(&mut self, kept: usize)
         ensures { self.new.state ≡ self.old.state }
     {

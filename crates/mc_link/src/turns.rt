@@ -1,4 +1,4 @@
-//! What a link answers, and why a call of it gives up.
+//! What a link returns, and why a call of it fails.
 ghost use Rattle.std.specs.Prelude.{◌≡◌};
 ghost use Rattle.mc_link.specs.declared.turns.LinkError.TheVariants.{Memory};
 
@@ -8,7 +8,7 @@ use mc_text::Block;
 use std::alloc::AllocError;
 use thiserror::Error;
 
-/// Whose command it is: what a proxy gives along with a command, and is given back with its reply.
+/// Whose command it is: a proxy gives the tag along with a command, and gets it back with the reply.
 #[derive(Clone, Copy, Debug, PartialEq, Eq)]
 pub struct Tag {
     /// The number of the client's session.
@@ -22,25 +22,26 @@ pub struct Tag {
 /// What a turn of a link did.
 #[derive(Debug, Drop)]
 pub enum LinkTurn {
-    /// A reply was taken: that to the command that waited longest, whose tag this is.
+    /// A reply was taken, to the oldest pending command, whose tag this is.
     Took(Tag, Reply<Block>),
-    /// Nothing can be taken until more bytes come: nothing waits and nothing is unread, or the unread bytes are the beginning
-    /// of a reply.
+    /// No reply can be taken until more bytes arrive: no command is pending and no byte unread, or the unread bytes are the
+    /// beginning of a reply.
     Idle,
-    /// Bytes have come that are no reply to what waits. They are as they were: who reads on loses the link.
+    /// A protocol violation: bytes have arrived that are no reply to the oldest pending command. They are as they were; a
+    /// caller that wants to read on must lose the link.
     Strange,
 }
 
 /// What a lost link leaves.
 #[derive(Drop)]
 pub struct LostLink {
-    /// The bytes that were not taken out.
+    /// The output that was not consumed.
     pub bytes: Vec<u8>,
-    /// The commands that wait for a reply, oldest first.
+    /// The pending commands, oldest first.
     pub waiting: Vec<(Head, Tag)>,
 }
 
-/// Why a call of a link gave up. Nothing has changed. Where both causes hold, the least number is answered.
+/// Why a call of a link failed. Nothing has changed. If both causes hold, the least number is returned.
 #[derive(Debug, Drop, Error)]
 pub enum LinkError {
     /// 1: the link is down, or for [`crate::Link::back`] it is up, or no generation is left.

@@ -2,7 +2,7 @@
 use Rattle.std.proofs.Common.{◌≡◌, ℕ, suc, ◌+◌, Bool, false, List, ◌∷◌, take, refl, arith}
 use Rattle.std.specs.Prelude.{find}
 
--- of the first so many of a list, what is left after the first one
+-- the first elements of a list are its first one and those of the rest
 pub take_past : {X : Type 0} (n m : ℕ) (x : X) (xs rest : List X) → m + 1 ≡ n → xs ≡ x ∷ rest → take n xs ≡ x ∷ take m rest
 take_past n m x xs rest more first = let is : n ≡ suc m = omega (arith, more) in rw (is, first) refl
 

@@ -64,7 +64,7 @@ pub words_space : (text : List ℕ) → words (32 ∷ text) ≡ words text
 unfolding words
 words_space text = refl
 
--- a word before others, where it is no version or there are others
+-- a word before others, if it is no version or there are others
 pub end_after : (word : List ℕ) (more : List (List ℕ)) → is_version word ≡ false → end_in_version (word ∷ more) ≡ end_in_version more
 end_after word [] h = h
 end_after word (next ∷ more) h = refl
@@ -114,7 +114,7 @@ strip_other front b other =
     let last : strip_carriage_return (b ∷ []) ≡ b ∷ [] = rw other refl in
     strip_after front b [] ∙ ap (λ (bytes : List ℕ). front ++ bytes) last
 
--- two lines end alike, where their words do and where nothing follows
+-- two lines end alike if their words do, whatever follows, and if they do with nothing after them
 ends_stripped : (u v : List ℕ) → ((rest : List ℕ) → end_in_version (words (u ++ rest)) ≡ end_in_version (words (v ++ rest))) → ends u ≡ ends v → EndsTheSame u v
 ends_stripped u v alike at_end [] = rw (append-nil u, append-nil v) at_end
 ends_stripped u v alike at_end (b ∷ rest) = rw (strip_after u b rest, strip_after v b rest) (alike (strip_carriage_return (b ∷ rest)))

@@ -80,7 +80,7 @@ line_x text after =
     let cut_up : words (120 ∷ 32 ∷ strip_carriage_return text) ≡ (120 ∷ []) ∷ words (strip_carriage_return text) = words_spaced 120 [] (strip_carriage_return text) refl in
     rw (strip_x text, cut_up) (ap says_by (end_after (120 ∷ []) (words (strip_carriage_return text)) refl))
 
--- the end of a line with what is added to it
+-- the end of a line with bytes added to it
 pub later : (u v : List ℕ) → lacks is_feed u ≡ true → lacks is_feed v ≡ true → EndsTheSame u v → SaysTheSame (codes "x " ++ u) (codes "x " ++ v)
 later u v h k alike = same_line (codes "x " ++ u) (codes "x " ++ v) h k
     (λ rest. front_x (u ++ rest) ∙ sym (front_x (v ++ rest)))
@@ -106,7 +106,7 @@ ending_lacks Spaces = refl
 ending_lacks Return = refl
 ending_lacks Other = refl
 
--- lines after one that has come whole
+-- lines after a whole one
 lines_after : (line rest : List ℕ) → lines_say (line ∷ slice_split is_feed rest) ≡ line_says (words (strip_carriage_return line)) (first_line_says rest)
 unfolding first_line_says
 lines_after line rest = let parts = cut is_feed rest in rw parts.2 refl
@@ -201,7 +201,7 @@ command_spaced (b ∷ bs) some h is = text_says (b ∷ bs ++ 32 ∷ []) (λ rest
     rw (split_after is_feed (b ∷ bs ++ 32 ∷ []) rest parts.0 parts.1 (lacks_more is_feed (b ∷ bs) 32 (no_feeds (b ∷ bs) h) refl) parts.2, append_assoc (b ∷ bs) (32 ∷ []) parts.0)
     (command_line b bs parts.0 parts.1 (no_spaces (b ∷ bs) h) is))
 
--- a line by its words, of which the first is no command's name
+-- a line by its words, the first of which is no command's name
 pub says_other : {line : List (List ℕ)} {first : List ℕ} {more : List (List ℕ)} → line ≡ first ∷ more → is_command first ≡ false → (after : Opening)
     → line_says line after ≡ says_by (end_in_version line)
 says_other {line} {first} {more} is none after =
@@ -335,13 +335,13 @@ lone p text h =
     let parts : slice_split p (text ++ []) ≡ (text ++ []) ∷ [] = split_after p text [] [] [] h refl in
     rw (append-nil text) at parts
 
--- what a first word says by itself
+-- what a first word says alone
 pub first_alone : (word : List ℕ) → is_word word ≡ true → first_line_says word ≡ Unsettled
 unfolding first_line_says ended_words
 first_alone word h =
     rw (lone is_feed word (no_feeds word h), lone is_space word (no_spaces word h)) refl
 
--- the places where all is known
+-- the places at which all is known
 pub text_stays : (rest more : List ℕ) → first_line_says (codes "x\n" ++ rest ++ more) ≡ first_line_says (codes "x\n" ++ more)
 text_stays rest more = says_text (rest ++ more) ∙ sym (says_text more)
 

@@ -15,14 +15,14 @@ shown_next seats moment place most below =
     let longer : most - place ≡ suc (most - (place + 1)) = omega (arith, below) in
     ap (λ count. all_shown seats moment place count) longer
 
--- one more that is listed is the first of those that were to come
+-- one more listed client is the first of those to come
 pub listed_more : (conns : List Conn) (conn : Conn) (rest all : List Shown)
     → map shown_of conns ++ shown_of conn ∷ rest ≡ all → map shown_of (conns ++ conn ∷ []) ++ rest ≡ all
 listed_more conns conn rest all before =
     ap (λ shown. shown ++ rest) (map-append shown_of conns (conn ∷ []))
     ∙ append_assoc (map shown_of conns) (shown_of conn ∷ []) rest ∙ before
 
--- a full list has the first clients, and the next part begins at that which comes
+-- a full list has the first clients, and the next part begins at the next client
 pub listed_full : (most : ℕ) (conns : List Conn) (shown : Shown) (rest all : List Shown) → length conns ≡ most
     → map shown_of conns ++ shown ∷ rest ≡ all
     → (map shown_of conns ≡ take most all) × (Some shown.place ≡ place_of (drop most all))
@@ -32,7 +32,7 @@ listed_full most conns shown rest all full said =
       ap (λ xs. place_of xs) (sym (drop_at (map shown_of conns) (shown ∷ rest) most long) ∙ ap (λ xs. drop most xs) said),
     )
 
--- the same at the place of a client
+-- a full list at the place of a client
 pub full_at : {K : Type 0} (seats : Slab (Seat K)) (moment from place most : ℕ) (seat : Seat K) (conns : List Conn) → place < most
     → get seats place ≡ Some seat → length conns ≡ LIST_LEN
     → map shown_of conns ++ all_shown seats moment place (most - place) ≡ all_shown seats moment from (most - from)
@@ -47,7 +47,7 @@ full_at seats moment from place most seat conns below found full said =
     ap (λ xs. map shown_of conns ++ xs) (sym next) ∙ said in
     listed_full LIST_LEN conns shown rest (all_shown seats moment from (most - from)) full told
 
--- a list to which none is to come has all clients, and no further part
+-- a list with no client to come has all clients, and no further part
 pub listed_ended : (most : ℕ) (conns : List Conn) (all : List Shown) → length conns ≤ most → map shown_of conns ++ [] ≡ all
     → (map shown_of conns ≡ take most all) × (None ≡ place_of (drop most all))
 listed_ended most conns all few said =

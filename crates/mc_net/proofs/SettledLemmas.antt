@@ -1,4 +1,4 @@
--- What stays once it is known, and after how many bytes it is.
+-- What stays once it is known, and after how many bytes it is known.
 use Rattle.std.proofs.Common.{◌≡◌, ◌≢◌, ℕ, suc, ◌+◌, ◌<◌, ◌≤◌, ◌==◌, false, List, [], ◌∷◌, ◌++◌, length, inl, inr, Result, Ok, Err, refl, arith, codes}
 use Rattle.std.proofs.lemmas.Bool.Decides.{nat_tests}
 use Rattle.mc_text.specs.Forms.{text_at, or_else, ◌>>=◌}
@@ -8,7 +8,7 @@ use Rattle.mc_text.proofs.FieldLemmas.{either}
 use Rattle.mc_net.specs.Openings.{http_at, method_at, target_at, opening_by, opening_of}
 use Rattle.mc_net.specs.declared.openings.Opening.TheVariants.{Unsettled, Text}
 
--- a reading, and the same once more bytes have come: what was read stays, and what begins nothing begins nothing
+-- a reading, and the reading after more bytes: what was read stays, and a non-beginning stays one
 abbrev pub Stays : List ℕ → Result (List ℕ) Unready → Result (List ℕ) Unready → Type 0
 Stays more (Ok rest) later = later ≡ Ok (rest ++ more)
 Stays more (Err (More wanted)) later = Unit {0}
@@ -94,7 +94,7 @@ text_takes (t ∷ ts) (b ∷ u) = elim (either (b == t)) [
   | inr other ↦ rw other tt
 ]
 
--- a text of at most so many bytes
+-- a text of at most `most` bytes
 short : (most : ℕ) (text bytes : List ℕ) → length text ≤ most → Takes most bytes (text_at text bytes)
 short most text bytes fits = wider (length text) most bytes (text_at text bytes) fits (text_takes text bytes)
 
@@ -146,7 +146,7 @@ opening_settled (b ∷ rest) enough = elim (either (b == 128)) [
   ]
 ]
 
--- a first byte that is none of those that begin an opening
+-- a first byte that begins no opening
 pub small_is_text : (b : ℕ) (rest : List ℕ) → 97 ≤ b → b ≤ 122 → opening_of (b ∷ rest) ≡ Text
 unfolding opening_of text_at
 small_is_text b rest least most =

@@ -1,4 +1,4 @@
--- Spaces in front of a text, and bytes that come in stretches.
+-- Spaces in front of a text, and runs of bytes.
 use Rattle.std.proofs.Common.{◌≡◌, ◌≢◌, ◌∙◌, ℕ, zero, suc, ◌+◌, ◌<◌, ◌≤◌, ◌==◌, ◌&&◌, not, Bool, true, false, List, [], ◌∷◌, ◌++◌, length, take, drop, get_or, filter, Option, None, Some, IfSome, Bor, inl, inr, refl, sym, ap, arith, append_assoc}
 use Rattle.std.proofs.lemmas.Bool.Decides.{nat_tests}
 use Rattle.std.proofs.lemmas.List.{append-nil, take-append-drop, take_more}
@@ -34,11 +34,11 @@ spaces_say (b ∷ bs) text h =
     let is : b ≡ 32 = let test : (b == 32) ≡ true = first_of (b == 32) (list_all is_space bs) h in grind (arith, nat_tests) in
     λ rest. rw is (space_in_front [] refl (bs ++ text ++ rest) ∙ spaces_say bs text (rest_of (b == 32) (list_all is_space bs) h) rest)
 
--- one text after another
+-- a text that says the same as one that says the same as a third
 pub says_then : (one two three : List ℕ) → SaysTheSame one two → SaysTheSame two three → SaysTheSame one three
 says_then one two three first second = λ rest. first rest ∙ second rest
 
--- the same, with more behind both
+-- two texts that say the same, with more behind both
 pub says_behind : (one two more : List ℕ) → SaysTheSame one two → SaysTheSame (one ++ more) (two ++ more)
 says_behind one two more same = λ rest.
     ap first_line_says (append_assoc one more rest) ∙ same (more ++ rest) ∙ ap first_line_says (sym (append_assoc two more rest))
@@ -100,7 +100,7 @@ spaces_end text more end spaced is =
     ∙ absorbed_front end (take count text) (drop count text) is_space (space_is end spaced) (front_spaces text) next
     ∙ ap (λ (bytes : List ℕ). ends (end ++ bytes ++ next)) (sym is)
 
--- bytes of which one is nowhere
+-- a text without a byte
 pub no_such : (byte : ℕ) (text : List ℕ) (count : ℕ) → ((k : ℕ) → k < count → (get_or text k 0 == byte) ≡ true → ⊥) → lacks (λ b. b == byte) (take count text) ≡ true
 no_such byte text zero none = refl
 no_such byte [] (suc n) none = refl
@@ -137,7 +137,7 @@ last_counts [] word more = refl
 last_counts (one ∷ []) word more = refl
 last_counts (one ∷ two ∷ front) word more = last_counts (two ∷ front) word more
 
--- what is before a word's space, where that has two bytes
+-- the words before a space, if two bytes follow it
 cut_words : (front text : List ℕ) (b : ℕ) → (b == 32) ≡ false → end_in_version (words (front ++ 32 ∷ b ∷ text)) ≡ end_in_version (words (b ∷ text))
 cut_words front text b other =
     let parts = cut is_space text in

@@ -5,17 +5,17 @@ use Rattle.mc_net.specs.declared.acceptors.Backlog.TheVariants.{Nobody, More, Re
 
 -- what contracts see of an acceptor
 pub record AcceptorState : Type 0 where
-  -- how many are accepted in all; 0 for no limit
+  -- how many connections it accepts in all; 0 for no limit
   pub limit : ℕ
   pub accepted : ℕ
   pub backlog : Backlog
 
--- there may be more who wait, and the system gives no connection now
+-- more connections may wait, and the system gives none now
 abbrev pub is_refused : Backlog → Bool
 is_refused (Refused error) = true
 is_refused _ = false
 
--- an acceptor that has accepted nobody
+-- an acceptor that has accepted no connection
 abbrev pub new_acceptor : ℕ → AcceptorState
 new_acceptor limit = record { limit = limit; accepted = 0; backlog = Nobody }
 
@@ -31,8 +31,8 @@ is_shut acceptor = nat_lt 0 acceptor.limit && nat_le acceptor.limit acceptor.acc
 abbrev pub passed : AcceptorState → AcceptorState
 passed acceptor = record acceptor { accepted = min (acceptor.accepted + 1) (2 ^ 64 - 1); backlog = More }
 
--- What a call of an acceptor does: it accepts one only where the acceptor is not shut, and counts it; where it accepts none, all that
--- may change is what is known of those who wait, and for one that is shut nobody does.
+-- What a call of an acceptor does. It accepts a connection only if the acceptor is not shut, and counts it. If it accepts none, all
+-- that may change is what is known of the waiting connections, and for an acceptor that is shut none waits.
 abbrev pub IsAccept : {A : Type 0} → Option A → (old new : AcceptorState) → Type 0
 IsAccept (Some stream) old new = (is_shut old ≡ false) × (new ≡ passed old)
 IsAccept None old new = (new ≡ record old { backlog = new.backlog }) × (is_shut old ≡ true → new.backlog ≡ Nobody)

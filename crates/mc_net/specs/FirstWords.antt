@@ -2,7 +2,7 @@
 use Rattle.std.specs.Prelude.{ℕ, ◌==◌, ◌&&◌, Bool, not, List}
 use Rattle.std.specs.List.{list_all}
 
--- no space, and no line feed
+-- a byte that is neither a space nor a line feed
 abbrev pub is_word_byte : ℕ → Bool
 is_word_byte b = not (b == 32) && not (b == 10)
 

@@ -1,24 +1,24 @@
--- To which operator clients are listed next: this project's own.
+-- The operator to whom clients are listed next: this project's own.
 use Rattle.std.specs.Prelude.{ℕ, zero, suc, ◌+◌, ◌-◌, ◌^◌, ◌==◌, ◌&&◌, min, length, Option, Some, None, option_and_then, if◌then◌else◌}
 use Rattle.slab.specs.Slab.{Slab, get}
 use Rattle.mc_net.specs.declared.operators.TheConstants.{MAX_OPERATORS}
 use Rattle.mc_net.specs.declared.seats.Seat.{Seat}
 
--- from which place on clients are to be listed to a connection: it has asked, something may be done for it, and all before was sent
+-- the place from which clients must be listed to a connection: it has asked, something may be done for it, and all before was sent
 abbrev pub listing_of : Seat → Option ℕ
 listing_of seat = if seat.stirred && length seat.talk.output == 0 then seat.listing else None
 
--- the connection of a key if it is to be listed to, else that which was found
+-- the connection of a key if it waits for a list, else that which was found
 abbrev pub listing_or : ℕ → Option ℕ → Option (ℕ × ℕ) → Option (ℕ × ℕ)
 listing_or key (Some from) found = Some (key, from)
 listing_or key None found = found
 
--- of so many keys from one on the first whose connection is to be listed to, and from which place on
+-- the first of a number of keys from one on whose connection waits for a list, and from which place on
 abbrev pub first_listing : Slab Seat → ℕ → ℕ → Option (ℕ × ℕ)
 first_listing seats key zero = None
 first_listing seats key (suc count) = listing_or key (option_and_then listing_of (get seats key)) (first_listing seats (key + 1) count)
 
--- what was found first, else that of the second
+-- the result of the first search, else that of the second
 abbrev pub found_or : Option (ℕ × ℕ) → Option (ℕ × ℕ) → Option (ℕ × ℕ)
 found_or (Some found) other = Some found
 found_or None other = other
@@ -27,7 +27,7 @@ found_or None other = other
 abbrev pub key_after : ℕ → ℕ
 key_after last = min (last + 1) (2 ^ 64 - 1)
 
--- the next connection to be listed to: those after the last one come first, then the others, so that each has its turn
+-- the next connection that gets a list: those after the last one first, then the others, so that each has its turn
 abbrev pub next_listing : Slab Seat → ℕ → Option (ℕ × ℕ)
 next_listing seats last =
     found_or (first_listing seats (key_after last) (MAX_OPERATORS - key_after last)) (first_listing seats 0 (key_after last))

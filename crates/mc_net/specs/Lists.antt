@@ -7,11 +7,11 @@ use Rattle.mc_net.specs.declared.conns.Known.{Known}
 use Rattle.mc_net.specs.declared.conns.Owed.{Owed}
 use Rattle.mc_net.specs.declared.conns.Owed.TheVariants.{Answers, Replies}
 
--- a count once another has gone from one number to the next: each begins again at 0 after 2^64 - 1
+-- a count after another has gone from one number to the next: each wraps to 0 after 2^64 - 1
 abbrev pub count_after : ℕ → ℕ → ℕ → ℕ
 count_after count before after = (count + (after + (2 ^ 64 - before)) % 2 ^ 64) % 2 ^ 64
 
--- what is known of a client at a place: for how many seconds it was quiet, since when it is there, what was read and written
+-- what is known of a client at a place: for how many seconds it was quiet, since when it is connected, how much was read and written
 module _ {K : Type 0} where
   abbrev pub known_of : ℕ → ℕ → Bool → Seat K → Known
   known_of moment place owed seat =
@@ -34,7 +34,7 @@ shown_of conn = record { place = conn.place; quiet = conn.quiet; age = conn.age;
 abbrev pub conn_state : Conn → List ℕ
 conn_state conn = conn.state.now
 
--- what a client waits for that is owed something
+-- what a client with pending answers waits for
 -- source: memcached's doc/protocol.txt, "Connection statistics"
 abbrev pub owed_state : Owed → List ℕ
 owed_state Answers = codes "conn_mwrite"
@@ -50,7 +50,7 @@ module _ {K : Type 0} where
   shown_before moment place (Some seat) rest = shown_by (known_of moment place false seat) ∷ rest
   shown_before moment place None rest = rest
 
-  -- the clients of so many places from one on, in their order
+  -- the clients of a number of places from one on, in their order
   abbrev pub all_shown : Slab (Seat K) → ℕ → ℕ → ℕ → List Shown
   all_shown seats moment place zero = []
   all_shown seats moment place (suc count) =

@@ -1,4 +1,4 @@
--- What the first bytes of a connection say of what it speaks. The openings are this project's own choice.
+-- Which protocol a connection speaks, by its first bytes. The openings are this project's own choice.
 use Rattle.std.specs.Prelude.{ℕ, ◌==◌, List, [], ◌∷◌, Result, Ok, Err, codes, if◌then◌else◌}
 use Rattle.mc_text.specs.Forms.{text_at, or_else, ◌>>=◌}
 use Rattle.mc_text.specs.declared.unready.Unready.{Unready}
@@ -24,17 +24,17 @@ target_at bytes = or_else (text_at (codes "/") bytes) (text_at (codes "http") by
 abbrev pub request_at : List ℕ → Result (List ℕ) Unready
 request_at bytes = method_at bytes >>= target_at
 
--- the bytes after the beginning of a request of HTTP, of which `OPTIONS` may have the target `*`
+-- the bytes after the beginning of a request of HTTP; `OPTIONS` may have the target `*`
 abbrev pub http_at : List ℕ → Result (List ℕ) Unready
 http_at bytes = or_else (text_at (codes "OPTIONS *") bytes) (request_at bytes)
 
--- what the bytes are where they begin a request of HTTP, may begin one, or begin none
+-- what the bytes are if they begin a request of HTTP, may begin one, or begin none
 abbrev pub opening_by : Result (List ℕ) Unready → Opening
 opening_by (Ok rest) = AStranger Http
 opening_by (Err (More wanted)) = Unsettled
 opening_by (Err Strange) = Text
 
--- The byte 0x80 begins the binary protocol, and 0x16 a greeting of TLS; other bytes go by HTTP.
+-- The byte 0x80 begins the binary protocol, and 0x16 a greeting of TLS; for other bytes HTTP decides.
 -- source: memcached's doc/protocol-binary.xml, and RFC 8446, section 5.1
 unfoldable pub opening_of : List ℕ → Opening
 opening_of [] = Unsettled

@@ -1,4 +1,4 @@
--- The text that what is kept of a first line stands for: it says the same as the line so far, whatever follows. This project's own.
+-- The text for which the state of a first line stands: it says the same as the line so far, whatever follows. This project's own.
 use Rattle.std.specs.Prelude.{ℕ, ◌≡◌, Bool, List, [], ◌++◌, take, codes}
 use Rattle.std.specs.Str.Lines.{strip_carriage_return}
 use Rattle.mc_text.specs.Words.{words}
@@ -21,7 +21,7 @@ ending_text endings.Spaces = codes "HTTP/ "
 ending_text endings.Return = codes "HTTP/ \r"
 ending_text endings.Other = codes "x"
 
--- what a place stands for: the first word as far as it has come, a word that is no command's and the line's end, or a whole line
+-- what a place stands for: the first word as far as it has arrived, a word that is no command's and the line's end, or a whole line
 abbrev pub place_text : Place → List ℕ
 place_text (places.First word) = take word.len word.bytes
 place_text (places.Later ending) = codes "x " ++ ending_text ending

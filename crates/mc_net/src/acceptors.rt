@@ -11,7 +11,7 @@ use std::io;
 use std::io::ErrorKind;
 use std::marker::Model;
 
-/// How often a call tries again where the system gives no connection but says that there may be one.
+/// How often a call tries again if the system gives no connection but says that there may be one.
 const MAX_TRIES: u32 = 16;
 
 /// What is known of the connections that wait to be accepted.
@@ -21,12 +21,12 @@ pub enum Backlog {
     Nobody,
     /// There may be more.
     More,
-    /// There may be more, but the system gives none now, as if it has no descriptor left.
+    /// There may be more, but the system gives none now, for example because no descriptor is left.
     Refused(SocketError),
 }
 
 impl Backlog {
-    /// Whether there may be more, and the system gives none now.
+    /// Returns whether there may be more, and the system gives none now.
     pub fn is_refused(self) -> bool
         ensures { result ≡ is_refused self }
     {
@@ -34,8 +34,8 @@ impl Backlog {
     }
 }
 
-/// A listener, and how many connections it has accepted. Contracts see its limit, that number, and what is known of those who
-/// wait.
+/// A listener, and how many connections it has accepted. Contracts see its limit, that number, and what is known of the
+/// waiting connections.
 #[derive(Drop)]
 pub struct Acceptor {
     listener: TcpListener,
@@ -56,7 +56,7 @@ impl Model for Acceptor {
 impl Acceptor {
     ghost use Rattle.mc_net.specs.Acceptors.{new_acceptor, told, is_shut, IsAccept};
 
-    /// An acceptor that has accepted nobody, and will accept so many connections; 0 for no limit.
+    /// Makes an acceptor that has accepted no connection, and will accept `limit`; 0 for no limit.
     pub fn new(listener: TcpListener, limit: u64) -> Acceptor
         ensures { result ≡ new_acceptor limit }
     {
@@ -68,23 +68,24 @@ impl Acceptor {
         }
     }
 
-    /// Has a poll report the listener by a token, where a connection comes.
+    /// Makes a poll report the listener by a token when a connection arrives.
     pub fn register(&mut self, registry: &Registry, token: Token) -> io::Result<()>
         ensures { self.new ≡ self.old }
     {
         registry.register(&mut self.listener, token, Interest::READABLE)
     }
 
-    /// Notes that a poll has reported the listener.
+    /// Records that a poll has reported the listener.
     pub fn note(&mut self)
         ensures { self.new ≡ told self.old }
     {
         self.backlog = Backlog::More;
     }
 
-    /// The next connection. Where there is none, [`backlog`](Self::backlog) says why; an acceptor that is shut gives none.
+    /// Returns the next connection. If there is none, [`backlog`](Self::backlog) says why; an acceptor that is shut gives
+    /// none.
     ///
-    /// A call that the system interrupted, or whose connection is gone again, is made anew, up to 16 times.
+    /// If the system interrupted the call, or the connection is gone again, it is repeated, up to 16 times.
     pub fn accept(&mut self) -> Option<TcpStream>
         ensures { IsAccept result self.old self.new }
     {
@@ -105,21 +106,21 @@ impl Acceptor {
         }
     }
 
-    /// What is known of the connections that wait.
+    /// Returns what is known of the waiting connections.
     pub fn backlog(&self) -> Backlog
         ensures { result ≡ self.now.backlog }
     {
         self.backlog
     }
 
-    /// How many connections it has accepted.
+    /// Returns how many connections it has accepted.
     pub fn accepted(&self) -> u64
         ensures { result ≡ self.now.accepted }
     {
         self.accepted
     }
 
-    /// Whether it accepts no more: as many as its limit were accepted.
+    /// Returns whether it accepts no more: as many as its limit were accepted.
     pub fn is_shut(&self) -> bool
         ensures { result ≡ is_shut self.now }
     {
@@ -127,7 +128,7 @@ impl Acceptor {
     }
 }
 
-/// The next connection of a listener, or what is then known of those who wait.
+/// Returns the next connection of a listener, or what is then known of the waiting ones.
 fn next_connection(listener: &TcpListener) -> Result<TcpStream, Backlog> {
     for _ in 0..MAX_TRIES {
         match listener.accept() {
@@ -142,8 +143,8 @@ fn next_connection(listener: &TcpListener) -> Result<TcpStream, Backlog> {
     Err(Backlog::More)
 }
 
-/// What an accept that failed by an error says of those who wait; none where it is to be tried again at once, since
-/// the system interrupted it, or the connection is gone again.
+/// Returns what a failed accept says of the waiting connections; none if it must be tried again at once, since the system
+/// interrupted it, or the connection is gone again.
 fn backlog_by(error: &io::Error) -> Option<Backlog>
     ensures nobody { error_kind error.now ≡ ErrorKind.WouldBlock → result ≡ Some Backlog.Nobody }
     ensures interrupted { error_kind error.now ≡ ErrorKind.Interrupted → result ≡ None }

@@ -1,4 +1,4 @@
-//! Where to listen, and where a peer is.
+//! Where to listen, and the address of a peer.
 ghost use Rattle.std.specs.Prelude.{◌≡◌, true, false, Result, IfErr, IfOk, IfSome, IsErrOf};
 ghost use Rattle.std.specs.Net.Addr.{is_ipv4};
 ghost use Rattle.std.specs.Net.Socket.{socket_ip};
@@ -20,8 +20,8 @@ use std::net::{HostAddrs, Net, SocketAddr, SocketAddrV4, ToSocketAddrs};
 
 /// Listens at a host and a port, `<host>:<port>`, by the first IPv4 address that the host has.
 ///
-/// A host that is a name is looked up, and so this may wait for whoever knows the name. An IPv4 address is not looked up. An error is
-/// that it cannot listen, and why: what was given is no address, the host is not known, or what the system says.
+/// A host that is a name is looked up, so this may block on a name server. An IPv4 address is not looked up. The error says why it
+/// cannot listen: the text is no address, the host is unknown, or what the system says.
 pub fn bind<R: Net>(rt: &R, listen: &str) -> Result<TcpListener, ServeError>
     ensures address { IfOk result (λ _. is_address listen.now ≡ true) }
     ensures no_address { is_address listen.now ≡ false → IsErrOf result (Listen NoAddress) }
@@ -33,7 +33,7 @@ pub fn bind<R: Net>(rt: &R, listen: &str) -> Result<TcpListener, ServeError>
     Ok(listener)
 }
 
-/// Where to listen, or why nowhere.
+/// Returns where to listen, or why that is impossible.
 fn address_of<R: Net>(rt: &R, listen: &str) -> Result<SocketAddr, ServeError>
     ensures no_address { is_address listen.now ≡ false → IsErrOf result (Listen NoAddress) }
     ensures address { is_address listen.now ≡ true →
@@ -48,9 +48,9 @@ fn address_of<R: Net>(rt: &R, listen: &str) -> Result<SocketAddr, ServeError>
     }
 }
 
-/// The first IPv4 address of a host and a port, `<host>:<port>`; none where the host is not known, or has none.
+/// Returns the first IPv4 address of a host and a port, `<host>:<port>`; none if the host is unknown, or has none.
 ///
-/// A host that is a name is looked up, as by [`bind`]: what a look-up gives, no contract says. Of what it gave the first is taken.
+/// A host that is a name is looked up, as by [`bind`]: no contract says what a look-up finds. The first of its results is taken.
 pub fn first_address<R: Net>(rt: &R, place: &str) -> Option<SocketAddr>
     ensures ipv4 { IfSome result (λ address. is_ipv4 (socket_ip address) ≡ true) }
     ensures first { (found : Result HostAddrs Error) × GivesAddrOfText place.now found × (result ≡ first_ipv4 found) }
@@ -58,8 +58,8 @@ pub fn first_address<R: Net>(rt: &R, place: &str) -> Option<SocketAddr>
     first_ipv4(place.to_socket_addrs(rt))
 }
 
-/// The address that a text spells, `<IPv4 address>:<port>`; none where it spells none, as where it has a host's name. Nothing is looked
-/// up: of a text that spells an address [`first_address`] gives the same.
+/// Returns the address that a text spells, `<IPv4 address>:<port>`; none if it spells none, for example because it has a host's name.
+/// Nothing is looked up: for a text that spells an address [`first_address`] returns the same.
 pub fn spelled_address(place: &str) -> Option<SocketAddr>
     ensures { Spells place.now result }
 {
@@ -67,7 +67,7 @@ pub fn spelled_address(place: &str) -> Option<SocketAddr>
     Some(SocketAddr::V4(address))
 }
 
-/// The first IPv4 address of those that a look-up gave.
+/// Returns the first IPv4 address of those that a look-up found.
 fn first_ipv4(found: io::Result<HostAddrs>) -> Option<SocketAddr>
     ensures first { result ≡ first_ipv4 found }
     ensures ipv4 { IfSome result (λ address. is_ipv4 (socket_ip address) ≡ true) }

@@ -12,7 +12,7 @@ pub struct Budget {
 }
 
 impl Budget {
-    /// All steps are left, of any second.
+    /// Makes a budget with all its steps, in any second.
     pub fn new() -> Budget
         ensures { result.left ≡ STEPS }
     {
@@ -22,7 +22,7 @@ impl Budget {
         }
     }
 
-    /// Takes a step of a second, and says whether there was one.
+    /// Takes a step of a second, and returns whether one was left.
     pub fn take(&mut self, second: u64) -> bool
         ensures another { self.old.second ≢ second → result ≡ true × (self.new.left ≡ STEPS - 1) }
         ensures left { self.old.second ≡ second → result ≡ nat_lt 0 self.old.left × (self.new.left ≡ self.old.left - 1) }
@@ -37,7 +37,7 @@ impl Budget {
         is_left
     }
 
-    /// Whether a step of a second is left.
+    /// Returns whether a step of a second is left.
     pub fn has(&self, second: u64) -> bool {
         self.second != second || self.left > 0
     }

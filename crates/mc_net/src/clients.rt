@@ -1,4 +1,4 @@
-//! The clients of a host, who of them goes on, and who is idle.
+//! The clients of a host: which of them go on, and which are idle.
 ghost use Rattle.std.specs.Prelude.{◌≡◌, ◌-◌, ◌<◌, ◌^◌, IfOk, drop, map, take};
 ghost use Rattle.mc_net.specs.Lists.{all_shown, count_after, known_of, place_of, shown_of};
 
@@ -27,13 +27,13 @@ struct Seat<K> {
     client: Client<K>,
     /// Whether its first bytes are known not to be a stranger's.
     known: bool,
-    /// Whether it goes on in the next round, though nothing happens.
+    /// Whether it goes on in the next round, even without an event.
     queued: bool,
-    /// Whether anything has happened since the last rest.
+    /// Whether it has had an event since the last sweep.
     busy: bool,
-    /// In which second its socket was reported last, or it was owed something.
+    /// The second in which its socket was reported last, or it had pending answers.
     used: u64,
-    /// In which second it came.
+    /// The second in which it connected.
     since: u64,
     /// Bytes that were read from it.
     read: u64,
@@ -42,7 +42,7 @@ struct Seat<K> {
 }
 
 impl<K: Drop> Seat<K> {
-    /// Notes what passed of it, of what passed of all clients before and after its turn.
+    /// Records its traffic, from that of all clients before and after its turn.
     #[inline(always)]
     fn pass(&mut self, before: Tally, after: Tally)
         ensures { self.new ≡ record self.old {
@@ -56,7 +56,7 @@ impl<K: Drop> Seat<K> {
         self.written = self.written.wrapping_add(written);
     }
 
-    /// What is known of it at a moment, at a place.
+    /// Returns what is known of it at a moment, at a place.
     fn known(&self, place: usize, is_owed: bool, moment: u64) -> Known
         ensures { result ≡ known_of moment place is_owed self.now }
     {
@@ -77,29 +77,29 @@ pub struct Clients<K: Drop> {
     seats: Slab<Seat<K>>,
     /// The most clients.
     most: usize,
-    /// The keys of the clients that go on in the next round, though nothing happens.
+    /// The keys of the clients that go on in the next round, even without an event.
     queue: Vec<usize>,
-    /// The same of this round.
+    /// The keys of the clients that go on in this round.
     going_on: Vec<usize>,
-    /// Whether a client was busy since the last rest.
+    /// Whether a client was busy since the last sweep.
     busy: bool,
-    /// After how many seconds a client is closed that sent nothing and is owed nothing; 0 for never.
+    /// The seconds after which a client is closed that sent nothing and has no pending answer; 0 for never.
     idle: u64,
-    /// In which second a client may have been idle for too long, at the earliest.
+    /// The second in which a client may have been idle for too long, at the earliest.
     due: Option<u64>,
-    /// How many clients were closed as they came.
+    /// How many clients were closed as they connected.
     refused: u64,
-    /// Strangers of whom it is to be said that they were turned away.
+    /// The strangers that were turned away and are not yet reported.
     turned_away: Seldom<Refusal>,
-    /// When it may be said that no more are accepted, since the system gives no connection.
+    /// When the next line may say that no more are accepted, since the system gives no connection.
     told_refused: Pace,
 }
 
-/// In how many seconds it is said once, at most, that the system gives no connection: this may last for hours.
+/// The seconds between two lines that say that the system gives no connection: this may last for hours.
 const REFUSED_EVERY: u64 = 60;
 
 impl<K: Default + Drop> Clients<K> {
-    /// Nobody, with room for so many. A client that is idle for longer than so many seconds is closed; 0 for never.
+    /// Makes an empty list, with room for `most` clients. A client that is idle for longer than `idle` seconds is closed; 0 for never.
     pub fn new(alloc: Global, most: usize, idle: u64) -> Result<Self, AllocError> {
         Ok(Clients {
             queue: Vec::with_capacity(alloc, most)?,
@@ -118,17 +118,17 @@ impl<K: Default + Drop> Clients<K> {
         })
     }
 
-    /// How many there are.
+    /// Returns how many there are.
     pub fn len(&self) -> usize {
         self.seats.len()
     }
 
-    /// Whether there is nobody.
+    /// Returns whether there are none.
     pub fn is_empty(&self) -> bool {
         self.seats.is_empty()
     }
 
-    /// What was done for them, in so many seconds in which so many were accepted, and by this tally.
+    /// Returns the report of what was done for them: in `uptime` seconds, with `accepted` accepted clients, and with this tally.
     pub fn report(&self, uptime: u64, accepted: u64, tally: Tally) -> Report {
         Report {
             uptime,
@@ -139,32 +139,32 @@ impl<K: Default + Drop> Clients<K> {
         }
     }
 
-    /// Whether one goes on though nothing happens.
+    /// Returns whether one goes on without an event.
     pub fn goes_on(&self) -> bool {
         !self.queue.is_empty()
     }
 
-    /// Whether there may be one that is to rest.
+    /// Returns whether a sweep may have work.
     pub fn is_busy(&self) -> bool {
         self.busy
     }
 
-    /// In which second one may have been idle for too long, at the earliest.
+    /// Returns the second in which one may have been idle for too long, at the earliest.
     pub fn due(&self) -> Option<u64> {
         self.due
     }
 
-    /// The client of a key.
+    /// Returns the client of a key.
     pub fn get(&self, key: usize) -> Option<&Client<K>> {
         self.seats.get(key).map(|seat| &seat.client)
     }
 
-    /// The client of a key, to write to what is kept of it.
+    /// Returns the client of a key, mutably.
     pub fn get_mut(&mut self, key: usize) -> Option<&mut Client<K>> {
         self.seats.get_mut(key).map(|seat| &mut seat.client)
     }
 
-    /// Lists clients from a place on, at most [`LIST_LEN`], at a moment. One that is owed something waits for that.
+    /// Lists clients from a place on, at most [`LIST_LEN`], at a moment. A client with pending answers is listed as waiting for them.
     #[tactic(auto, using(crate::proofs::ListLemmas::list_steps))]
     pub fn listed<H: Handler<K>>(
         &self,
@@ -196,7 +196,7 @@ impl<K: Default + Drop> Clients<K> {
         Ok(Listed { conns, next: None })
     }
 
-    /// Takes a client in at a moment. One for whom there is no place or no memory is closed at once.
+    /// Takes a client in at a moment. If there is no place or no memory for it, it is closed at once.
     pub fn admit<H: Handler<K>>(
         &mut self,
         handler: &mut H,
@@ -211,7 +211,7 @@ impl<K: Default + Drop> Clients<K> {
         }
     }
 
-    /// The same, which says whether there was a place and memory.
+    /// Takes a client in, and returns whether there was a place and memory.
     fn try_admit<H: Handler<K>>(
         &mut self,
         handler: &mut H,
@@ -224,7 +224,7 @@ impl<K: Default + Drop> Clients<K> {
             return false;
         };
         let both = Interest::READABLE | Interest::WRITABLE;
-        // A client whose answers may come late is served all the same.
+        // A client whose answers may be delayed is served all the same.
         let _ = stream.set_nodelay(true);
         let registered = registry.register(&mut stream, Token(key), both);
         let seat = Seat {
@@ -268,7 +268,7 @@ impl<K: Default + Drop> Clients<K> {
         }
     }
 
-    /// Serves the clients whose rounds were used up in the round before.
+    /// Serves the clients whose budget was used up in the round before.
     pub fn go_on<H: Handler<K>>(&mut self, handler: &mut H, moment: u64)
         requires { moment < 2 ^ 63 }
     {
@@ -294,8 +294,8 @@ impl<K: Default + Drop> Clients<K> {
         }
     }
 
-    /// Serves the client of a key as far as it goes, once its first bytes are known. A stranger whom they show is turned away before
-    /// anything of it is read, and one whom its first line shows before that is.
+    /// Serves the client of a key as far as possible, once its first bytes are known. A stranger that they show is turned away before any
+    /// byte is read, and one that its first line shows before that line is.
     pub fn serve<H: Handler<K>>(&mut self, handler: &mut H, key: usize, moment: u64)
         requires { moment < 2 ^ 63 }
     {
@@ -333,7 +333,7 @@ impl<K: Default + Drop> Clients<K> {
         }
     }
 
-    /// Closes a client that is a stranger, and notes whom to tell of.
+    /// Closes a client that is a stranger, and notes it for the next line.
     fn turn_away<H: Handler<K>>(&mut self, handler: &mut H, key: usize, stranger: Stranger) {
         let address = self
             .seats
@@ -344,16 +344,16 @@ impl<K: Default + Drop> Clients<K> {
         self.close(handler, key);
     }
 
-    /// Says on standard error, as the program of a name and at most once in a second, that a stranger was turned away, and how often that
-    /// was suppressed before.
+    /// Prints on standard error, as the program of a name and at most once a second, that a stranger was turned away, and how many such
+    /// lines were suppressed before.
     pub fn tell<R: EprintSeldom>(&mut self, rt: &R, program: &str, second: u64) {
         if let Some(Said { what, suppressed }) = self.turned_away.take(second) {
-            // Where it cannot be said, all are served all the same.
+            // Best effort: a failed write to standard error must not stop serving.
             let _ = rt.eprintln_seldom(format_args!("{program}: {what}"), suppressed);
         }
     }
 
-    /// Says on standard error, as the program of a name and at most once in a minute, that no more clients are accepted since the system
+    /// Prints on standard error, as the program of a name and at most once a minute, that no more clients are accepted since the system
     /// gives no connection, and why.
     pub fn tell_refused<R: Eprint>(
         &mut self,
@@ -365,13 +365,13 @@ impl<K: Default + Drop> Clients<K> {
         if let Backlog::Refused(error) = backlog
             && self.told_refused.comes(second)
         {
-            // Where it cannot be said, all are served all the same.
+            // Best effort: a failed write to standard error must not stop serving.
             let _ = eprintln!(rt; "{program}: no more clients: {error}");
         }
     }
 
-    /// Gives back the memory that is reserved for clients to whom nothing has happened since the last rest, and closes those that
-    /// have been idle for too long.
+    /// Frees the memory that is reserved for clients without an event since the last sweep, and closes those that have been idle for too
+    /// long.
     pub fn rest<H: Handler<K>>(&mut self, handler: &mut H, moment: u64) {
         self.busy = false;
         self.due = None;
@@ -380,7 +380,7 @@ impl<K: Default + Drop> Clients<K> {
         }
     }
 
-    /// The same of the client of a key.
+    /// Sweeps the client of a key: frees its memory, or closes it.
     fn rest_one<H: Handler<K>>(&mut self, handler: &mut H, key: usize, moment: u64) {
         let Some(seat) = self.seats.get_mut(key) else {
             return;
@@ -402,13 +402,13 @@ impl<K: Default + Drop> Clients<K> {
         }
     }
 
-    /// Whether a client that was used in a second has been idle for too long: moments are whole seconds, so that one more has to
+    /// Returns whether a client that was used in a second has been idle for too long: moments are whole seconds, so that one more must
     /// pass.
     fn is_too_idle(&self, used: u64, moment: u64) -> bool {
         self.idle > 0 && moment.saturating_sub(used) > self.idle
     }
 
-    /// Expects a client that was used in a second to be idle for too long once so many have passed.
+    /// Sets when a client that was used in a second will have been idle for too long.
     fn expect(&mut self, used: u64) {
         if self.idle > 0 {
             let due = used.saturating_add(self.idle).saturating_add(1);
@@ -416,7 +416,7 @@ impl<K: Default + Drop> Clients<K> {
         }
     }
 
-    /// Ends what a client has with the handler, and closes its socket.
+    /// Ends the client's session with the handler, and closes its socket.
     fn close<H: Handler<K>>(&mut self, handler: &mut H, key: usize) {
         if let Some(seat) = self.seats.try_remove(key) {
             handler.end(seat.client.number);

@@ -3,7 +3,7 @@ ghost use Rattle.std.specs.Prelude.{◌≡◌, ◌<◌, ◌≤◌, length, is_so
 ghost use Rattle.mc_request.specs.Names.{classic_name_of, meta_name_of};
 ghost use Rattle.mc_net.specs.FirstLines.{is_command, is_version};
 
-/// Whether a word names a command.
+/// Returns whether a word names a command.
 #[tactic(auto, unfolding(mc_request::specs::Names::name_of))]
 pub fn is_command(word: &[u8]) -> bool
     ensures { result ≡ is_command word.now }
@@ -17,7 +17,7 @@ pub fn is_command(word: &[u8]) -> bool
     }
 }
 
-/// Whether a word names a meta command.
+/// Returns whether a word names a meta command.
 fn is_meta(word: &[u8]) -> bool
     ensures { result ≡ is_some (meta_name_of word.now) }
 {
@@ -27,7 +27,7 @@ fn is_meta(word: &[u8]) -> bool
     }
 }
 
-/// Whether a word of fewer than five letters names another command.
+/// Returns whether a word of fewer than five letters names another command.
 fn is_short(word: &[u8]) -> bool
     requires { length word.now < 5 }
     ensures { result ≡ is_some (classic_name_of word.now) }
@@ -47,7 +47,7 @@ fn is_short(word: &[u8]) -> bool
     }
 }
 
-/// The same of a word of five letters or more.
+/// Returns whether a word of five letters or more names another command.
 #[tactic(auto, using(crate::proofs::CommandLemmas::names_of_five))]
 fn is_long(word: &[u8]) -> bool
     requires { 5 ≤ length word.now }
@@ -62,7 +62,7 @@ fn is_long(word: &[u8]) -> bool
         || word == b"version".as_slice()
 }
 
-/// Whether a word begins as a version of HTTP does.
+/// Returns whether a word begins as a version of HTTP does.
 pub fn is_version(word: &[u8]) -> bool
     ensures { result ≡ is_version word.now }
 {

@@ -1,4 +1,4 @@
-//! Who is connected, as operators are told.
+//! The connected clients, as operators see them.
 
 ghost use Rattle.std.specs.Prelude.{◌≡◌, IfOk};
 ghost use Rattle.mc_net.specs.Lists.{conn_state, owed_state, shown_by, shown_of, state_of};
@@ -12,13 +12,13 @@ use std::net::SocketAddr;
 /// The most clients of a part of the list.
 pub const LIST_LEN: usize = 32;
 
-/// What stands for an address that the system does not say.
+/// The text of an address that the system does not say.
 const UNKNOWN: &str = "unknown";
 
-/// The state of a client that is owed nothing, in memcached's words.
+/// The state of a client without pending answers, in memcached's words.
 const WAITING: &[u8] = b"conn_waiting";
 
-/// What a client waits for that is owed something.
+/// What a client with pending answers waits for.
 #[derive(Clone, Copy)]
 pub enum Owed {
     /// It has answers to take.
@@ -28,7 +28,7 @@ pub enum Owed {
 }
 
 impl Owed {
-    /// The state of a client that waits for it, in memcached's words.
+    /// Returns the state of a client that waits for it, in memcached's words.
     fn state(self) -> &'static [u8]
         ensures { result.now ≡ owed_state self }
     {
@@ -44,12 +44,12 @@ impl Owed {
 pub struct Listed {
     /// The clients.
     pub conns: Vec<Conn>,
-    /// From which place on the others are; none if these are the last.
+    /// The place at which the next part begins; none if this is the last.
     pub next: Option<usize>,
 }
 
 impl Listed {
-    /// The same, as an answer has it.
+    /// Returns the list as an answer has it.
     pub fn part(&self) -> Part<'_> {
         Part {
             conns: self.conns.as_slice(),
@@ -63,11 +63,11 @@ impl Listed {
 pub struct Known {
     /// Its place.
     pub place: usize,
-    /// Whether it is owed something.
+    /// Whether it has pending answers.
     pub is_owed: bool,
-    /// Seconds since its socket had something, or it was owed something.
+    /// Seconds since its socket was ready, or since it had pending answers.
     pub quiet: u64,
-    /// Seconds since it came.
+    /// Seconds since it connected.
     pub age: u64,
     /// Bytes that were read from it.
     pub read: u64,
@@ -75,8 +75,8 @@ pub struct Known {
     pub written: u64,
 }
 
-/// What is told of a client: what is known of it, and its addresses, which the system is asked for now. One that is owed something waits for
-/// that.
+/// Returns the entry of a client: what is known of it, and its addresses, which the system is asked for now. If it has pending
+/// answers, `owed` says what it waits for.
 pub fn conn_of(
     alloc: Global,
     stream: &TcpStream,
@@ -98,7 +98,7 @@ pub fn conn_of(
     })
 }
 
-/// An address as text.
+/// Returns an address as text.
 fn text_of(alloc: Global, address: io::Result<SocketAddr>) -> Result<String, AllocError> {
     match address {
         Ok(address) => address.to_string(alloc),

@@ -11,7 +11,7 @@ use memchr::memchr;
 pub enum Ending {
     /// A space, and the last word is no version of HTTP.
     Between,
-    /// A word of so many letters, with which a version begins.
+    /// A word of this number of letters, with which a version begins.
     H,
     Ht,
     Htt,
@@ -27,7 +27,7 @@ pub enum Ending {
 }
 
 impl Ending {
-    /// Whether the last word of a line that ends so is a version of HTTP.
+    /// Returns whether the last word of a line that ends so is a version of HTTP.
     #[tactic(auto, unfolding(mc_text::specs::Words::words))]
     pub fn is_version(self) -> bool
         ensures { result ≡ ends (ending_text self) }
@@ -38,7 +38,7 @@ impl Ending {
         }
     }
 
-    /// The end with more of its line after it. Of several words the last that matters is looked at, and a long word or many spaces are
+    /// Returns the end with more of its line after it. Only the last word that matters is looked at, and a long word or many spaces are
     /// passed at once.
     pub fn after(self, text: &[u8]) -> Ending
         ensures { EndsTheSame (ending_text self ++ text.now) (ending_text result) }
@@ -50,7 +50,7 @@ impl Ending {
         }
     }
 
-    /// The same, byte by byte.
+    /// Returns the end with more of its line after it, byte by byte.
     fn after_each(self, text: &[u8]) -> Ending
         ensures { EndsTheSame (ending_text self ++ text.now) (ending_text result) }
     {
@@ -63,7 +63,7 @@ impl Ending {
         ending
     }
 
-    /// What counts after an end: a word goes on up to a space, and spaces up to a word.
+    /// Returns what counts after an end: a word goes on up to a space, and spaces up to a word.
     fn behind(self, text: &[u8]) -> &[u8]
         ensures ends { EndsTheSame (ending_text self ++ text.now) (ending_text self ++ result.now) }
         ensures shorter { length result.now ≤ length text.now }
@@ -77,7 +77,7 @@ impl Ending {
         }
     }
 
-    /// The end with a byte after it.
+    /// Returns the end with a byte after it.
     fn with_byte(self, byte: u8) -> Ending
         ensures { EndsTheSame (ending_text self ++ byte ∷ []) (ending_text result) }
     {
@@ -88,7 +88,7 @@ impl Ending {
         }
     }
 
-    /// The end with a space after it.
+    /// Returns the end with a space after it.
     pub fn with_space(self) -> Ending
         ensures { EndsTheSame (ending_text self ++ 32 ∷ []) (ending_text result) }
     {
@@ -105,7 +105,7 @@ impl Ending {
         }
     }
 
-    /// The end with a byte after it that is no space.
+    /// Returns the end with a byte after it that is no space.
     fn with(self, byte: u8) -> Ending
         requires { byte ≢ 32 }
         ensures { EndsTheSame (ending_text self ++ byte ∷ []) (ending_text result) }
@@ -125,14 +125,14 @@ impl Ending {
     }
 }
 
-/// The end after a byte that is the next letter of a version, or another one.
+/// Returns the end after a byte that is the next letter of a version, or another one.
 fn after_match(is_next: bool, next: Ending) -> Ending
     ensures { result ≡ (if is_next then next else Ending.Other) }
 {
     if is_next { next } else { Ending::Other }
 }
 
-/// A text from its first space on.
+/// Returns a text from its first space on.
 fn from_space(text: &[u8]) -> &[u8]
     ensures ends { (end : List ℕ) → ((byte : ℕ) → byte ≢ 32 → EndsTheSame (end ++ byte ∷ []) end) → EndsTheSame (end ++ text.now) (end ++ result.now) }
     ensures shorter { length result.now ≤ length text.now }
@@ -146,8 +146,8 @@ fn from_space(text: &[u8]) -> &[u8]
     }
 }
 
-/// A text from its last word on that stands behind a space and has a byte after its first one, if it has such a word. A carriage return
-/// alone may yet belong to the line's end, so that the word before it counts.
+/// Returns a text from its last word that follows a space and has a byte after its first one, if it has such a word. A carriage return
+/// alone may belong to the line's end, so that the word before it counts.
 fn last_word(text: &[u8]) -> Option<&[u8]>
     ensures { IfSome result (λ word. (end : List ℕ) → EndsTheSame (end ++ text.now) word.now) }
 {

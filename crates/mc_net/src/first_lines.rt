@@ -1,11 +1,11 @@
-//! The first line of a connection that is not empty, however it comes.
+//! The first non-empty line of a connection, in pieces of any size.
 
 use crate::first_words::FirstWord;
 use crate::openings::Opening;
 use crate::places::Place;
 
-/// What is kept of the first line of a connection that is not empty, and of the empty ones in front of it: contracts see a text that
-/// says the same as the bytes so far, whatever follows.
+/// What is kept of the first non-empty line of a connection, and of the empty ones in front of it. Contracts see a text that says the
+/// same as the bytes so far, whatever follows.
 #[derive(Clone, Copy, Debug)]
 pub struct FirstLine {
     place: Place,
@@ -16,7 +16,7 @@ impl FirstLine {
     ghost use Rattle.mc_net.specs.FirstLines.{first_line_says};
     ghost use Rattle.mc_net.specs.Places.{SaysTheSame, kept_text};
 
-    /// No byte has come.
+    /// Makes the state before the first byte.
     pub fn new() -> FirstLine
         ensures { kept_text result ≡ [] }
     {
@@ -25,7 +25,7 @@ impl FirstLine {
         }
     }
 
-    /// What the bytes are. Once that is known, nothing that follows says more.
+    /// Returns what the bytes are. Once that is known, nothing that follows says more.
     pub fn opening(&self) -> Opening
         ensures says { result ≡ first_line_says (kept_text self.now) }
         ensures stays { result ≢ Opening.Unsettled → (more : List ℕ) → SaysTheSame (kept_text self.now ++ more) (kept_text self.now) }
@@ -33,8 +33,8 @@ impl FirstLine {
         self.place.opening()
     }
 
-    /// Takes the next bytes of the connection: once it is known what they are, these are looked at no further. Stretches of a line that
-    /// say nothing of their own are passed at once.
+    /// Takes the next bytes of the connection: once it is known what they are, they are looked at no further. Parts of a line that play
+    /// no role are passed at once.
     pub fn pass(&mut self, piece: &[u8])
         ensures { SaysTheSame (kept_text self.old ++ piece.now) (kept_text self.new) }
     {

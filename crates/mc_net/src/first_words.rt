@@ -1,4 +1,4 @@
-//! The first word of a line, as far as it has come.
+//! The first word of a line, as far as it has arrived.
 ghost use Rattle.std.specs.Prelude.{◌≡◌, ◌≤◌, ◌↔◌, IsTrue, length, take, true};
 ghost use Rattle.mc_net.specs.FirstWords.{is_word};
 
@@ -18,7 +18,7 @@ impl FirstWord {
     ghost use Rattle.std.specs.Prelude.{◌<◌, ◌++◌, ◌∷◌, []};
     ghost use Rattle.mc_net.specs.FirstWords.{is_word_byte};
 
-    /// None of them.
+    /// Makes an empty word.
     pub fn new() -> FirstWord
         ensures { result.len ≡ 0 }
     {
@@ -28,7 +28,7 @@ impl FirstWord {
         }
     }
 
-    /// The bytes.
+    /// Returns the bytes.
     pub fn as_slice(&self) -> &[u8]
         ensures bytes { result.now ≡ take self.now.len self.now.bytes }
         ensures len { length result.now ≡ self.now.len }
@@ -37,21 +37,21 @@ impl FirstWord {
         word
     }
 
-    /// Whether there are none.
+    /// Returns whether there are none.
     pub fn is_empty(&self) -> bool
         ensures { IsTrue result ↔ self.now.len ≡ 0 }
     {
         self.len == 0
     }
 
-    /// Whether no byte goes on after them that may belong to the name of a command.
+    /// Returns whether no byte after them can belong to the name of a command.
     pub fn is_full(&self) -> bool
         ensures { IsTrue result ↔ self.now.len ≡ WORD_ROOM }
     {
         self.len == WORD_ROOM
     }
 
-    /// These with one more.
+    /// Appends a byte.
     pub fn with(mut self, byte: u8) -> FirstWord
         requires room { self.len < WORD_ROOM }
         requires word { is_word_byte byte ≡ true }

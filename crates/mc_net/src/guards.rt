@@ -11,9 +11,9 @@ use mio::net::TcpStream;
 use std::io;
 use std::io::{ErrorKind, Read};
 
-/// The socket of a client, with what is known of its first line. Until this is known to be text, bytes are looked at before they are
-/// read, as far as they have come. What stands behind the first line of a stranger is not read, nor is the piece that this ends in: a
-/// read fails, and `first` says why.
+/// The socket of a client, with what is known of its first line. Until the line is known to be text, bytes are looked at before they
+/// are read, as far as they have arrived. What follows the first line of a stranger is not read, nor is the piece in which that line
+/// ends: a read fails, and `first` says why.
 #[derive(Drop)]
 pub struct Guard<'a> {
     /// The socket.
@@ -38,7 +38,7 @@ impl Read for Guard<'_> {
 }
 
 impl Guard<'_> {
-    /// Reads bytes of the first line, or those around it, as many as have come.
+    /// Reads bytes of the first line, or those around it, as many as have arrived.
     fn read_first(&mut self, piece: &mut [u8]) -> io::Result<usize>
         ensures bound { ReadsAtMost result piece.new }
         ensures bytes { ReadConsumes None None result piece.new }
@@ -62,7 +62,7 @@ impl Guard<'_> {
     }
 }
 
-/// What is known of a first line once these bytes have come too.
+/// Returns what is known of a first line after these bytes.
 fn passed(first: FirstLine, bytes: &[u8]) -> FirstLine
     ensures { SaysTheSame (kept_text first ++ bytes.now) (kept_text result) }
 {
@@ -71,7 +71,7 @@ fn passed(first: FirstLine, bytes: &[u8]) -> FirstLine
     first
 }
 
-/// The error of a read of a stranger's bytes.
+/// Returns the error of a read of a stranger's bytes.
 fn refused() -> io::Error {
     io::Error::from(ErrorKind::InvalidData)
 }

@@ -1,4 +1,4 @@
-//! A client, and what serves it.
+//! A client, and its handler.
 ghost use Rattle.std.specs.Prelude.{◌≡◌, ◌<◌, ◌^◌};
 
 use crate::first_lines::FirstLine;
@@ -20,32 +20,32 @@ pub struct Client<K> {
     pub edge: Edge,
     /// What is known of its first line.
     pub first: FirstLine,
-    /// What its handler keeps of it beside.
+    /// What its handler keeps of it.
     pub kept: K,
 }
 
-/// What serves clients: a server, or a proxy.
+/// The handler of clients: a server, or a proxy.
 pub trait Handler<K> {
-    /// Admits a client that will have this key, and gives its number; none where there is no place or no memory for it.
+    /// Admits a client that will have this key, and returns its number; none if there is no place or no memory for it.
     fn admit(&mut self, key: usize) -> Option<u64>;
 
-    /// Notes that a client is closed since there is no memory for its place.
+    /// Records that a client is closed since there is no memory for its place.
     fn note_refused(&mut self) {}
 
     /// Ends the connection or the session of a client that is closed.
     fn end(&mut self, number: u64);
 
-    /// Carries a client's bytes at a moment, in seconds, as far as it goes, and says what is done with it then.
+    /// Carries a client's bytes at a moment, in seconds, as far as possible, and returns what is done with it next.
     fn serve(&mut self, client: &mut Client<K>, moment: u64) -> Step
         requires { moment < 2 ^ 63 }
         ensures { client.new.number ≡ client.old.number };
 
-    /// Gives back the memory that is reserved for a client and holds nothing, but for so many bytes of each buffer.
+    /// Frees the memory that is reserved for a client's empty buffers, except `room` bytes of each.
     fn give_back(&mut self, number: u64, room: usize);
 
-    /// Whether a client is owed something.
+    /// Returns whether a client has pending answers.
     fn owes(&self, number: u64) -> bool;
 
-    /// What passed of all clients.
+    /// Returns the traffic of all clients.
     fn tally(&self) -> Tally;
 }

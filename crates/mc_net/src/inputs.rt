@@ -1,4 +1,4 @@
-//! The input of a stream of which events tell.
+//! The input of a stream with events.
 ghost use Rattle.std.specs.Prelude.{◌≡◌, ◌&&◌, ◌||◌, true, false, IfOk, IsErr, length, nat_lt, not};
 ghost use Rattle.mio.specs.Event.{is_error, is_read_closed, is_readable};
 ghost use Rattle.std.specs.Io.{ReadsAtMost};
@@ -11,14 +11,14 @@ use std::io::{ErrorKind, Read};
 /// What the last event and the reads since say of a stream's input.
 #[derive(Clone, Copy, Debug, PartialEq, Eq)]
 pub struct Edge {
-    /// Whether all that had come is read: until the next event there is no more.
+    /// Whether all that had arrived is read: until the next event there is no more.
     drained: bool,
-    /// Whether the peer has said that it will send no more, so that the end is still to be read.
+    /// Whether the peer has said that it will send no more, so that the end must still be read.
     to_the_end: bool,
 }
 
 impl Edge {
-    /// The edge of a stream of which no event has told: nothing has come.
+    /// Makes the state of a stream without an event: nothing has arrived.
     pub fn new() -> Edge
         ensures drained { result.drained ≡ true }
         ensures to_the_end { result.to_the_end ≡ false }
@@ -29,21 +29,21 @@ impl Edge {
         }
     }
 
-    /// Whether all that had come is read: until the next event there is no more.
+    /// Returns whether all that had arrived is read: until the next event there is no more.
     pub fn is_drained(&self) -> bool
         ensures { result ≡ self.now.drained }
     {
         self.drained
     }
 
-    /// Whether the peer has said that it will send no more, or has failed.
+    /// Returns whether the peer has said that it will send no more, or has failed.
     pub fn is_to_the_end(&self) -> bool
         ensures { result ≡ self.now.to_the_end }
     {
         self.to_the_end
     }
 
-    /// Notes what an event says of the stream: whether something has come, and whether it has ended or failed.
+    /// Records what an event says of the stream: whether bytes have arrived, and whether it has ended or failed.
     pub fn note(&mut self, event: &Event)
         ensures drained { self.new.drained
             ≡ (self.old.drained && not (is_read_closed event.now || is_error event.now || is_readable event.now)) }
@@ -59,12 +59,12 @@ impl Edge {
     }
 }
 
-/// The input of a stream of which events tell. A read that gives fewer bytes than were asked for has emptied it, and the
-/// next one need not ask the system. It drops and repeats no byte of its stream. Whoever makes it keeps the edge after the
-/// reads for the next one.
+/// The input of a stream with events. A read that returns fewer bytes than were asked for has emptied it, and the next one
+/// need not ask the system. It drops and repeats no byte of its stream. Its maker keeps the edge after the reads for the
+/// next input.
 #[derive(Drop)]
 pub struct Input<R> {
-    /// What gives the bytes: a socket that does not block, or another reader that does not wait.
+    /// The source of the bytes: a nonblocking socket, or another reader that does not block.
     pub stream: R,
     /// What is known of its input.
     pub edge: Edge,
@@ -84,7 +84,7 @@ impl<R: Read> Read for Input<R> {
             return Err(io::Error::from(ErrorKind::WouldBlock));
         }
         let count = self.stream.read(piece)?;
-        // While the end is still to be read, the stream is not emptied: no further event may tell of it.
+        // While the end must still be read, the stream is not emptied: no further event may report it.
         self.edge.drained = count < piece.len() && !self.edge.to_the_end;
         Ok(count)
     }

@@ -1,4 +1,4 @@
-//! Peers that are gone without a word.
+//! Detecting peers that vanished.
 ghost use Rattle.std.specs.Prelude.{◌≡◌};
 ghost use Rattle.libc.specs.Net.{SockOption};
 ghost use Rattle.mc_net.specs.Keeping.{silence_of};
@@ -6,19 +6,19 @@ ghost use Rattle.mc_net.specs.Keeping.{silence_of};
 use libc::net as c;
 use std::os::fd::AsRawFd;
 
-/// How the system finds that the peer of a connection is gone without a word: it asks the peer for a sign of life (keepalive).
+/// How the system detects that the peer of a connection has vanished: it asks the peer for a sign of life (keepalive).
 #[derive(Clone, Copy, Debug, PartialEq, Eq)]
 pub struct Keepalive {
-    /// After how many seconds without a byte from the peer it is asked first (TCP_KEEPIDLE): at least 1.
+    /// The seconds without a byte from the peer until it is asked first (TCP_KEEPIDLE): at least 1.
     pub idle: u8,
-    /// How many seconds after a question it is asked again (TCP_KEEPINTVL): at least 1.
+    /// The seconds after a question until it is asked again (TCP_KEEPINTVL): at least 1.
     pub interval: u8,
-    /// As many questions without an answer end the connection (TCP_KEEPCNT): 1 to 127.
+    /// This number of questions without an answer ends the connection (TCP_KEEPCNT): 1 to 127.
     pub probes: u8,
 }
 
-/// How clients are looked for: one is gone after 60 seconds. A machine that is moved, or sleeps for a moment, keeps its connections; and
-/// what is kept for one that is gone is free within a minute, and not after the system's two hours.
+/// The keepalive of clients: a client is gone after 60 seconds. A machine that is moved, or sleeps for a moment, keeps its connections.
+/// The memory of a vanished client is free within a minute, and not after the system's two hours.
 pub const CLIENT_KEEPALIVE: Keepalive = Keepalive {
     idle: 30,
     interval: 10,
@@ -26,7 +26,7 @@ pub const CLIENT_KEEPALIVE: Keepalive = Keepalive {
 };
 
 impl Keepalive {
-    /// After how many milliseconds a peer is gone that gives no sign of life.
+    /// Returns the milliseconds after which a peer is gone that gives no sign of life.
     fn silence(self) -> u32
         ensures { result ≡ silence_of self }
     {
@@ -35,15 +35,14 @@ impl Keepalive {
     }
 }
 
-/// Has the system look for the clients of a listener, whose connections take this over from it: [`keep_alive_by`] with
-/// [`CLIENT_KEEPALIVE`].
+/// Turns keepalive on for a listener, whose connections inherit it: [`keep_alive_by`] with [`CLIENT_KEEPALIVE`].
 pub fn keep_alive<S: AsRawFd>(listener: &S) {
     keep_alive_by(listener, CLIENT_KEEPALIVE);
 }
 
-/// Has the system look for the peer of a socket, and end the connection if that is gone without a word. The peer is gone if it answers no
-/// question in time; if for as long it has confirmed nothing of what was sent, though all is sent again; or if for as
-/// long it took nothing of what is to be sent (TCP_USER_TIMEOUT). Where the system refuses one of these, it has its own time.
+/// Turns keepalive on for a socket, so that the system ends the connection if the peer has vanished. The peer is gone if it answers no
+/// question in time. It is gone too if for as long it has confirmed nothing of what was sent, though all is sent again, or took nothing
+/// of what must be sent (TCP_USER_TIMEOUT). If the system refuses one of these, it has its own time.
 pub fn keep_alive_by<S: AsRawFd>(socket: &S, keepalive: Keepalive) {
     set(socket, c::SOL_SOCKET, c::SO_KEEPALIVE, 1);
     set(
@@ -72,7 +71,7 @@ pub fn keep_alive_by<S: AsRawFd>(socket: &S, keepalive: Keepalive) {
     );
 }
 
-/// Sets an option of a socket that is a number. Where the system refuses it, nothing changes.
+/// Sets an option of a socket that is a number. If the system refuses it, nothing changes.
 fn set<S: AsRawFd>(socket: &S, level: i32, name: i32, number: u32)
     requires option { SockOption level name }
 {

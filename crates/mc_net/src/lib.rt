@@ -1,72 +1,71 @@
-//! What a program on sockets needs beside what it serves: where it listens, who waits to be accepted, what has come, how long
-//! it has served, its clients, its operators, and who is turned away as a stranger.
+//! The network part of a program: its listener, its clients, its operators, and the detection of clients that speak another protocol.
 //!
-//! [`bind`] gives a listener, at the [`first_address`] of a host; [`spelled_address`] is that of a text that needs no look-up. A
-//! [`Acceptor`] is a listener and how many connections it has accepted: a poll that it is [registered](Acceptor::register) with
-//! reports it, which it is [told](Acceptor::note), and [`Acceptor::accept`] gives the connections, one by one. Where the system gives
-//! none, a [`Backlog`] says why. Of a connection's socket an [`Edge`] keeps what events say ([`Edge::note`]), and an [`Input`] is the
-//! reader over both, which asks the system for nothing that is known not to be there. [`step_after`] says what is done with a client
-//! whose pump ended, and a [`Stopwatch`] how long a program has served. [`keep_alive`] and [`keep_alive_by`] have the system look for
-//! peers that are gone without a word, and [`reset`] gives a connection up. [`PIECE_LEN`] and [`KEPT_ROOM`] are limits that all who serve
-//! sockets share.
+//! [`bind`] makes a listener, at the [`first_address`] of a host; [`spelled_address`] is that of a text that needs no look-up. An
+//! [`Acceptor`] is a listener and how many connections it has accepted. The poll with which it is [registered](Acceptor::register) reports
+//! it, which is [recorded](Acceptor::note), and [`Acceptor::accept`] returns the connections, one by one. If the system gives none, a
+//! [`Backlog`] says why. An [`Edge`] keeps what the events of a socket say ([`Edge::note`]). An [`Input`] is the reader over both: it asks
+//! the system for no bytes that are known to be missing. [`step_after`] says what is done with a client whose pump ended, and a
+//! [`Stopwatch`] how long a program has served. [`keep_alive`] and [`keep_alive_by`] make the system detect peers that vanished, and
+//! [`reset`] gives a connection up. [`PIECE_LEN`] and [`KEPT_ROOM`] are limits shared by all programs on sockets.
 //!
-//! None of these calls waits but [`bind`] and [`first_address`], which look a name up. What a socket carries, and who comes, no contract
-//! says. Proved are that an address is the first IPv4 one of those that a look-up gave, how many an acceptor accepts, that an
-//! input drops and repeats no byte of its stream, what is done after a pump, and that a stopwatch never goes back.
+//! No call of these blocks except [`bind`] and [`first_address`], which look a name up. No contract says what a socket carries, or who
+//! connects. The contracts say that an address is the first IPv4 one of those that a look-up found, and how many connections an acceptor
+//! accepts. They say that an input drops and repeats no byte of its stream, what is done after a pump, and that a stopwatch never goes
+//! back.
 //!
 //! # Clients
 //!
-//! Who is admitted, who goes on, who is idle, and the rounds of a program's poll.
+//! This part admits clients, closes idle ones, and runs the rounds of a program's poll.
 //!
-//! [`serve_rounds`] is the loop of a server and of a proxy: it waits for the sockets, notes who comes to the listener, lets in
-//! as many as a round does, and has what implements [`Rounds`] do the rest. [`Clients`] are those who were let in, as
-//! [`Client`]s, with the queue of those that go on though nothing happens, and with what is known of how long each was idle.
-//! What serves them is a [`Handler`]: it admits a client, carries its bytes and says what is done with it then. [`patience`] says
-//! how long a round waits, and a [`Report`] what was done. A [`Room`] is how many clients the open files of a program allow, and a
-//! [`Listed`] who is connected, at most [`LIST_LEN`] clients at a time.
+//! [`serve_rounds`] is the loop of a server and of a proxy. It waits for the sockets, records who connects to the listener, lets in as many
+//! clients as a round does, and leaves the rest to an implementation of [`Rounds`]. [`Clients`] are the [`Client`]s that were let in, with
+//! the queue of those that go on without an event, and with how long each was idle. A [`Handler`] serves them: it admits a client, carries
+//! its bytes and returns what is done with it next. [`patience`] returns how long a round waits, and a [`Report`] says what was done. A
+//! [`Room`] is how many clients the open files of a program allow, and a [`Listed`] which clients are connected, at most [`LIST_LEN`] at a
+//! time.
 //!
-//! A client is served once its first bytes are known not to be a stranger's ([`opening_of`]), and read through a [`Guard`],
-//! which reads no line that shows a stranger ([`FirstLine`]). A stranger is closed, and that is said on standard error
-//! ([`Clients::tell`]).
+//! A client is served once its first bytes are known not to be a stranger's ([`opening_of`]). It is read through a [`Guard`], which reads
+//! no line that shows a stranger ([`FirstLine`]). A stranger is closed, and a line on standard error says so ([`Clients::tell`]).
 //!
-//! [`serve_rounds`] waits, and may wait for ever; no other of these calls does. Proved is that they are safe, that each but [`serve_rounds`] ends, and that no read of a [`Guard`] gives the whole first line of a
-//! stranger, in whatever pieces it comes.
+//! [`serve_rounds`] blocks, possibly for ever; of the other calls only those that print on standard error may. It is proved that they are
+//! safe, and that each except [`serve_rounds`] ends. It is proved too that no read of a [`Guard`] returns the whole first line of a
+//! stranger, in pieces of any size.
 //!
 //! # Operators
 //!
-//! They are in the poll of a program that serves others.
+//! Operators are in the poll of a program that serves others.
 //!
-//! [`Operators`] are a listener of their own and at most [`MAX_OPERATORS`] connections. A program has them register and accept before a
-//! round ([`Operators::before`]), notes the events of their tokens ([`Operators::note`]), and serves them at the end of a round
-//! ([`Operators::serve`]), where one [is stirred](Operators::is_stirred), by what it says of itself ([`mc_admin::Sheet`]).
+//! [`Operators`] are a listener of their own and at most [`MAX_OPERATORS`] connections. A program makes them register and accept before a
+//! round ([`Operators::before`]), and records the events of their tokens ([`Operators::note`]). At the end of a round, if one [is
+//! stirred](Operators::is_stirred), it answers them by its report ([`mc_admin::Sheet`], [`Operators::serve`]).
 //!
-//! Nobody else waits for them: all that is done for operators in a second is a bounded number of steps ([`STEPS`]), each an accept, a
-//! read, an answer or a write. What is kept of a connection is bounded. One that has sent nothing, or taken nothing, for
-//! [`PATIENCE`] seconds is closed, after [`QUIET`] seconds if another wants its place, and one that was answered for the last time is read
-//! to its end, for at most [`LINGER`] seconds.
+//! No client waits for them: all that is done for operators in a second is a bounded number of steps ([`STEPS`]). A step is an accept, a
+//! read, an answer or a write. The memory of a connection is bounded. A connection that has sent nothing, and taken nothing, for
+//! [`PATIENCE`] seconds is closed, after [`QUIET`] seconds if another wants its place. One that got its last answer is read to its end, for
+//! at most [`LINGER`] seconds.
 //!
 //! [`process_number`], [`wall_clock`] and [`resident_memory`] are what the system says of the process.
 //!
-//! None of these calls waits but [`Operators::new`], which looks a name up. What a connection is answered is that of [`mc_admin::Talk`].
+//! No call of these blocks except [`Operators::new`], which looks a name up. A connection's answers are those of [`mc_admin::Talk`].
 //!
 //! # Strangers
 //!
-//! A stranger does not speak the text protocol: the first bytes of a connection say so.
+//! A stranger is a client that does not speak the text protocol: the first bytes of its connection say so.
 //!
-//! [`opening_of`] says of the bytes that have come first whether a stranger sends them ([`Stranger`]: HTTP, memcached's binary
-//! protocol, TLS), whether they are the text protocol, or that more must come before that is known ([`Opening`]). A stranger's bytes
-//! are none of the text protocol: a line of HTTP after the first could be a command that nobody meant. `specs/Openings.antt` says
-//! exactly which bytes are whose.
+//! [`opening_of`] returns what the first bytes of a connection are ([`Opening`]): a stranger's ([`Stranger`]: HTTP, memcached's binary
+//! protocol, TLS), the text protocol, or too few to know. A stranger's bytes are not read as the text protocol: a line of HTTP after the
+//! first could be a command that nobody meant. `specs/Openings.antt` says exactly which bytes are whose.
 //!
-//! A request of HTTP by another method has no such beginning, and one may stand behind empty lines. So [`FirstLine`] looks at the first
-//! line that is not empty, in whatever pieces it comes: a line that is no command and ends in a version of HTTP is a stranger's.
-//! `specs/FirstLines.antt` says which lines these are. Empty lines, spaces and long words are passed many bytes at a time, so that a client
-//! costs little more before its line is known than after.
+//! A request of HTTP by another method has no such beginning, and one may follow empty lines. So [`FirstLine`] looks at the first non-empty
+//! line, in pieces of any size: a line that is no command and ends in a version of HTTP is a stranger's. `specs/FirstLines.antt` says which
+//! lines these are. Empty lines, spaces and long words are passed many bytes at a time, so that a client costs little more before its line
+//! is known than after.
 //!
 //! [`what_is_settled_stays`], [`first_lines_stay`], [`openings_are_settled`], [`small_letters_are_text`] and [`commands_are_text`] are
-//! laws: where a stream is cut plays no part, after [`OPENING_LEN`] bytes its opening is known, a command in small letters has none of a
-//! stranger's, and a line that begins with a command is text once that has ended. [`openings_of_strangers`], [`openings_of_text`],
-//! [`first_lines_of_strangers`] and [`first_lines_of_text`] are examples. None of them does anything, and none of these calls takes memory.
+//! laws. It plays no part where a stream is cut, and after [`OPENING_LEN`] bytes its opening is known. A command in small letters has no
+//! opening of a stranger, and a line that begins with a command is text once that has ended. [`openings_of_strangers`],
+//! [`openings_of_text`], [`first_lines_of_strangers`] and [`first_lines_of_text`] are examples. None of them does anything, and none of
+//! these calls takes memory.
 #![tactic(auto)]
 
 mod acceptors;

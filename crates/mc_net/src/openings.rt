@@ -1,4 +1,4 @@
-//! What the first bytes of a connection say of what it speaks.
+//! Which protocol a connection speaks, by its first bytes.
 ghost use Rattle.std.specs.Prelude.{◌≡◌};
 ghost use Rattle.mc_text.specs.Forms.{or_else, text_at};
 ghost use Rattle.mc_text.specs.FormsSeen.{seen_by};
@@ -8,10 +8,10 @@ use mc_text::{Unready, text};
 use std::fmt;
 use std::fmt::{Display, Formatter};
 
-/// After so many bytes it is known who sends them: the longest opening is `OPTIONS http`.
+/// After this number of bytes it is known who sends them: the longest opening is `OPTIONS http`.
 pub const OPENING_LEN: usize = 12;
 
-/// Who does not speak the text protocol, by what it speaks. Its text says what its operator can do.
+/// A client that does not speak the text protocol, by what it speaks. Its text says what its operator can do.
 #[derive(Clone, Copy, Debug, PartialEq, Eq)]
 pub enum Stranger {
     /// HTTP: a method, a space and the beginning of a target.
@@ -35,15 +35,15 @@ impl Display for Stranger {
 /// What the first bytes of a connection are.
 #[derive(Clone, Copy, Debug, PartialEq, Eq)]
 pub enum Opening {
-    /// They may yet be a stranger's: more must come, or the end.
+    /// They may yet be a stranger's: more bytes must arrive, or the end.
     Unsettled,
-    /// They are the text protocol, or a fault in it.
+    /// They are the text protocol, or an error in it.
     Text,
     /// They are a stranger's.
     Strange(Stranger),
 }
 
-/// What the first bytes of a connection are.
+/// Returns what the first bytes of a connection are.
 #[tactic(auto, unfolding(crate::specs::Openings::opening_of))]
 pub fn opening_of(bytes: &[u8]) -> Opening
     ensures { result ≡ opening_of bytes.now }
@@ -56,7 +56,7 @@ pub fn opening_of(bytes: &[u8]) -> Opening
     }
 }
 
-/// What bytes are of which this is read as a request of HTTP.
+/// Returns what bytes are, given this attempt to read them as a request of HTTP.
 fn opening_by(seen: Result<&[u8], Unready>) -> Opening
     ensures { result ≡ opening_by (seen_by (λ rest. rest.now) seen.entry) }
 {
@@ -67,14 +67,14 @@ fn opening_by(seen: Result<&[u8], Unready>) -> Opening
     }
 }
 
-/// The bytes after the beginning of a request of HTTP.
+/// Returns the bytes after the beginning of a request of HTTP.
 fn http(bytes: &[u8]) -> Result<&[u8], Unready>
     ensures { seen_by (λ rest. rest.now) result ≡ http_at bytes.now }
 {
     text_or(b"OPTIONS *", bytes, request(bytes))
 }
 
-/// The bytes after a method of HTTP, a space and the beginning of a path or of an address in full.
+/// Returns the bytes after a method of HTTP, a space and the beginning of a path or of an address in full.
 fn request(bytes: &[u8]) -> Result<&[u8], Unready>
     ensures { seen_by (λ rest. rest.now) result ≡ request_at bytes.now }
 {
@@ -82,7 +82,7 @@ fn request(bytes: &[u8]) -> Result<&[u8], Unready>
     text_or(b"/", target, text(b"http", target))
 }
 
-/// The bytes after a method of HTTP and a space.
+/// Returns the bytes after a method of HTTP and a space.
 fn method(bytes: &[u8]) -> Result<&[u8], Unready>
     ensures { seen_by (λ rest. rest.now) result ≡ method_at bytes.now }
 {
@@ -95,7 +95,7 @@ fn method(bytes: &[u8]) -> Result<&[u8], Unready>
     text_or(b"GET ", bytes, seen)
 }
 
-/// The bytes after a text; where it does not stand there, and cannot come to, what else was read.
+/// Returns the bytes after a text; if the text is not at the front, and cannot be, the other reading.
 fn text_or<'a>(
     one: &[u8],
     bytes: &'a [u8],

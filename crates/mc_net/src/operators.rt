@@ -22,7 +22,7 @@ pub const MAX_OPERATORS: usize = 16;
 /// The token of the listener. A program's own listener has the one after it.
 const LISTENER: usize = usize::MAX - 1;
 
-/// The token of the connection whose key is 0. No other socket has that of a key.
+/// The token of the connection whose key is 0. No other socket has the token of a key.
 const FIRST: usize = LISTENER - MAX_OPERATORS;
 
 /// The listener of operators, if there is one, and their connections.
@@ -37,7 +37,7 @@ pub struct Operators {
     /// Another name by which a request of HTTP may call the program; empty for none.
     name: Vec<u8>,
     seats: Slab<Seat>,
-    /// What reads fill: made once.
+    /// The buffer of all reads, made once.
     piece: Vec<u8>,
     budget: Budget,
     /// The second of the round.
@@ -46,7 +46,7 @@ pub struct Operators {
     stirred: bool,
     /// Whether something may be done for a connection, or one may wait to be accepted.
     awake: bool,
-    /// In which second a connection has waited for too long, or something is to be done, at the earliest.
+    /// The second in which a connection has waited for too long, or something must be done, at the earliest.
     due: Option<u64>,
     /// The key of the connection to which clients are listed in this round, or were last.
     listed: usize,
@@ -54,8 +54,8 @@ pub struct Operators {
 }
 
 impl Operators {
-    /// No connection yet, at a listener where words ask for one; without one nobody comes. A request of HTTP may call the program by the
-    /// host of the listener, and by another name that the words say.
+    /// Makes a listener if words ask for one, and no connection yet; without a listener no operator connects. A request of HTTP may call
+    /// the program by the host of the listener, and by another name that the words say.
     pub fn new<R: Net>(
         rt: &R,
         alloc: Global,
@@ -79,7 +79,7 @@ impl Operators {
         })
     }
 
-    /// How many files it has open at most.
+    /// Returns how many files it has open at most.
     pub fn files(&self) -> u64 {
         if self.acceptor.is_some() {
             MAX_OPERATORS as u64 + 1
@@ -88,15 +88,15 @@ impl Operators {
         }
     }
 
-    /// Whether a token is the listener's or a connection's.
+    /// Returns whether a token is the listener's or a connection's.
     #[inline(always)]
     pub fn has(&self, token: Token) -> bool {
         let Token(number) = token;
         number >= FIRST && number <= LISTENER
     }
 
-    /// Does what is to be done before a round of a second: the listener is registered, connections are accepted, and those are closed
-    /// that have waited for too long. Where nothing has happened in this second, it costs a test.
+    /// Does what is due before the round of a second: registers the listener, accepts connections, and closes those that have waited for
+    /// too long. If nothing has happened in this second, it costs a test.
     #[inline(always)]
     pub fn before(&mut self, registry: &Registry, second: u64) {
         if self.awake || !self.registered || second != self.second {
@@ -104,7 +104,7 @@ impl Operators {
         }
     }
 
-    /// Does what is to be done before a round.
+    /// Does what is due before a round.
     #[inline(never)]
     fn prepare(&mut self, registry: &Registry, second: u64) {
         for key in 0..MAX_OPERATORS {
@@ -134,7 +134,7 @@ impl Operators {
         }
     }
 
-    /// Notes what is left to do, and when.
+    /// Records what is left to do, and when.
     fn settle(&mut self) {
         self.awake = self.stirred || self.backlog() != Backlog::Nobody;
         let next = self.awake.then_some(self.second.saturating_add(1));
@@ -144,7 +144,7 @@ impl Operators {
             .fold(next, |due, (_, seat)| earlier(due, Some(seat.due())));
     }
 
-    /// Has the poll report the listener, where it does not yet.
+    /// Makes the poll report the listener, if it does not yet.
     fn register(&mut self, registry: &Registry) {
         if !self.registered
             && let Some(acceptor) = &mut self.acceptor
@@ -153,7 +153,7 @@ impl Operators {
         }
     }
 
-    /// What is known of the connections that wait to be accepted.
+    /// Returns what is known of the connections that wait to be accepted.
     fn backlog(&self) -> Backlog {
         match &self.acceptor {
             Some(acceptor) => acceptor.backlog(),
@@ -161,7 +161,7 @@ impl Operators {
         }
     }
 
-    /// The next connection that waits.
+    /// Returns the next connection that waits.
     fn accept(&mut self) -> Option<TcpStream> {
         match &mut self.acceptor {
             Some(acceptor) => acceptor.accept(),
@@ -188,7 +188,7 @@ impl Operators {
         }
     }
 
-    /// Takes a connection in. One for which there is no place or no memory is closed at once.
+    /// Takes a connection in. If there is no place or no memory for it, it is closed at once.
     fn admit(&mut self, registry: &Registry, mut stream: TcpStream) {
         self.make_room();
         let key = self.seats.vacant_key();
@@ -203,12 +203,12 @@ impl Operators {
             return;
         }
         if let Ok(seat) = Seat::new(self.alloc, stream, self.second) {
-            // One for which there is no memory is closed.
+            // Without memory for it, the connection is closed.
             let _ = self.seats.insert(seat);
         }
     }
 
-    /// Notes an event of one of its tokens.
+    /// Records an event of one of its tokens.
     pub fn note(&mut self, event: &Event) {
         self.awake = true;
         let Token(number) = event.token();
@@ -227,13 +227,13 @@ impl Operators {
         }
     }
 
-    /// Whether something may be done for a connection in this second.
+    /// Returns whether something may be done for a connection in this second.
     pub fn is_stirred(&self) -> bool {
         self.stirred && self.budget.has(self.second)
     }
 
-    /// From which place on clients are to be listed for this round, if a connection has asked who is connected: one a round, each in turn.
-    /// What `serve` is given next is for it alone.
+    /// Returns the place from which clients must be listed for this round, if a connection has asked which are connected: one connection a
+    /// round, each in turn. The next list that `serve` gets is for it alone.
     pub fn listing(&mut self) -> Option<usize>
         ensures from { result ≡ option_map (λ found. found.1) (next_listing self.old.seats self.old.listed) }
         ensures rest { self.new ≡ record self.old { listed = listed_by (next_listing self.old.seats self.old.listed) self.old.listed } }
@@ -247,7 +247,8 @@ impl Operators {
         Some(from)
     }
 
-    /// The first connection from a key on, and before another, that has asked who is connected: its key, and from which place on.
+    /// Returns the first connection from a key on, and before another, that has asked which clients are connected: its key, and from which
+    /// place on.
     #[tactic(auto, using(crate::proofs::ListingLemmas::first_next))]
     fn listing_in(&self, first: usize, end: usize) -> Option<(usize, usize)>
         ensures { result ≡ first_listing self.now.seats first (end - first) }
@@ -263,8 +264,8 @@ impl Operators {
         None
     }
 
-    /// Serves the connections for which something may be done, by what the program says of itself. The second of the round is known to the
-    /// next one, which notes it of those that sent or took something.
+    /// Serves the connections for which something may be done, by the program's report. The second of the round is known to the next
+    /// round, which records it for those that sent or took something.
     pub fn serve(&mut self, sheet: &Sheet<'_>) {
         self.stirred = false;
         for key in 0..MAX_OPERATORS {
@@ -304,7 +305,7 @@ impl Operators {
         }
     }
 
-    /// Closes the connections for which something may be done: there is no memory to say what they ask for.
+    /// Closes the connections for which something may be done: there is no memory for their answers.
     pub fn turn_away(&mut self) {
         self.stirred = false;
         for key in 0..MAX_OPERATORS {
@@ -315,17 +316,17 @@ impl Operators {
         self.settle();
     }
 
-    /// Whether it goes on in this second, though nothing happens.
+    /// Returns whether it goes on in this second, even without an event.
     pub fn goes_on(&self) -> bool {
         self.awake && self.has_work() && self.budget.has(self.second)
     }
 
-    /// Whether something may be done for a connection, or more wait to be accepted.
+    /// Returns whether something may be done for a connection, or more wait to be accepted.
     fn has_work(&self) -> bool {
         self.stirred || self.backlog() == Backlog::More
     }
 
-    /// In which second something is to be done unasked, at the earliest.
+    /// Returns the second in which something must be done without an event, at the earliest.
     pub fn due(&self) -> Option<u64> {
         self.due
     }
@@ -344,7 +345,7 @@ impl Operators {
     }
 }
 
-/// The listener that words ask for; none where they ask for none.
+/// Makes the listener that words ask for; none if they ask for none.
 fn acceptor_at<R: Net>(rt: &R, admin: &AdminTerms<'_>) -> Result<Option<Acceptor>, ServeError> {
     let Some(place) = admin.listen else {
         return Ok(None);

@@ -1,4 +1,4 @@
-//! Where the bytes of a connection have come to in its first line that is not empty.
+//! How far the bytes of a connection are in its first non-empty line.
 ghost use Rattle.std.specs.Prelude.{ℕ, List, ◌≡◌, ◌≢◌, ◌++◌, ◌∷◌, [], true, take, length, ◌<◌, ◌≤◌, if◌then◌else◌};
 ghost use Rattle.mc_net.specs.FirstLines.{first_line_says, is_command, is_version};
 ghost use Rattle.mc_net.specs.FirstWords.{is_word};
@@ -12,7 +12,7 @@ use crate::spaces::without_blanks;
 use mc_text::content_to;
 use memchr::memchr;
 
-/// Where the bytes of a connection have come to in its first line that is not empty.
+/// How far the bytes of a connection are in its first non-empty line.
 #[derive(Clone, Copy, Debug)]
 pub enum Place {
     /// Before it, or in its first word.
@@ -26,7 +26,7 @@ pub enum Place {
 }
 
 impl Place {
-    /// What the bytes are. Once that is known, nothing that follows says more.
+    /// Returns what the bytes are. Once that is known, nothing that follows says more.
     pub fn opening(self) -> Opening
         ensures says { result ≡ first_line_says (place_text self) }
         ensures stays { result ≢ Opening.Unsettled → (more : List ℕ) → SaysTheSame (place_text self ++ more) (place_text self) }
@@ -39,8 +39,8 @@ impl Place {
         }
     }
 
-    /// The place after the first of some bytes, or after several, and the bytes that are left: after them too it says what it said, and
-    /// what the bytes say.
+    /// Returns the place after the first of some bytes, or after several, and the bytes that are left. The new place says of those what
+    /// the old one says of all.
     pub fn pass(self, bytes: &[u8]) -> (Place, &[u8])
         requires { 0 < length bytes.now }
         ensures says { SaysTheSame (place_text self ++ bytes.now) (place_text result.0 ++ result.1.now) }
@@ -55,7 +55,7 @@ impl Place {
     }
 }
 
-/// The place after a first word, if there is one, and a byte more, and the bytes after it. Empty lines and spaces in front of
+/// Returns the place after a first word, if there is one, and a byte more, and the bytes after it. Empty lines and spaces in front of
 /// the word are passed.
 fn after_first(word: FirstWord, bytes: &[u8]) -> (Place, &[u8])
     requires { 0 < length bytes.now }
@@ -68,7 +68,7 @@ fn after_first(word: FirstWord, bytes: &[u8]) -> (Place, &[u8])
     }
 }
 
-/// The bytes that count after a first word, or after none: then without the empty lines and the spaces in front of them.
+/// Returns the bytes that count after a first word, or after none: then without the empty lines and the spaces in front of them.
 fn behind(word: FirstWord, bytes: &[u8]) -> &[u8]
     ensures says { SaysTheSame (take word.len word.bytes ++ bytes.now) (take word.len word.bytes ++ result.now) }
     ensures shorter { length result.now ≤ length bytes.now }
@@ -80,7 +80,7 @@ fn behind(word: FirstWord, bytes: &[u8]) -> &[u8]
     }
 }
 
-/// The place after the end of a line and what more of it has come, its line feed included, and the bytes after that.
+/// Returns the place after the end of a line and more bytes of it, its line feed included, and the bytes after that.
 fn after_later(ending: Ending, bytes: &[u8]) -> (Place, &[u8])
     requires { 0 < length bytes.now }
     ensures says { SaysTheSame (place_text (Place.Later ending) ++ bytes.now) (place_text result.0 ++ result.1.now) }
@@ -96,7 +96,7 @@ fn after_later(ending: Ending, bytes: &[u8]) -> (Place, &[u8])
     }
 }
 
-/// The place after the line feed of a line that ends so.
+/// Returns the place after the line feed of a line that ends so.
 fn at_end(ending: Ending) -> Place
     ensures { SaysTheSame (place_text (Place.Later ending) ++ 10 ∷ []) (place_text result) }
 {
@@ -107,7 +107,7 @@ fn at_end(ending: Ending) -> Place
     }
 }
 
-/// The place after a first word and a byte more.
+/// Returns the place after a first word and a byte more.
 fn after_word(word: FirstWord, byte: u8) -> Place
     ensures { SaysTheSame (take word.len word.bytes ++ byte ∷ []) (place_text result) }
 {
@@ -119,7 +119,7 @@ fn after_word(word: FirstWord, byte: u8) -> Place
     }
 }
 
-/// The place after a line of one word, or none.
+/// Returns the place after a line of one word, or none.
 fn after_line(word: &[u8]) -> Place
     requires { is_word word.now ≡ true }
     ensures { SaysTheSame (word.now ++ 10 ∷ []) (place_text result) }
@@ -136,7 +136,7 @@ fn after_line(word: &[u8]) -> Place
     }
 }
 
-/// The place after a first word, if there is one, and a space.
+/// Returns the place after a first word, if there is one, and a space.
 fn after_space(word: FirstWord) -> Place
     ensures { SaysTheSame (take word.len word.bytes ++ 32 ∷ []) (place_text result) }
 {
@@ -150,7 +150,7 @@ fn after_space(word: FirstWord) -> Place
     }
 }
 
-/// The end of a line whose first word begins so.
+/// Returns the end of a line whose first word begins so.
 fn ending_of(word: &[u8]) -> Ending
     ensures { result ≡ (if is_version word.now then Ending.Version else Ending.Other) }
 {

@@ -5,18 +5,19 @@ use std::io::Read;
 use std::rt::Clock;
 use std::time::{SystemTime, UNIX_EPOCH};
 
-/// Where the system says how many pages of memory this process has, in words: the second is how many of them are in memory.
+/// The file in which the system says how many pages of memory this process has, in words: the second is how many of them
+/// are in memory.
 const PAGES: &str = "/proc/self/statm";
 
 /// The most bytes that are read of it.
 const PAGES_LEN: usize = 256;
 
-/// The number of the process.
+/// Returns the number of the process.
 pub fn process_number() -> u64 {
     u64::from(libc::getpid().unsigned_abs())
 }
 
-/// The wall clock: whole seconds since 1970; 0 where it is before 1970, or cannot be read.
+/// Returns the wall clock: whole seconds since 1970; 0 if it is before 1970, or cannot be read.
 pub fn wall_clock<R: Clock>(rt: &R) -> u64 {
     let since = SystemTime::now(rt)
         .ok()
@@ -24,7 +25,7 @@ pub fn wall_clock<R: Clock>(rt: &R) -> u64 {
     since.map_or(0, |since| since.as_secs())
 }
 
-/// The memory that the process takes now, in bytes; none if the system does not say.
+/// Returns the memory that the process takes now, in bytes; none if the system does not say.
 pub fn resident_memory<R: Files>(rt: &R) -> Option<u64> {
     let mut text = [0; PAGES_LEN];
     let mut file = File::open(rt, PAGES).ok()?;

@@ -1,11 +1,11 @@
-//! What a program has done for its clients, as it is said.
+//! What a program has done for its clients, as it is printed.
 
 use mc_admin::ClientFigures;
 use mc_stream::Tally;
 use std::fmt;
 use std::fmt::{Display, Formatter};
 
-/// What a program has done for its clients, as it is said: words `<key>=<value>`, a space between two.
+/// What a program has done for its clients, as it is printed: words `<key>=<value>`, with a space between two.
 #[derive(Clone, Copy, Debug)]
 pub struct Report {
     /// For how many seconds it has served.
@@ -14,15 +14,15 @@ pub struct Report {
     pub connections: usize,
     /// How many clients were accepted.
     pub accepted: u64,
-    /// How many of these were closed as they came: there was no place or no memory for them, or they were strangers.
+    /// How many of these were closed as they connected: there was no place or no memory for them, or they were strangers.
     pub refused: u64,
     /// Requests, and bytes of clients.
     pub tally: Tally,
 }
 
 impl Report {
-    /// The same as figures, of a process of this number at a time in seconds since 1970, which takes so much memory and serves so many
-    /// clients at most.
+    /// Returns the report as figures. The process has this number at a time in seconds since 1970, takes `resident` bytes and serves
+    /// `most` clients at most.
     pub fn figures(
         &self,
         pid: u64,

@@ -16,53 +16,53 @@ const LISTENER: Token = Token(usize::MAX);
 /// The most events of a round.
 const MAX_EVENTS: usize = 1024;
 
-/// The most clients that are let in in a round.
+/// The most clients that a round lets in.
 const MAX_ACCEPTS: u32 = 64;
 
-/// How long a round waits at most where something is soon to be done unasked: in milliseconds.
+/// How long a round waits at most if something must soon be done without an event, in milliseconds.
 const PATIENCE: u64 = 1000;
 
-/// A round that waits because something is to be done unasked waits at most so many milliseconds.
+/// How long a round waits at most if something must be done without an event, in milliseconds.
 const MOST_PATIENCE: u64 = 3_600_000;
 
 /// What a program on a runtime does in the rounds of its poll, in this order, by a clock.
 pub trait Rounds<R, C> {
-    /// Is told once, before the first round, that all is reserved which the rounds need, and that the listener is registered.
+    /// Begins to serve: called once, before the first round, when all that the rounds need is reserved, and the listener is registered.
     fn ready(&mut self, _rt: &R) {}
 
-    /// Does what is to be done before a round, and says how long the round waits: for ever where it says nothing. It is told what
-    /// is known of the clients that wait at the listener.
+    /// Does what is due before a round, and returns how long the round waits: for ever if it returns nothing. `backlog` is what is known of
+    /// the clients that wait at the listener.
     fn before(&mut self, rt: &R, registry: &Registry, backlog: Backlog) -> Option<Duration>;
 
-    /// Comes to the moment of a round, once it has waited, and serves those who go on.
+    /// Begins a round, once it has waited, at its moment, and serves the clients that go on.
     fn begin(&mut self, rt: &R, clock: &mut C);
 
-    /// Does what an event asks for, of any socket but the listener's.
+    /// Handles an event of any socket except the listener's.
     fn wake(&mut self, event: &Event);
 
     /// Does what the events of a round leave to be done together.
     fn carry_on(&mut self, registry: &Registry);
 
-    /// Whether clients may come in.
+    /// Returns whether clients may be let in.
     fn is_open(&self) -> bool;
 
-    /// Lets a client in. With it, so many were accepted.
+    /// Lets a client in: with it, `accepted` were accepted.
     fn admit(&mut self, rt: &R, registry: &Registry, stream: TcpStream, accepted: u64);
 
-    /// Does what is due unasked at the end of a round. So many clients were accepted.
+    /// Does what is due without an event at the end of a round, after `accepted` clients were accepted.
     fn finish(&mut self, rt: &R, accepted: u64);
 
-    /// Whether nobody is served, and nobody waits to be.
+    /// Returns whether no client is served, and none waits to be.
     fn is_empty(&self) -> bool;
 
-    /// Why it serves no longer after a round.
+    /// Returns why it stops serving after a round, if it does.
     fn failed(&self) -> Option<ServeError> {
         None
     }
 }
 
-/// Goes round until as many clients as are to be accepted have come, and nobody is served any more; with 0 for ever, or until the host says
-/// why it serves no longer.
+/// Runs rounds until the acceptor is shut and no client is served any more; with 0 for ever, or until the host says why it stops
+/// serving.
 pub fn serve_rounds<R: Net + Wait, C, H: Rounds<R, C>>(
     rt: &R,
     alloc: Global,
@@ -79,7 +79,7 @@ pub fn serve_rounds<R: Net + Wait, C, H: Rounds<R, C>>(
     go_round(rt, &mut poll, &mut events, &mut acceptor, clock, host)
 }
 
-/// Goes round over what was made for it.
+/// Runs rounds over what was made for them.
 fn go_round<R: Net + Wait, C, H: Rounds<R, C>>(
     rt: &R,
     poll: &mut Poll,
@@ -106,7 +106,7 @@ fn go_round<R: Net + Wait, C, H: Rounds<R, C>>(
     unreachable!()
 }
 
-/// Does what the events of a round ask for.
+/// Handles the events of a round.
 #[inline(always)]
 fn wake_all<R, C, H: Rounds<R, C>>(events: &Events, acceptor: &mut Acceptor, host: &mut H) {
     for event in events.iter() {
@@ -136,8 +136,8 @@ fn let_in<R, C, H: Rounds<R, C>>(
     }
 }
 
-/// How long a round waits: not at all where somebody goes on, a second at most where something is soon to be done unasked, and
-/// else until something is due, in so many milliseconds; for ever where nothing is.
+/// Returns how long a round waits: not at all if a client goes on, and for ever if nothing is due. Otherwise it waits until something is
+/// due, in `left` milliseconds, but a second at most if something must soon be done without an event.
 pub fn patience(goes_on: bool, soon: bool, left: Option<u64>) -> Option<Duration> {
     if goes_on {
         return Some(Duration::from_millis(0));

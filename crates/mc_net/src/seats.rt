@@ -13,13 +13,14 @@ use std::alloc::{AllocError, Global};
 use std::mem;
 use std::net::Shutdown;
 
-/// After how many seconds a connection is closed that sent nothing, and took nothing of its answer.
+/// The seconds after which a connection is closed that sent nothing, and took nothing of its answer.
 pub const PATIENCE: u64 = 60;
 
 /// A connection that sent nothing, and took nothing, for more seconds makes room for another one, if all places are taken.
 pub const QUIET: u64 = 5;
 
-/// For how many seconds a connection is read to its end once its last answer was sent: one that is closed with bytes unread may lose it.
+/// The seconds for which a connection is read to its end once its last answer was sent: one that is closed with bytes unread may lose
+/// that answer.
 pub const LINGER: u64 = 2;
 
 /// The most turns of a connection in a round.
@@ -33,20 +34,20 @@ pub struct Seat {
     own: String,
     talk: Talk,
     edge: Edge,
-    /// Whether its last answer was sent: what comes is dropped.
+    /// Whether its last answer was sent: bytes that arrive are dropped.
     over: bool,
     /// Whether something may be done for it.
     pub stirred: bool,
-    /// From which place on clients are listed to it next, if it has asked who is connected.
+    /// The place from which clients are listed to it next, if it has asked which are connected.
     listing: Option<usize>,
-    /// In which second it sent or took something last, or was over.
+    /// The second in which it sent or took something last, or was over.
     used: u64,
     /// Whether that was in this round: the round has waited since that second.
     fresh: bool,
 }
 
 impl Seat {
-    /// A connection to which nothing has come, by its socket.
+    /// Makes a connection to which no byte has arrived, by its socket.
     pub fn new(alloc: Global, stream: TcpStream, second: u64) -> Result<Seat, AdminError> {
         let own = own_address(alloc, &stream)?;
         Ok(Seat {
@@ -62,31 +63,31 @@ impl Seat {
         })
     }
 
-    /// Notes what an event says.
+    /// Records what an event says.
     pub fn note(&mut self, event: &Event) {
         self.edge.note(event);
         self.stirred = true;
     }
 
-    /// In which second it sent or took something last, or was over.
+    /// Returns the second in which it sent or took something last, or was over.
     pub fn used(&self) -> u64 {
         self.used
     }
 
-    /// Notes in which second the round was in which it sent or took something, if that was the last one.
+    /// Records the second of the round in which it sent or took something, if that was the last one.
     pub fn settle(&mut self, second: u64) {
         if mem::replace(&mut self.fresh, false) {
             self.used = second;
         }
     }
 
-    /// In which second it is closed, unless it sends or takes something before.
+    /// Returns the second in which it is closed, unless it sends or takes something before.
     pub fn due(&self) -> u64 {
         let patience = if self.over { LINGER } else { PATIENCE };
         self.used.saturating_add(patience).saturating_add(1)
     }
 
-    /// From which place on clients are to be listed to it, if it has asked who is connected and all before was sent.
+    /// Returns the place from which clients must be listed to it, if it has asked which are connected and all before was sent.
     pub fn listing(&self) -> Option<usize>
         ensures { result ≡ listing_of self.now }
     {
@@ -97,8 +98,8 @@ impl Seat {
         }
     }
 
-    /// Serves it for some turns, and says what is done with it then. Its own hosts are that of the listener, a name that was given, and
-    /// the address at which it came. One that waits for a part of a list of clients goes on once it is given one.
+    /// Serves it for some turns, and returns what is done with it next. Its own hosts are that of the listener, a name that was given,
+    /// and the address at which it connected. If it waits for a part of a list of clients, it goes on once it gets one.
     pub fn serve(
         &mut self,
         listen: &[u8],
@@ -132,7 +133,7 @@ impl Seat {
         Step::GoOn
     }
 
-    /// Sends of its answer what the socket takes; nothing is said where it goes on.
+    /// Sends as much of its answer as the socket takes; returns none if it goes on.
     fn send(&mut self, second: u64) -> Option<Step> {
         let mut output = &self.stream;
         let sent = match write_once(&mut output, self.talk.output()) {
@@ -148,13 +149,13 @@ impl Seat {
         self.fresh = true;
         if self.talk.is_closing() && self.talk.output().is_empty() {
             self.over = true;
-            // Where the system refuses it, it is closed all the same.
+            // If the system refuses it, the connection is closed all the same.
             let _ = self.stream.shutdown(Shutdown::Write);
         }
         None
     }
 
-    /// Reads what has come; of one that is over it is dropped. Nothing is said where it goes on.
+    /// Reads the bytes that have arrived; those of one that is over are dropped. It returns none if the connection goes on.
     fn read(&mut self, piece: &mut [u8], second: u64) -> Option<Step>
         requires { 0 < length piece.old }
     {
@@ -177,7 +178,7 @@ impl Seat {
         }
     }
 
-    /// Takes in what has come; of one that is over it is dropped.
+    /// Takes the bytes that were read; those of one that is over are dropped.
     fn take(&mut self, came: &[u8], second: u64) -> Option<Step> {
         if self.over {
             return None;
@@ -190,7 +191,7 @@ impl Seat {
         Some(Step::Close)
     }
 
-    /// Goes on with what was read. Nothing is said where it goes on.
+    /// Goes on with what was read. It returns none if the connection goes on.
     fn answer(&mut self, listen: &[u8], name: &[u8], sheet: &mut Sheet<'_>) -> Option<Step> {
         if !self.talk.output().is_empty() {
             return None;
@@ -214,7 +215,7 @@ impl Seat {
     }
 }
 
-/// The address at which a connection came, as text; empty where the system does not say it.
+/// Returns the address at which a connection arrived, as text; empty if the system does not say it.
 fn own_address(alloc: Global, stream: &TcpStream) -> Result<String, AllocError> {
     match stream.local_addr() {
         Ok(address) => address.ip().to_string(alloc),

@@ -1,11 +1,11 @@
-//! Spaces and empty lines in front of a text: they count for nothing.
+//! Spaces and empty lines in front of a text: they are ignored.
 ghost use Rattle.std.specs.Prelude.{◌≡◌, ◌<◌, ◌≤◌, ◌∷◌, IfSome, length};
 ghost use Rattle.mc_net.specs.Places.{SaysTheSame};
 
 use mc_text::{LANES, without_spaces};
 use std::simd::prelude::*;
 
-/// A text that begins a line, without the empty lines in front of it and the spaces after them.
+/// Returns a text that begins a line, without the empty lines in front of it and the spaces after them.
 pub(crate) fn without_blanks(text: &[u8]) -> &[u8]
     ensures says { SaysTheSame text.now result.now }
     ensures shorter { length result.now ≤ length text.now }
@@ -17,7 +17,7 @@ pub(crate) fn without_blanks(text: &[u8]) -> &[u8]
     rest
 }
 
-/// A text that begins a line, without the empty line or the spaces at its front, if one of these is there.
+/// Returns a text that begins a line, without the empty line or the spaces at its front, if any.
 #[inline(always)]
 fn after_blank(text: &[u8]) -> Option<&[u8]>
     ensures says { IfSome result (λ rest. SaysTheSame text.now rest.now) }
@@ -32,7 +32,7 @@ fn after_blank(text: &[u8]) -> Option<&[u8]>
     }
 }
 
-/// A text without the line feed at its front, if one is there.
+/// Returns a text without the line feed at its front, if any.
 #[inline(always)]
 fn after_feed(text: &[u8]) -> Option<&[u8]>
     ensures { IfSome result (λ rest. text.now ≡ 10 ∷ rest.now) }
@@ -43,8 +43,8 @@ fn after_feed(text: &[u8]) -> Option<&[u8]>
     }
 }
 
-/// How many bytes may be passed from the end of a text backwards, as none of them is the first of a word behind a space: 16 that are
-/// spaces, or of which none is one, or else the last byte.
+/// Returns how many bytes may be passed from the end of a text backwards, as none of them is the first of a word behind a space.
+/// These are 16 that are all spaces, or 16 without a space, or else the last byte.
 #[inline(always)]
 pub(crate) fn alike_at_end(text: &[u8]) -> usize
     requires { 0 < length text.now }
@@ -58,7 +58,7 @@ pub(crate) fn alike_at_end(text: &[u8]) -> usize
     if are_alike(last) { LANES } else { 1 }
 }
 
-/// Whether the first 16 bytes are spaces, or none of them is one. Whichever it says costs time, and nothing else.
+/// Returns whether the first 16 bytes are all spaces, or none of them is one. A wrong answer costs time only.
 #[inline(always)]
 fn are_alike(text: &[u8]) -> bool
     requires { LANES ≤ length text.now }

@@ -7,15 +7,15 @@ use mc_stream::Pumped;
 /// What is done with a client after its pump.
 #[derive(Clone, Copy, Debug, PartialEq, Eq)]
 pub enum Step {
-    /// It is served again in the next round, though nothing happens to it.
+    /// It is served again in the next round, even without an event.
     GoOn,
-    /// It waits until something happens to it.
+    /// It waits until it has an event.
     Wait,
     /// It is closed.
     Close,
 }
 
-/// What is done with a client whose pump left it so. One that is over, or has failed, is closed, and nobody else is.
+/// Returns what is done with a client whose pump ended so. It is closed if it is over or has failed, and only then.
 pub fn step_after(pump: Pumped) -> Step
     ensures { result ≡ step_after pump }
 {

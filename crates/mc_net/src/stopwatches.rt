@@ -7,7 +7,7 @@ use std::rt::Clock;
 use std::time::{Duration, Instant};
 
 /// How long a program has served, in milliseconds of a clock that nobody sets. It never goes back. Contracts see the
-/// milliseconds that it told last.
+/// milliseconds that it returned last.
 #[derive(Drop)]
 pub struct Stopwatch {
     start: Option<Instant>,
@@ -21,7 +21,7 @@ impl Model for Stopwatch {
 }
 
 impl Stopwatch {
-    /// It starts now.
+    /// Starts a stopwatch now.
     pub fn new<R: Clock>(rt: &R) -> Stopwatch
         ensures { result ≡ 0 }
     {
@@ -31,8 +31,8 @@ impl Stopwatch {
         }
     }
 
-    /// The milliseconds since it started, and never fewer than it told before. Where the monotonic clock cannot be read, each
-    /// call is a second later than the one before.
+    /// Returns the milliseconds since it started, and never fewer than it returned before. If the monotonic clock cannot be
+    /// read, each call is a second later than the one before.
     pub fn millis<R: Clock>(&mut self, rt: &R) -> u64
         ensures told { result ≡ self.new }
         ensures never_back { self.old ≤ result }
@@ -46,7 +46,7 @@ impl Stopwatch {
     }
 }
 
-/// The whole milliseconds of a time, as far as 64 bits count.
+/// Returns the whole milliseconds of a time, as far as 64 bits count.
 fn millis_of(time: Duration) -> u64
     ensures { result ≡ min (as_nanos time / 1_000_000) (2 ^ 64 - 1) }
 {

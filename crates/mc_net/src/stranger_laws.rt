@@ -10,7 +10,7 @@ ghost use Rattle.mc_net.specs.FirstWords.{is_word};
 
 use crate::openings::{OPENING_LEN, Opening, Stranger};
 
-/// Once it is known what the bytes are, it stays so whatever comes after them: where a stream is cut plays no part.
+/// Once it is known what the bytes are, it stays so whatever follows: it plays no part where a stream is cut.
 pub fn what_is_settled_stays()
     ensures { (bytes more : List ℕ) → opening_of bytes ≢ Opening.Unsettled → opening_of (bytes ++ more) ≡ opening_of bytes }
 {}
@@ -20,7 +20,7 @@ pub fn openings_are_settled()
     ensures { (bytes : List ℕ) → OPENING_LEN ≤ length bytes → opening_of bytes ≢ Opening.Unsettled }
 {}
 
-/// What begins with a small letter is the text protocol, at the first byte: so is each of its commands.
+/// A text that begins with a small letter is the text protocol, at the first byte: so is each of its commands.
 pub fn small_letters_are_text()
     ensures { (byte : ℕ) (rest : List ℕ) → 97 ≤ byte → byte ≤ 122 → opening_of (byte ∷ rest) ≡ Opening.Text }
 {}
@@ -41,7 +41,7 @@ pub fn openings_of_strangers()
     ensures tls { opening_of (22 ∷ 3 ∷ 1 ∷ []) ≡ Opening.Strange Stranger.Tls }
 {}
 
-/// The text protocol: a command, a name in capital letters, an empty line; and what may be either yet.
+/// The text protocol: a command, a name in capital letters, an empty line; and bytes that may be either yet.
 pub fn openings_of_text()
     ensures command { opening_of (codes "get /") ≡ Opening.Text }
     ensures capitals { opening_of (codes "GET a") ≡ Opening.Text }
@@ -56,12 +56,12 @@ pub fn openings_of_text()
     ensures in_full_yet { opening_of (codes "PUT htt") ≡ Opening.Unsettled }
 {}
 
-/// Once it is known what the first line that is not empty is, it stays so whatever comes after it.
+/// Once it is known what the first non-empty line is, it stays so whatever follows.
 pub fn first_lines_stay()
     ensures { (bytes more : List ℕ) → first_line_says bytes ≢ Opening.Unsettled → first_line_says (bytes ++ more) ≡ first_line_says bytes }
 {}
 
-/// A first line that begins with a command's name is text as soon as a space has come after it.
+/// A first line that begins with a command's name is text as soon as a space has followed it.
 pub fn commands_are_text()
     ensures { (name rest : List ℕ) → is_word name ≡ true → is_some (name_of name) ≡ true → first_line_says (name ++ 32 ∷ rest) ≡ Opening.Text }
 {}
@@ -81,7 +81,7 @@ pub fn first_lines_of_strangers()
     ensures then_a_command { first_line_says (codes "X / HTTP/1.1\nset a 0 0 1\n") ≡ Opening.Strange Stranger.Http }
 {}
 
-/// First lines that are text: a command, whatever it ends in; another that ends in no version; and what may be either yet.
+/// First lines that are text: a command, whatever it ends in; another that ends in no version; and lines that may be either yet.
 pub fn first_lines_of_text()
     ensures capitals { first_line_says (codes "GET a\r\n") ≡ Opening.Text }
     ensures command { first_line_says (codes "get / HTTP/1.1\r\n") ≡ Opening.Text }

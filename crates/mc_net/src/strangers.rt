@@ -1,4 +1,4 @@
-//! Strangers: clients that do not speak the text protocol, and how it is said that they are turned away.
+//! Strangers: clients that do not speak the text protocol, and how their refusal is reported.
 
 use crate::inputs::Edge;
 use crate::openings::{OPENING_LEN, Opening, Stranger, opening_of};
@@ -8,12 +8,12 @@ use std::fmt::{Display, Formatter};
 use std::io::ErrorKind;
 use std::net::SocketAddr;
 
-/// A stranger that was turned away, as it is said: `<address> refused: <what it speaks>: <what to do>`.
+/// A stranger that was turned away, as it is printed: `<address> refused: <what it speaks>: <what to do>`.
 #[derive(Clone, Copy, Debug)]
 pub struct Refusal {
     /// What it speaks.
     pub stranger: Stranger,
-    /// Where it is, if the system still says so.
+    /// Its address, if the system still says it.
     pub address: Option<SocketAddr>,
 }
 
@@ -27,9 +27,9 @@ impl Display for Refusal {
     }
 }
 
-/// What the first bytes of a client are, which stay unread. The client's events have told its edge.
+/// Returns what the first bytes of a client are, which stay unread. Its edge has recorded the client's events.
 ///
-/// A client that has ended or failed is no stranger: whoever reads its bytes sees the end of them.
+/// A client that has ended or failed is no stranger: the reader of its bytes sees the end of them.
 pub fn opening(stream: &TcpStream, edge: Edge) -> Opening {
     if edge.is_drained() {
         return Opening::Unsettled;

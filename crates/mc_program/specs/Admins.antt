@@ -1,7 +1,7 @@
--- By which other name the listener of operators may be called: this project's own.
+-- The other name by which requests may call the listener of operators: this project's own.
 use Rattle.std.specs.Prelude.{ℕ, ◌==◌, ◌||◌, Bool, List, length}
 use Rattle.mc_text.specs.Addresses.{is_host}
 
--- none, or a host
+-- no name, or a host
 abbrev pub is_name : List ℕ → Bool
 is_name name = length name == 0 || is_host name

@@ -10,12 +10,12 @@ unit_of letter =
     else if letter == 71 || letter == 103 then Some (2 ^ 30)
     else None
 
--- so many of a unit, if 64 bits can tell
+-- this number of units, if 64 bits can hold it
 abbrev pub times : ℕ → Option ℕ → Option ℕ
 times unit None = None
 times unit (Some count) = if nat_lt (count * unit) (2 ^ 64) then Some (count * unit) else None
 
--- a word that ends with a unit's letter says so many of it, and any other is a number of bytes, or says nothing
+-- a word that ends with a unit's letter says a number of units, and any other is a number of bytes, or says nothing
 abbrev pub size_by : Option ℕ → List ℕ → Option ℕ
 size_by (Some unit) word = times unit (read_u64 (take (length word - 1) word))
 size_by None word = read_u64 word
@@ -23,11 +23,11 @@ size_by None word = read_u64 word
 abbrev pub size_of : List ℕ → Option ℕ
 size_of word = size_by (unit_of (slice_index word (length word - 1))) word
 
--- so many bytes, if they are within limits
+-- this number of bytes, if it is within limits
 abbrev pub within : ℕ → ℕ → Option ℕ → Option ℕ
 within least most None = None
 within least most (Some size) = if nat_le least size && nat_le size most then Some size else None
 
--- how many bytes a word says, if they are within limits
+-- how many bytes a word says, if that is within limits
 abbrev pub size_within : List ℕ → ℕ → ℕ → Option ℕ
 size_within word least most = within least most (size_of word)

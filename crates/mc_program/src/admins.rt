@@ -11,10 +11,10 @@ use std::alloc::Global;
 use std::fmt;
 use std::fmt::{Display, Formatter};
 
-/// On which terms operators are answered.
+/// The terms on which operators are answered.
 #[derive(Clone, Copy, Debug)]
 pub struct AdminTerms<'a> {
-    /// At which host and port, `<host>:<port>`; nowhere without one.
+    /// The host and port at which they are answered, `<host>:<port>`; nowhere without one.
     pub listen: Option<&'a str>,
     /// Another name by which a request of HTTP may call the program; empty for none.
     pub name: &'a str,
@@ -25,7 +25,7 @@ const BAD_NAME: &str =
     "invalid value for '--admin-name <host>': not 1 to 255 letters, digits, dots and hyphens";
 
 impl<'a> AdminTerms<'a> {
-    /// What words ask for.
+    /// Returns the terms that words ask for.
     pub fn of(matches: &ArgMatches<'a>) -> AdminTerms<'a> {
         AdminTerms {
             listen: matches.get_str("admin"),
@@ -33,7 +33,7 @@ impl<'a> AdminTerms<'a> {
         }
     }
 
-    /// An error says why the words are refused: the other name is there, and is no host.
+    /// Checks the terms. The error says why the words are refused: the other name is given, and is no host.
     pub fn check(&self) -> Result<(), &'static str>
         ensures { is_ok result ≡ is_name self.now.name.now }
     {
@@ -45,14 +45,14 @@ impl<'a> AdminTerms<'a> {
     }
 }
 
-/// Whether a word is empty, or a host.
+/// Returns whether a word is empty, or a host.
 fn is_name(word: &[u8]) -> bool
     ensures { result ≡ is_name word.now }
 {
     word.is_empty() || is_host(word)
 }
 
-/// Whether a word is a host: 1 to 255 letters, digits, dots and hyphens.
+/// Returns whether a word is a host: 1 to 255 letters, digits, dots and hyphens.
 pub fn is_host(word: &[u8]) -> bool
     ensures { result ≡ is_host word.now }
 {
@@ -66,7 +66,7 @@ fn has_host_bytes_alone(word: &[u8]) -> bool
         .all(|b| b.is_ascii_alphanumeric() || *b == b'.' || *b == b'-')
 }
 
-/// What is not at its default, as it is printed behind other settings.
+/// Prints the terms that are not at their default, behind other settings.
 impl Display for AdminTerms<'_> {
     fn fmt<W: fmt::Write>(&self, f: &mut Formatter<W>) -> fmt::Result {
         if let Some(listen) = self.listen {
@@ -79,7 +79,7 @@ impl Display for AdminTerms<'_> {
     }
 }
 
-/// The option that says where operators are answered.
+/// Makes the option that says where operators are answered.
 pub fn admin<'a>(alloc: Global) -> Arg<'a> {
     Arg::new(alloc, "admin")
         .long("admin")
@@ -89,7 +89,7 @@ pub fn admin<'a>(alloc: Global) -> Arg<'a> {
         )
 }
 
-/// The option that says by which name beside its address the listener of operators may be called.
+/// Makes the option that says by which name beside its address the listener of operators may be called.
 pub fn admin_name<'a>(alloc: Global) -> Arg<'a> {
     Arg::new(alloc, "admin-name")
         .long("admin-name")

@@ -7,7 +7,7 @@ use libc::{RLIMIT_NOFILE, getrlimit};
 /// How many files a program that serves has open beside its connections: its three streams, its poll and its listener.
 pub const OWN_FILES: u64 = 5;
 
-/// How many files and sockets this process may have open at a time; none where the system does not say.
+/// Returns how many files and sockets this process may have open at a time; none if the system does not say.
 pub fn open_files() -> Option<u64> {
     let mut limit = rlimit {
         rlim_cur: 0,
@@ -19,13 +19,13 @@ pub fn open_files() -> Option<u64> {
     Some(limit.rlim_cur)
 }
 
-/// Says on standard error, as the program of a name, how many connections can be served at a time beside so many other files, where
-/// the system allows no more open files than `most` connections may need.
+/// Prints on standard error, as the program of a name, how many connections can be served at a time beside `others` other files. It
+/// does so if the system allows no more open files than `most` connections may need.
 pub fn tell_open_files<R: Eprint>(rt: &R, program: &str, others: u64, most: usize) {
     if let Some(files) = open_files() {
         let connections = served(files, others);
         if connections <= most as u64 {
-            // Where it cannot be said, clients are served all the same.
+            // Best effort: a failed write to standard error must not stop serving.
             let _ = eprintln!(rt;
                 "{program}: {files} open files: {connections} connections can be served at a time"
             );
@@ -33,7 +33,7 @@ pub fn tell_open_files<R: Eprint>(rt: &R, program: &str, others: u64, most: usiz
     }
 }
 
-/// How many connections can be served at a time where so many files may be open, and so many are open beside them.
+/// Returns how many connections can be served at a time if `open_files` files may be open, and `others` are open beside them.
 pub fn served(open_files: u64, others: u64) -> u64
     ensures { result ≡ open_files - others }
 {

@@ -14,7 +14,7 @@ use thiserror::Error;
 /// Why a program cannot listen.
 #[derive(Clone, Copy, Debug, PartialEq, Eq, Error)]
 pub enum ListenError {
-    /// 1: what was given is no `<host>:<port>`.
+    /// 1: the text is no `<host>:<port>`.
     #[error("not <host>:<port>")]
     NoAddress,
     /// 2: the system knows no IPv4 address of the host.
@@ -35,16 +35,17 @@ pub enum ServeError {
     /// of its sockets or the seed of its hashes.
     #[error("cannot listen")]
     Listen(ListenError),
-    /// 2: no memory to start with. Once a program serves, want of memory closes a stream, and does not end the program.
+    /// 2: no memory to start with. Once a program serves, lack of memory closes a stream, and does not end the program.
     #[error("out of memory")]
     Memory,
-    /// 3: calls of a server were refused memory for that many seconds in which it stored no item, and it is to end then.
+    /// 3: calls of a server got no memory for this number of seconds in which it stored no item, and the settings say that it ends
+    /// then.
     #[error("out of memory for {0} seconds")]
     MemoryFor(u64),
 }
 
 impl ServeError {
-    /// The exit status of a program that ends by it: 3 if it cannot listen, 4 for want of memory.
+    /// Returns the exit status of a program that ends by it: 3 if it cannot listen, 4 for lack of memory.
     pub fn status(&self) -> u8
         ensures { result ≡ status_of_error self.now }
     {

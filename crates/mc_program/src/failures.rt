@@ -22,12 +22,12 @@ pub enum Failure {
     Output,
     /// The program cannot serve.
     Serve(ServeError),
-    /// The program cannot listen at a place, and its operator is told why.
+    /// The program cannot listen at a place, and its operator reads why.
     Listen(String, ListenError),
 }
 
 impl Failure {
-    /// The failure of a program that cannot serve at a place. The place, and the cause, are told beside it if its operator reads them
+    /// Makes the failure of a program that cannot serve at a place. It has the place and the cause if the operator reads them
     /// ([`is_read`](crate::is_read)), and there is memory for that.
     pub fn at<R: AllocGlobal>(rt: &R, error: ServeError, place: &str, is_read: bool) -> Failure
         ensures status { status_of result ≡ status_of_error error }
@@ -43,7 +43,7 @@ impl Failure {
         Failure::Serve(error)
     }
 
-    /// The exit status.
+    /// Returns the exit status.
     pub fn status(&self) -> u8
         ensures { result ≡ status_of self.now }
     {
@@ -56,9 +56,10 @@ impl Failure {
         }
     }
 
-    /// Says it on standard error, as the program of a name, in a line or two; a text of help, and the version, go to standard output.
+    /// Prints it on standard error, as the program of a name, in a line or two; a text of help, and the version, go to standard
+    /// output.
     pub fn tell<R: Print + Eprint>(&self, rt: &R, program: &str) {
-        // Where it cannot be said, the status alone tells it.
+        // Best effort: if this write fails, the status alone reports the failure.
         let _ = match self {
             Failure::Words(error) => error.print(rt),
             Failure::NoText => eprintln!(rt; "{program}: a word is no text in UTF-8"),
@@ -70,13 +71,13 @@ impl Failure {
     }
 }
 
-/// Says that a program cannot listen at a place, and why.
+/// Prints that a program cannot listen at a place, and why.
 fn tell_place<R: Eprint>(rt: &R, program: &str, place: &str, cause: ListenError) -> io::Result<()> {
     eprintln!(rt; "{program}: cannot listen")?;
     eprintln!(rt; "{program}: {place}: {cause}")
 }
 
-/// The exit status of a run: 0 where it came to its end, and else that of its failure.
+/// Returns the exit status of a run: 0 if it ended without a failure, and else that of its failure.
 pub fn exit_status(served: &Result<(), Failure>) -> u8
     ensures { MatchResult served.now (λ _. result ≡ 0) (λ failure. result ≡ status_of failure) }
 {

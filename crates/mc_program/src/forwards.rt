@@ -1,4 +1,4 @@
-//! What a [`Logged`] passes on to the runtime within it.
+//! The calls that a [`Logged`] forwards to the runtime within it.
 
 use crate::logs::Logged;
 use std::alloc::Allocator;

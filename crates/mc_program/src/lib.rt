@@ -1,22 +1,22 @@
-//! A program that serves sockets: its words, what it tells its operator, and how it ends.
+//! What all programs on sockets share: their options, their lines on standard error, and their exit status.
 //!
-//! [`listen`], [`idle`], [`report`] and [`accept`] are options that such programs have alike, and [`number`], [`size`] and [`flag`] make
-//! others. [`size_within`] reads a number of bytes. [`Terms`] are what the words say of all clients, [`AdminTerms`] what they say of
-//! operators ([`admin`], [`admin_name`]), and [`VERSION`] is what `--version` prints. [`ServeError`] is why a program cannot serve, and
-//! [`ListenError`] why it cannot listen. [`is_read`] says whether its operator reads standard error. [`Logged`] is a runtime whose lines on
-//! standard error have the [`Form`] that the words ask for ([`log`], [`LogOption`]), and by [`EprintSeldom`] say how many like them were suppressed.
-//! [`open_streams`] opens `/dev/null` for standard input, output and error, if they are closed at the start.
+//! [`listen`], [`idle`], [`report`] and [`accept`] are options that such programs share, and [`number`], [`size`] and [`flag`] make others.
+//! [`size_within`] parses a number of bytes. [`Terms`] are what the words say of all clients, [`AdminTerms`] what they say of operators ([`admin`],
+//! [`admin_name`]), and [`VERSION`] is what `--version` prints. [`ServeError`] is why a program cannot serve, and [`ListenError`] why it cannot
+//! listen. [`is_read`] returns whether an operator reads standard error. [`Logged`] is a runtime whose lines on standard error have the [`Form`]
+//! that the words ask for ([`log`], [`LogOption`]); by [`EprintSeldom`] a line says how many like it were suppressed. [`open_streams`] opens
+//! `/dev/null` for standard input, output and error, if they are closed at the start.
 //!
-//! The exit status is 0 where the program came to its end, or the words ask for the version. Else it is 1 where standard output cannot
-//! be written, 2 where the words are refused (those that ask for help among them), 3 where it cannot listen, and 4 where there was no
-//! memory to start with, or none for as long as the words say; standard error says why.
+//! The exit status is 0 if the program ended without a failure, or the words ask for the version. It is 1 if standard output cannot be written, and
+//! 2 if the words are refused, or ask for help. It is 3 if the program cannot listen. It is 4 if there was no memory to start with, or none for as
+//! long as the words say. Standard error says why.
 //!
-//! # What operators are told
+//! # Lines for operators
 //!
-//! [`open_files`] asks the system how many files and sockets may be open at a time, and [`served`] says how many connections that leaves;
-//! [`tell_open_files`] says so to the operator if it may be too few. A [`Pace`] says when something is due that comes once in so many
-//! seconds, and a [`Seldom`] keeps what is said to once in a second, and counts what it suppresses. [`earlier`] is the earlier of two moments
-//! that may be there. None of these waits, allocates or knows a socket.
+//! [`open_files`] asks the system how many files and sockets may be open at a time, and [`served`] returns how many connections that leaves.
+//! [`tell_open_files`] prints a line for the operator if these may be too few. A [`Pace`] says when something is due that is done once in a number
+//! of seconds. A [`Seldom`] limits lines to one a second, and counts those that it suppresses. [`earlier`] is the earlier of two moments, either of
+//! which may be missing. None of these allocates or knows a socket, and only [`tell_open_files`] may block, on standard error.
 #![tactic(auto)]
 
 mod admins;

@@ -1,4 +1,4 @@
-//! What a program says on standard error: in the form that its operator keeps.
+//! The lines of a program on standard error, in the form that its operator keeps.
 ghost use Rattle.std.specs.Prelude.{◌≡◌};
 ghost use Rattle.mc_program.specs.Logs.{form_by, spelling_of};
 
@@ -12,7 +12,7 @@ use std::{fmt, io};
 /// The option `--log`, by which the words say the form of a program's lines.
 #[derive(Clone, Copy, Debug, PartialEq, Eq)]
 pub enum LogOption {
-    /// It is not there.
+    /// It is not given.
     Nothing,
     /// Lines for a file: `--log`.
     Text,
@@ -21,7 +21,7 @@ pub enum LogOption {
 }
 
 impl LogOption {
-    /// The option of matches.
+    /// Returns the option of matches.
     pub fn of(matches: &ArgMatches<'_>) -> LogOption {
         match matches.get_str("log") {
             None => LogOption::Nothing,
@@ -30,13 +30,13 @@ impl LogOption {
         }
     }
 
-    /// Whether it is there.
+    /// Returns whether it is given.
     pub fn is_any(self) -> bool {
         self != LogOption::Nothing
     }
 }
 
-/// What is not at its default, as it is printed behind other settings.
+/// Prints the option if it is not at its default, behind other settings.
 impl Display for LogOption {
     fn fmt<W: fmt::Write>(&self, f: &mut Formatter<W>) -> fmt::Result {
         match self {
@@ -47,18 +47,19 @@ impl Display for LogOption {
     }
 }
 
-/// How a program writes what happens, each on a line.
+/// The form of a program's lines.
 #[derive(Clone, Copy, Debug, PartialEq, Eq)]
 pub enum Form {
     /// `<program>: <text>`, and behind it ` (<n> suppressed)` if any such lines were.
     Plain,
-    /// `<time> <program>: <text>`, with the time in UTC, and the same behind it.
+    /// `<time> <program>: <text>`, with the time in UTC, and likewise ` (<n> suppressed)` behind it.
     Timed,
     /// `{"time":"<time>","program":"<program>","text":"<text>"}`, with `,"suppressed":<n>` before the brace if any such lines were.
     Json,
 }
 
-/// The form that the option asks for. A terminal, and systemd's journal, show lines as they are said: the journal has their times.
+/// Returns the form that the option asks for. A terminal, and systemd's journal, show lines as they are printed: the journal has their
+/// times.
 pub fn form_by(option: LogOption, is_shown: bool) -> Form
     ensures { result ≡ form_by option is_shown }
 {
@@ -69,16 +70,16 @@ pub fn form_by(option: LogOption, is_shown: bool) -> Form
     }
 }
 
-/// Standard error on which a line of which at most one comes in a second says how many were suppressed since the one before.
+/// A standard error with lines that are printed at most once a second: such a line says how many were suppressed since the last one.
 pub trait EprintSeldom: Eprint {
     /// Writes a line, and how many such lines were suppressed since the last one. The line begins with the program's name, a colon and a
     /// space.
     fn eprintln_seldom<D: Display + Drop>(&self, line: D, suppressed: u64) -> io::Result<()>;
 }
 
-/// A runtime whose standard error has each line in a form. All else is as it is of the runtime within.
+/// A runtime that gives each line on standard error a form. All else is as in the runtime within.
 ///
-/// Whoever says something begins the line with the program's name, a colon and a space.
+/// The caller begins each line with the program's name, a colon and a space.
 #[derive(Clone, Copy, Debug, Drop)]
 pub struct Logged<R> {
     pub(crate) rt: R,
@@ -87,7 +88,7 @@ pub struct Logged<R> {
 }
 
 impl<R: Env + AllocGlobal> Logged<R> {
-    /// A runtime whose lines have the form that a program's option asks for.
+    /// Makes a runtime whose lines have the form that a program's option asks for.
     pub fn new(rt: R, program: &'static str, option: LogOption) -> Logged<R> {
         let form = form_by(option, is_read(&rt, false));
         Logged { rt, program, form }
@@ -121,7 +122,7 @@ impl<R: Eprint + Clock> EprintSeldom for Logged<R> {
 }
 
 impl<R: Clock> Logged<R> {
-    /// The wall clock; the beginning of 1970 if it is before that, or cannot be read.
+    /// Returns the wall clock; the beginning of 1970 if it is before that, or cannot be read.
     fn time(&self) -> Timestamp {
         let since = self.rt.since_1970();
         let seconds = since.map_or(0, |since| since.as_secs());
@@ -130,7 +131,7 @@ impl<R: Clock> Logged<R> {
     }
 }
 
-/// How many lines were suppressed, as it is said behind a line; of none nothing is said.
+/// How many lines were suppressed, as it is printed behind a line; for none nothing is printed.
 #[derive(Clone, Copy, Debug)]
 struct Suppressed(u64);
 
@@ -190,7 +191,7 @@ impl<D: Display + Drop> Display for Event<D> {
     }
 }
 
-/// How a character stands in a text of JSON.
+/// The spelling of a character in a JSON text.
 #[derive(Clone, Copy, Debug, PartialEq, Eq)]
 pub enum Spelling {
     /// As it is.
@@ -201,7 +202,7 @@ pub enum Spelling {
     Number,
 }
 
-/// How a character stands in a text of JSON.
+/// Returns the spelling of a character in a JSON text.
 pub fn spelling_of(c: char) -> Spelling
     ensures { result ≡ spelling_of c }
 {
@@ -212,11 +213,12 @@ pub fn spelling_of(c: char) -> Spelling
     }
 }
 
-/// What writes a text between the quotes of JSON, but for its first characters. It takes no memory: a line may say that there is none.
+/// A writer of a text between the quotes of JSON, without its first characters. It takes no memory, since a line may say that there is
+/// none.
 #[derive(Drop)]
 struct Quoted<'a, W> {
     out: &'a mut W,
-    /// How many characters are yet to be passed over.
+    /// How many characters must still be passed over.
     passed: usize,
 }
 

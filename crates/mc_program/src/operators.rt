@@ -8,8 +8,8 @@ use std::rt::Env;
 /// The variable that systemd sets for a program whose standard output or standard error is the journal.
 const JOURNAL: &str = "JOURNAL_STREAM";
 
-/// Whether an operator reads standard error: the words ask for it, it is a terminal, or the program was started for the journal
-/// (`JOURNAL_STREAM` is set).
+/// Returns whether an operator reads standard error: the words ask for it, it is a terminal, or the program was started for the
+/// journal (`JOURNAL_STREAM` is set).
 pub fn is_read<R: Env + AllocGlobal>(rt: &R, is_asked: bool) -> bool
     ensures { is_asked ≡ true → result ≡ true }
 {

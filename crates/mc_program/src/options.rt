@@ -1,10 +1,10 @@
-//! Options that programs that serve sockets have alike.
+//! Options that programs on sockets share.
 
 use clap::builder::ValueParser;
 use clap::{Arg, ArgAction};
 use std::alloc::Global;
 
-/// The option that says where to listen, and where without it.
+/// Makes the option that says where to listen, and where without it.
 pub fn listen<'a>(alloc: Global, usual: &'a str) -> Arg<'a> {
     Arg::new(alloc, "listen")
         .long("listen")
@@ -13,7 +13,7 @@ pub fn listen<'a>(alloc: Global, usual: &'a str) -> Arg<'a> {
         .help("Where to listen: a host's name or IPv4 address, and a port from 1 to 65535")
 }
 
-/// The option that says when an idle client is closed.
+/// Makes the option that says when an idle client is closed.
 pub fn idle<'a>(alloc: Global) -> Arg<'a> {
     number(
         alloc,
@@ -23,7 +23,7 @@ pub fn idle<'a>(alloc: Global) -> Arg<'a> {
     )
 }
 
-/// The option that says how often a program tells what it has done.
+/// Makes the option that says how often a program reports what it has done.
 pub fn report<'a>(alloc: Global) -> Arg<'a> {
     number(
         alloc,
@@ -33,15 +33,15 @@ pub fn report<'a>(alloc: Global) -> Arg<'a> {
     )
 }
 
-/// The option that says after how many clients a program ends.
+/// Makes the option that says after how many clients a program ends.
 pub fn accept<'a>(alloc: Global, help: &'a str) -> Arg<'a> {
     number(alloc, "accept", "n", help)
 }
 
-/// What the option of lines may say.
+/// The words of the option of lines.
 const LOGS: [&str; 2] = ["text", "json"];
 
-/// The option that says in which form a program says what happens: `--log`, `--log=text` or `--log=json`.
+/// Makes the option for the form of a program's lines: `--log`, `--log=text` or `--log=json`.
 pub fn log<'a>(alloc: Global, help: &'a str) -> Arg<'a> {
     Arg::new(alloc, "log")
         .long("log")
@@ -53,7 +53,7 @@ pub fn log<'a>(alloc: Global, help: &'a str) -> Arg<'a> {
         .help(help)
 }
 
-/// An option that is there or not.
+/// Makes an option without a value.
 pub fn flag<'a>(alloc: Global, name: &'a str, help: &'a str) -> Arg<'a> {
     Arg::new(alloc, name)
         .long(name)
@@ -61,7 +61,7 @@ pub fn flag<'a>(alloc: Global, name: &'a str, help: &'a str) -> Arg<'a> {
         .help(help)
 }
 
-/// An option whose value is any number of 64 bits, and 0 without it.
+/// Makes an option whose value is any number of 64 bits, and 0 without it.
 pub fn number<'a>(alloc: Global, name: &'a str, unit: &'a str, help: &'a str) -> Arg<'a> {
     Arg::new(alloc, name)
         .long(name)
@@ -71,7 +71,7 @@ pub fn number<'a>(alloc: Global, name: &'a str, unit: &'a str, help: &'a str) ->
         .help(help)
 }
 
-/// An option whose value is a number of bytes, as [`size_within`](crate::size_within) reads it.
+/// Makes an option whose value is a number of bytes, as [`size_within`](crate::size_within) parses it.
 pub fn size<'a>(alloc: Global, name: &'a str, usual: &'a str, help: &'a str) -> Arg<'a> {
     Arg::new(alloc, name)
         .long(name)

@@ -1,21 +1,21 @@
-//! When something is said.
+//! When a line is printed.
 ghost use Rattle.std.specs.Prelude.{◌≡◌, ◌≢◌, ◌≤◌, ◌<◌, ◌↔◌, ◌-◌, None, Some, min, IfNone, IsTrue, OnSome};
 ghost use Rattle.std.specs.Bool.{OnTrue, OnFalse};
 ghost use Rattle.mc_program.specs.Paces.{earlier, next_of, one_more, said_of, suppressed_with};
 
 use std::mem;
 
-/// When something is due that comes once in so many seconds.
+/// When something is due that is done once in a number of seconds.
 #[derive(Clone, Copy, Debug)]
 pub struct Pace {
-    /// In how many seconds it comes once; 0 for never.
+    /// The number of seconds; 0 for never.
     pub every: u64,
-    /// In which second it is due.
+    /// The second in which it is due.
     pub next: u64,
 }
 
 impl Pace {
-    /// Once in so many seconds, and first after as many from a second on; 0 for never.
+    /// Makes a pace of once in `every` seconds, first that many seconds after a second; 0 for never.
     pub fn new(every: u64, second: u64) -> Pace
         ensures { result ≡ record { every = every; next = next_of every second } }
     {
@@ -25,7 +25,7 @@ impl Pace {
         }
     }
 
-    /// In which second it is due; none where it never is.
+    /// Returns the second in which it is due; none if it never is.
     pub fn due(&self) -> Option<u64>
         ensures never { self.now.every ≡ 0 → result ≡ None }
         ensures due { 0 < self.now.every → result ≡ Some self.now.next }
@@ -37,7 +37,7 @@ impl Pace {
         }
     }
 
-    /// Whether it is due in a second. Then it is due again as many seconds later.
+    /// Returns whether it is due in a second. Then it is due again `every` seconds later.
     pub fn comes(&mut self, second: u64) -> bool
         ensures due { IsTrue result ↔ ((0 < self.old.every) × (self.old.next ≤ second)) }
         ensures came { OnTrue result (self.new ≡ record self.old { next = next_of self.old.every second }) }
@@ -51,29 +51,29 @@ impl Pace {
     }
 }
 
-/// What is to be said, of which no more than one is said in a second. What comes between two that are said is suppressed, and the next one
-/// that is said has how many these are.
+/// A line that is printed at most once a second. Lines between two printed ones are suppressed, and the next printed one says how many
+/// they are.
 #[derive(Clone, Copy, Debug)]
 pub struct Seldom<T> {
-    /// What is to be said: the first that came since the last look.
+    /// The line that is due: the first one since the last look.
     pub what: Option<T>,
-    /// In which second something was said last.
+    /// The second in which a line was printed last.
     pub second: Option<u64>,
     /// How many were suppressed since then; 2^64 - 1 also if there were more.
     pub suppressed: u64,
 }
 
-/// What is said, and how many were suppressed since something was said last.
+/// A line to print, and how many were suppressed since the last one was printed.
 #[derive(Clone, Copy, Debug)]
 pub struct Said<T> {
-    /// What is said.
+    /// The line.
     pub what: T,
     /// How many were suppressed; 2^64 - 1 also if there were more.
     pub suppressed: u64,
 }
 
 impl<T: Copy> Seldom<T> {
-    /// Nothing was said, and nothing is to be said.
+    /// Makes the state in which no line was printed, and none is due.
     pub fn new() -> Seldom<T>
         ensures { result ≡ record { what = None; second = None; suppressed = 0 } }
     {
@@ -84,7 +84,7 @@ impl<T: Copy> Seldom<T> {
         }
     }
 
-    /// Notes what is to be said. If something is already, this is suppressed.
+    /// Records a line to print. If one is due already, this one is suppressed.
     pub fn note(&mut self, what: T)
         ensures first { self.old.what ≡ None → self.new ≡ record self.old { what = Some what } }
         ensures later { self.old.what ≢ None → self.new ≡ record self.old { suppressed = one_more self.old.suppressed } }
@@ -95,7 +95,7 @@ impl<T: Copy> Seldom<T> {
         }
     }
 
-    /// What is said in a second. If something was said in it before, nothing is, and what was to be said is suppressed.
+    /// Returns the line to print in a second. If one was printed in it before, there is none, and the one that was due is suppressed.
     pub fn take(&mut self, second: u64) -> Option<Said<T>>
         ensures once { self.old.second ≡ Some second → result ≡ None }
         ensures what { self.old.second ≢ Some second → result ≡ said_of self.old.what self.old.suppressed }
@@ -115,7 +115,7 @@ impl<T: Copy> Seldom<T> {
     }
 }
 
-/// The earlier of two moments that may be there.
+/// Returns the earlier of two moments, either of which may be missing.
 pub fn earlier(one: Option<u64>, other: Option<u64>) -> Option<u64>
     ensures { result ≡ earlier one other }
 {

@@ -4,8 +4,8 @@ ghost use Rattle.mc_program.specs.Sizes.{size_of, size_within, unit_of};
 
 use mc_text::read_u64;
 
-/// How many bytes a word says, if they are from `least` to `most`: a number, or a number and K, M or G, small or capital, for
-/// so many of 1,024, 1,024^2 or 1,024^3 bytes. Any other word says nothing.
+/// Returns how many bytes a word says, if they are from `least` to `most`. A word is a number, or a number and K, M or G,
+/// small or capital, for that many times 1,024, 1,024^2 or 1,024^3 bytes. Any other word says nothing.
 pub fn size_within(word: &str, least: u64, most: u64) -> Option<u64>
     ensures { result ≡ size_within word.now least most }
 {
@@ -15,7 +15,7 @@ pub fn size_within(word: &str, least: u64, most: u64) -> Option<u64>
     }
 }
 
-/// How many bytes a word says, if 64 bits can tell. A number has 1 to 20 digits.
+/// Returns how many bytes a word says, if 64 bits can hold it. A number has 1 to 20 digits.
 fn size_of(word: &[u8]) -> Option<u64>
     ensures { result ≡ size_of word.now }
 {
@@ -28,7 +28,7 @@ fn size_of(word: &[u8]) -> Option<u64>
     }
 }
 
-/// How many bytes the unit of a letter has.
+/// Returns how many bytes the unit of a letter has.
 fn unit_of(letter: u8) -> Option<u64>
     ensures { result ≡ unit_of letter }
 {

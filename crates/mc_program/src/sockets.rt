@@ -21,12 +21,12 @@ pub enum SocketError {
     SystemFiles,
     /// Another cause, by its kind.
     Other(ErrorKind),
-    /// Another cause, of no kind that has a name: its number (errno(3)).
+    /// Another cause, whose kind has no name: its number (errno(3)).
     Numbered(i32),
 }
 
 impl SocketError {
-    /// What an error says.
+    /// Returns what an error says.
     pub fn of(error: &io::Error) -> SocketError
         ensures { result ≡ socket_error_of (raw_os_error error.now) (error_kind error.now) }
     {
@@ -38,7 +38,7 @@ impl SocketError {
     }
 }
 
-/// An error of a kind; by its number, if it has one and the kind has no name.
+/// Returns an error of a kind; by its number, if it has one and the kind has no name.
 fn by_kind(number: Option<i32>, kind: ErrorKind) -> SocketError
     ensures { result ≡ by_kind number kind }
 {
@@ -48,7 +48,7 @@ fn by_kind(number: Option<i32>, kind: ErrorKind) -> SocketError
     }
 }
 
-/// An error of a kind that has no name.
+/// Returns an error whose kind has no name.
 fn by_number(number: Option<i32>) -> SocketError
     ensures { result ≡ by_number number }
 {
@@ -71,7 +71,7 @@ impl Display for SocketError {
 
 impl Error for SocketError {}
 
-/// Writes what an error of a kind is called: as errno(3) has it, where the standard library's words say less to an operator.
+/// Writes the name of an error's kind: as errno(3) has it, if the standard library's words say less to an operator.
 fn write_kind<W: fmt::Write>(kind: ErrorKind, f: &mut Formatter<W>) -> fmt::Result {
     match kind {
         ErrorKind::NotFound => f.write_str("no such file"),

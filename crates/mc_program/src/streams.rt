@@ -10,9 +10,9 @@ const STREAMS: i32 = 3;
 const NOTHING: &str = "/dev/null";
 
 /// Opens `/dev/null` in the place of each of standard input, standard output and standard error that is closed, until the program ends.
-/// Called before anything else is opened, it leaves none of their numbers to a file or a connection, which lines would go into.
+/// Called before anything else is opened, it keeps files and connections from getting these numbers, since lines would go into them.
 ///
-/// It is opened for reading alone: what is written there fails, as it does where nothing is open. If the system does not open it, nothing
+/// It is opened for reading alone: writes to it fail, as writes to a closed descriptor do. If the system does not open it, nothing
 /// changes.
 pub fn open_streams<R: Files<File = File>>(rt: &R) {
     for _ in 0..STREAMS {

@@ -1,20 +1,20 @@
-//! On which terms clients are served.
+//! The terms on which clients are served.
 
 use clap::ArgMatches;
 
-/// On which terms clients are served.
+/// The terms on which clients are served.
 #[derive(Clone, Copy, Debug)]
 pub struct Terms {
     /// After how many clients the program ends, once all of them are gone; 0 for never.
     pub accept: u64,
-    /// After how many seconds a client is closed that has sent nothing and has no pending answer; 0 for never.
+    /// The seconds after which a client is closed that has sent nothing and has no pending answer; 0 for never.
     pub idle: u64,
-    /// In how many seconds the program says once what it has done; 0 for never.
+    /// The seconds between two reports of what the program has done; 0 for never.
     pub report: u64,
 }
 
 impl Terms {
-    /// The terms that words ask for: 0 where they say nothing.
+    /// Returns the terms that words ask for: 0 for those that are not given.
     pub fn of(matches: &ArgMatches<'_>) -> Terms {
         Terms {
             accept: matches.get_one::<u64>("accept").unwrap_or(0),

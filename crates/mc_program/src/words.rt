@@ -8,14 +8,14 @@ use crate::failures::Failure;
 use std::rt::Env;
 use std::{env, io};
 
-/// The words that the program was started with, its own name first.
+/// Returns the words with which the program was started, its own name first.
 pub fn read_words<R: Env + AllocGlobal>(rt: &R) -> Result<Vec<String>, Failure> {
     let alloc = rt.alloc();
     let words = env::args(rt).map_err(|error| failure_of(&error))?;
     Ok(words.collect(alloc)?)
 }
 
-/// What an error of reading the words says.
+/// Returns the failure of an error of reading the words.
 fn failure_of(error: &io::Error) -> Failure
     ensures { result ≡ failure_of (error_kind error.now) }
 {

@@ -1,4 +1,4 @@
--- Outcomes that are awaited.
+-- Outcomes that are pending.
 use Rattle.std.proofs.Common.{◌≡◌, ℕ, zero, suc, ◌+◌, ◌<◌, ◌≤◌, ◌==◌, [], ◌∷◌, List, length, get_or, set, refl, arith}
 use Rattle.std.specs.List.{list_all}
 use Rattle.std.proofs.lemmas.Bool.Decides.{nat_tests}
@@ -7,27 +7,27 @@ use Rattle.mc_route.specs.declared.outcomes.Outcome.TheVariants.{Awaited, Reply,
 use Rattle.mc_proxy.specs.Emits.{is_told, count_awaited, awaited_in}
 use Rattle.mc_proxy.specs.SessionNoting.{with_outcome}
 
--- where none is awaited, it is known of each what became of it
+-- if none is pending, the outcome of each command is known
 pub none_awaited : (outcomes : List Outcome) → (awaited_in outcomes == 0) ≡ list_all is_told outcomes
 none_awaited [] = refl
 none_awaited (Awaited ∷ outcomes) = grind (arith, nat_tests)
 none_awaited (Reply reply ∷ outcomes) = grind (arith, none_awaited outcomes)
 none_awaited (Lost ∷ outcomes) = grind (arith, none_awaited outcomes)
 
--- no more are awaited than there are
+-- no more are pending than there are
 pub awaited_bound : (outcomes : List Outcome) → awaited_in outcomes ≤ length outcomes
 awaited_bound [] = omega arith
 awaited_bound (Awaited ∷ outcomes) = omega (arith, awaited_bound outcomes)
 awaited_bound (Reply reply ∷ outcomes) = omega (arith, awaited_bound outcomes)
 awaited_bound (Lost ∷ outcomes) = omega (arith, awaited_bound outcomes)
 
--- where there is no outcome of that number nothing changes
+-- if there is no outcome of that number nothing changes
 pub with_outcome_outside : (at : ℕ) (outcome : Outcome) (outcomes : List Outcome) → length outcomes ≤ at → with_outcome at outcome outcomes ≡ outcomes
 with_outcome_outside at outcome [] outside = refl
 with_outcome_outside zero outcome (slot ∷ slots) outside = absurd (omega arith)
 with_outcome_outside (suc at) outcome (slot ∷ slots) outside = rw (with_outcome_outside at outcome slots (omega arith)) refl
 
--- that one counts among them
+-- that outcome is counted among them
 pub counted_bound : (at : ℕ) (before : Outcome) (outcomes : List Outcome) → at < length outcomes → before ≡ get_or outcomes at before
     → count_awaited before ≤ awaited_in outcomes
 counted_bound at before [] inside is = absurd (omega arith)
@@ -40,7 +40,7 @@ counts_one Awaited = omega arith
 counts_one (Reply reply) = omega arith
 counts_one Lost = omega arith
 
--- where an outcome is set, what is awaited changes by that one
+-- if an outcome is set, the number of pending ones changes by that one
 pub awaited_in_set : (at : ℕ) (outcome before : Outcome) (outcomes : List Outcome) → at < length outcomes → before ≡ get_or outcomes at before
     → awaited_in (set outcomes at outcome) + count_awaited before ≡ awaited_in outcomes + count_awaited outcome
 awaited_in_set at outcome before [] inside is = absurd (omega arith)

@@ -28,16 +28,16 @@ pub states-push : (links : List RoomyLink) (link : RoomyLink) (n : ℕ) → stat
 states-push links link n are is =
     rw (map-append (λ (link : RoomyLink). link.state) links (link ∷ []), are, is) (replicate-append-replicate n 1 (down_link 0))
 
--- there are as many of them
+-- there are `n` of them
 pub length_never_up : (links : List RoomyLink) (n : ℕ) → states links ≡ replicate n (down_link 0) → length links ≡ n
 length_never_up links n are =
     rw (← length-map links (λ (link : RoomyLink). link.state), are) (length-replicate n (down_link 0))
 
--- what holds anyhow holds of an error
+-- what holds in any case holds at an error
 pub at_error : {T E P : Type 0} (r : Result T E) → P → OnErr r P
 at_error (Ok x) holds = tt
 at_error (Err e) holds = holds
 
--- what an error is says nothing of the value that is not there
+-- the cause of an error is the same whatever the type of the missing value
 pub same_error : {T U E A : Type 0} (e cause : E) → (IsErrOf {T = U} (Err e) cause ↔ A) → IsErrOf {T = T} (Err e) cause ↔ A
 same_error e cause means = (λ is. let own : e ≡ cause = cc in means.0 (ap Err own), λ a. let is = means.1 a in let own : e ≡ cause = cc in ap Err own)

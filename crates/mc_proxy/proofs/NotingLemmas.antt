@@ -1,4 +1,4 @@
--- What becomes of commands, noted.
+-- Outcomes of commands, recorded.
 use Rattle.std.proofs.Common.{◌≡◌, ◌==◌, true, false, if◌then◌else◌, List, [], ◌∷◌, length, None, Some, refl, ap, arith}
 use Rattle.mc_route.specs.declared.outcomes.Outcome.{Outcome}
 use Rattle.mc_link.specs.LinkState.{Waiting}
@@ -37,6 +37,6 @@ pub all_lost-none : (waiting : List Waiting) (cs : Sessions) → length waiting 
 all_lost-none [] cs none = refl
 all_lost-none (first ∷ others) cs none = absurd (omega (arith, none))
 
--- two proxies are the same where each part is
+-- two proxies are the same if each part is
 pub same_proxy : (p q : ProxyState) → p.losses ≡ q.losses → p.ring ≡ q.ring → p.sessions ≡ q.sessions → p.admitted ≡ q.admitted → p.links ≡ q.links → p ≡ q
 same_proxy p q losses ring sessions admitted links = λ i. record { losses = losses i; ring = ring i; sessions = sessions i; admitted = admitted i; links = links i }

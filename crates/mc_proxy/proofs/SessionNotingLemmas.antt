@@ -1,4 +1,4 @@
--- An outcome is noted at a place.
+-- An outcome is recorded at a place.
 use Rattle.std.proofs.Common.{◌≡◌, ℕ, zero, suc, ◌-◌, ◌<◌, ◌≤◌, false, nat_lt, [], ◌∷◌, List, length, get_or, set, refl, arith}
 use Rattle.std.proofs.lemmas.Bool.Decides.{nat_tests}
 use Rattle.mc_link.specs.declared.turns.Tag.{Tag}
@@ -6,20 +6,20 @@ use Rattle.mc_route.specs.declared.outcomes.Outcome.{Outcome}
 use Rattle.mc_proxy.specs.SessionState.{Unanswered, SessionState, answered}
 use Rattle.mc_proxy.specs.SessionNoting.{noted_at, noted_in, with_outcome}
 
--- where there is no request at the place nothing changes
+-- if there is no request at the place nothing changes
 pub noted_outside : (place atom : ℕ) (outcome : Outcome) (all : List Unanswered) → length all ≤ place → noted_at place atom outcome all ≡ all
 noted_outside place atom outcome [] outside = refl
 noted_outside zero atom outcome (open_one ∷ others) outside = absurd (omega arith)
 noted_outside (suc place) atom outcome (open_one ∷ others) outside = rw (noted_outside place atom outcome others (omega arith)) refl
 
--- where there is one, only that changes
+-- if there is one, only that changes
 pub noted_inside : (place atom : ℕ) (outcome : Outcome) (all : List Unanswered) (own now : Unanswered) → place < length all
     → own ≡ get_or all place own → now ≡ record own { outcomes = with_outcome atom outcome own.outcomes } → set all place now ≡ noted_at place atom outcome all
 noted_inside place atom outcome [] own now inside is noted = absurd (omega arith)
 noted_inside zero atom outcome (open_one ∷ others) own now inside is noted = rw (noted, is) refl
 noted_inside (suc place) atom outcome (open_one ∷ others) own now inside is noted = rw (noted_inside place atom outcome others own now (omega arith) is noted) refl
 
--- in a session whose request of the tag's number is not answered, or not taken yet
+-- in a session, by whether the request of the tag's number is answered, and whether it was taken
 noted_from : (tag : Tag) (outcome : Outcome) (place : ℕ) (s : SessionState) (all : List Unanswered) → answered s ≤ tag.request → place ≡ tag.request - answered s
     → all ≡ noted_at place tag.atom outcome s.unanswered → record s { unanswered = all } ≡ noted_in tag outcome s
 noted_from tag outcome place s all late at noted =

@@ -23,11 +23,11 @@ use Rattle.mc_proxy.specs.SessionTurns.{IsHeldUp}
 abbrev pub any_marked : List LinkState → List Routed → Bool
 any_marked links commands = list_any (λ command. is_link_marked (link_at links command.server)) commands
 
--- whether one of them is for the link of a place, and that has
+-- whether one of them is for the link at a place, and that link has reached its mark
 abbrev pub is_marked_for : List LinkState → List Routed → ℕ → Bool
 is_marked_for links commands place = is_link_marked (link_at links place) && goes_to place commands
 
--- no place before this one is such
+-- no place before this one has such a link
 abbrev pub NoneBefore : List LinkState → List Routed → ℕ → Type 0
 NoneBefore links commands place = (p : ℕ) → p < place → is_marked_for links commands p ≡ false
 
@@ -66,7 +66,7 @@ marked_at links place commands holds =
     marked_by links place commands (and_first (is_link_marked (link_at links place)) (goes_to place commands) holds)
     (and_second (is_link_marked (link_at links place)) (goes_to place commands) holds)
 
--- where no link is, none has reached its mark
+-- without a link, none has reached its mark
 link_past : (links : List LinkState) (place : ℕ) → length links ≤ place → is_link_marked (link_at links place) ≡ false
 link_past [] place past = refl
 link_past (link ∷ links) zero past = absurd (omega arith)
@@ -82,7 +82,7 @@ not_others true true others none = absurd cc
 not_others true false others none = none
 not_others false here others none = refl
 
--- where no place is such, no link that the commands need has reached its mark
+-- if no place has such a link, no link that the commands need has reached its mark
 pub none_marked : (links : List LinkState) (commands : List Routed) → NoneBefore links commands (length links) → any_marked links commands ≡ false
 none_marked links [] none = refl
 none_marked links (command ∷ commands) none =
@@ -95,7 +95,7 @@ none_marked links (command ∷ commands) none =
     (λ p below. not_others (is_link_marked (link_at links p)) (command.server == p) (goes_to p commands) (none p below)) in
     rw (here, others) refl
 
--- a request has to wait for a mark of its session's own, or for that of a link that it needs
+-- a request must wait for a mark of its session's own, or for that of a link that it needs
 pub marked_by_parts : (ring : RingState) (links : List LinkState) (session : SessionState) (what : Taken) (own result : Bool) → own ≡ is_session_marked session
     → result ≡ (own || any_marked links (route_of_taken ring what)) → result ≡ is_marked session links (route_of_taken ring what)
 marked_by_parts ring links session what own result own_is is = is ∙ ap (λ (b : Bool). b || any_marked links (route_of_taken ring what)) own_is
@@ -158,11 +158,11 @@ ready_if ring links session what front shows true others_is own others = (
   λ is. let unmarked = (ready_unmarked ring links session what front shows is).0 in let clash : true ≡ false = own ∙ unmarked in absurd cc,
 )
 
--- what holds anyhow holds of an error
+-- what holds in any case holds at an error
 pub at_error : {T E P : Type 0} (r : Result T E) → P → OnErr r P
 at_error (Ok x) holds = tt
 at_error (Err e) holds = holds
 
--- what a look at the first says of a server
+-- what a look at the first request says of a server
 pub waits_by : (ring : RingState) (place : ℕ) (waiting now : List Taken) (b : Bool) → waiting ≡ now → b ≡ waits_for ring place now → b ≡ waits_for ring place waiting
 waits_by ring place waiting now b is told = rw is told

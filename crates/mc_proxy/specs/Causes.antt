@@ -1,4 +1,4 @@
--- Why a proxy gives up where one of its parts does.
+-- Why a call of a proxy fails if one of its parts fails.
 use Rattle.mc_link.specs.declared.turns.LinkError.{LinkError}
 use Rattle.mc_link.specs.declared.turns.LinkError.TheVariants as links
 use Rattle.mc_ring.specs.declared.errors.RingError.{RingError}
@@ -10,7 +10,7 @@ abbrev pub of_link : LinkError → ProxyError
 of_link links.State = LinkState
 of_link links.Memory = Memory
 
--- a server joins a ring that holds, by an address: it can be refused for two causes, or for want of memory
+-- a server joins a valid ring, by a valid address: it can be refused for two causes, or for lack of memory
 abbrev pub of_ring : RingError → ProxyError
 of_ring rings.NoServer = Memory
 of_ring rings.TooMany = RingFull

@@ -1,4 +1,4 @@
--- How an answer is put out.
+-- How an answer is emitted.
 use Rattle.std.specs.Prelude.{ℕ, ◌+◌, ◌≡◌, Bool, true, false, List, [], ◌∷◌, ◌++◌, Option, Some, None, if◌then◌else◌}
 use Rattle.std.specs.List.{list_all}
 use Rattle.mc_request.specs.Faults.{fault_line}
@@ -12,13 +12,13 @@ use Rattle.mc_proxy.specs.SessionState.{Unanswered, SessionState}
 use Rattle.mc_proxy.specs.declared.session_turns.Emit.{Emit}
 use Rattle.mc_proxy.specs.declared.session_turns.Emit.TheVariants.{Done, Idle}
 
--- whether it is known what became of a command
+-- whether the outcome of a command is known
 abbrev pub is_told : Outcome → Bool
 is_told Awaited = false
 is_told (Reply reply) = true
 is_told Lost = true
 
--- how many replies are awaited
+-- how many replies are pending
 abbrev pub count_awaited : Outcome → ℕ
 count_awaited outcome = if is_told outcome then 0 else 1
 
@@ -26,12 +26,12 @@ abbrev pub awaited_in : List Outcome → ℕ
 awaited_in [] = 0
 awaited_in (outcome ∷ outcomes) = count_awaited outcome + awaited_in outcomes
 
--- the answer to what was taken, by the choice for lost commands and by what became of its commands
+-- the answer to what was taken, by the choice for lost commands and the outcomes of its commands
 abbrev pub answer_by : Losses → Taken → List Outcome → List ℕ
 answer_by losses (Whole request) outcomes = joined_with losses request outcomes
 answer_by losses (Faulty fault) outcomes = fault_line fault
 
--- whether it is known of each of its commands what became of it
+-- whether the outcome of each of its commands is known
 abbrev pub is_known : Unanswered → Bool
 is_known open_one = list_all is_told open_one.outcomes
 
@@ -47,12 +47,12 @@ hides_loss_by losses (Faulty fault) outcomes = false
 abbrev pub hides_loss_of : Unanswered → Bool
 hides_loss_of open_one = hides_loss_by open_one.losses open_one.what open_one.outcomes
 
--- likewise of the oldest request that is not answered
+-- whether a command of the oldest unanswered request was lost, and its answer does not say so
 abbrev pub hides_loss_first : List Unanswered → Bool
 hides_loss_first [] = false
 hides_loss_first (open_one ∷ others) = hides_loss_of open_one
 
--- a session whose oldest request that is not answered has been, where it can be
+-- the session after its oldest unanswered request is answered, if it can be
 abbrev pub emitted_from : SessionState → List Unanswered → Option SessionState
 emitted_from session [] = None
 emitted_from session (open_one ∷ others) =
@@ -61,7 +61,7 @@ emitted_from session (open_one ∷ others) =
 abbrev pub emitted : SessionState → Option SessionState
 emitted session = emitted_from session session.unanswered
 
--- what putting one answer out does to a session
+-- what emitting one answer does to a session
 abbrev pub IsEmit : Emit → SessionState → SessionState → Type 0
 IsEmit Done before after = emitted before ≡ Some after
 IsEmit Idle before after = (emitted before ≡ None) × (after ≡ before)

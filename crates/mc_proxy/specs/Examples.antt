@@ -1,4 +1,4 @@
--- What worked examples are written with.
+-- Abbreviations of the worked examples.
 use Rattle.std.specs.Prelude.{ℕ, List, [], ◌∷◌, ◌++◌, codes, None}
 use Rattle.mc_text.specs.Words.{words}
 use Rattle.mc_request.specs.Meanings.{meaning}
@@ -10,7 +10,7 @@ use Rattle.mc_route.specs.declared.outcomes.Outcome.TheVariants.{Lost, Reply}
 use Rattle.mc_proxy.specs.Emits.{answer_of_one}
 use Rattle.mc_proxy.specs.SessionState.{Unanswered}
 
--- what was taken by a line, with this choice for its lost commands and these outcomes
+-- a line that was taken, with this choice for its lost commands and these outcomes
 abbrev pub asked : Losses → List ℕ → List Outcome → Unanswered
 asked losses line outcomes = record { what = taken_with (meaning (words line)); losses = losses; outcomes = outcomes }
 

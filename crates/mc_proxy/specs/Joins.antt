@@ -7,12 +7,12 @@ use Rattle.mc_ring.specs.Rings.{Shows, MovesOnlyTo}
 use Rattle.mc_link.specs.LinkState.{LinkState, up_link, down_link}
 use Rattle.mc_proxy.specs.ProxyState.{ProxyState}
 
--- the link of a server that joins: it is of the first generation where it is up, and has never been up where it is not
+-- the link of a server that joins: up, of the first generation, or down, and never up before
 abbrev pub joined_link : Bool → LinkState
 joined_link up = if up then up_link 1 else down_link 0
 
 -- a server joins at the last place: the ring has its points beside those it had, and each key keeps its owner or goes to it;
--- nothing that was taken is routed anew
+-- no request that was taken is routed anew
 pub record JoinsServer (address : List ℕ) (up : Bool) (place : ℕ) (old new : ProxyState) : Type 0 where
   pub last : place ≡ length old.ring.servers
   pub servers : new.ring.servers ≡ old.ring.servers ++ address ∷ []

@@ -11,13 +11,13 @@ use Rattle.mc_proxy.specs.Noting.{noted, all_lost}
 use Rattle.mc_proxy.specs.declared.turns.LinkTurn.{LinkTurn}
 use Rattle.mc_proxy.specs.declared.turns.LinkTurn.TheVariants.{Took, Idle, Strange}
 
--- the link of a place is lost: each command that waited is, and what it kept is forgotten
+-- the link at a place is lost: each of its pending commands is lost, and its buffers are dropped
 abbrev pub lost_at : ℕ → ProxyState → ProxyState
 lost_at place p =
     let link = link_at p.links place in
     record p { sessions = all_lost link.waiting p.sessions; links = with_link place (down_link link.generation) p.links }
 
--- the oldest command that waits on the link of a place gets its reply
+-- the oldest pending command of the link at a place gets its reply
 pub record Answers (place : ℕ) (old new : ProxyState) : Type 0 where
   pub tag : Tag
   pub reply : AReply (List ℕ)
@@ -29,7 +29,7 @@ pub record Answers (place : ℕ) (old new : ProxyState) : Type 0 where
   pub losses : new.losses ≡ old.losses
   pub admitted : new.admitted ≡ old.admitted
 
--- what a turn of the link of a place does
+-- what a turn of the link at a place does
 abbrev pub IsLinkTurn : ℕ → LinkTurn → ProxyState → ProxyState → Type 0
 IsLinkTurn place Took old new = Answers place old new
 IsLinkTurn place Idle old new = IsIdle (link_at old.links place).waiting (link_at old.links place).unread × (new ≡ old)

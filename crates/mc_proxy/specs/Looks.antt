@@ -1,4 +1,4 @@
--- What waits for a session's turns.
+-- Which requests a session's turns can take.
 use Rattle.std.specs.Prelude.{ℕ, ◌≡◌, Bool, false, List, [], ◌∷◌}
 use Rattle.mc_request.specs.declared.parts.Taken.{Taken}
 use Rattle.mc_request_reader.specs.Reader.{rest_of}
@@ -9,14 +9,14 @@ use Rattle.mc_link.specs.LinkState.{LinkState}
 use Rattle.mc_proxy.specs.SessionState.{SessionState}
 use Rattle.mc_proxy.specs.Sending.{is_marked}
 
--- the first request or fault of the session's rest has come whole, and no mark is reached by it
+-- the first request or fault of the session's rest has arrived whole, and it reaches no mark
 pub record IsReady (ring : RingState) (links : List LinkState) (session : SessionState) : Type 0 where
   pub what : Taken
   pub others : List Taken
   pub first : rest_of session.reader [] ≡ what ∷ others
   pub unmarked : is_marked session links (route_of_taken ring what) ≡ false
 
--- whether the first of what waits has a command for the server of a place
+-- whether the first waiting request or fault has a command for the server at a place
 abbrev pub waits_for : RingState → ℕ → List Taken → Bool
 waits_for ring place [] = false
 waits_for ring place (what ∷ others) = goes_to place (route_of_taken ring what)

@@ -1,4 +1,4 @@
--- What becomes of a command is noted in its session.
+-- The outcome of a command is recorded in its session.
 use Rattle.std.specs.Prelude.{◌==◌, List, [], ◌∷◌, if◌then◌else◌}
 use Rattle.mc_route.specs.declared.outcomes.Outcome.{Outcome}
 use Rattle.mc_route.specs.declared.outcomes.Outcome.TheVariants.{Lost}
@@ -7,7 +7,7 @@ use Rattle.mc_link.specs.LinkState.{Waiting}
 use Rattle.mc_proxy.specs.SessionNoting.{noted_in}
 use Rattle.mc_proxy.specs.ProxyState.{Sessions}
 
--- what became of a command, noted in its session; for one that is gone it is dropped
+-- the outcome of a command, recorded in its session; if the session is gone, it is dropped
 abbrev pub noted : Tag → Outcome → Sessions → Sessions
 noted tag outcome [] = []
 noted tag outcome (open_one ∷ others) =

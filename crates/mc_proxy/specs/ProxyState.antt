@@ -19,7 +19,7 @@ pub record ProxyState : Type 0 where
   pub admitted : ℕ
   pub links : List LinkState
 
--- a proxy that has admitted nobody, whose links are down and have never been up
+-- a proxy that has admitted no session, whose links are down and have never been up
 abbrev pub opened : Losses → RingState → ProxyState
 opened losses ring = record { losses = losses; ring = ring; sessions = []; admitted = 0; links = replicate (length ring.servers) (down_link 0) }
 
@@ -30,7 +30,7 @@ session_in = entry_of
 abbrev pub session_at : ProxyState → ℕ → Option SessionState
 session_at p number = session_in p.sessions number
 
--- the same sessions, where the one of a number is this
+-- the sessions, with this one under a number
 abbrev pub updated : ℕ → SessionState → Sessions → Sessions
 updated = with_entry
 
@@ -42,22 +42,22 @@ without = without_entry
 abbrev pub with_fresh : ProxyState → ProxyState
 with_fresh p = record p { sessions = p.sessions ++ (p.admitted, fresh_session) ∷ []; admitted = p.admitted + 1 }
 
--- the output of a session: none where it is not open
+-- the output of a session: none if it is not open
 abbrev pub output_of : Option SessionState → List ℕ
 output_of None = []
 output_of (Some session) = session.output
 
--- how many requests of a session are not answered: none where it is not open
+-- how many requests of a session are not answered: none if it is not open
 abbrev pub unanswered_of : Option SessionState → ℕ
 unanswered_of None = 0
 unanswered_of (Some session) = length session.unanswered
 
--- whether nothing is read of a session any more, and all that was taken of it is answered; not so where it is not open
+-- whether a session is closed to input, and all that was taken of it is answered; false if it is not open
 abbrev pub is_finished : Option SessionState → Bool
 is_finished None = false
 is_finished (Some session) = session.reader.closed && (length session.unanswered == 0)
 
--- a proxy whose session of a number, if it is open, was sent so many bytes of its output
+-- a proxy whose session of a number, if it is open, has sent this many bytes of its output
 abbrev pub sent_by : ℕ → ℕ → Option SessionState → ProxyState → ProxyState
 sent_by number count None p = p
 sent_by number count (Some session) p =

@@ -6,15 +6,15 @@ use Rattle.mc_route.specs.declared.losses.Losses.{Losses}
 use Rattle.mc_route.specs.declared.outcomes.Outcome.{Outcome}
 use Rattle.mc_link.specs.LinkState.{LinkState, RoomyLink, down_link}
 
--- a request or fault that was taken and is not answered, without its data block, the choice for its lost commands, and what became of
--- its commands so far
+-- a request or fault that was taken and is not answered: without its data block, with the choice for its lost commands, and with the
+-- outcomes of its commands so far
 pub record Unanswered : Type 0 where
   pub what : Taken
   pub losses : Losses
   pub outcomes : List Outcome
 
--- a session: its reader, the answers that were not taken out, how many requests and faults were taken of it, and those of
--- them that are not answered, the oldest first
+-- a session: its reader, the answers that were not consumed, how many requests and faults were taken of it, and the unanswered ones
+-- of them, the oldest first
 pub record SessionState : Type 0 where
   pub reader : ReaderState
   pub output : List ℕ
@@ -25,7 +25,7 @@ pub record SessionState : Type 0 where
 abbrev pub fresh_session : SessionState
 fresh_session = record { reader = fresh_reader; output = []; taken = 0; unanswered = [] }
 
--- how many of its requests are answered, which is the number of the oldest that is not; requests are counted from 0
+-- how many of its requests are answered, which is the number of the oldest unanswered one; requests are counted from 0
 abbrev pub answered : SessionState → ℕ
 answered session = session.taken - length session.unanswered
 
@@ -33,10 +33,10 @@ answered session = session.taken - length session.unanswered
 abbrev pub states : List RoomyLink → List LinkState
 states links = map (λ link. link.state) links
 
--- the link to the server of a place; one that is down where there is none
+-- the link to the server at a place; a link that is down if there is none
 abbrev pub link_at : List LinkState → ℕ → LinkState
 link_at links place = slice_index_or links place (down_link 0)
 
--- the same links, where the one of a place is this
+-- the links, with this one at a place
 abbrev pub with_link : ℕ → LinkState → List LinkState → List LinkState
 with_link place link links = slice_set links place link

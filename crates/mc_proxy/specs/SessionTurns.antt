@@ -14,7 +14,7 @@ use Rattle.mc_proxy.specs.Sending.{at_once, handed, is_marked}
 use Rattle.mc_proxy.specs.declared.session_turns.Turn.{Turn}
 use Rattle.mc_proxy.specs.declared.session_turns.Turn.TheVariants.{Took, Idle, Waiting, Closing}
 
--- a piece of a session's text has come; where nothing is read any more it is let go
+-- a piece of a session's text has arrived; if the session is closed to input, it is dropped
 pub record IsFed (piece : List ℕ) (before after : SessionState) : Type 0 where
   pub rest : (text : List ℕ) → rest_of after.reader text ≡ rest_of before.reader (piece ++ text)
   pub closed : after.reader.closed ≡ before.reader.closed
@@ -22,7 +22,7 @@ pub record IsFed (piece : List ℕ) (before after : SessionState) : Type 0 where
   pub all_else : after ≡ record before { reader = after.reader }
 
 -- the first request or fault of the session's rest is taken, and no mark is reached; its commands go to the links of their
--- owners, in their order, and it is last among those that are not answered, with this choice for its lost commands
+-- owners, in their order, and it is the last unanswered one, with this choice for its lost commands
 pub record Takes (number : ℕ) (ring : RingState) (losses : Losses) (links now : List LinkState) (before after : SessionState) (what : Taken) : Type 0 where
   pub first : IsFirst before.reader what after.reader
   pub closed : after.reader.closed ≡ ends what
@@ -33,7 +33,7 @@ pub record Takes (number : ℕ) (ring : RingState) (losses : Losses) (links now 
       ≡ before.unanswered ++ record { what = kept_of what; losses = losses; outcomes = map (at_once links) (route_of_taken ring what) } ∷ []
   pub sent : now ≡ handed number before.taken 0 (route_of_taken ring what) links
 
--- a mark is reached by the first request or fault of the session's rest
+-- the first request or fault of the session's rest reaches a mark
 pub record IsHeldUp (ring : RingState) (links : List LinkState) (session : SessionState) : Type 0 where
   pub what : Taken
   pub others : List Taken

@@ -8,16 +8,16 @@ use Rattle.mc_proxy.specs.Looks.{IsReady}
 use Rattle.mc_proxy.specs.SessionState.{SessionState}
 use Rattle.mc_proxy.specs.ProxyState.{ProxyState, session_at, updated}
 
--- what a session has for its turns to take, if nothing more comes: nothing where it is not open
+-- what a session has for its turns to take, if nothing more arrives: nothing if it is not open
 abbrev pub waiting_of : Option SessionState → List Taken
 waiting_of None = []
 waiting_of (Some session) = rest_of session.reader []
 
--- a request of a session can be taken: one has come whole, and no mark is reached by it
+-- a request of a session can be taken: one has arrived whole, and it reaches no mark
 abbrev pub CanTurn : ℕ → ProxyState → Type 0
 CanTurn number p = (session : SessionState) × (session_at p number ≡ Some session) × IsReady p.ring p.links session
 
--- an answer can be put out: of each command of the session's oldest unanswered request it is known what became of it
+-- an answer can be emitted: the outcome of each command of the session's oldest unanswered request is known
 abbrev pub HasAnswer : ℕ → ProxyState → Type 0
 HasAnswer number p = (session : SessionState) × (session_at p number ≡ Some session) × (emitted session ≢ None)
 

@@ -1,4 +1,4 @@
-//! Why a call of a proxy gives up.
+//! Why a call of a proxy fails.
 ghost use Rattle.std.specs.Prelude.{◌≡◌};
 ghost use Rattle.mc_proxy.specs.declared.errors.ProxyError.TheVariants.{Memory};
 ghost use Rattle.mc_proxy.specs.Causes.{of_link, of_ring};
@@ -9,7 +9,8 @@ use mc_ring::RingError;
 use std::alloc::{AllocError, AllocFailed};
 use thiserror::Error;
 
-/// Why a call of a proxy gave up. Nothing has changed. Where several causes hold, the least number is answered, `Memory` last.
+/// Why a call of a proxy failed. Nothing has changed. If several causes hold, the least number is returned, `Memory`
+/// last.
 #[derive(Debug, Drop, Error)]
 pub enum ProxyError {
     /// 1: no session of this number is open.
@@ -21,11 +22,11 @@ pub enum ProxyError {
     /// 3: the ring has no server at this place.
     #[error("no such link")]
     NoLink,
-    /// 4: the link is down where it must be up, or up where it must be down, or no generation is left.
+    /// 4: the link is down and must be up, or is up and must be down, or no generation is left.
     #[error("link in the wrong state")]
     LinkState,
-    /// 5: no memory; answered where no other cause holds. No session was admitted, no piece, request or reply taken, no
-    /// answer put out and no server joined.
+    /// 5: no memory; returned if no other cause holds. No session was admitted, no piece, request or reply taken, no
+    /// answer emitted and no server joined.
     #[error("out of memory")]
     Memory,
     /// 6: the ring has as many servers as it may have.
@@ -71,7 +72,7 @@ impl From<LinkError> for ProxyError {
     }
 }
 
-/// Why a server cannot join: an address and a ring that hold cannot be refused for another cause.
+/// Why a server cannot join: with a valid address and ring there is no other cause.
 impl From<RingError> for ProxyError {
     ghost from_gives = { λ ring e. e ≡ of_ring ring };
 

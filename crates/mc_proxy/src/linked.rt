@@ -19,21 +19,21 @@ impl Proxy {
     ghost use Rattle.mc_proxy.specs.LinkTurns.{IsLinkTurn, lost_at};
     ghost use Rattle.mc_proxy.specs.Noting.{noted};
 
-    /// Whether the link to the server of a place is up: it is not where the ring has none there.
+    /// Returns whether the link to the server at a place is up. It is false if the ring has no server there.
     pub fn is_up(&self, server: usize) -> bool
         ensures { result ≡ (link_at self.now.links server).up }
     {
         self.links.get(server).is_some_and(Link::is_up)
     }
 
-    /// The bytes that a link is to send and that were not taken out: none where the link is down or not there.
+    /// Returns a link's output that was not consumed: none if the link is down or missing.
     pub fn link_output(&self, server: usize) -> &[u8]
         ensures { result.now ≡ (link_at self.now.links server).output }
     {
         self.links.get(server).map_or(&[], Link::output)
     }
 
-    /// Releases the first `count` bytes of a link's output, which its server was sent. It takes no memory.
+    /// Consumes the first `count` bytes of a link's output, which were sent to its server. It takes no memory.
     pub fn link_taken_out(&mut self, server: usize, count: usize)
         requires { count ≤ length (link_at self.old.links server).output }
         ensures { self.new ≡ record self.old {
@@ -47,7 +47,7 @@ impl Proxy {
         link.taken_out(count);
     }
 
-    /// Takes the bytes that came next from a server.
+    /// Takes the bytes that arrived next from a server.
     pub fn link_feed(&mut self, server: usize, piece: &[u8]) -> Result<(), ProxyError>
         ensures fed { OnOk result (self.new ≡ record self.old {
           links = with_link server
@@ -64,8 +64,8 @@ impl Proxy {
         Ok(link.feed(piece)?)
     }
 
-    /// Gives the oldest command that waits on a link its reply, where that has come whole. Where what came is no reply to
-    /// it, or no command waits, the link is lost as by [`Proxy::lost`].
+    /// Takes the reply to the oldest pending command of a link, if it has arrived whole. If the bytes are no reply to it, or
+    /// no command is pending, the link is lost as by [`Proxy::lost`].
     ///
     /// It takes memory only for a value, which is copied out once.
     pub fn link_turn(&mut self, server: usize) -> Result<LinkTurn, ProxyError>
@@ -92,16 +92,16 @@ impl Proxy {
         }
     }
 
-    /// Whether a whole reply to the oldest command that waits on a link has come, which a turn of the link takes. It is false
-    /// where the link is down or not there. It takes no memory.
+    /// Returns whether a whole reply to the oldest pending command of a link has arrived, which a turn of the link takes. It
+    /// is false if the link is down or missing. It takes no memory.
     pub fn has_reply(&self, server: usize) -> bool
         ensures { IsTrue result ↔ HasReply (link_at self.now.links server) }
     {
         self.links.get(server).is_some_and(Link::has_reply)
     }
 
-    /// Loses a link that is up: each command that waits on it is lost, and what came of no reply is forgotten. It gives the
-    /// bytes that were not taken out, and takes no memory.
+    /// Loses a link that is up: each of its pending commands is lost, and the unread bytes are dropped. It returns the output
+    /// that was not consumed, and takes no memory.
     pub fn lost(&mut self, server: usize) -> Result<Vec<u8>, ProxyError>
         ensures bytes { IfOk result (λ bytes. bytes.items ≡ (link_at self.old.links server).output) }
         ensures lost { OnOk result (self.new ≡ lost_at server self.old) }
@@ -120,7 +120,7 @@ impl Proxy {
         Ok(lost.bytes)
     }
 
-    /// Notes what became of a command. Where its session is gone it is dropped.
+    /// Records the outcome of a command. If its session is gone, the outcome is dropped.
     #[tactic(auto, using(crate::proofs::NotingLemmas::noted_gone))]
     fn note(&mut self, tag: Tag, outcome: Outcome)
         ensures { self.new ≡ record self.old { sessions = noted tag outcome self.old.sessions } }
@@ -131,7 +131,7 @@ impl Proxy {
         session.note(tag, outcome);
     }
 
-    /// A link that is down comes up, and its new generation is given: one more than the last.
+    /// Brings up a link that is down, and returns its new generation: one more than the last.
     pub fn back(&mut self, server: usize) -> Result<u64, ProxyError>
         ensures generation { IfOk result (λ generation. generation ≡ (link_at self.old.links server).generation + 1) }
         ensures back { IfOk result (λ generation. self.new ≡ record self.old { links = with_link server (up_link generation) self.old.links }) }
@@ -147,22 +147,22 @@ impl Proxy {
         Ok(link.back()?)
     }
 
-    /// How many commands wait on a link for their replies: none where it is down or not there.
+    /// Returns how many commands are pending on a link: none if it is down or missing.
     pub fn waiting(&self, server: usize) -> usize
         ensures { result ≡ length (link_at self.now.links server).waiting }
     {
         self.links.get(server).map_or(0, Link::waiting)
     }
 
-    /// The tag of the command number `place` of those that wait on a link, the oldest being number 0.
+    /// Returns the tag of the pending command number `place` of a link, the oldest being number 0.
     pub fn tag(&self, server: usize, place: usize) -> Option<Tag>
         ensures { result ≡ option_map (λ waiting. waiting.1) (slice_get (link_at self.now.links server).waiting place) }
     {
         self.links.get(server)?.tag(place)
     }
 
-    /// Gives back the memory that a link has reserved and that holds nothing, where there is room for more than `kept` bytes
-    /// or commands. It is for a link that is idle.
+    /// Frees the memory of each empty buffer of a link that has room for more than `kept` bytes or commands. It is for a link
+    /// that is idle.
     pub fn link_give_back(&mut self, server: usize, kept: usize)
         ensures { self.new ≡ self.old }
     {
@@ -172,8 +172,8 @@ impl Proxy {
         link.give_back(kept);
     }
 
-    /// A server joins at the last place, which is given; its link is up, of the first generation, or down. What was taken
-    /// before keeps the owners that it had, and no item moves.
+    /// Adds a server at the last place, and returns that place. Its link is up, of the first generation, or down. Requests
+    /// that were taken before keep their owners, and no item moves.
     pub fn join_server(&mut self, address: Address, up: bool) -> Result<usize, ProxyError>
         ensures joined { IfOk result (λ place. JoinsServer address up place self.old self.new) }
         ensures full { IsErrOf result ProxyError.RingFull ↔ (64 ≤ length self.old.ring.servers) }
@@ -191,7 +191,7 @@ impl Proxy {
     }
 }
 
-/// The link of a server that joins: up, of the first generation, or down.
+/// Makes the link of a server that joins: up, of the first generation, or down.
 fn joining(alloc: Global, up: bool) -> Link
     ensures { result.state ≡ joined_link up }
 {

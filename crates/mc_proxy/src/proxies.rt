@@ -25,7 +25,7 @@ pub struct Proxy {
     pub(crate) sessions: Numbered<Session>,
     /// The links, by the places of their servers.
     pub(crate) links: Vec<Link>,
-    /// Where a turn's commands are while they are sent. Between turns it is empty: what is kept is its memory.
+    /// Holds a turn's commands while they are sent. Between turns it is empty, and keeps only its memory.
     pub(crate) queue: VecDeque<Routed>,
 }
 
@@ -50,7 +50,7 @@ impl Proxy {
     ghost use Rattle.mc_proxy.specs.ProxyState.{is_finished, opened, output_of, sent_by, session_at, unanswered_of, with_fresh, without};
     ghost use Rattle.mc_proxy.specs.Turns.{Alone, CanTurn, HasAnswer, Steps, hides_loss_at, waiting_of};
 
-    /// A proxy with no session, whose links are down and have never been up. Its choice for lost commands is [`Losses::Told`].
+    /// Makes a proxy without sessions, whose links are down and have never been up. Its choice for lost commands is [`Losses::Told`].
     pub fn new(alloc: Global, ring: Ring) -> Result<Proxy, ProxyError>
         ensures new { IfOk result (λ p. p ≡ opened Told ring) }
         ensures only_memory { IsOkUnless result ProxyError.Memory }
@@ -58,7 +58,7 @@ impl Proxy {
         Proxy::with_losses(alloc, ring, Losses::Told)
     }
 
-    /// Likewise, with this choice for the lost commands of all clients.
+    /// Makes such a proxy with this choice for the lost commands of all clients.
     pub fn with_losses(alloc: Global, ring: Ring, losses: Losses) -> Result<Proxy, ProxyError>
         ensures new { IfOk result (λ p. p ≡ opened losses ring) }
         ensures only_memory { IsOkUnless result ProxyError.Memory }
@@ -77,7 +77,7 @@ impl Proxy {
         })
     }
 
-    /// The ring by which requests are routed. There is a link for each of its servers.
+    /// Returns the ring by which requests are routed. There is a link for each of its servers.
     pub fn ring(&self) -> &Ring
         ensures ring { result.now ≡ self.now.ring }
         ensures linked { length self.now.links ≡ length self.now.ring.servers }
@@ -85,7 +85,7 @@ impl Proxy {
         &self.ring
     }
 
-    /// Opens a session and gives its number. Numbers are given from 0 on, and none is given twice.
+    /// Opens a session and returns its number. Numbers start at 0, and none is given twice.
     pub fn admit(&mut self) -> Result<u64, ProxyError>
         ensures number { IfOk result (λ number. number ≡ self.old.admitted) }
         ensures admitted { OnOk result (self.new ≡ with_fresh self.old) }
@@ -103,7 +103,7 @@ impl Proxy {
         Ok(self.sessions.push(Session::new(self.alloc))?)
     }
 
-    /// Whether a session is open.
+    /// Returns whether a session is open.
     pub fn is_open(&self, number: u64) -> bool
         ensures { IsTrue result ↔ (session_at self.now number ≢ None) }
     {
@@ -124,11 +124,11 @@ impl Proxy {
         }
     }
 
-    /// Takes the first request or fault of a session that has come whole, and sends its commands, each to the link of its
-    /// key's owner: where that is down the command is lost.
+    /// Takes the first whole request or fault of a session, and sends its commands, each to the link of its key's owner. A command whose link
+    /// is down is lost.
     ///
-    /// At an error the request is not taken, and no command was sent. Where none has come whole, or the first has to wait for
-    /// a mark, no memory is taken.
+    /// At an error the request is not taken, and no command was sent. If none has arrived whole, or the first must wait for a mark, no memory
+    /// is taken.
     #[tactic(auto, using(mc_table::proofs::NumberedEntryLemmas::updated_same))]
     pub fn turn(&mut self, number: u64) -> Result<Turn, ProxyError>
         ensures turn { IfOk result (λ turn. Steps number self.old self.new (IsTurn number turn self.old.ring self.old.losses)) }
@@ -153,16 +153,16 @@ impl Proxy {
         }
     }
 
-    /// Whether a whole request or fault of a session has come that was not taken. It is false where the session is not open.
-    /// It takes no memory.
+    /// Returns whether a whole request or fault of a session has arrived and was not taken. It is false if the session is not open. It takes
+    /// no memory.
     pub fn ready(&self, number: u64) -> bool
         ensures { IsTrue result ↔ (0 < length (waiting_of (session_at self.now number))) }
     {
         self.sessions.get(number).is_some_and(Session::ready)
     }
 
-    /// Whether a turn of a session would take a request or fault: one has come whole, and need not wait for a mark. It is false
-    /// where the session is not open. It takes no memory.
+    /// Returns whether a turn of a session would take a request or fault: one has arrived whole, and need not wait for a mark. It is false if
+    /// the session is not open. It takes no memory.
     pub fn can_turn(&self, number: u64) -> bool
         ensures { IsTrue result ↔ CanTurn number self.now }
     {
@@ -172,8 +172,8 @@ impl Proxy {
         }
     }
 
-    /// Whether the first request or fault of a session that has come whole has a command for the server of a place. It is
-    /// false where none has come, or the session is not open. It takes no memory.
+    /// Returns whether the first whole request or fault of a session has a command for the server at a place. It is false if none has arrived,
+    /// or the session is not open. It takes no memory.
     pub fn waits_for(&self, number: u64, server: usize) -> bool
         ensures { result ≡ waits_for self.now.ring server (waiting_of (session_at self.now number)) }
     {
@@ -183,26 +183,25 @@ impl Proxy {
         }
     }
 
-    /// Whether it is known of each command of the oldest unanswered request of a session what became of it. It is false where
-    /// the session is not open. It takes no memory.
+    /// Returns whether the outcome of each command of a session's oldest unanswered request is known. It is false if the session is not open.
+    /// It takes no memory.
     pub fn has_answer(&self, number: u64) -> bool
         ensures { IsTrue result ↔ HasAnswer number self.now }
     {
         self.sessions.get(number).is_some_and(Session::has_answer)
     }
 
-    /// Whether a command of the oldest unanswered request of a session was lost, and its answer does not say so: with [`Losses::Missed`] it is
-    /// a miss, or silent. It is false if all requests are answered, or the session is not open. It takes no memory.
+    /// Returns whether a command of a session's oldest unanswered request was lost, and its answer does not say so: with [`Losses::Missed`] it
+    /// is a miss, or silent. It is false if all requests are answered, or the session is not open. It takes no memory.
     pub fn hides_loss(&self, number: u64) -> bool
         ensures { result ≡ hides_loss_at (session_at self.now number) }
     {
         self.sessions.get(number).is_some_and(Session::hides_loss)
     }
 
-    /// Puts the answer to the oldest unanswered request of a session out, where it is known of each of its commands what
-    /// became of it.
+    /// Emits the answer to the oldest unanswered request of a session, if the outcome of each of its commands is known.
     ///
-    /// At an error nothing was put out. Where no answer is known no memory is taken.
+    /// At an error nothing was emitted. If no answer is known, no memory is taken.
     #[tactic(auto, using(mc_table::proofs::NumberedEntryLemmas::updated_same))]
     pub fn emit(&mut self, number: u64) -> Result<Emit, ProxyError>
         ensures emit { IfOk result (λ emit. Steps number self.old self.new (Alone (IsEmit emit))) }
@@ -217,14 +216,14 @@ impl Proxy {
         }
     }
 
-    /// The answers of a session that were not taken out: none where it is not open.
+    /// Returns a session's answers that were not consumed: none if it is not open.
     pub fn output(&self, number: u64) -> &[u8]
         ensures { result.now ≡ output_of (session_at self.now number) }
     {
         self.sessions.get(number).map_or(&[], Session::output)
     }
 
-    /// Releases the first `count` bytes of a session's output, which its client was sent. It takes no memory.
+    /// Consumes the first `count` bytes of a session's output, which were sent to its client. It takes no memory.
     pub fn taken_out(&mut self, number: u64, count: usize)
         requires { count ≤ length (output_of (session_at self.old number)) }
         ensures { self.new ≡ sent_by number count (session_at self.old number) self.old }
@@ -235,23 +234,23 @@ impl Proxy {
         session.taken_out(count);
     }
 
-    /// How many requests and faults of a session were taken and are not answered: none where it is not open.
+    /// Returns how many requests and faults of a session were taken and are not answered: none if it is not open.
     pub fn unanswered(&self, number: u64) -> usize
         ensures { result ≡ unanswered_of (session_at self.now number) }
     {
         self.sessions.get(number).map_or(0, Session::unanswered)
     }
 
-    /// Whether nothing is read of a session any more, after `quit` or a line too long, and all that was taken of it is
-    /// answered. It is false where the session is not open.
+    /// Returns whether the session is closed to input, after `quit` or a line too long, and all that was taken of it is answered. It is false
+    /// if the session is not open.
     pub fn finished(&self, number: u64) -> bool
         ensures { result ≡ is_finished (session_at self.now number) }
     {
         self.sessions.get(number).is_some_and(Session::is_finished)
     }
 
-    /// Gives back the memory that a session has reserved and that holds nothing, where there is room for more than `kept`
-    /// bytes or requests. It is for a session that is idle. Where none of the number is open it does nothing.
+    /// Frees the memory of each empty buffer of a session that has room for more than `kept` bytes or requests. It is for a session that is
+    /// idle. If no session has this number, it does nothing.
     #[tactic(auto, using(mc_table::proofs::NumberedEntryLemmas::updated_same))]
     pub fn give_back(&mut self, number: u64, kept: usize)
         ensures { self.new ≡ self.old }
@@ -262,8 +261,8 @@ impl Proxy {
         session.give_back(kept);
     }
 
-    /// Ends a session: its text, its answers and its unanswered requests are dropped. What its commands are still answered
-    /// by their servers is dropped when it comes. It takes no memory.
+    /// Ends a session: drops its text, its answers and its unanswered requests. Replies to its pending commands are dropped when they arrive.
+    /// It takes no memory.
     pub fn gone(&mut self, number: u64) -> Result<(), ProxyError>
         ensures gone { OnOk result (self.new ≡ record self.old { sessions = without number self.old.sessions }) }
         ensures not_open { OnOk result (session_at self.new number ≡ None) }

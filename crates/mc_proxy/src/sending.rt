@@ -1,4 +1,4 @@
-//! The commands of a request, to their links.
+//! How the commands of a request get to their links.
 ghost use Rattle.std.specs.Prelude.{◌≡◌, ◌+◌, ◌-◌, ◌<◌, ◌≤◌, ◌^◌, ◌&&◌, ◌||◌, ℕ, [], true, length, map, IfOk, IfSome, OnOk};
 ghost use Rattle.std.specs.List.{list_any};
 ghost use Rattle.std.specs.VecDeque.{deque_len, deque_capacity};
@@ -22,10 +22,10 @@ use std::alloc::Global;
 use std::collections::VecDeque;
 use std::mem;
 
-/// Sets the start of an empty queue to the front of its memory. It takes no memory, and gives none back.
+/// Moves the start of an empty queue to the front of its memory. It takes no memory, and frees none.
 ///
-/// A queue that is filled at its end and emptied from its start moves on through its memory. Commands that pass the memory's
-/// end are in two parts then, and to lend them as one slice each of them would be moved.
+/// A queue that is filled at its end and consumed from its start moves on through its memory. Commands that pass the memory's
+/// end are then in two parts, and each of them would be moved to borrow them as one slice.
 pub fn start_at_front(alloc: Global, queue: &mut VecDeque<Routed>)
     requires { queue.old.items ≡ [] }
     ensures { queue.new.items ≡ [] }
@@ -34,8 +34,8 @@ pub fn start_at_front(alloc: Global, queue: &mut VecDeque<Routed>)
     *queue = VecDeque::from_vec(moved_on.into_vec());
 }
 
-/// Whether a link that what is asked needs has as much unsent as its mark. It takes no memory, and looks at no key where no
-/// link has.
+/// Returns whether a link that a request needs has reached its mark of unsent bytes. It takes no memory, and looks at no key
+/// if no link has.
 pub fn is_any_marked(links: &[Link], asked: &Asked<'_>, ring: &Ring) -> bool
     requires { is_well_formed (asked_of asked.now) ≡ true }
     ensures { result ≡ list_any (λ command. is_link_marked (link_at (states links.now) command.server)) (route_of_taken ring.now (asked_of asked.now)) }
@@ -48,7 +48,8 @@ pub fn is_any_marked(links: &[Link], asked: &Asked<'_>, ring: &Ring) -> bool
     false
 }
 
-/// Whether what is asked has to wait: its session has reached a mark of its own, or a link that it needs has. It takes no memory.
+/// Returns whether a request must wait: its session has reached a mark of its own, or a link that it needs has. It takes no
+/// memory.
 pub fn is_held_up(marked: bool, links: &[Link], asked: &Asked<'_>, ring: &Ring) -> bool
     requires { is_well_formed (asked_of asked.now) ≡ true }
     ensures { result ≡ (marked
@@ -57,7 +58,7 @@ pub fn is_held_up(marked: bool, links: &[Link], asked: &Asked<'_>, ring: &Ring) 
     marked || is_any_marked(links, asked, ring)
 }
 
-/// Whether the link of a place has as much unsent as its mark, and what is asked needs it.
+/// Returns whether the link at a place has reached its mark of unsent bytes, and the request needs it.
 fn is_marked_for(links: &[Link], asked: &Asked<'_>, ring: &Ring, place: usize) -> bool
     requires { is_well_formed (asked_of asked.now) ≡ true }
     ensures { result
@@ -66,7 +67,7 @@ fn is_marked_for(links: &[Link], asked: &Asked<'_>, ring: &Ring, place: usize) -
     is_marked(links, place) && goes_to(asked, ring, place)
 }
 
-/// Whether the link of a place is up, and has as much unsent as its mark.
+/// Returns whether the link at a place is up, and has reached its mark of unsent bytes.
 fn is_marked(links: &[Link], place: usize) -> bool
     ensures { result ≡ is_link_marked (link_at (states links.now) place) }
 {
@@ -76,8 +77,8 @@ fn is_marked(links: &[Link], place: usize) -> bool
     }
 }
 
-/// Takes what memory a request needs: for what becomes of its commands at once, which is given, for its place among those that
-/// are not answered, and for its commands on their links.
+/// Takes all the memory that a request needs: for the immediate outcomes of its commands, for its place among the unanswered
+/// requests, and for its commands on their links. It returns the outcomes.
 pub fn prepare(
     alloc: Global,
     unanswered: &mut VecDeque<Unanswered>,
@@ -96,7 +97,7 @@ pub fn prepare(
     Ok(outcomes)
 }
 
-/// What becomes of each command at once.
+/// Returns the immediate outcome of each command.
 fn at_once(alloc: Global, links: &[Link], commands: &[Routed]) -> Result<Vec<Outcome>, SessionError>
     ensures { IfOk result (λ outcomes. outcomes.items ≡ map (at_once (states links.now)) commands.now) }
 {
@@ -107,7 +108,7 @@ fn at_once(alloc: Global, links: &[Link], commands: &[Routed]) -> Result<Vec<Out
     Ok(outcomes)
 }
 
-/// What becomes of a command at once: it is lost where its link is down.
+/// Returns the immediate outcome of a command: it is lost if its link is down.
 pub fn outcome_at_once(links: &[Link], place: usize) -> Outcome
     ensures { result ≡ outcome_by (link_at (states links.now) place) }
 {
@@ -118,7 +119,7 @@ pub fn outcome_at_once(links: &[Link], place: usize) -> Outcome
     }
 }
 
-/// Whether the link of a place is up. None is up where there is none.
+/// Returns whether the link at a place is up. A missing link is not.
 pub fn is_up_at(links: &[Link], place: usize) -> bool
     ensures up { result ≡ (link_at (states links.now) place).up }
     ensures inside { result ≡ true → place < length links.now }
@@ -126,7 +127,7 @@ pub fn is_up_at(links: &[Link], place: usize) -> bool
     links.get(place).is_some_and(Link::is_up)
 }
 
-/// Makes room on the links of the commands that are up, so that the commands can be sent without memory.
+/// Reserves room on those links of the commands that are up, so that the commands can be sent without memory.
 fn make_room(links: &mut [Link], commands: &[Routed]) -> Result<(), SessionError>
     ensures roomy { OnOk result (AreRoomy links.new commands.now) }
     ensures unchanged { states links.new ≡ states links.old }
@@ -140,7 +141,7 @@ fn make_room(links: &mut [Link], commands: &[Routed]) -> Result<(), SessionError
     Ok(())
 }
 
-/// How many bytes the commands' spellings have in all, where a number has room for it.
+/// Returns how many bytes the commands' spellings have in all, if a number has room for it.
 fn spelled_len(commands: &[Routed]) -> Option<usize>
     ensures { IfSome result (λ bytes. bytes ≡ spelled commands.now) }
 {
@@ -151,7 +152,7 @@ fn spelled_len(commands: &[Routed]) -> Option<usize>
     Some(bytes)
 }
 
-/// Makes room on the link of a place, where that is up.
+/// Reserves room on the link at a place, if that is up.
 pub fn make_room_on(
     links: &mut [Link],
     place: usize,
@@ -168,7 +169,7 @@ pub fn make_room_on(
     Ok(())
 }
 
-/// Hands each command of a queue to the link of its place, in order: a link that is down drops it. Then the queue is empty. It
+/// Sends each command of a queue to the link at its place, in order: a link that is down drops it. Then the queue is empty. It
 /// takes no memory.
 pub fn send_all(links: &mut [Link], queue: &mut VecDeque<Routed>, session: u64, request: u64)
     requires { AreRoomy links.old queue.old.items }
@@ -187,7 +188,7 @@ pub fn send_all(links: &mut [Link], queue: &mut VecDeque<Routed>, session: u64, 
     }
 }
 
-/// Hands a command to the link of its place, where that is up.
+/// Sends a command to the link at its place, if that is up.
 fn hand_over(links: &mut [Link], command: Routed, tag: Tag)
     requires { IsRoomy (length (spelling_of_atom command.atom)) 1 (roomy_at links.old command.server) }
     ensures handed { states links.new ≡ with_link command.server (handed_to tag command.atom (link_at (states links.old) command.server)) (states links.old) }

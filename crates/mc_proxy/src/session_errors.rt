@@ -1,4 +1,4 @@
-//! Why a call gave up.
+//! Why a call of a session failed.
 ghost use Rattle.std.specs.Prelude.{◌≡◌};
 ghost use Rattle.mc_proxy.specs.declared.session_errors.SessionError.TheVariants.{Memory};
 
@@ -9,10 +9,10 @@ use mc_route::RouteError;
 use std::alloc::{AllocError, AllocFailed};
 use thiserror::Error;
 
-/// Why a call of a session gave up.
+/// Why a call of a session failed.
 #[derive(Debug, Drop, Error)]
 pub enum SessionError {
-    /// 1: no memory. Nothing has changed: no piece or request was taken, no command sent, and no answer put out.
+    /// 1: no memory. Nothing has changed: no piece or request was taken, no command sent, and no answer emitted.
     #[error("out of memory")]
     Memory,
 }
@@ -57,7 +57,7 @@ impl<T: Drop> From<AllocFailed<T>> for SessionError {
     }
 }
 
-/// A session makes room only on links that are up, which can fail for want of memory alone.
+/// A session reserves room only on links that are up, which can fail only for lack of memory.
 impl From<LinkError> for SessionError {
     ghost from_gives = { λ _ e. e ≡ Memory };
 

@@ -24,11 +24,11 @@ use std::marker::Model;
 pub struct Session {
     reader: Reader,
     output: Vec<u8>,
-    /// How many bytes of the output were taken out.
+    /// How many bytes of the output were consumed.
     sent: usize,
     /// How many requests and faults were taken.
     taken: u64,
-    /// Those of them that are not answered, the oldest first.
+    /// The unanswered ones of them, the oldest first.
     unanswered: VecDeque<Unanswered>,
 }
 
@@ -56,7 +56,7 @@ impl Session {
     ghost use Rattle.mc_proxy.specs.Looks.{IsReady, waits_for};
     ghost use Rattle.mc_proxy.specs.SessionTurns.{IsFed, IsTurn};
 
-    /// A session to which nothing has come.
+    /// Makes a session to which no byte has arrived.
     pub fn new(alloc: Global) -> Session
         ensures { result ≡ fresh_session }
     {
@@ -79,7 +79,7 @@ impl Session {
         Ok(())
     }
 
-    /// Whether the session has reached a mark of its own.
+    /// Returns whether the session has reached a mark of its own.
     fn is_marked(&self) -> bool
         ensures { result ≡ is_session_marked self.now }
     {
@@ -88,12 +88,12 @@ impl Session {
             || self.taken == u64::MAX
     }
 
-    /// Takes the first request or fault that has come whole, and sends its commands, each to the link of its key's owner,
-    /// under tags with the session's number. Its lost commands are answered by this choice.
+    /// Takes the first whole request or fault, and sends its commands, each to the link of its key's owner, under tags with the session's
+    /// number. Its lost commands are answered by this choice.
     ///
-    /// What it may need of memory is taken before anything is. Where none has come, or the first has to wait for a mark, it
-    /// needs none. The commands go through a queue, which the caller keeps: it is empty before and after each turn, and has
-    /// room for those of the requests so far.
+    /// All memory is taken before the request is. If none has arrived whole, or the first must wait for a mark, the call needs no memory. The
+    /// commands go through a queue, which the caller keeps: it is empty before and after each turn, and has room for those of the requests so
+    /// far.
     pub fn turn(
         &mut self,
         alloc: Global,
@@ -138,7 +138,7 @@ impl Session {
         Ok(Turn::Took)
     }
 
-    /// The same by [`Reader::peek`]. A turn comes here where it did not see at once that nothing is whole, or a good `get` or `gets`.
+    /// Does a turn by [`Reader::peek`], if the turn did not see at once a good `get` or `gets`, or that nothing is whole.
     fn turn_lent(
         &mut self,
         alloc: Global,
@@ -165,8 +165,8 @@ impl Session {
         }
     }
 
-    /// The same of `set`, `add`, `replace`, `append`, `prepend` and `cas`: the data block goes from the reader to the link, and is not copied
-    /// before. None if something else is first: then nothing has changed.
+    /// Does a turn on `set`, `add`, `replace`, `append`, `prepend` and `cas`: the data block goes from the reader to the link, and is not
+    /// copied before. It returns none if something else is first: then nothing has changed.
     #[inline(never)]
     fn turn_store(
         &mut self,
@@ -204,7 +204,7 @@ impl Session {
         Ok(Some(Turn::Took))
     }
 
-    /// The same whatever is first.
+    /// Does a turn on any request or fault.
     #[inline(never)]
     fn turn_other(
         &mut self,
@@ -236,7 +236,7 @@ impl Session {
         Ok(Turn::Took)
     }
 
-    /// Whether the session has reached a mark of its own, or a link that what is asked needs has.
+    /// Returns whether the session has reached a mark of its own, or a link that the request needs has.
     fn must_wait(&self, links: &[Link], asked: &Asked<'_>, ring: &Ring) -> bool
         requires { is_well_formed (asked_of asked.now) ≡ true }
         ensures { result ≡ is_marked self.now (states links.now) (route_of_taken ring.now (asked_of asked.now)) }
@@ -244,8 +244,7 @@ impl Session {
         self.is_marked() || is_any_marked(links, asked, ring)
     }
 
-    /// Takes the request or fault that is first: its commands, which are in the queue, go each to its link, and what stays of it
-    /// waits for its answer.
+    /// Takes the first request or fault: sends its commands, which are in the queue, each to its link, and keeps what its answer needs.
     #[inline(always)]
     fn take(
         &mut self,
@@ -283,14 +282,14 @@ impl Session {
         Ok(())
     }
 
-    /// Whether a whole request or fault has come that was not taken. It takes no memory.
+    /// Returns whether a whole request or fault has arrived and was not taken. It takes no memory.
     pub fn ready(&self) -> bool
         ensures { IsTrue result ↔ (0 < length (rest_of self.now.reader [])) }
     {
         self.reader.ready()
     }
 
-    /// Whether a turn would take a request or fault: one has come whole, and need not wait for a mark. It takes no memory.
+    /// Returns whether a turn would take a request or fault: one has arrived whole, and need not wait for a mark. It takes no memory.
     pub fn can_turn(&self, ring: &Ring, links: &[Link]) -> bool
         ensures { IsTrue result ↔ IsReady ring.now (states links.now) self.now }
     {
@@ -300,8 +299,7 @@ impl Session {
         }
     }
 
-    /// Whether the first request or fault that has come whole has a command for the server of a place of the ring. It takes no
-    /// memory.
+    /// Returns whether the first whole request or fault has a command for the server at a place of the ring. It takes no memory.
     pub fn waits_for(&self, ring: &Ring, place: usize) -> bool
         ensures { result ≡ waits_for ring.now place (rest_of self.now.reader []) }
     {
@@ -312,7 +310,7 @@ impl Session {
         }
     }
 
-    /// Notes what became of a command. That of a request which is answered is dropped.
+    /// Records the outcome of a command. If its request is answered, the outcome is dropped.
     pub fn note(&mut self, tag: Tag, outcome: Outcome)
         ensures { self.new ≡ noted_in tag outcome self.old }
     {
@@ -326,24 +324,23 @@ impl Session {
         }
     }
 
-    /// Whether it is known of each command of the oldest request that is not answered what became of it. It takes no memory.
+    /// Returns whether the outcome of each command of the oldest unanswered request is known. It takes no memory.
     pub fn has_answer(&self) -> bool
         ensures { IsTrue result ↔ (emitted self.now ≢ None) }
     {
         self.unanswered.front().is_some_and(Unanswered::is_known)
     }
 
-    /// Whether a command of the oldest request that is not answered was lost, and its answer does not say so. It takes no memory.
+    /// Returns whether a command of the oldest unanswered request was lost, and its answer does not say so. It takes no memory.
     pub fn hides_loss(&self) -> bool
         ensures { result ≡ hides_loss_first self.now.unanswered }
     {
         self.unanswered.front().is_some_and(Unanswered::hides_loss)
     }
 
-    /// Appends the answer to the oldest request that is not answered, where it is known of each of its commands what became
-    /// of it.
+    /// Appends the answer to the oldest unanswered request, if the outcome of each of its commands is known.
     ///
-    /// At an error nothing was put out. Where no answer is known it needs no memory.
+    /// At an error nothing was emitted. If no answer is known, it needs no memory.
     pub fn emit(&mut self) -> Result<Emit, SessionError>
         ensures emit { IfOk result (λ emit. IsEmit emit self.old self.new) }
         ensures cause { OnErr result (emitted self.old ≢ None) }
@@ -361,21 +358,21 @@ impl Session {
         Ok(Emit::Done)
     }
 
-    /// Whether nothing is read any more and every request is answered.
+    /// Returns whether the session is closed to input and every request is answered.
     pub fn is_finished(&self) -> bool
         ensures { result ≡ (self.now.reader.closed && (length self.now.unanswered == 0)) }
     {
         self.reader.is_closed() && self.unanswered.is_empty()
     }
 
-    /// How many requests are not answered.
+    /// Returns how many requests are not answered.
     pub fn unanswered(&self) -> usize
         ensures { result ≡ length self.now.unanswered }
     {
         self.unanswered.len()
     }
 
-    /// The answers that were not taken out.
+    /// Returns the answers that were not consumed.
     pub fn output(&self) -> &[u8]
         ensures { result.now ≡ self.now.output }
     {
@@ -383,7 +380,7 @@ impl Session {
         output
     }
 
-    /// Releases the first `count` bytes of the output, which the client was sent.
+    /// Consumes the first `count` bytes of the output, which were sent to the client.
     pub fn taken_out(&mut self, count: usize)
         requires { count ≤ length self.old.output }
         ensures { self.new ≡ record self.old { output = drop count self.old.output } }
@@ -391,7 +388,7 @@ impl Session {
         self.sent = let_go(&mut self.output, self.sent + count);
     }
 
-    /// Gives back the memory of what holds nothing, where there is room for more than `kept` bytes or requests.
+    /// Frees the memory of each empty buffer that has room for more than `kept` bytes or requests.
     pub fn give_back(&mut self, kept: usize)
         ensures { self.new ≡ self.old }
     {

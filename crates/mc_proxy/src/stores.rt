@@ -1,4 +1,4 @@
-//! A storage command of a classic line, from the reader that lends it to its link.
+//! A storage command of a classic line, from the reader that has it to its link.
 ghost use Rattle.std.specs.Prelude.{◌≡◌, ◌<◌, ◌∷◌, ◌++◌, [], true, length, map, IfOk, OnOk, OnErr};
 ghost use Rattle.std.specs.Bool.{OnFalse, OnTrue};
 ghost use Rattle.std.specs.VecDeque.{deque_len, deque_capacity};
@@ -24,17 +24,17 @@ use mc_text::{Block, Key};
 use std::alloc::Global;
 use std::collections::VecDeque;
 
-/// Whether a text may begin with a storage command of a classic line, by its first byte. A wrong answer costs time, and nothing else.
+/// Returns whether a text may begin with a storage command of a classic line, by its first byte. A wrong answer costs time only.
 #[inline(always)]
 pub fn may_store(unread: &[u8]) -> bool {
     matches!(unread, [b's' | b'c' | b'a' | b'r' | b'p', ..])
 }
 
-/// Sends what is lent to the link of its key's owner, if it is a storage command of a classic line, and puts it last among those that
-/// are not answered. False of anything else. Its tag has the number of the session and that of the request.
+/// Sends a borrowed storage command of a classic line to the link of its key's owner, and appends it to the unanswered requests. It
+/// returns false for any other request. The tag has the number of the session and that of the request.
 ///
-/// Its key is copied once for the command and once for the answer, its data block once, to the link. What it may need of memory is
-/// taken before it is sent.
+/// It copies the key once for the command and once for the answer, and the data block once, to the link. All memory is taken before
+/// the command is sent.
 pub fn send_store(
     alloc: Global,
     asked: &Asked<'_>,
@@ -93,7 +93,7 @@ pub fn send_store(
     Ok(true)
 }
 
-/// What stays of a storage command for its answer: all but its data block.
+/// Returns what is kept of a storage command for its answer: all but its data block.
 fn kept_store(
     alloc: Global,
     mode: StoreMode,
@@ -117,8 +117,8 @@ fn kept_store(
     Ok(Taken::Whole(Request::Update { update, noreply }))
 }
 
-/// Takes what memory a storage command needs: for what becomes of it at once, which is given, for its place among those that are not
-/// answered, and for its spelling on the link of a place.
+/// Takes all the memory that a storage command needs: for its immediate outcome, for its place among the unanswered requests, and
+/// for its spelling on the link at a place. It returns the outcome.
 fn prepare_store(
     alloc: Global,
     unanswered: &mut VecDeque<Unanswered>,
@@ -139,7 +139,7 @@ fn prepare_store(
     Ok(outcomes)
 }
 
-/// Hands a storage command to the link of a place, if that is up. It takes no memory.
+/// Sends a storage command to the link at a place, if that is up. It takes no memory.
 fn hand_over_store(links: &mut [Link], place: usize, store: LentStore<'_>, tag: Tag)
     requires { IsRoomy (length (spelling_of_atom (atom_of store))) 1 (roomy_at links.old place) }
     ensures { states links.new

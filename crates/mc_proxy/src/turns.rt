@@ -1,12 +1,13 @@
-//! What a turn of a link answers.
+//! What a turn of a link returns.
 
 /// What a turn of a link did.
 #[derive(Clone, Copy, Debug, PartialEq, Eq)]
 pub enum LinkTurn {
-    /// The oldest command that waited got its reply.
+    /// The oldest pending command got its reply.
     Took,
-    /// No whole reply has come.
+    /// No whole reply has arrived.
     Idle,
-    /// What came is no reply to the oldest command that waits, or none waits: the link is lost.
+    /// A protocol violation, so the link is lost: the bytes are no reply to the oldest pending command, or no command is
+    /// pending.
     Strange,
 }

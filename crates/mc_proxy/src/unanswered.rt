@@ -8,14 +8,14 @@ use mc_request::Taken;
 use mc_route::{Losses, Outcome, hides_loss, join_with};
 use std::marker::Model;
 
-/// A request or fault that was taken, and what became of its commands so far.
+/// A request or fault that was taken, and the outcomes of its commands so far.
 #[derive(Drop)]
 pub struct Unanswered {
     what: Taken,
     /// The choice for its lost commands.
     losses: Losses,
     outcomes: Vec<Outcome>,
-    /// How many of the replies are awaited.
+    /// How many of the replies are pending.
     awaited: usize,
 }
 
@@ -35,7 +35,8 @@ impl Unanswered {
     ghost use Rattle.mc_proxy.specs.Emits.{answer_of_one, hides_loss_of, is_known};
     ghost use Rattle.mc_proxy.specs.SessionNoting.{with_outcome};
 
-    /// A request or fault that was just taken, the choice for its lost commands, and what became of its commands at once.
+    /// Makes the entry of a request or fault that was just taken: the choice for its lost commands, and the immediate
+    /// outcomes of its commands.
     pub fn new(what: Taken, losses: Losses, outcomes: Vec<Outcome>) -> Unanswered
         ensures { result ≡ record { what = what; losses = losses; outcomes = outcomes.items } }
     {
@@ -48,7 +49,7 @@ impl Unanswered {
         }
     }
 
-    /// Whether it is known of each command what became of it.
+    /// Returns whether the outcome of each command is known.
     #[tactic(auto, using(crate::proofs::AwaitedLemmas::none_awaited))]
     pub fn is_known(&self) -> bool
         ensures { result ≡ is_known self.now }
@@ -56,7 +57,7 @@ impl Unanswered {
         self.awaited == 0
     }
 
-    /// Whether a command of it was lost, and its answer does not say so. It takes no memory.
+    /// Returns whether a command of it was lost, and its answer does not say so. It takes no memory.
     pub fn hides_loss(&self) -> bool
         ensures { result ≡ hides_loss_of self.now }
     {
@@ -66,7 +67,7 @@ impl Unanswered {
         }
     }
 
-    /// Notes what became of a command, by its number. Where there is none of that number it is dropped.
+    /// Records the outcome of a command, by its number. If there is no command of this number, the outcome is dropped.
     pub fn note(&mut self, at: usize, outcome: Outcome)
         ensures { self.new ≡ record self.old { outcomes = with_outcome at outcome self.old.outcomes } }
     {
@@ -78,7 +79,7 @@ impl Unanswered {
         self.outcomes[at] = outcome;
     }
 
-    /// Appends the answer, or nothing where there is no memory.
+    /// Appends the answer, or nothing if there is no memory.
     pub fn answer(&self, out: &mut Vec<u8>) -> Result<(), SessionError>
         ensures ok { OnOk result (out.new.items ≡ out.old.items ++ answer_of_one self.now) }
         ensures err { OnErr result (out.new.items ≡ out.old.items) }
@@ -93,7 +94,7 @@ impl Unanswered {
     }
 }
 
-/// How many replies are awaited.
+/// Returns how many replies are pending.
 fn awaited_in(outcomes: &[Outcome]) -> usize
     ensures { result ≡ awaited_in outcomes.now }
 {
@@ -104,7 +105,7 @@ fn awaited_in(outcomes: &[Outcome]) -> usize
     awaited
 }
 
-/// 1 where the reply is awaited, else 0.
+/// Returns 1 if the reply is pending, else 0.
 fn count_awaited(outcome: &Outcome) -> usize
     ensures { result ≡ count_awaited outcome.now }
 {

@@ -18,7 +18,7 @@ use Rattle.mc_proxy_pump.specs.Calls as sessions
 use Rattle.mc_proxy_pump.specs.LinkCalls as links
 use Rattle.mc_proxy_pump.specs.Laws.{AreOf, HoldsAfterClient, HoldsAfterLink, asked_in}
 
--- a proxy holds by texts, bytes and lanes that are the same at each number or place
+-- a proxy holds by equal texts, bytes and lanes at each number or place
 holds_same : (texts texts' sent sent' : ℕ → List ℕ) (order : Order) (lanes lanes' : ℕ → Lane) (proxy : ProxyState)
     → ((n : ℕ) → texts' n ≡ texts n) → ((n : ℕ) → sent' n ≡ sent n) → ((place : ℕ) → lanes' place ≡ lanes place)
     → ProxyHolds texts sent order lanes proxy → ProxyHolds texts' sent' order lanes' proxy
@@ -30,7 +30,7 @@ holds_same texts texts' sent sent' order lanes lanes' proxy text_is sent_is lane
     (subst (λ (f : ℕ → List ℕ). ProxyHolds texts f order lanes' proxy) sent_same
     (subst (λ (f : ℕ → Lane). ProxyHolds texts sent order f proxy) lane_same h))
 
--- bytes that grow by none, and that grow twice
+-- bytes that grow by none, and bytes that grow twice
 grown_none : (number n : ℕ) (bytes : ℕ → List ℕ) → grown number [] bytes n ≡ bytes n
 grown_none number n bytes =
     ⊎_elim
@@ -51,7 +51,7 @@ grown_twice number n more yet bytes =
     ∙ sym (changed-other number n (grown number more bytes number ++ yet) (grown number more bytes) e.1))
     (eqb_tells number n)
 
--- what changes twice
+-- a lane that changes twice
 changed_twice : (place at : ℕ) (first second : Lane) (lanes : ℕ → Lane) → changed place second lanes at ≡ changed place second (changed place first lanes) at
 changed_twice place at first second lanes =
     ⊎_elim
@@ -60,7 +60,7 @@ changed_twice place at first second lanes =
     (λ e. changed-other place at second lanes e.1 ∙ sym (changed-other place at first lanes e.1) ∙ sym (changed-other place at second (changed place first lanes) e.1))
     (eqb_tells place at)
 
--- what changes to what it was
+-- a lane that changes to itself
 changed_none : (place at : ℕ) (lanes : ℕ → Lane) → changed place (lanes place) lanes at ≡ lanes at
 changed_none place at lanes =
     ⊎_elim
@@ -113,7 +113,7 @@ after_call number (sessions.Sent count went) texts sent order lanes old new h st
     let grown_by = subst (λ (bytes : List ℕ). ProxyHolds texts (grown number bytes sent) order lanes new) (sym step.1) here in
     after_none number [] went texts texts sent (grown number went sent) order lanes new (λ n. grown_none number n texts) (λ _. refl) grown_by
 
--- entries of one session after others of it
+-- entries of one session, and more entries of it, are entries of it
 own-append : (number : ℕ) (es fs : Order) → AreOf number es → AreOf number fs → AreOf number (es ++ fs)
 own-append number [] fs h k = k
 own-append number (e ∷ es) fs h k = (h.0, own-append number es fs h.1 k)
@@ -141,7 +141,7 @@ after_calls texts sent order lanes number (call ∷ calls) old new h chain =
           (λ n. grown_twice number n came (sessions.came_of calls) texts) (λ n. grown_twice number n went (sessions.went_of calls) sent) (λ _. refl) others.holds);
     }
 
--- what was asked, where outcomes are noted
+-- noting an outcome leaves what was asked
 asked-note : (tag : Tag) (outcome : Outcome) (order : Order) → asked_in (note tag outcome order) ≡ asked_in order
 asked-note tag outcome [] = refl
 asked-note tag outcome (e ∷ es) = ap (λ (fs : Order). record e { outcomes = [] } ∷ fs) (asked-note tag outcome es)
@@ -150,7 +150,7 @@ asked-note_all : (tags : List Tag) (outcome : Outcome) (order : Order) → asked
 asked-note_all [] outcome order = refl
 asked-note_all (tag ∷ tags) outcome order = asked-note_all tags outcome (note tag outcome order) ∙ asked-note tag outcome order
 
--- how bytes for a server, and bytes that came from one, keep the account
+-- how bytes sent to a server, and bytes received from one, keep the account
 abbrev pub SentHolds : Type 0
 SentHolds = (texts sent : ℕ → List ℕ) (order : Order) (lanes : ℕ → Lane) (place count : ℕ) (old : ProxyState)
     → ProxyHolds texts sent order lanes old → count ≤ length (link_at old.links place).output
@@ -170,7 +170,7 @@ FedHolds = (texts sent : ℕ → List ℕ) (order : Order) (lanes : ℕ → Lane
           (record (link_at old.links place) { unread = (link_at old.links place).unread ++ piece }) old.links;
     })
 
--- nothing passed
+-- no byte passed
 link_still : (place : ℕ) (texts sent : ℕ → List ℕ) (order order' : Order) (lanes : ℕ → Lane) (new : ProxyState) → asked_in order' ≡ asked_in order
     → ProxyHolds texts sent order' lanes new → HoldsAfterLink place [] [] texts sent order lanes new
 link_still place texts sent order order' lanes new same h = record {

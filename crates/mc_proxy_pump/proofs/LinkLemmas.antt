@@ -1,4 +1,4 @@
--- Calls for a link: none, one, and one after another; the parts of a round of its pump, and its pumps.
+-- Calls for a link: none, one, and several in sequence; the parts of a round of its pump, and its pumps.
 use Rattle.std.proofs.Common.{◌≡◌, ◌∙◌, inr, ℕ, ◌<◌, ◌≤◌, Bool, true, false, Result, Ok, Err, List, [], ◌∷◌, ◌++◌, length, take, drop, Option, Some, refl, sym, ap, subst, append_assoc, arith}
 use Rattle.std.proofs.lemmas.List.{append-nil}
 use Rattle.std.specs.Io.KnownBytes.{Appends}
@@ -55,7 +55,7 @@ link_one place call a b woken h = record {
   woken_is = refl;
 }
 
--- one stretch after another
+-- one stretch and then another
 pub link_then : (place : ℕ) (a b c : ProxyState) (came more went yet first second third : List ℕ) → LinkStretch place a b came went first second → LinkStretch place b c more yet second third
     → LinkStretch place a c (came ++ more) (went ++ yet) first third
 link_then place a b c came more went yet first second third h k = record {
@@ -66,7 +66,7 @@ link_then place a b c came more went yet first second third h k = record {
   woken_is = woken-append h.calls k.calls first ∙ ap (λ (woken : List ℕ). woken_by k.calls woken) h.woken_is ∙ k.woken_is;
 }
 
--- where a link holds that was written back
+-- the link after it was written back
 link_is : (place : ℕ) (link : LinkState) (old new : ProxyState) → (link_at old.links place).up ≡ true → new ≡ record old { links = with_link place link old.links } → link_at new.links place ≡ link
 link_is place link old new up is = ap (λ (p : ProxyState). link_at p.links place) is ∙ link_own place link old.links (up_is_there place old.links up)
 
@@ -89,12 +89,12 @@ link_sent place count output old new written written' up unsent few is appended 
       still_up = ap (λ (link : LinkState). link.up) (link_is place (record (link_at old.links place) { output = drop count (link_at old.links place).output }) old new up is) ∙ up;
     }
 
--- nothing came
+-- no byte arrived
 pub link_unfed : (place : ℕ) (side : Result Bool Pumped) (s : ProxyState) (unread unread' : Option (List ℕ)) (ended' : Bool) → (link_at s.links place).up ≡ true
     → HowItCame side unread unread' ended' [] (s ≡ s) → ReceivesLink place side s s unread unread' ended'
 link_unfed place side s unread unread' ended' up how = record { came = []; stretch = λ woken. link_none place s woken; how = how; still_up = up }
 
--- a piece came
+-- a piece arrived
 pub link_fed : (place : ℕ) (piece : List ℕ) (old new : ProxyState) (unread unread' : Option (List ℕ)) (ended' : Bool) → (link_at old.links place).up ≡ true
     → new ≡ record old { links = with_link place (record (link_at old.links place) { unread = (link_at old.links place).unread ++ piece }) old.links }
     → Brings unread unread' ended' piece → ReceivesLink place (Ok true) old new unread unread' ended'
@@ -105,7 +105,7 @@ link_fed place piece old new unread unread' ended' up is brings = record {
   still_up = ap (λ (link : LinkState). link.up) (link_is place (record (link_at old.links place) { unread = (link_at old.links place).unread ++ piece }) old new up is) ∙ up;
 }
 
--- a turn gave a command its reply
+-- a turn matched a reply to its command
 pub own_session : (place : ℕ) (old new : ProxyState) (answers : Answers place old new) (tag : Tag)
     → Some tag ≡ option_map (λ (w : Waiting). w.1) (slice_get (link_at old.links place).waiting 0) → tag.session ≡ answers.tag.session
 own_session place old new answers tag e =
@@ -136,12 +136,12 @@ reply_strange place old new woken up turn = record {
   how = refl;
 }
 
--- turns after turns
+-- turns and then turns
 pub turns_then : (place : ℕ) (side : Result Bool Pumped) (a b c : ProxyState) (first second third : List ℕ) → LinkStretch place a b [] [] first second → TakesReply place side b c second third
     → LinkStretch place a c [] [] first third
 turns_then place side a b c first second third h k = link_then place a b c [] [] [] [] first second third h k.stretch
 
--- how a turn went whose answer is known
+-- how a turn ended, given its answer
 pub turned_true : (more : Bool) (old new : LinkState) → more ≡ true → HowItTurned (Ok more) old new → new.up ≡ true
 turned_true true old new e h = h.0
 turned_true false old new e h = absurd cc
@@ -179,7 +179,7 @@ left_by_side Blocked link up h = absurd h
 left_by_side Done link up h = absurd h
 left_by_side Failed link up h = tt
 
--- a write that went on
+-- a write after which the pump goes on
 pub link_pumps_sent : (place : ℕ) (moved : Bool) (a b : ProxyState) (unread written written' : Option (List ℕ)) (woken : List ℕ)
     → SendsLink place (Ok moved) a b written written' → PumpsLink place Again a b unread unread written written' woken woken
 link_pumps_sent place moved a b unread written written' woken h = record {
@@ -190,7 +190,7 @@ link_pumps_sent place moved a b unread written written' woken h = record {
   left = h.still_up;
 }
 
--- what a write carried that stopped the pump
+-- the bytes of a write that stopped the pump
 carried_unsent : (pump : Pumped) (unread written written' : Option (List ℕ)) (went : List ℕ) → IsStopOfSide pump × Appends written written' went
     → CarriesBy pump unread unread written written' false (is_done pump) [] went
 carried_unsent Again unread written written' went h = carries_sent unread written written' false went h.1
@@ -209,13 +209,13 @@ link_pumps_unsent place pump a b unread written written' woken h = record {
   left = left_by_side pump (link_at b.links place) h.still_up h.how.0;
 }
 
--- what a read brought, of which the end is not kept
+-- a read brings these bytes; an end is not recorded
 carries_read : (unread unread' written : Option (List ℕ)) (ended' : Bool) (came : List ℕ) → Brings unread unread' ended' came → Carries unread unread' written written false false came []
 carries_read unread unread' written ended' came h =
     let none = carries_none unread' written false in
     record { consumed = h.consumed; appended = none.appended; still_ended = λ e. e; at_end = λ e. absurd cc }
 
--- what a read carried that stopped the pump
+-- the bytes of a read that stopped the pump
 carried_unread : (pump : Pumped) (unread unread' written : Option (List ℕ)) (ended' : Bool) (came : List ℕ) → StopsRead pump unread unread' ended' came
     → CarriesBy pump unread unread' written written false (is_done pump) came []
 carried_unread Again unread unread' written ended' came h = carries_read unread unread' written ended' came h
@@ -234,7 +234,7 @@ link_pumps_unheard place pump a b unread unread' written ended' woken h = record
   left = left_by_side pump (link_at b.links place) h.still_up (stop_of_read pump unread unread' ended' h.came h.how);
 }
 
--- a read that went on and turns, and how the pump then stops: done only at the end
+-- a read that went on, and turns; and how the pump then stops: done only at the end
 pub link_pumps_turned : (place : ℕ) (pump : Pumped) (moved : Bool) (side : Result (Unit {0}) Pumped) (a b c : ProxyState) (unread unread' written : Option (List ℕ)) (ended' : Bool) (woken woken' : List ℕ)
     → ReceivesLink place (Ok moved) a b unread unread' ended' → TakesReplies place side b c woken woken' → (is_done pump ≡ true → ended' ≡ true) → LeavesLink pump (link_at c.links place)
     → PumpsLink place pump a c unread unread' written written woken woken'

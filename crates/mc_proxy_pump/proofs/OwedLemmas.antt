@@ -1,4 +1,4 @@
--- A session that is owed something, and what sending it its answers does.
+-- A session with a pending request or an unsent answer, and the effect of sending its answers.
 use Rattle.std.proofs.Common.{◌≡◌, refl, ℕ, Bool, true, false, List, [], Option, Some, None, IsSome, Result, Ok, Err}
 use Rattle.mc_proxy.specs.SessionState.{SessionState}
 use Rattle.mc_proxy.specs.ProxyState.{ProxyState}
@@ -10,7 +10,7 @@ use Rattle.mc_proxy_pump.specs.Clients.{PumpsClient, is_owed_at}
 use Rattle.mc_proxy_pump.specs.Rounds.{Sends}
 use Rattle.mc_proxy_pump.proofs.PumpLemmas.{pumps_then, pumps_turns, pumps_unsent, stopped}
 
--- it is open
+-- such a session is open
 pub owed_is_open : (session : Option SessionState) → is_owed_at session ≡ true → IsSome session
 owed_is_open None owed = let clash : false ≡ true = owed in absurd cc
 owed_is_open (Some session) owed = refl

@@ -1,4 +1,4 @@
--- Pumps of a session: one after another, and what each part of a round adds.
+-- Pumps of a session: several in sequence, and what each part of a round adds.
 use Rattle.std.proofs.Common.{◌≡◌, ℕ, Bool, false, Ok, Err, List, [], ◌++◌, Option, IsSome}
 use Rattle.mc_proxy.specs.SessionState.{SessionState}
 use Rattle.mc_proxy.specs.ProxyState.{ProxyState, session_at}
@@ -34,7 +34,7 @@ pumps_then number pump a b c unread middle unread' written between written' ende
   left = k.left;
 }
 
--- a stop of a side leaves nothing to say
+-- after a stop of a side nothing is claimed
 left_by_side : (pump : Pumped) (ended : Bool) (proxy : ProxyState) (session : Option SessionState) → IsStopOfSide pump → Leaves pump ended proxy session
 left_by_side Again ended proxy session h = tt
 left_by_side Blocked ended proxy session h = absurd h

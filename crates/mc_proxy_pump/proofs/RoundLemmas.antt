@@ -33,7 +33,7 @@ pub stretch_turned : (number : ℕ) (turn : Turn) (old new : ProxyState) (missed
 stretch_turned number turn old new missed steps =
     stretch_one number (Turned turn) old new missed steps (is_open (session_at new number) steps.after (steps_at number old new (IsTurn number turn old.ring old.losses) steps))
 
--- a request that is taken is one less to take, and one more to answer
+-- a request that is taken is one fewer to take, and one more to answer
 took_less : (number : ℕ) (ring : RingState) (losses : Losses) (links now : List LinkState) (before after : SessionState) (what : Taken)
     → Takes number ring losses links now before after what → work_of (Some after) < work_of (Some before)
 took_less number ring losses links now before after what takes =
@@ -89,7 +89,7 @@ closing_stops number old new steps =
     (steps_still number old new (IsTurn number turns.Closing old.ring old.losses) steps steps.step.1.1 steps.step.1.0)
     (is_open (session_at old number) steps.before steps.was)
 
--- what was looked for in an answer that is known counts as what it is
+-- the look at a known answer counts it as what it is
 counted_alike : (Known : Type 0) (looked hides : Bool) (missed : Option ℕ) → Known → (IsTrue looked ↔ (IsSome missed × Known × (hides ≡ true)))
     → counted looked missed ≡ counted hides missed
 counted_alike Known true true missed known looks = refl
@@ -98,11 +98,11 @@ counted_alike Known false true None known looks = refl
 counted_alike Known false true (Some n) known looks = let clash : false ≡ true = looks.1 (refl, known, refl) in absurd cc
 counted_alike Known false false missed known looks = refl
 
--- an answer that is put out was known
+-- an answer that is emitted was known
 had_answer : (number : ℕ) (old new : ProxyState) → Steps number old new (Alone (IsEmit emits.Done)) → HasAnswer number old
 had_answer number old new steps = (steps.before, steps.was, λ none. let clash : Some steps.after ≡ None = sym steps.step.1 ∙ none in absurd cc)
 
--- putting an answer out is a call, and the answer is counted if it hides a loss
+-- emitting an answer is a call, and the answer is counted if it hides a loss
 pub stretch_emitted : (number : ℕ) (old new : ProxyState) (looked : Bool) (missed missed' : Option ℕ) → Steps number old new (Alone (IsEmit emits.Done))
     → length (output_of (session_at old number)) < UNSENT_MARK
     → (IsTrue looked ↔ (IsSome missed × HasAnswer number old × (hides_loss_at (session_at old number) ≡ true)))
@@ -114,13 +114,13 @@ stretch_emitted number old new looked missed missed' steps below looks is =
     (stretch_one number (Emitted (hides_loss_at (session_at old number))) old new missed (steps, below, refl)
     (is_open (session_at new number) steps.after (steps_at number old new (Alone (IsEmit emits.Done)) steps)))
 
--- none is known, which is a call too
+-- finding no known answer is a call too
 pub stretch_rested : (number : ℕ) (old new : ProxyState) (missed : Option ℕ) → Steps number old new (Alone (IsEmit emits.Idle)) → length (output_of (session_at old number)) < UNSENT_MARK
     → Stretch number old new [] [] missed missed
 stretch_rested number old new missed steps below =
     stretch_one number Rested old new missed (steps, below) (is_open (session_at new number) steps.after (steps_at number old new (Alone (IsEmit emits.Idle)) steps))
 
--- an answer that is put out is one less to answer
+-- an answer that is emitted is one fewer to answer
 emit_parts : (session : SessionState) (us : List Unanswered) (after : SessionState) → emitted_from session us ≡ Some after
     → (suc (length after.unanswered) ≡ length us) × (after.reader ≡ session.reader)
 emit_parts session [] after e = absurd cc
@@ -147,7 +147,7 @@ put_one number old new steps =
     let Q : Option SessionState → Type 0 = λ o. (work_of (Some steps.after) < work_of o) × (unanswered_of (Some steps.after) < unanswered_of o) in
     subst P (sym (steps_at number old new (Alone (IsEmit emits.Done)) steps)) (subst Q (sym steps.was) less)
 
--- where none is put out nothing changes, and none is known
+-- if none is emitted nothing changes, and none is known
 pub put_none : (number : ℕ) (old new : ProxyState) → Steps number old new (Alone (IsEmit emits.Idle)) → (new ≡ old) × (emitted_at (session_at new number) ≡ None)
 put_none number old new steps =
     let P : Option SessionState → Type 0 = λ o. emitted_at o ≡ None in
@@ -201,12 +201,12 @@ sends_some number count output old new written written' missed there unsent few 
       }));
     }
 
--- nothing came
+-- no byte arrived
 pub receives_still : (number : ℕ) (side : Result Bool Pumped) (s : ProxyState) (unread unread' : Option (List ℕ)) (ended' : Bool) (missed : Option ℕ) → IsSome (session_at s number)
     → HowItCame side unread unread' ended' [] (s ≡ s) → Receives number side s s unread unread' ended' missed missed
 receives_still number side s unread unread' ended' missed there how = record { came = []; stretch = stretch_none number s missed there; uncounted = refl; how = how }
 
--- a piece came
+-- a piece arrived
 pub stretch_fed : (number : ℕ) (piece : List ℕ) (old new : ProxyState) (missed : Option ℕ) → Steps number old new (Alone (IsFed piece)) → waiting_of (session_at old number) ≡ []
     → length (output_of (session_at old number)) < UNSENT_MARK → Stretch number old new piece [] missed missed
 stretch_fed number piece old new missed steps none below =
@@ -229,7 +229,7 @@ no_more turns.Idle ended proxy o h e = (h.0, inl e)
 no_more turns.Waiting ended proxy o h e = absurd cc
 no_more turns.Closing ended proxy o h e = (h.0, inr h.1)
 
--- where all is answered and sent and nothing more will come, the session is over
+-- if all is answered and sent and nothing more will arrive, the session is over
 pub over : (turn : Turn) (ended answer : Bool) (proxy : ProxyState) (a b : Option SessionState) → StopsAt turn proxy a → IsSentOf a b
     → answer ≡ ((length (output_of b) == 0) && ((unanswered_of b == 0) && ends_by turn ended)) → answer ≡ true → IsOver ended b
 over turn ended answer proxy a b h same is e =
@@ -246,19 +246,19 @@ over turn ended answer proxy a b h same is e =
       ];
     }
 
--- where turns stopped, none waits or the first waits for a mark
+-- if turns stopped, none waits or the first waits for a mark
 stopped_at : (turn : Turn) (proxy : ProxyState) (session : Option SessionState) → StopsAt turn proxy session → (waiting_of session ≡ []) ⊎ IsHeldUpAt proxy.ring proxy.links session
 stopped_at turns.Took proxy session h = absurd h
 stopped_at turns.Idle proxy session h = inl h.0
 stopped_at turns.Waiting proxy session h = inr h
 stopped_at turns.Closing proxy session h = inl h.0
 
--- a request waits where the first has to wait for a mark
+-- if the first request must wait for a mark, a request waits
 held_waits : (ring : RingState) (links : List LinkState) (session : Option SessionState) → IsHeldUpAt ring links session → waiting_of session ≡ [] → ⊥
 held_waits ring links None h none = h
 held_waits ring links (Some s) h none = let clash : h.what ∷ h.others ≡ [] = sym h.first ∙ none in absurd cc
 
--- where nothing waits or is unsent, and the input is read no further, it has ended
+-- if nothing waits or is unsent, and the input is read no further, it has ended
 not_read : (turn : Turn) (ended marked : Bool) (proxy : ProxyState) (o : Option SessionState) → StopsAt turn proxy o → reads_by turn ended marked ≡ false → marked ≡ false → waiting_of o ≡ []
     → ends_by turn ended ≡ true
 not_read turns.Took ended marked proxy o h e unmarked none = absurd h
@@ -273,7 +273,7 @@ pub unmarked : (output : List ℕ) → output ≡ [] → nat_le UNSENT_MARK (len
 unmarked [] none = refl
 unmarked (b ∷ bs) none = absurd cc
 
--- where the session is not over, and the input is read no further, it is stuck
+-- if the session is not over, and the input is read no further, it is stuck
 pub stuck : (turn : Turn) (ended marked answer : Bool) (proxy : ProxyState) (o : Option SessionState) → StopsAt turn proxy o → HasAnswered o
     → answer ≡ ((length (output_of o) == 0) && ((unanswered_of o == 0) && ends_by turn ended)) → answer ≡ false
     → reads_by turn ended marked ≡ false → (output_of o ≡ [] → marked ≡ false) → IsStuck ended proxy o
@@ -288,7 +288,7 @@ stuck turn ended marked answer proxy o h answered is e unread unmarked = record 
       absurd cc;
 }
 
--- where the input is read on, no request waits, and less is unsent than the mark
+-- if the input is read on, no request waits, and less is unsent than the mark
 pub read_on : (turn : Turn) (ended marked answer : Bool) (proxy : ProxyState) (o : Option SessionState) → StopsAt turn proxy o → answer ≡ reads_by turn ended marked → answer ≡ true
     → (StopsAt turns.Idle proxy o) × (ended ≡ false) × (marked ≡ false)
 read_on turns.Took ended marked answer proxy o h is e = absurd h
@@ -309,7 +309,7 @@ unheard ended proxy o none unknown closed goes_on = record {
   ];
 }
 
--- one answer more was put out, or none
+-- one answer more was emitted, or none
 pub how_more : (answered : Bool) (number : ℕ) (a b c : ProxyState) → HowMany answered number a b → work_of (session_at c number) < work_of (session_at b number) → HowMany true number a c
 how_more true number a b c h less = omega (arith, h, less)
 how_more false number a b c h less = subst (λ (p : ProxyState). work_of (session_at c number) < work_of (session_at p number)) h less

@@ -1,4 +1,4 @@
--- Calls for a session: none, one, and one after another.
+-- Calls for a session: none, one, and several in sequence.
 use Rattle.std.proofs.Common.{◌≡◌, ◌∙◌, ℕ, true, false, List, [], ◌∷◌, ◌++◌, Option, Some, None, IsSome, refl, sym, ap, subst, append_assoc}
 use Rattle.std.proofs.lemmas.List.{append-nil}
 use Rattle.mc_proxy.specs.SessionState.{SessionState}
@@ -32,7 +32,7 @@ missed-append (Emitted hides ∷ xs) ys missed = missed-append xs ys (counted hi
 missed-append (Rested ∷ xs) ys missed = missed-append xs ys missed
 missed-append (Sent count went ∷ xs) ys missed = missed-append xs ys missed
 
--- calls after calls
+-- calls and then calls
 calls-append : (number : ℕ) (xs ys : List Call) (a b c : ProxyState) → Calls number xs a b → Calls number ys b c → Calls number (xs ++ ys) a c
 calls-append number [] ys a b c h k = subst (λ (p : ProxyState). Calls number ys p c) h k
 calls-append number (x ∷ xs) ys a b c h k = (h.0, (h.1.0, calls-append number xs ys h.0 b c h.1.1 k))
@@ -53,7 +53,7 @@ stretch_one number call a b missed h there = record {
   still_open = there;
 }
 
--- one stretch after another
+-- one stretch and then another
 pub stretch_then : (number : ℕ) (a b c : ProxyState) (came more went yet : List ℕ) (first second third : Option ℕ) → Stretch number a b came went first second → Stretch number b c more yet second third
     → Stretch number a c (came ++ more) (went ++ yet) first third
 stretch_then number a b c came more went yet first second third h k = record {

@@ -1,4 +1,4 @@
--- Calls for one session of a proxy, one after another: this project's own.
+-- Calls for one session of a proxy, in sequence: this project's own.
 use Rattle.std.specs.Prelude.{◌≡◌, ℕ, ◌<◌, ◌≤◌, Bool, List, [], ◌∷◌, ◌++◌, length, take, Option, IsSome}
 use Rattle.mc_proxy.specs.Emits.{IsEmit}
 use Rattle.mc_proxy.specs.SessionTurns.{IsFed, IsTurn}
@@ -15,15 +15,15 @@ pub data Call : Type 0 where
   Fed : List ℕ → Call
   -- it takes a turn
   Turned : Turn → Call
-  -- an answer is put out, which hides a loss or not
+  -- an answer is emitted, which hides a loss or not
   Emitted : Bool → Call
-  -- no answer is known, and none is put out
+  -- no answer is known, and none is emitted
   Rested : Call
-  -- so many bytes of its output are taken out, which are these: its client was sent them
+  -- the first bytes of its output are consumed, by their number and the bytes themselves: they were sent to its client
   Sent : ℕ → List ℕ → Call
 
--- What a call for the session of a number does to the proxy. It is fed only where no whole request waits, and only while less
--- is unsent than the mark; and only while less is unsent than the mark an answer is put out, or found not to be known.
+-- What a call for the session of a number does to the proxy. It is fed only if no whole request waits, and only while less is unsent
+-- than the mark. Likewise an answer is emitted, or found not to be known, only while less is unsent than the mark.
 abbrev pub IsCall : ℕ → Call → ProxyState → ProxyState → Type 0
 IsCall number (Fed came) old new =
     Steps number old new (Alone (IsFed came)) × (waiting_of (session_at old number) ≡ []) × (length (output_of (session_at old number)) < UNSENT_MARK)
@@ -34,12 +34,12 @@ IsCall number Rested old new = Steps number old new (Alone (IsEmit Idle)) × (le
 IsCall number (Sent count went) old new =
     (count ≤ length (output_of (session_at old number))) × (went ≡ take count (output_of (session_at old number))) × (new ≡ sent_by number count (session_at old number) old)
 
--- the calls one after another, from a proxy to what they leave of it
+-- the calls in sequence, from a proxy to the state that they leave
 abbrev pub Calls : ℕ → List Call → ProxyState → ProxyState → Type 0
 Calls number [] old new = new ≡ old
 Calls number (call ∷ calls) old new = (middle : ProxyState) × (IsCall number call old middle × Calls number calls middle new)
 
--- the bytes that came by a call, and those that went
+-- the bytes that arrived by a call, and those that were sent
 abbrev pub came_by : Call → List ℕ
 came_by (Fed came) = came
 came_by other = []
@@ -48,7 +48,7 @@ abbrev pub went_by : Call → List ℕ
 went_by (Sent count went) = went
 went_by other = []
 
--- the bytes that came by calls, joined, and those that went
+-- the bytes that arrived by calls, joined, and those that were sent
 abbrev pub came_of : List Call → List ℕ
 came_of [] = []
 came_of (call ∷ calls) = came_by call ++ came_of calls
@@ -57,14 +57,14 @@ abbrev pub went_of : List Call → List ℕ
 went_of [] = []
 went_of (call ∷ calls) = went_by call ++ went_of calls
 
--- a count of the requests whose answers hide a loss, after calls: each such answer that they put out is counted, and nothing else
+-- the count of requests whose answers hide a loss, after calls: each such answer that they emit is counted, and nothing else
 abbrev pub missed_by : List Call → Option ℕ → Option ℕ
 missed_by [] missed = missed
 missed_by (Emitted hides ∷ calls) missed = missed_by calls (counted hides missed)
 missed_by (other ∷ calls) missed = missed_by calls missed
 
--- Calls for an open session by which these bytes came and these went. They take the one count of answers that hide a loss to the other.
--- The session is open after them.
+-- Calls for an open session by which these bytes arrived and these were sent. They take the one count of answers that hide a loss to
+-- the other. The session is open after them.
 pub record Stretch (number : ℕ) (old new : ProxyState) (came went : List ℕ) (missed missed' : Option ℕ) : Type 0 where
   pub calls : List Call
   pub chain : Calls number calls old new

@@ -1,4 +1,4 @@
--- Calls for one link of a proxy, one after another: this project's own.
+-- Calls for one link of a proxy, in sequence: this project's own.
 use Rattle.std.specs.Prelude.{◌≡◌, ℕ, ◌-◌, ◌≤◌, ◌==◌, Bool, true, false, List, [], ◌∷◌, ◌++◌, length, take, drop, slice_get, if◌then◌else◌}
 use Rattle.std.specs.Option.{option_map_or}
 use Rattle.mc_link.specs.declared.turns.Tag.{Tag}
@@ -11,13 +11,13 @@ use Rattle.mc_proxy.specs.declared.turns.LinkTurn.TheVariants.{Idle, Strange}
 pub data LinkCall : Type 0 where
   -- it is fed these bytes, which its server sent
   Fed : List ℕ → LinkCall
-  -- so many bytes of its output are taken out, which are these: its server was sent them
+  -- the first bytes of its output are consumed, by their number and the bytes themselves: they were sent to its server
   Sent : ℕ → List ℕ → LinkCall
-  -- a turn gives the command of this tag its reply
+  -- a turn matches a reply to the command of this tag
   Replied : Tag → LinkCall
   -- a turn finds no whole reply
   Rested : LinkCall
-  -- a turn finds what is no reply, and loses the link
+  -- a turn finds a violation, and loses the link
   Lost : LinkCall
 
 -- what a call for the link of a place does to the proxy
@@ -35,12 +35,12 @@ DoesCall place Lost old new = IsLinkTurn place Strange old new
 abbrev pub IsLinkCall : ℕ → LinkCall → ProxyState → ProxyState → Type 0
 IsLinkCall place call old new = ((link_at old.links place).up ≡ true) × DoesCall place call old new
 
--- the calls one after another, from a proxy to what they leave of it
+-- the calls in sequence, from a proxy to the state that they leave
 abbrev pub LinkCalls : ℕ → List LinkCall → ProxyState → ProxyState → Type 0
 LinkCalls place [] old new = new ≡ old
 LinkCalls place (call ∷ calls) old new = (middle : ProxyState) × (IsLinkCall place call old middle × LinkCalls place calls middle new)
 
--- the bytes that came by a call, and those that went
+-- the bytes that arrived by a call, and those that were sent
 abbrev pub came_by : LinkCall → List ℕ
 came_by (Fed came) = came
 came_by other = []
@@ -49,7 +49,7 @@ abbrev pub went_by : LinkCall → List ℕ
 went_by (Sent count went) = went
 went_by other = []
 
--- the bytes that came by calls, joined, and those that went
+-- the bytes that arrived by calls, joined, and those that were sent
 abbrev pub came_of : List LinkCall → List ℕ
 came_of [] = []
 came_of (call ∷ calls) = came_by call ++ came_of calls
@@ -62,17 +62,17 @@ went_of (call ∷ calls) = went_by call ++ went_of calls
 abbrev pub is_last : ℕ → List ℕ → Bool
 is_last number numbers = option_map_or (λ last. last == number) (slice_get numbers (length numbers - 1)) false
 
--- numbers of sessions after which one more is, where it is not the last already
+-- numbers of sessions with one more appended, unless it is the last already
 abbrev pub with_woken : ℕ → List ℕ → List ℕ
 with_woken session woken = if is_last session woken then woken else woken ++ session ∷ []
 
--- the same after calls: each session whose command got its reply
+-- the numbers of woken sessions after calls: each session whose command got its reply
 abbrev pub woken_by : List LinkCall → List ℕ → List ℕ
 woken_by [] woken = woken
 woken_by (Replied tag ∷ calls) woken = woken_by calls (with_woken tag.session woken)
 woken_by (other ∷ calls) woken = woken_by calls woken
 
--- calls for a link by which these bytes came and these went, and the sessions that they woke
+-- calls for a link by which these bytes arrived and these were sent, and the sessions that they woke
 pub record LinkStretch (place : ℕ) (old new : ProxyState) (came went woken woken' : List ℕ) : Type 0 where
   pub calls : List LinkCall
   pub chain : LinkCalls place calls old new

@@ -9,21 +9,21 @@ use Rattle.mc_stream.specs.declared.outcomes.Pumped.{Pumped}
 use Rattle.mc_stream.specs.declared.outcomes.Pumped.TheVariants.{Again, Blocked, Done, Failed}
 use Rattle.mc_proxy_pump.specs.LinkCalls.{LinkStretch}
 
--- how a link is left: up but where the pump failed, and blocked or done where no whole reply waits
+-- how a link is left: up unless the pump failed, and blocked or done if no whole reply waits
 abbrev pub LeavesLink : Pumped → LinkState → Type 0
 LeavesLink Again link = link.up ≡ true
 LeavesLink Blocked link = (link.up ≡ true) × IsIdle link.waiting link.unread
 LeavesLink Done link = (link.up ≡ true) × IsIdle link.waiting link.unread
 LeavesLink Failed link = Unit {0}
 
--- whether a pump of a link is done, which it is where the input has ended
+-- whether a pump of a link is done, as it is if the input has ended
 abbrev pub is_done : Pumped → Bool
 is_done Done = true
 is_done other = false
 
--- What a pump of the link of a place does: calls for it, and nothing else. The bytes that came by them are those that the
--- reader gave, or the first of them where the pump failed, and all of them where it is done; the bytes that went are those that
--- the writer took. The sessions that were woken come after those that were woken before.
+-- What a pump of the link at a place does: calls for it, and nothing else. The bytes that arrived are those that the reader
+-- gave, or a prefix of them if the pump failed, and all of them if it is done. The bytes that were sent are those that the
+-- writer took. The sessions that it woke are after those that were woken before.
 pub record PumpsLink (place : ℕ) (pump : Pumped) (old new : ProxyState) (unread unread' written written' : Option (List ℕ)) (woken woken' : List ℕ) : Type 0 where
   pub came : List ℕ
   pub went : List ℕ

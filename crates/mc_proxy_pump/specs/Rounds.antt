@@ -11,7 +11,7 @@ use Rattle.mc_stream.specs.declared.outcomes.Pumped.{Pumped}
 use Rattle.mc_proxy_pump.specs.Calls.{Stretch}
 use Rattle.mc_proxy_pump.specs.Clients.{IsHeldUpAt, emitted_at, is_closed_at}
 
--- how much a session has to do: each request that is taken lessens it, and each answer that is put out
+-- how much a session has to do: each request that is taken lessens it, and so does each answer that is emitted
 abbrev pub work_of : Option SessionState → ℕ
 work_of session = 2 * length (waiting_of session) + unanswered_of session
 
@@ -22,13 +22,13 @@ StopsAt turns.Idle proxy session = (waiting_of session ≡ []) × (is_closed_at 
 StopsAt turns.Waiting proxy session = IsHeldUpAt proxy.ring proxy.links session
 StopsAt turns.Closing proxy session = (waiting_of session ≡ []) × (is_closed_at session ≡ true)
 
--- whether nothing more will come, where no more is taken for this cause: the input has ended, or is read no further
+-- whether nothing more will arrive, given why no more is taken: the input has ended, or is read no further
 abbrev pub ends_by : Turn → (ended : Bool) → Bool
 ends_by turns.Idle ended = ended
 ends_by turns.Closing ended = true
 ends_by other ended = false
 
--- whether the input is read on, where as much is unsent as the mark or not
+-- whether the input is read on, given why no more is taken and whether the mark of unsent bytes is reached
 abbrev pub reads_by : Turn → (ended marked : Bool) → Bool
 reads_by turns.Idle ended marked = not ended && not marked
 reads_by other ended marked = false
@@ -39,23 +39,23 @@ pub record TakesTurns (number : ℕ) (old new : ProxyState) (missed missed' : Op
   pub uncounted : missed' ≡ missed
   pub fewer : work_of (session_at new number) ≤ work_of (session_at old number)
 
--- no answer is known, or as much is unsent as the mark
+-- no answer is known, or the unsent bytes have reached the mark
 abbrev pub HasAnswered : Option SessionState → Type 0
 HasAnswered session = (emitted_at session ≡ None) ⊎ (UNSENT_MARK ≤ length (output_of session))
 
--- whether answers were put out so far
+-- whether answers were emitted so far
 abbrev pub HowMany : Bool → ℕ → ProxyState → ProxyState → Type 0
 HowMany true number old new = work_of (session_at new number) < work_of (session_at old number)
 HowMany false number old new = new ≡ old
 
--- a session of which some was sent: all else of it is as it was
+-- a session that has sent some of its output: all else of it is as it was
 pub record IsSentOf (old new : Option SessionState) : Type 0 where
   pub waits : waiting_of new ≡ waiting_of old
   pub closed : is_closed_at new ≡ is_closed_at old
   pub known : emitted_at old ≡ None → emitted_at new ≡ None
   pub fewer : length (output_of new) ≤ length (output_of old)
 
--- a write of what is unsent: no answer is counted
+-- a write of the unsent output: no answer is counted
 pub record Sends (number : ℕ) (side : Result Bool Pumped) (old new : ProxyState) (written written' : Option (List ℕ)) (missed missed' : Option ℕ) : Type 0 where
   pub went : List ℕ
   pub stretch : Stretch number old new [] went missed missed'
@@ -63,7 +63,7 @@ pub record Sends (number : ℕ) (side : Result Bool Pumped) (old new : ProxyStat
   pub how : HowItWent side written written' went (new ≡ old)
   pub same : IsSentOf (session_at old number) (session_at new number)
 
--- a read, of which the session is fed: no answer is counted
+-- a read, which feeds the session: no answer is counted
 pub record Receives (number : ℕ) (side : Result Bool Pumped) (old new : ProxyState) (unread unread' : Option (List ℕ)) (ended' : Bool) (missed missed' : Option ℕ) : Type 0 where
   pub came : List ℕ
   pub stretch : Stretch number old new came [] missed missed'

@@ -3,10 +3,10 @@ use Rattle.std.specs.Prelude.{ℕ, ◌+◌, ◌%◌, ◌^◌, Bool, Option, Some
 use Rattle.std.specs.Option.{option_map}
 use Rattle.mc_proxy_pump.specs.declared.tallies.ClientTally.{ClientTally}
 
--- nothing has passed, and requests whose answer hides a loss are counted or not
+-- no traffic; requests whose answer hides a loss are counted, or not
 abbrev pub fresh_tally : Bool → ClientTally
 fresh_tally counts = record { passed = record { requests = 0; read = 0; written = 0 }; missed = if counts then Some 0 else None }
 
--- One answer more, which hides a loss or not. The count begins again at 0 after 2^64 - 1; where there is none, none begins.
+-- One answer more, which hides a loss or not. The count wraps to 0 after 2^64 - 1; without a count, none begins.
 abbrev pub counted : Bool → Option ℕ → Option ℕ
 counted hides missed = if hides then option_map (λ n. (n + 1) % 2 ^ 64) missed else missed

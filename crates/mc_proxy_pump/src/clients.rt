@@ -1,4 +1,4 @@
-//! The body of a session: bytes in, requests taken, answers out.
+//! The pump of a session: bytes in, requests taken, answers out.
 ghost use Rattle.std.specs.Prelude.{◌≡◌, ◌<◌, ◌==◌, ◌&&◌, ◌↔◌, ℕ, Bool, List, [], Option, None, Ok, false, true, length, IfOk, IsSome, IsTrue};
 ghost use Rattle.mc_proxy.specs.ProxyState.{output_of, session_at, unanswered_of};
 ghost use Rattle.mc_proxy.specs.Turns.{HasAnswer, hides_loss_at, waiting_of};
@@ -12,18 +12,18 @@ use mc_proxy::{Emit, Proxy, ProxyError, Turn, UNSENT_MARK};
 use mc_stream::{MAX_ROUNDS, Pumped, read_once, write_once};
 use std::io::{Read, Write};
 
-/// Carries a session's bytes between a proxy and the two sides of a stream that do not wait, takes its requests, and puts out
-/// the answers that are known.
+/// Carries a session's bytes between a proxy and the two sides of a nonblocking stream, takes its requests, and emits the answers
+/// that are known.
 ///
-/// It does at most [`MAX_ROUNDS`] rounds. A round takes requests and puts answers out as far as it goes, writes what is unsent
-/// in one call, and reads once into `piece`, whose bytes before and after mean nothing. While a request has to wait for a mark,
-/// or [`UNSENT_MARK`] bytes or more are unsent, nothing is read. `ended` says whether the input has ended: the pump sets it when
-/// a read gives no byte, and then reads no more; a caller hands in `false` at first. The tally counts the requests that are taken,
+/// It does at most [`MAX_ROUNDS`] rounds. A round takes requests and emits answers as far as possible, writes the unsent output in
+/// one call, and reads once into `piece`, whose bytes before and after mean nothing. While a request waits for a mark, or
+/// [`UNSENT_MARK`] bytes or more are unsent, nothing is read. `ended` says whether the input has ended: the pump sets it when a
+/// read returns no byte, and then reads no more; a caller passes `false` at first. The tally counts the requests that are taken,
 /// those whose answer hides a loss, and the bytes.
 ///
-/// Where it says [`Pumped::Blocked`], the stream may move, a server may answer one of the session's commands, or a link whose
-/// mark a request waits for may be sent more of its bytes: then the pump is called again. Where the session is not open it says
-/// [`Pumped::Failed`].
+/// After [`Pumped::Blocked`] the caller waits for one of three events. The stream may make progress; a server may answer one of
+/// the session's commands; or a link may send more of its bytes, if a request waits for its mark. Then the pump is called again.
+/// If the session is not open, it returns [`Pumped::Failed`].
 pub fn pump_client<R: Read, W: Write>(
     proxy: &mut Proxy,
     session: u64,
@@ -53,11 +53,11 @@ pub fn pump_client<R: Read, W: Write>(
     Pumped::Again
 }
 
-/// Puts the answers out that are known, and writes what is unsent in one call, and says whether the writer took any. No request
-/// is taken, and nothing is read: it is for a session for which too much is kept already. Where nothing is owed, or the session
-/// is not open, it does nothing.
+/// Emits the answers that are known, writes the unsent output in one call, and returns whether the writer took any. It takes no
+/// request and reads nothing: it is for a session with too many buffered bytes. If the session has no pending request and no
+/// unsent answer, or is not open, it does nothing.
 ///
-/// The error is how it stops, as that of a pump.
+/// The error is how the pump stops.
 pub fn pump_answers<W: Write>(
     proxy: &mut Proxy,
     session: u64,
@@ -79,7 +79,7 @@ pub fn pump_answers<W: Write>(
     send(proxy, session, writer, tally)
 }
 
-/// Whether a session has a request that is not answered, or an answer that is not sent.
+/// Returns whether a session has a request that is not answered, or an answer that is not sent.
 pub fn is_owed(proxy: &Proxy, session: u64) -> bool
     ensures { result ≡ is_owed_at (session_at proxy.now session) }
 {
@@ -95,7 +95,7 @@ fn count_turn(turn: Turn, tally: &mut ClientTally)
     }
 }
 
-/// One round: requests and answers, a write, a read. The error is how the pump stops.
+/// Does one round: requests and answers, a write, a read. The error is how the pump stops.
 fn round<R: Read, W: Write>(
     proxy: &mut Proxy,
     session: u64,
@@ -129,8 +129,8 @@ fn round<R: Read, W: Write>(
     Err(Pumped::Blocked)
 }
 
-/// Whether all that was taken of a session is answered, all its answers are sent, and nothing more will come, where no more is
-/// taken for this cause.
+/// Returns whether the session is finished, given why no more is taken: all that was taken of it is answered, all its answers are
+/// sent, and nothing more will arrive.
 fn is_over(proxy: &Proxy, session: u64, turn: Turn, ended: bool) -> bool
     ensures { result ≡ ((length (output_of (session_at proxy.now session)) == 0) && ((unanswered_of (session_at proxy.now session) == 0) && ends_by turn ended)) }
 {
@@ -142,14 +142,14 @@ fn is_over(proxy: &Proxy, session: u64, turn: Turn, ended: bool) -> bool
     proxy.output(session).is_empty() && proxy.unanswered(session) == 0 && ends
 }
 
-/// Whether the input is read on, where no more is taken for this cause, and as much is unsent as the mark or not.
+/// Returns whether the input is read on, given why no more is taken and whether the mark of unsent bytes is reached.
 fn is_read(turn: Turn, ended: bool, is_marked: bool) -> bool
     ensures { result ≡ reads_by turn ended is_marked }
 {
     turn == Turn::Idle && !ended && !is_marked
 }
 
-/// Takes requests and puts answers out, as far as it goes, and says why no more is taken.
+/// Takes requests and emits answers, as far as possible, and returns why no more is taken.
 fn advance(proxy: &mut Proxy, session: u64, tally: &mut ClientTally) -> Result<Turn, ProxyError>
     requires is_open { IsSome (session_at proxy.old session) }
     ensures calls { Stretch session proxy.old proxy.new [] [] tally.old.missed tally.new.missed }
@@ -164,7 +164,7 @@ fn advance(proxy: &mut Proxy, session: u64, tally: &mut ClientTally) -> Result<T
     }
 }
 
-/// Takes requests until none waits, or none can be taken, and says why.
+/// Takes requests until none waits, or none can be taken, and returns why.
 fn take_turns(proxy: &mut Proxy, session: u64, tally: &mut ClientTally) -> Result<Turn, ProxyError>
     requires is_open { IsSome (session_at proxy.old session) }
     ensures turns { TakesTurns session proxy.old proxy.new tally.old.missed tally.new.missed }
@@ -180,7 +180,7 @@ fn take_turns(proxy: &mut Proxy, session: u64, tally: &mut ClientTally) -> Resul
     }
 }
 
-/// Puts the answers out that are known, until as much is unsent as the mark, and says whether there was one.
+/// Emits the answers that are known, until the unsent bytes reach the mark, and returns whether there was one.
 fn put_out(proxy: &mut Proxy, session: u64, tally: &mut ClientTally) -> Result<bool, ProxyError>
     requires is_open { IsSome (session_at proxy.old session) }
     ensures calls { Stretch session proxy.old proxy.new [] [] tally.old.missed tally.new.missed }
@@ -201,21 +201,22 @@ fn put_out(proxy: &mut Proxy, session: u64, tally: &mut ClientTally) -> Result<b
     Ok(answered)
 }
 
-/// Whether the next answer of a session is counted if it is put out: it is known, and hides a loss, and such answers are counted.
+/// Returns whether the next answer of a session is counted if it is emitted: it is known and hides a loss, and such answers are
+/// counted.
 fn is_counted(proxy: &Proxy, session: u64, tally: &ClientTally) -> bool
     ensures { IsTrue result ↔ (IsSome tally.now.missed × HasAnswer session proxy.now × (hides_loss_at (session_at proxy.now session) ≡ true)) }
 {
     tally.counts() && hides_loss(proxy, session)
 }
 
-/// Whether the next answer of a session is known, and hides a loss. As long as it is not known its replies are not looked at.
+/// Returns whether the next answer of a session is known, and hides a loss. Until it is known, its replies are not looked at.
 fn hides_loss(proxy: &Proxy, session: u64) -> bool
     ensures { IsTrue result ↔ (HasAnswer session proxy.now × (hides_loss_at (session_at proxy.now session) ≡ true)) }
 {
     proxy.has_answer(session) && proxy.hides_loss(session)
 }
 
-/// Writes what is unsent, in one call, drops what the writer took, and says whether it took any.
+/// Writes the unsent output in one call, drops what the writer took, and returns whether it took any.
 fn send<W: Write>(
     proxy: &mut Proxy,
     session: u64,
@@ -234,7 +235,7 @@ fn send<W: Write>(
     Ok(true)
 }
 
-/// Reads, and says how the pump stops where nothing came and nothing more can be sent.
+/// Reads. If nothing arrived and nothing more can be sent, it returns how the pump stops.
 fn read_or_block<R: Read>(
     proxy: &mut Proxy,
     session: u64,
@@ -262,7 +263,7 @@ fn read_or_block<R: Read>(
     Err(Pumped::Blocked)
 }
 
-/// Reads once, feeds the session with what came, and says whether anything came, or the end.
+/// Reads once, feeds the session with the bytes, and returns whether any arrived, or the end.
 fn receive<R: Read>(
     proxy: &mut Proxy,
     session: u64,

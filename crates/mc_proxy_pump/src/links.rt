@@ -1,4 +1,4 @@
-//! The body of a link: commands out, replies in.
+//! The pump of a link: commands out, replies in.
 ghost use Rattle.std.specs.Prelude.{◌≡◌, ◌<◌, true, false, length, vec_len, vec_capacity};
 ghost use Rattle.mc_proxy.specs.SessionState.{link_at};
 ghost use Rattle.mc_proxy_pump.specs.LinkCalls.{with_woken};
@@ -10,16 +10,16 @@ use mc_proxy::{LinkTurn, Proxy};
 use mc_stream::{MAX_ROUNDS, Pumped, Tally, read_once, write_once};
 use std::io::{Read, Write};
 
-/// Carries a link's bytes between a proxy and the two sides of a stream that do not wait, and gives each command its reply.
+/// Carries a link's bytes between a proxy and the two sides of a nonblocking stream, and matches each reply to its command.
 ///
-/// It does at most [`MAX_ROUNDS`] rounds. A round writes what is unsent in one call, reads once into `piece`, whose bytes before
-/// and after mean nothing, and takes all replies that have come whole. The sessions whose commands got their replies are put
-/// after those in `woken`, one that follows itself once. A link has no mark here: it is always read. The tally counts the bytes.
+/// It does at most [`MAX_ROUNDS`] rounds. A round writes the unsent output in one call, reads once into `piece`, whose bytes before
+/// and after mean nothing, and takes all whole replies. The sessions whose commands got replies are appended to `woken`; a session
+/// that would follow itself is appended once. A link has no mark here: it is always read. The tally counts the bytes.
 ///
-/// It says [`Pumped::Done`] where the input has ended: then all replies that came whole are taken. It says [`Pumped::Failed`] where
-/// the link is down or not there, where the stream failed, where a call was refused memory, and where what came is no reply,
-/// which has lost the link: then each command that waited on it is lost, and any session may have an answer more. In both cases
-/// the caller loses the link if it is still up.
+/// It returns [`Pumped::Done`] if the input has ended: then all whole replies are taken. It returns [`Pumped::Failed`] if the link
+/// is down or missing, if the stream failed, if a call got no memory, and at a protocol violation, which has lost the link. In that
+/// case each of its pending commands is lost, and any session may have an answer more. After `Done` and `Failed` the caller loses
+/// the link if it is still up.
 pub fn pump_link<R: Read, W: Write>(
     proxy: &mut Proxy,
     server: usize,
@@ -46,7 +46,7 @@ pub fn pump_link<R: Read, W: Write>(
     Pumped::Again
 }
 
-/// One round: a write, a read, replies. The error is how the pump stops.
+/// Does one round: a write, a read, replies. The error is how the pump stops.
 fn round<R: Read, W: Write>(
     proxy: &mut Proxy,
     server: usize,
@@ -74,7 +74,7 @@ fn round<R: Read, W: Write>(
     Err(Pumped::Blocked)
 }
 
-/// Writes what is unsent, in one call, drops what the writer took, and says whether it took any.
+/// Writes the unsent output in one call, drops what the writer took, and returns whether it took any.
 fn send<W: Write>(
     proxy: &mut Proxy,
     server: usize,
@@ -93,7 +93,7 @@ fn send<W: Write>(
     Ok(true)
 }
 
-/// Reads once, feeds the link with what came, and says whether anything came, or the end.
+/// Reads once, feeds the link with the bytes, and returns whether any arrived, or the end.
 fn receive<R: Read>(
     proxy: &mut Proxy,
     server: usize,
@@ -119,7 +119,7 @@ fn receive<R: Read>(
     }
 }
 
-/// Takes all replies that have come whole.
+/// Takes all replies that have arrived whole.
 fn take_replies(proxy: &mut Proxy, server: usize, woken: &mut Vec<u64>) -> Result<(), Pumped>
     requires { (link_at proxy.old.links server).up ≡ true }
     ensures { TakesReplies server result proxy.old proxy.new woken.old.items woken.new.items }
@@ -128,9 +128,9 @@ fn take_replies(proxy: &mut Proxy, server: usize, woken: &mut Vec<u64>) -> Resul
     Ok(())
 }
 
-/// Takes one reply, if one has come whole, wakes the session of its command, and says whether it took one.
+/// Takes one reply, if one has arrived whole, wakes the session of its command, and returns whether it took one.
 ///
-/// The room for the session is there before the reply is taken, so that no session waits for what has come.
+/// The room for the session's number is reserved before the reply is taken, so that no session waits for a reply that has arrived.
 fn take_reply(proxy: &mut Proxy, server: usize, woken: &mut Vec<u64>) -> Result<bool, Pumped>
     requires { (link_at proxy.old.links server).up ≡ true }
     ensures { TakesReply server result proxy.old proxy.new woken.old.items woken.new.items }
@@ -153,7 +153,7 @@ fn take_reply(proxy: &mut Proxy, server: usize, woken: &mut Vec<u64>) -> Result<
     }
 }
 
-/// Puts a session after those that were woken, where it is not the last of them already.
+/// Appends a session to those that were woken, unless it is the last of them already.
 fn wake(woken: &mut Vec<u64>, session: u64)
     requires { vec_len woken.old < vec_capacity woken.old }
     ensures { woken.new.items ≡ with_woken session woken.old.items }

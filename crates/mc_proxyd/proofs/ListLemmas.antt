@@ -22,12 +22,12 @@ pub adds : {B : Type 0} (f : List ℕ → B) (g : Server → B) (servers : List 
     → g server ≡ f word → map g (servers ++ server ∷ []) ≡ map g servers ++ map f (filter is_some_word (word ∷ []))
 adds f g servers server word some same = map-append g servers (server ∷ []) ∙ grind (arith, filter)
 
--- a text without a line feed, and without a word, names nobody
+-- a text without a line feed and without a word names no server
 pub words_none : (text : List ℕ) → position_or_len is_line_feed text ≡ length text → is_some_word (word_of text) ≡ false → words_of text ≡ []
 unfolding words_of
 words_none text past none = grind (arith, filter, slice_split_none, fails_before_first)
 
--- what is found of the first line, and of those after it, is what is found of all
+-- the servers of the first line, and of those after it, are those of all
 pub goes_on : {B : Type 0} (f : List ℕ → B) (before now whole : List B) (text : List ℕ)
     → position_or_len is_line_feed text < length text → before ++ map f (words_of text) ≡ whole
     → now ≡ before ++ map f (filter is_some_word (word_of (before_first is_line_feed text) ∷ []))
@@ -38,7 +38,7 @@ goes_on f before now whole text some so_far is =
     ap (λ all. all ++ map f rest) is ∙ append_assoc before (map f word) (map f rest) ∙ ap (λ all. before ++ all) (sym (map-append f word rest))
     ∙ ap (λ words. before ++ map f words) (sym (words_first text some)) ∙ so_far
 
--- where no line is left, what was found is what is found of all
+-- if no line is left, the servers found are those of all
 pub all_found : {B : Type 0} (f : List ℕ → B) (before whole : List B) (text : List ℕ)
     → words_of text ≡ [] → before ++ map f (words_of text) ≡ whole → before ≡ whole
 all_found f before whole text none so_far =

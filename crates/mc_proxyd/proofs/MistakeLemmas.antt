@@ -12,7 +12,7 @@ use Rattle.mc_proxyd.specs.Servers.{is_server, name_of}
 use Rattle.mc_proxyd.specs.declared.lists.Mistake.{Mistake}
 use Rattle.mc_proxyd.specs.declared.lists.Mistake.TheVariants.{Memory, NoServer, NoneAtAll, Unended}
 
--- of a line with parts behind it
+-- the cut of a line with parts behind it
 cut_first : (number : ℕ) (names : List (List ℕ)) (line : List ℕ) (parts : List (List ℕ)) → 0 < length parts
     → mistake_from number names (line ∷ parts)
     ≡ option_or (line_mistake number names (word_of line)) (mistake_from (number + 1) (names_after names (word_of line)) parts)
@@ -30,7 +30,7 @@ mistake_first number names text some =
     ∙ cut_first number names (before_first is_line_feed text) (slice_split is_line_feed (after_first is_line_feed text))
     (omega (arith, length-slice_split is_line_feed (after_first is_line_feed text)))
 
--- without a line end a text is what stands after the last one
+-- a text without a line end is the text after the last one
 pub mistake_last : (number : ℕ) (names : List (List ℕ)) (text : List ℕ) → position_or_len is_line_feed text ≡ length text
     → mistake_after number names text ≡ end_mistake number names (word_of text)
 unfolding mistake_after
@@ -42,7 +42,7 @@ pub no_word : (number : ℕ) (names : List (List ℕ)) (word : List ℕ) → is_
 unfolding line_mistake
 no_word number names word none = ap (λ (some : Bool). if some then word_mistake number names word else None) none
 
--- one with a word has that of the word
+-- a line with a word has the mistake of the word
 pub of_word : (number : ℕ) (names : List (List ℕ)) (word : List ℕ) → is_some_word word ≡ true
     → line_mistake number names word ≡ word_mistake number names word
 unfolding line_mistake
@@ -58,12 +58,12 @@ pub of_name : (number : ℕ) (names : List (List ℕ)) (word : List ℕ) → is_
     → word_mistake number names word ≡ name_mistake number names (name_of word)
 of_name number names word server = ap (λ (is : Bool). if is then name_mistake number names (name_of word) else Some (NoServer number)) server
 
--- what is not false is true
+-- a test that is not false is true
 pub is_true : (b : Bool) → (b ≡ false → ⊥) → b ≡ true
 is_true true never = refl
 is_true false never = absurd (never refl)
 
--- if a word gives no server, it is no server's, and that is its mistake, or there was no memory
+-- if no server is made of a word, the word names none, and that is its mistake, or there was no memory
 wrong_word : (number : ℕ) (names : List (List ℕ)) (word : List ℕ) (server : Bool) (mistake : Mistake) → is_server word ≡ server
     → (server ≡ false → mistake ≡ NoServer number) → (server ≡ true → mistake ≡ Memory)
     → (mistake ≡ Memory) ⊎ (word_mistake number names word ≡ Some mistake)
@@ -100,14 +100,14 @@ mistake_here number names word text whole mistake some is (inr wrong) so_far =
     inr (sym so_far ∙ mistake_first number names text some
     ∙ ap (λ (first : Option Mistake). option_or first rest) (sym (ap (λ (w : List ℕ). line_mistake number names w) is) ∙ wrong))
 
--- what stands after the last line end decides at last
+-- the text after the last line end decides at last
 pub mistake_at_end : (number : ℕ) (names : List (List ℕ)) (word text : List ℕ) (whole end : Option Mistake)
     → position_or_len is_line_feed text ≡ length text → word ≡ word_of text → end_mistake number names word ≡ end
     → mistake_after number names text ≡ whole → whole ≡ end
 mistake_at_end number names word text whole end past is ends so_far =
     sym so_far ∙ mistake_last number names text past ∙ sym (ap (λ (w : List ℕ). end_mistake number names w) is) ∙ ends
 
--- what it says: a word there has no line end, and without one there are servers or none
+-- the mistake there: a word has no line end, and without one there are servers or none
 pub unended : (number : ℕ) (names : List (List ℕ)) (word : List ℕ) → is_some_word word ≡ true → end_mistake number names word ≡ Some (Unended number)
 unended number names word some =
     ap (λ (is : Bool). if is then Some (Unended number) else (if nat_lt 0 (length names) then None else Some NoneAtAll)) some
@@ -118,6 +118,6 @@ ended number names word any none is =
     ap (λ (some : Bool). if some then Some (Unended number) else (if nat_lt 0 (length names) then None else Some NoneAtAll)) none
     ∙ ap (λ (some : Bool). if some then None else Some NoneAtAll) is
 
--- what stands after the first line is shorter
+-- the text after the first line is shorter
 pub shorter : (text : List ℕ) → position_or_len is_line_feed text < length text → length (after_first is_line_feed text) + 1 ≤ length text
 shorter text some = omega (arith, length-drop (position_or_len is_line_feed text + 1) text, some)

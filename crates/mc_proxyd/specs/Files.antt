@@ -18,11 +18,11 @@ without_end text = take (length text - suffix_len is_ascii_whitespace text) text
 abbrev pub trimmed : List ℕ → List ℕ
 trimmed text = without_end (drop (prefix_len is_ascii_whitespace text) text)
 
--- the word of a line: what stands before a `#`, without the white space around it
+-- the word of a line: the text before a `#`, without the white space around it
 unfoldable pub word_of : List ℕ → List ℕ
 word_of line = trimmed (before_first is_hash line)
 
--- a line without a word names nobody
+-- whether a line has a word; one without names no server
 abbrev pub is_some_word : List ℕ → Bool
 is_some_word word = nat_lt 0 (length word)
 

@@ -7,12 +7,12 @@ use Rattle.mc_proxyd.specs.declared.options.Place.{Place}
 use Rattle.mc_proxyd.specs.declared.lists.Mistake.{Mistake}
 use Rattle.mc_proxyd.specs.declared.lists.Mistake.TheVariants as lists
 
--- what a mistake at a place is: want of memory, or that mistake there
+-- the error of a mistake at a place: lack of memory, or that mistake there
 abbrev pub list_error_at : Place → Mistake → ListError
 list_error_at place lists.Memory = Memory
 list_error_at place mistake = At place mistake
 
--- a ring that there is no memory for, or a list that is none of a ring
+-- the error of a list that makes no ring, or for which there is no memory
 abbrev pub list_error_by : RingError → ListError
 list_error_by ring.Memory = Memory
 list_error_by other = Bad

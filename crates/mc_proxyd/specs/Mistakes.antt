@@ -10,7 +10,7 @@ use Rattle.mc_proxyd.specs.Servers.{is_server, name_of}
 use Rattle.mc_proxyd.specs.declared.lists.Mistake.{Mistake}
 use Rattle.mc_proxyd.specs.declared.lists.Mistake.TheVariants.{NoServer, Doubled, TooMany, Unended, NoneAtAll}
 
--- a server of a name, after those of earlier names: it has one of these, or is one too many for a ring
+-- a server of a name, after those of earlier names: its name is one of these, or it is one too many for a ring
 abbrev pub name_mistake : (number : ℕ) → (names : List (List ℕ)) → List ℕ → Option Mistake
 name_mistake number names name =
     if list_any (λ other. bytes_eq other name) names then Some (Doubled number)
@@ -26,7 +26,7 @@ mistake_among number names [] = None
 mistake_among number names (word ∷ words) =
     option_or (word_mistake number names word) (mistake_among (number + 1) (names ++ name_of word ∷ []) words)
 
--- the first mistake of all words; or there is none
+-- the first mistake of all words, or that there is no word
 abbrev pub mistake_of_words : List (List ℕ) → Option Mistake
 mistake_of_words words = if nat_lt 0 (length words) then mistake_among 1 [] words else Some NoneAtAll
 
@@ -43,12 +43,12 @@ line_mistake number names word = if is_some_word word then word_mistake number n
 abbrev pub names_after : (names : List (List ℕ)) → List ℕ → List (List ℕ)
 names_after names word = names ++ map name_of (filter is_some_word (word ∷ []))
 
--- what stands after the last line end has a word, or no line has one
+-- the text after the last line end has a word, or no line has one
 abbrev pub end_mistake : (number : ℕ) → (names : List (List ℕ)) → List ℕ → Option Mistake
 end_mistake number names word =
     if is_some_word word then Some (Unended number) else (if nat_lt 0 (length names) then None else Some NoneAtAll)
 
--- The first mistake of lines from that of a number on, after servers of these names. The last part is what stands after the last line end.
+-- The first mistake of lines from that of a number on, after servers of these names. The last part is the text after the last line end.
 abbrev pub mistake_from : (number : ℕ) → (names parts : List (List ℕ)) → Option Mistake
 mistake_from number names [] = None
 mistake_from number names (rest ∷ []) = end_mistake number names (word_of rest)

@@ -20,7 +20,7 @@ abbrev pub HaveName : List (List ℕ) → Type 0
 HaveName [] = ⊥
 HaveName (address ∷ addresses) = HasName address ⊎ HaveName addresses
 
--- No look-up is needed if there is no file, and all addresses are spelled, also that of the server that joins. A file may have a name later.
+-- No look-up is needed if there is no file, and all addresses are spelled, as is that of the server that joins. A file may have a name later.
 abbrev pub NeedsNoLookUp : {A B : Type 0} → Option A → Option (Server × B) → List (List ℕ) → Type 0
 NeedsNoLookUp list join addresses = (list ≡ None) × IfSome join (λ joins. IsSpelled joins.0.address) × AreSpelled addresses
 

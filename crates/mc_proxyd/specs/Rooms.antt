@@ -5,11 +5,11 @@ use Rattle.mc_ring.specs.declared.rings.TheConstants.{SERVER_LIMIT}
 use Rattle.mc_program.specs.declared.descriptors.TheConstants.{OWN_FILES}
 
 -- The sockets of a server: one of its link, or those of its look-up, after which its link begins. If a file lists the servers, the look-up of
--- an address that a server had before may go on beside the link to the new one.
+-- an old address may go on beside the link to the new one.
 abbrev pub files_of_each : (listed named : Bool) → ℕ
 files_of_each listed named = if listed then 1 + LOOKUP_FILES else (if named then LOOKUP_FILES else 1)
 
--- how many servers there may be: those that there are, and the one that joins, if one does; or the most of a ring, if a file lists them
+-- how many servers there may be: the present ones, and the one that joins, if one does; or the most of a ring, if a file lists them
 abbrev pub most_servers : ℕ → (joins listed : Bool) → ℕ
 most_servers servers joins listed = if listed then SERVER_LIMIT else (servers + (if joins then 1 else 0))
 

@@ -7,15 +7,15 @@ use Rattle.mc_text.specs.Addresses.{is_address}
 abbrev pub is_equals : ℕ → Bool
 is_equals b = b == 61
 
--- a word says a name of its own: there is an `=` in it
+-- whether a word has a name of its own: there is an `=` in it
 abbrev pub is_named : List ℕ → Bool
 is_named word = nat_lt (position_or_len is_equals word) (length word)
 
--- the name of a server is what stands before the first `=`; without one it is the whole word
+-- the name of a server: the text before the first `=`; without one, the whole word
 abbrev pub name_of : List ℕ → List ℕ
 name_of word = before_first is_equals word
 
--- its address is what stands after the first `=`; without one it is the whole word
+-- its address: the text after the first `=`; without one, the whole word
 abbrev pub address_of : List ℕ → List ℕ
 address_of word = if is_named word then after_first is_equals word else word
 

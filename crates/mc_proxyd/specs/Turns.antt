@@ -13,7 +13,7 @@ abbrev pub until_late : ℕ → ℕ → Cause → Turn → Turn
 until_late begun now cause turn = if nat_le (min (begun + CONNECT_MILLIS) (2 ^ 64 - 1)) now then GiveUp cause else turn
 
 -- A server that is down is tried once it is time. A try that waits for a look-up goes on with it, and one that waits for its connection
--- waits; the three seconds are those of the try. What is up needs nothing.
+-- waits; the three seconds are those of the try. A server that is up needs nothing.
 abbrev pub turn_by : Stage → (begun next now : ℕ) → Turn
 turn_by Down begun next now = if nat_le next now then Begin else Rest
 turn_by Asking begun next now = until_late begun now LookUp GoOn

@@ -1,24 +1,24 @@
-//! What a list of servers changes of the servers that are there.
+//! What a list of servers changes of the present servers.
 ghost use Rattle.std.specs.Prelude.{◌≡◌, ◌<◌, ◌+◌, ◌^◌, length};
 ghost use Rattle.mc_proxyd.specs.Changes.{change_by, missing_from, moved_from};
 
 use crate::servers::Server;
 
-/// What is to be done next, so that the servers come to be those of a list.
+/// The next step by which the servers become those of a list.
 #[derive(Clone, Copy, Debug, PartialEq, Eq)]
 pub enum Change {
     /// Nothing.
     Nothing,
-    /// The list cannot be followed: the server of this place is not at its place in the list.
+    /// The list cannot be followed: the server at this place is not at its place in the list.
     Missing(usize),
-    /// The server of this place is at another address.
+    /// The server at this place has another address in the list.
     Moved(usize),
-    /// The server that the list has at this place joins.
+    /// The list's server at this place joins.
     Joined(usize),
 }
 
-/// What is to be done next, so that the servers come to be those of a list. Each server stays at its place: what would take one out, or
-/// give one another name, is refused before anything is done.
+/// Returns the next step by which the servers become those of a list. Each server stays at its place: a list that would remove or
+/// rename one is refused before anything is done.
 pub fn change_by(servers: &[Server], list: &[Server]) -> Change
     ensures { result ≡ change_by servers.now list.now }
 {
@@ -35,7 +35,7 @@ pub fn change_by(servers: &[Server], list: &[Server]) -> Change
     }
 }
 
-/// The first place at which a list has not the name that the servers have there, where these are those from a place on.
+/// Returns the first place at which the list lacks the servers' name. Both slices begin at `place`.
 fn missing_from(servers: &[Server], list: &[Server], place: usize) -> Option<usize>
     requires { place + length servers.now < 2 ^ 64 }
     ensures { result ≡ missing_from servers.now list.now place }
@@ -53,7 +53,7 @@ fn missing_from(servers: &[Server], list: &[Server], place: usize) -> Option<usi
     }
 }
 
-/// The first place at which a list has another address than the servers have there, where these are those from a place on.
+/// Returns the first place at which the list has another address than the servers. Both slices begin at `place`.
 fn moved_from(servers: &[Server], list: &[Server], place: usize) -> Option<usize>
     requires { place + length servers.now < 2 ^ 64 }
     ensures { result ≡ moved_from servers.now list.now place }

@@ -1,12 +1,12 @@
-//! When a server that was not there is tried again.
+//! When a server is tried again after a failure.
 ghost use Rattle.std.specs.Prelude.{◌≡◌, ◌≤◌, ◌+◌, ◌*◌, ◌%◌};
 ghost use Rattle.mc_proxyd.specs.Delays.{least_delay};
 
 use crate::limits::{FIRST_DELAY, LONGEST_DELAY};
 
-/// The milliseconds until a server is tried again after so many failures in a row: 100 to 200 after the first, and after each further
-/// one twice as many, up to 4,000 to 8,000. A random number says how many, so that those who lost a server together do not
-/// come back together.
+/// Returns the milliseconds until a server is tried again after this number of failures in a row. They are 100 to 200 after the
+/// first, and twice as many after each further one, up to 4,000 to 8,000. A random number chooses within these bounds, so that
+/// proxies that lost a server together do not come back together.
 pub fn delay_after(failures: u32, random: u64) -> u64
     ensures least { least_delay failures ≤ result }
     ensures most { result ≤ 2 * least_delay failures }
@@ -16,7 +16,7 @@ pub fn delay_after(failures: u32, random: u64) -> u64
     least + random % (least + 1)
 }
 
-/// The fewest milliseconds until a server is tried again after so many failures in a row.
+/// Returns the fewest milliseconds until a server is tried again after this number of failures in a row.
 fn least_delay(failures: u32) -> u64
     ensures least { result ≡ least_delay failures }
     ensures few { result ≤ LONGEST_DELAY }

@@ -1,4 +1,4 @@
-//! What a proxy says of itself to operators.
+//! What a proxy reports of itself to operators.
 
 use crate::pools::Pool;
 use crate::settings::ProxySettings;
@@ -14,14 +14,14 @@ use std::alloc::{AllocError, Global};
 pub struct Done {
     /// The moment, in milliseconds.
     pub now: u64,
-    /// Who they are, and what passed of them.
+    /// The clients, and their traffic.
     pub clients: ClientFigures,
     /// Their requests whose answers hide a loss; none if these are not counted.
     pub missed: Option<u64>,
 }
 
-/// Serves operators, by the clients that are listed to one of them next, what a proxy has done for its clients, what became of its servers,
-/// and its settings. Those for whom there is no memory are turned away.
+/// Answers operators: the next clients to list, what a proxy has done for its clients, the state of its servers, and its settings.
+/// Operators for whom there is no memory are turned away.
 pub fn show(
     alloc: Global,
     operators: &mut Operators,
@@ -37,7 +37,7 @@ pub fn show(
     }
 }
 
-/// The same, which says whether there was memory.
+/// Answers operators, and returns an error if there is no memory.
 fn try_show(
     alloc: Global,
     operators: &mut Operators,
@@ -61,7 +61,7 @@ fn try_show(
     Ok(())
 }
 
-/// The settings of a proxy of so many servers, by memcached's names where it has them.
+/// Returns the settings of a proxy of this number of servers, by memcached's names if it has them.
 fn settings_of(settings: &ProxySettings, servers: usize) -> [Setting<'static>; 8] {
     [
         setting(b"maxconns", MAX_SESSIONS as u64),
@@ -78,7 +78,7 @@ fn settings_of(settings: &ProxySettings, servers: usize) -> [Setting<'static>; 8
     ]
 }
 
-/// The word of `--lost` for a choice.
+/// Returns the word of `--lost` for a choice.
 fn word_of(losses: Losses) -> &'static [u8] {
     match losses {
         Losses::Told => b"told",
@@ -86,7 +86,7 @@ fn word_of(losses: Losses) -> &'static [u8] {
     }
 }
 
-/// A number under its name.
+/// Makes a setting of a number under its name.
 fn setting(name: &'static [u8], number: u64) -> Setting<'static> {
     Setting {
         name,

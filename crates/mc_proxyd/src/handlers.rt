@@ -1,4 +1,4 @@
-//! What serves the clients of a proxy.
+//! The handler of a proxy's clients.
 ghost use Rattle.std.specs.Prelude.{◌≡◌, ◌<◌, vec_len};
 
 use crate::limits::CLIENT_ROOM;
@@ -11,7 +11,8 @@ use mc_stream::Tally;
 use std::alloc::Global;
 use std::collections::HashMap;
 
-/// How many bytes a client has sent, and servers have sent for it, since it was owed nothing: no fewer than are kept for it.
+/// How many bytes a client has sent, and servers have sent for it, since it last had no pending answer: no fewer than are buffered
+/// for it.
 pub type Held = u64;
 
 /// A proxy, and what its clients share.
@@ -21,18 +22,18 @@ pub struct ProxyHandler {
     pub proxy: Proxy,
     /// The keys of the clients by the numbers of their sessions.
     keys: HashMap<u64, usize>,
-    /// What reads fill: made once.
+    /// The buffer of all reads, made once.
     pub piece: Vec<u8>,
-    /// What passed of all clients. Requests whose answers hide a loss are counted if their losses are missed.
+    /// The traffic of all clients. Requests whose answers hide a loss are counted if the choice is [`Losses::Missed`].
     pub tally: ClientTally,
-    /// If more bytes are kept for one client, its turns and reads stop.
+    /// If more bytes are buffered for one client, its turns and reads stop.
     most: u64,
     ghost reads: { 0 < vec_len piece },
 }
 
 impl ProxyHandler {
-    /// The handler of the clients of a new proxy over a ring, with this choice for lost commands. Where more bytes than so many are
-    /// kept for a client, it is sent its answers alone.
+    /// Makes the handler of the clients of a new proxy over a ring, with this choice for lost commands. If more bytes than `most`
+    /// are buffered for a client, the proxy only sends its answers.
     pub fn new(alloc: Global, ring: Ring, losses: Losses, most: u64) -> Result<Self, ServeError> {
         let proxy = Proxy::with_losses(alloc, ring, losses);
         Ok(ProxyHandler {
@@ -44,19 +45,19 @@ impl ProxyHandler {
         })
     }
 
-    /// The key of the client of a session.
+    /// Returns the key of the client of a session.
     pub fn key_of(&self, session: u64) -> Option<usize> {
         self.keys.get(&session).copied()
     }
 
-    /// Whether the next request of a session waits for one of the links to the servers of some places.
+    /// Returns whether the next request of a session waits for one of the links to the servers at some places.
     pub fn waits_for_any(&self, session: u64, places: &[usize]) -> bool {
         places
             .iter()
             .any(|place| self.proxy.waits_for(session, *place))
     }
 
-    /// Sends a client its answers, and says what is done with it then. Once it is owed nothing, it is served again.
+    /// Sends a client its answers, and returns what is done with it next. Once it has no pending answer, it is served again.
     fn drain(&mut self, client: &mut Client<Held>) -> Step
         ensures { client.new.number ≡ client.old.number }
     {
@@ -77,7 +78,7 @@ impl ProxyHandler {
         }
     }
 
-    /// Carries a client's bytes, takes its requests, and puts its answers out. What passed is counted.
+    /// Carries a client's bytes, takes its requests, and emits its answers. It counts the traffic.
     fn pump(&mut self, client: &mut Client<Held>) -> Pumped
         ensures { client.new.number ≡ client.old.number }
     {
@@ -119,7 +120,7 @@ impl Handler<Held> for ProxyHandler {
         let _ = self.proxy.gone(number);
     }
 
-    /// If more bytes are kept for the client than its turns and reads go on with, it is sent its answers alone.
+    /// Serves a client. If too many bytes are buffered for it, the proxy only sends its answers.
     fn serve(&mut self, client: &mut Client<Held>, _moment: u64) -> Step {
         if client.kept > self.most {
             return self.drain(client);

@@ -28,7 +28,7 @@ use std::net::Net;
 use std::rt::Clock;
 use std::time::Duration;
 
-/// A proxy, its clients, and its upstream servers. A client's token is its key; that of an upstream is its server's place after all keys.
+/// A proxy, its clients, and its upstream servers. A client's token is its key; an upstream's token is its server's place after all keys.
 #[derive(Drop)]
 pub struct Host<'a> {
     alloc: Global,
@@ -46,15 +46,15 @@ pub struct Host<'a> {
     next: Option<TcpStream>,
     /// The sessions whose commands were answered in this pass.
     woken: Woken,
-    /// The places of the links that came below their mark in this pass.
+    /// The places of the links that fell below their mark in this pass.
     freed: Vec<usize>,
-    /// Whether all that clients sent was carried to servers, and all that came from these to clients, as far as it goes.
+    /// Whether all bytes were carried, from clients to servers and back, as far as possible.
     carried: bool,
     /// The moment of the round, in milliseconds.
     now: u64,
     /// The second of the round.
     second: u64,
-    /// In which second the clients rested last.
+    /// The second of the last sweep of the clients.
     rested: u64,
     pace: Pace,
     room: Room,
@@ -62,8 +62,8 @@ pub struct Host<'a> {
 }
 
 impl<'a> Host<'a> {
-    /// A host without a client, whose listener is at a place and whose upstreams were not tried, and what looks their hosts up. A random
-    /// number says when upstreams that failed are tried again.
+    /// Makes a host without a client, for a listener at a place and upstreams that were not tried, and with the look-ups of their hosts. A
+    /// random number decides when upstreams that failed are tried again.
     pub fn new(
         alloc: Global,
         listen: &'a str,
@@ -110,14 +110,14 @@ impl<'a> Host<'a> {
         })
     }
 
-    /// Whether it serves as many clients as its open files allow, with the one that waits.
+    /// Returns whether it serves as many clients as its open files allow, with the one that waits.
     fn is_full(&self) -> bool {
         let waiting = usize::from(self.next.is_some());
         self.room
             .is_full(self.clients.len().saturating_add(waiting))
     }
 
-    /// Whether somebody goes on though nothing happens, or may be let in, where so much is known of those who wait.
+    /// Returns whether somebody makes progress without an event, or may be let in, given what is known of the backlog.
     fn goes_on(&self, backlog: Backlog) -> bool {
         let is_awaited = self.next.is_some() || (backlog == Backlog::More && !self.is_full());
         !self.carried
@@ -127,7 +127,7 @@ impl<'a> Host<'a> {
             || (is_awaited && self.pool.is_tried())
     }
 
-    /// In how many milliseconds something is to be done unasked, at the earliest.
+    /// Returns in how many milliseconds something must be done without an event, at the earliest.
     fn left(&self) -> Option<u64> {
         let second = earlier(self.clients.due(), self.pace.due());
         let second = earlier(second, self.operators.due());
@@ -137,8 +137,8 @@ impl<'a> Host<'a> {
         Some(due.saturating_sub(self.now))
     }
 
-    /// Carries what is to go to servers and what came from them, and then serves the clients that go on by it: once for all that
-    /// came together, so that it goes out together.
+    /// Carries the bytes to servers and from them, and then serves the clients that can go on. Each is served once for all bytes that
+    /// arrived together, so that its answers are sent together.
     fn carry(&mut self) {
         for _ in 0..MAX_PASSES {
             let others = self.pool.carry(
@@ -163,7 +163,7 @@ impl<'a> Host<'a> {
         }
     }
 
-    /// Serves the clients whose requests wait for a link that came below its mark.
+    /// Serves the clients whose requests wait for a link that fell below its mark.
     fn let_on(&mut self) {
         for key in 0..MAX_SESSIONS {
             let freed = self.freed.as_slice();
@@ -187,7 +187,7 @@ impl<'a> Host<'a> {
         }
     }
 
-    /// Takes a client whose commands were answered, and notes what was brought to it.
+    /// Takes a client whose commands were answered, and notes how many bytes arrived for it.
     fn take_woken(&mut self) -> Option<usize> {
         for _ in 0..self.woken.len() {
             let (session, brought) = self.woken.take()?;
@@ -220,7 +220,7 @@ impl<'a> Host<'a> {
         }
     }
 
-    /// Lets the client in that waits, once each upstream was tried.
+    /// Lets the waiting client in, once each upstream was tried.
     fn let_in(&mut self, registry: &Registry) {
         if !self.pool.is_tried() {
             return;
@@ -231,7 +231,7 @@ impl<'a> Host<'a> {
         }
     }
 
-    /// Has the server join that joins once so many clients were accepted, and tries it.
+    /// Makes the server of `--join` join once enough clients were accepted, and tries it.
     fn join<R: Net>(&mut self, rt: &R, registry: &Registry, accepted: u64) {
         let Some(server) = self.joining.server(accepted) else {
             return;
@@ -243,8 +243,8 @@ impl<'a> Host<'a> {
         self.joining.note(joined);
     }
 
-    /// Looks at the file that lists the servers, if there is one, and has the pool follow it. If a link is lost by that, the clients whose
-    /// commands are lost are answered.
+    /// Looks at the file that lists the servers, if there is one, and makes the pool follow it. If a link is lost by that, the clients
+    /// whose commands are lost are answered.
     fn look<R: Files + Eprint>(&mut self, rt: &R) {
         let Some(listing) = &mut self.listing else {
             return;
@@ -255,13 +255,13 @@ impl<'a> Host<'a> {
         }
     }
 
-    /// What was done for its clients, where so many were accepted.
+    /// Returns what was done for its clients, `accepted` of which were accepted.
     fn done(&self, accepted: u64) -> Report {
         self.clients
             .report(self.second, accepted, self.handler.tally.passed)
     }
 
-    /// The clients that are listed to an operator next, if one has asked.
+    /// Returns the clients to list to an operator next, if one has asked.
     fn listed(&mut self) -> Result<Option<Listed>, AllocError> {
         let Some(from) = self.operators.listing() else {
             return Ok(None);
@@ -276,7 +276,7 @@ impl<'a> Host<'a> {
         Ok(Some(listed))
     }
 
-    /// Serves operators, where so many clients were accepted.
+    /// Answers operators, after `accepted` clients were accepted.
     fn show<R: Clock + Files>(&mut self, rt: &R, accepted: u64) {
         if !self.operators.is_stirred() {
             return;
@@ -306,10 +306,10 @@ impl<'a> Host<'a> {
         );
     }
 
-    /// Says on standard error what was done, where so many clients were accepted.
+    /// Prints on standard error what was done, after `accepted` clients were accepted.
     fn report<R: Eprint>(&self, rt: &R, accepted: u64) {
         let report = self.done(accepted);
-        // Where it cannot be said, all are served all the same.
+        // Best effort: a failed write to standard error must not stop serving.
         let _ = match self.handler.tally.missed {
             None => eprintln!(rt; "{PROGRAM}: {report}"),
             Some(missed) => eprintln!(rt; "{PROGRAM}: {report} missed={missed}"),
@@ -320,11 +320,11 @@ impl<'a> Host<'a> {
 
 impl<'a, R: Net + Clock + Files + Print + EprintSeldom> Rounds<R, Stopwatch> for Host<'a> {
     fn ready(&mut self, rt: &R) {
-        // Whom the line does not reach is served all the same.
+        // Best effort: a failed write to standard output must not stop serving.
         let _ = println!(rt; "listening {}", self.listen);
     }
 
-    /// Follows the list of servers, tries the upstreams that are down where it is time for them, and says what is new of the servers.
+    /// Follows the list of servers, tries the upstreams that are down if it is time for them, and reports what is new of the servers.
     fn before(&mut self, rt: &R, registry: &Registry, backlog: Backlog) -> Option<Duration> {
         self.operators.before(registry, self.second);
         self.look(rt);
@@ -356,7 +356,7 @@ impl<'a, R: Net + Clock + Files + Print + EprintSeldom> Rounds<R, Stopwatch> for
         }
     }
 
-    /// Upstreams on which a reply is late once all that arrived was taken are lost, and clients whose commands are lost are answered.
+    /// Loses the upstreams on which a reply is late once all that arrived was taken, and answers the clients whose commands are lost.
     fn carry_on(&mut self, registry: &Registry) {
         self.carry();
         self.give_up();
@@ -367,7 +367,8 @@ impl<'a, R: Net + Clock + Files + Print + EprintSeldom> Rounds<R, Stopwatch> for
         self.pool.is_tried() && !self.is_full()
     }
 
-    /// With the client that the settings name a server joins, and that client is let in once that was tried.
+    /// Lets a client in. With the client that the settings name, a server joins first, and the client is let in once that server was
+    /// tried.
     fn admit(&mut self, rt: &R, registry: &Registry, stream: TcpStream, accepted: u64) {
         self.join(rt, registry, accepted);
         self.next = Some(stream);

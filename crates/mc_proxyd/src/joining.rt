@@ -4,10 +4,10 @@ use crate::notices::{Notice, Notices, tell};
 use crate::servers::Server;
 use mc_proxy::ProxyError;
 
-/// The server that joins with a client, and what is to be said of it.
+/// The server that joins with a client, and the notices about it.
 #[derive(Drop)]
 pub struct Joining<'a> {
-    /// The server, and with which client's coming it joins.
+    /// The server, and the number of the client with which it joins.
     join: &'a Option<(Server, u64)>,
     /// Whether it has joined.
     joined: bool,
@@ -15,7 +15,7 @@ pub struct Joining<'a> {
 }
 
 impl<'a> Joining<'a> {
-    /// A server that has not joined.
+    /// Makes the state of a server that has not joined.
     pub fn new(join: &'a Option<(Server, u64)>) -> Self {
         Joining {
             join,
@@ -24,7 +24,7 @@ impl<'a> Joining<'a> {
         }
     }
 
-    /// The server, where it is to join now that so many clients were accepted.
+    /// Returns the server if it must join now that `accepted` clients were accepted.
     pub fn server(&self, accepted: u64) -> Option<&'a Server> {
         match self.join {
             Some((server, with)) if !self.joined && accepted >= *with => Some(server),
@@ -32,7 +32,7 @@ impl<'a> Joining<'a> {
         }
     }
 
-    /// Notes whether it has joined. Where it has not, it is tried again with the next client.
+    /// Records whether it has joined. If it has not, it is tried again with the next client.
     pub fn note(&mut self, joined: Result<(), ProxyError>) {
         match joined {
             Ok(()) => {
@@ -43,12 +43,12 @@ impl<'a> Joining<'a> {
         }
     }
 
-    /// Whether something is to be said of it.
+    /// Returns whether a notice about it is due.
     pub fn is_due(&self) -> bool {
         self.notices.is_due()
     }
 
-    /// Says on standard error how it has fared.
+    /// Prints a due notice about it on standard error.
     pub fn tell<R: Eprint>(&mut self, rt: &R, second: u64) {
         let Some((server, _)) = self.join else {
             return;

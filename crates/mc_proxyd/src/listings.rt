@@ -1,4 +1,4 @@
-//! The file that lists the servers of a proxy, while that runs.
+//! The file that lists the servers of a proxy, while the proxy runs.
 
 use crate::changes::{Change, change_by};
 use crate::limits::MAX_CHANGES;
@@ -13,23 +13,23 @@ use std::alloc::{AllocError, Global};
 use std::fs::Files;
 use std::mem;
 
-/// The file that lists the servers of a proxy, and the servers that there are.
+/// The file that lists the servers of a proxy, and the present servers.
 #[derive(Drop)]
 pub struct Listing<'a> {
     alloc: Global,
     /// Where the file is.
     path: &'a str,
-    /// The servers that there are, by their places.
+    /// The present servers, by their places.
     servers: Vec<Server>,
     /// What the last look has found, if there was one.
     found: Option<Result<String, Mistake>>,
     looks: Looks,
-    /// Whether it was said last that the list is not taken.
+    /// Whether the last notice was that the list is not taken.
     refused: bool,
 }
 
 impl<'a> Listing<'a> {
-    /// A file that was not looked at, and the servers of a ring at their addresses.
+    /// Makes the state of a file that was not looked at, with the servers of a ring at their addresses.
     pub fn new(
         alloc: Global,
         path: &'a str,
@@ -54,14 +54,14 @@ impl<'a> Listing<'a> {
         })
     }
 
-    /// When it is looked at next, in milliseconds.
+    /// Returns when it is looked at next, in milliseconds.
     pub fn due(&self) -> u64 {
         self.looks.due()
     }
 
-    /// Looks at the file where it is time for that, and has the pool follow what is new in it: addresses are taken over, and servers join. A
-    /// list that would take a server out, or give one another name, changes nothing, as does one with a mistake: that is said once, and once
-    /// that the list is taken again. The result says whether a link was lost.
+    /// Looks at the file if it is time for that, and makes the pool follow what is new in it: new addresses replace old ones, and servers
+    /// join. A list with a mistake changes nothing, nor does one that would remove or rename a server. One notice says so, and another that
+    /// the list is taken again. The result is whether a link was lost.
     pub fn look<R: Files + Eprint>(
         &mut self,
         rt: &R,
@@ -79,7 +79,7 @@ impl<'a> Listing<'a> {
         take && self.take(rt, pool, proxy, now)
     }
 
-    /// Whether the last look has found the same.
+    /// Returns whether the last look has found the same.
     fn was_found(&self, found: &Result<String, Mistake>) -> bool {
         match (&self.found, found) {
             (Some(Ok(before)), Ok(text)) => before.as_str() == text.as_str(),
@@ -88,7 +88,7 @@ impl<'a> Listing<'a> {
         }
     }
 
-    /// Has the pool follow what the last look has found. The result says whether a link was lost.
+    /// Makes the pool follow what the last look has found. The result is whether a link was lost.
     fn take<R: Eprint>(&mut self, rt: &R, pool: &mut Pool, proxy: &mut Proxy, now: u64) -> bool {
         let list = match &self.found {
             Some(Ok(text)) => servers_in(self.alloc, text.as_str()),
@@ -104,7 +104,7 @@ impl<'a> Listing<'a> {
         }
     }
 
-    /// Says that the list is not taken. It is tried again where there was no memory for it.
+    /// Reports that the list is not taken. It is tried again if there was no memory for it.
     fn refuse<R: Eprint>(&mut self, rt: &R, mistake: Mistake) {
         if mistake == Mistake::Memory {
             self.looks.again();
@@ -113,14 +113,14 @@ impl<'a> Listing<'a> {
         tell(rt, self.path, Notice::NotTaken(mistake));
     }
 
-    /// Says that the list is taken, if it was not before.
+    /// Reports that the list is taken, if it was not before.
     fn accept<R: Eprint>(&mut self, rt: &R) {
         if mem::replace(&mut self.refused, false) {
             tell(rt, self.path, Notice::TakenAgain);
         }
     }
 
-    /// Does what a list changes, one thing after the other. The result says whether a link was lost.
+    /// Makes the changes of a list, in sequence. The result is whether a link was lost.
     fn follow<R: Eprint>(
         &mut self,
         rt: &R,
@@ -154,7 +154,7 @@ impl<'a> Listing<'a> {
         lost
     }
 
-    /// Says that the list is not taken, since it has not the server of a place there.
+    /// Reports that the list is not taken, since it lacks the server at a place there.
     fn keep<R: Eprint>(&mut self, rt: &R, list: &[Server], place: usize) {
         self.refused = true;
         if let Some(name) = name_at(self.servers.as_slice(), place) {
@@ -163,7 +163,7 @@ impl<'a> Listing<'a> {
         }
     }
 
-    /// Takes the address of the server of a place over from a list, and says it. The result says whether its link was lost by that.
+    /// Takes the new address of the server at a place from a list, and reports it. The result is whether its link was lost by that.
     fn relocate<R: Eprint>(
         &mut self,
         rt: &R,
@@ -188,7 +188,7 @@ impl<'a> Listing<'a> {
         Ok(was_up)
     }
 
-    /// Has the server join that a list has at a place. No link is lost by that, and no client waits for it.
+    /// Makes the list's server at a place join. No link is lost by that, and no client waits for it.
     fn join<R: Eprint>(
         &mut self,
         rt: &R,
@@ -212,7 +212,7 @@ impl<'a> Listing<'a> {
     }
 }
 
-/// The name of the server of a place, if there is one.
+/// Returns the name of the server at a place, if there is one.
 fn name_at(servers: &[Server], place: usize) -> Option<&str> {
     let server = servers.get(place)?;
     str::from_utf8(server.name.as_bytes()).ok()

@@ -20,22 +20,22 @@ use std::io::Read;
 use std::{fs, io};
 use thiserror::Error;
 
-/// What is wrong with a line or a word that is no server's.
+/// The mistake of a line or a word that names no server.
 const NO_SERVER: &str = "is no [<name>:<port>=]<host>:<port>";
 
-/// What is wrong with one whose server has the name of an earlier one.
+/// The mistake of one whose server has the name of an earlier one.
 const DOUBLED: &str = "has the name of an earlier one";
 
-/// What is wrong with one whose server is one more than a ring may have.
+/// The mistake of one whose server is one too many for a ring.
 const ONE_TOO_MANY: &str = "is one too many: at most 64 servers";
 
-/// Why a file, or words, give no list of servers.
+/// Why a file, or words, are no list of servers.
 #[derive(Clone, Copy, Debug, PartialEq, Eq, Error)]
 pub enum Mistake {
-    /// The system does not give the file, and calls the reason so.
+    /// The system cannot read the file, for this reason.
     #[error("{0}")]
     Unread(SocketError),
-    /// What is there is no file: a folder, a pipe or a device.
+    /// The path is no file: a folder, a pipe or a device.
     #[error("not a file")]
     NoFile,
     /// It has more bytes than [`LIST_LIMIT`].
@@ -62,7 +62,7 @@ pub enum Mistake {
 }
 
 impl Mistake {
-    /// The number of the word that has it, and what is wrong with that word; none if it is of no word.
+    /// Returns the number of the word that has the mistake, and the mistake; none if it is of no word.
     pub fn in_word(&self) -> Option<(u64, &'static str)> {
         match self {
             Mistake::NoServer(number) => Some((*number, NO_SERVER)),
@@ -97,8 +97,8 @@ impl From<io::Error> for Mistake {
     }
 }
 
-/// The text of a file. The error is why the system does not give it, or that it is no file, or one of more than [`LIST_LIMIT`] bytes.
-/// Bytes that are no text in UTF-8 stand in the text as another sign, which is none of an address.
+/// Returns the text of a file. The error is why the system cannot read it, or that it is no file, or one of more than [`LIST_LIMIT`]
+/// bytes. Bytes that are no UTF-8 are replaced by another sign, which no address has.
 pub fn text_of<R: Files>(rt: &R, alloc: Global, path: &str) -> Result<String, Mistake> {
     if !fs::metadata(rt, path)?.is_file() {
         return Err(Mistake::NoFile);
@@ -112,7 +112,7 @@ pub fn text_of<R: Files>(rt: &R, alloc: Global, path: &str) -> Result<String, Mi
     Ok(String::from_utf8_lossy(alloc, bytes.as_slice())?)
 }
 
-/// The servers that the lines of a text name, in their order. The error is the first mistake in it, or `Memory`.
+/// Returns the servers that the lines of a text name, in their order. The error is the first mistake in it, or `Memory`.
 pub fn servers_in(alloc: Global, text: &str) -> Result<Vec<Server>, Mistake>
     ensures names { IfOk result (λ servers. map (λ server. server.name) servers.items ≡ map name_of (words_of text.now)) }
     ensures addresses { IfOk result (λ servers. map (λ server. server.address) servers.items ≡ map address_of (words_of text.now)) }
@@ -158,7 +158,7 @@ fn add(alloc: Global, servers: &mut Vec<Server>, word: &str, number: u64) -> Res
     Ok(())
 }
 
-/// The server of a word of this number, which is that of a line or of a word, after those of earlier ones. The error is its mistake, or
+/// Returns the server of a word, after those of earlier words; `number` is that of its line or word. The error is its mistake, or
 /// `Memory`.
 pub fn next_server(
     alloc: Global,
@@ -180,7 +180,7 @@ pub fn next_server(
     }
 }
 
-/// What is wrong with a server of this name in the line of this number, after those of earlier lines.
+/// Returns the mistake of a server of this name in the line of this number, after those of earlier lines.
 fn name_mistake(servers: &[Server], name: &Address, number: u64) -> Option<Mistake>
     ensures mistake { result ≡ name_mistake number (map (λ server. server.name) servers.now) name.now }
     ensures few { IfNone result (length servers.now < SERVER_LIMIT) }
@@ -194,7 +194,7 @@ fn name_mistake(servers: &[Server], name: &Address, number: u64) -> Option<Mista
     None
 }
 
-/// Whether one of the servers has this name.
+/// Returns whether one of the servers has this name.
 fn has_name(servers: &[Server], name: &Address) -> bool
     ensures { result ≡ list_any (λ other. bytes_eq other name.now) (map (λ server. server.name) servers.now) }
 {
@@ -204,7 +204,7 @@ fn has_name(servers: &[Server], name: &Address) -> bool
     server.name == *name || has_name(servers, name)
 }
 
-/// The server of the word of a line of this number.
+/// Returns the server of the word of a line of this number.
 fn server_at(alloc: Global, word: &str, number: u64) -> Result<Server, Mistake>
     ensures name { IfOk result (λ server. server.name ≡ name_of word.now) }
     ensures address { IfOk result (λ server. server.address ≡ address_of word.now) }
@@ -218,7 +218,7 @@ fn server_at(alloc: Global, word: &str, number: u64) -> Result<Server, Mistake>
     }
 }
 
-/// The first line of a text, without its line feed, and what stands after that; none where it has no line feed.
+/// Returns the first line of a text, without its line feed, and the text after that; none if it has no line feed.
 fn first_line(text: &str) -> Option<(&str, &str)>
     ensures { MatchOption result (position_or_len is_line_feed text.now ≡ length text.now)
         (λ parts. (position_or_len is_line_feed text.now < length text.now)
@@ -227,14 +227,14 @@ fn first_line(text: &str) -> Option<(&str, &str)>
     text.split_once('\n')
 }
 
-/// The word of a line: what stands before a `#`, without the white space around it. Without a word the line names nobody.
+/// Returns the word of a line: the text before a `#`, without the white space around it. A line without a word names no server.
 fn word_of(line: &str) -> &str
     ensures { result.now ≡ word_of line.now }
 {
     without_comment(line).trim_ascii()
 }
 
-/// What stands before a `#` in a line.
+/// Returns the text before a `#` in a line.
 fn without_comment(line: &str) -> &str
     ensures { result.now ≡ before_first is_hash line.now }
 {

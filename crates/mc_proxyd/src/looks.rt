@@ -1,20 +1,20 @@
-//! When a file is looked at that may change, and when what it has is taken.
+//! When a file that may change is looked at, and when its content is taken.
 ghost use Rattle.std.specs.Prelude.{◌≡◌, ◌&&◌, ◌+◌, ◌-◌, ◌^◌, false, min, not, if◌then◌else◌};
 
 use crate::limits::{LOOK_MILLIS, SETTLE_MILLIS};
 
-/// When a file is looked at that may change, and whether what was found last is taken. What a look finds that is new is taken once another
-/// look, [`SETTLE_MILLIS`] later, has found the same: so nothing is taken of a file that is still being written.
+/// When a file that may change is looked at, and whether its last content was taken. New content is taken once another look,
+/// [`SETTLE_MILLIS`] later, has found the same: so nothing is taken of a file that is still being written.
 #[derive(Clone, Copy, Debug)]
 pub struct Looks {
     /// When it is looked at next, in milliseconds.
     next: u64,
-    /// Whether what was found last is taken.
+    /// Whether the last content was taken.
     taken: bool,
 }
 
 impl Looks {
-    /// Nothing was found, and a look is due.
+    /// Makes the state in which nothing was found, and a look is due.
     pub fn new() -> Looks
         ensures next { result.next ≡ 0 }
     {
@@ -24,14 +24,14 @@ impl Looks {
         }
     }
 
-    /// When the next look is due.
+    /// Returns when the next look is due.
     pub fn due(&self) -> u64
         ensures { result ≡ self.now.next }
     {
         self.next
     }
 
-    /// Notes a look at a moment, and whether it has found the same as the one before. The result says whether that is to be taken now.
+    /// Records a look at a moment, and whether it has found the same as the one before. The result is whether that must be taken now.
     pub fn note(&mut self, same: bool, now: u64) -> bool
         ensures take { result ≡ (same && not self.old.taken) }
         ensures taken { self.new.taken ≡ same }
@@ -44,7 +44,7 @@ impl Looks {
         take
     }
 
-    /// Has what was found last be taken again at the next look: it could not be taken whole.
+    /// Makes the next look take the last content again: it could not be taken whole.
     pub fn again(&mut self)
         ensures taken { self.new.taken ≡ false }
         ensures next { self.new.next ≡ self.old.next }

@@ -1,4 +1,4 @@
-//! Looking up where servers are, beside the loop that serves clients.
+//! Look-ups of servers' hosts, beside the loop that serves clients.
 ghost use Rattle.std.specs.Prelude.{◌≡◌};
 ghost use Rattle.mc_proxyd.specs.Lookups.{after_a_try, known_by, late_answer, next_by};
 ghost use Rattle.mc_proxyd.specs.declared.lookups.Standing.TheVariants.{Unwanted};
@@ -20,16 +20,16 @@ pub enum Known {
     Nothing,
     /// It has found this.
     Answer(Found),
-    /// It has ended, and was begun for an address that the server has no more.
+    /// It has ended, and was begun for an address that is no longer the server's.
     Other,
 }
 
-/// What a try does next that needs the address of a host.
+/// The next step of a try that needs the address of a host.
 #[derive(Clone, Copy, Debug, PartialEq, Eq)]
 pub enum Next {
     /// It has the host looked up.
     Ask,
-    /// It waits for the look-up that is under way.
+    /// It waits for the pending look-up.
     Wait,
     /// It connects to this address.
     Connect(SocketAddr),
@@ -37,7 +37,7 @@ pub enum Next {
     Fail(Cause),
 }
 
-/// What a try does next that needs the address of a host, by what is known of the look-up of that host, if one was begun.
+/// Returns the next step of a try that needs the address of a host, given what is known of that host's look-up, if one was begun.
 pub fn next_by(lookup: Option<Known>) -> Next
     ensures { result ≡ next_by lookup }
 {
@@ -49,19 +49,19 @@ pub fn next_by(lookup: Option<Known>) -> Next
     }
 }
 
-/// How a look-up stands.
+/// The state of a look-up.
 #[derive(Clone, Copy, Debug, PartialEq, Eq)]
 pub enum Standing {
     /// The try that began it waits for it.
     Wanted,
     /// That try was given up, and a later one waits for it.
     Late,
-    /// It was begun for an address that the server has no more.
+    /// It was begun for an address that is no longer the server's.
     Unwanted,
 }
 
 impl Standing {
-    /// How it stands once the try that waits for it is given up.
+    /// Returns its state once the try that waits for it is given up.
     pub fn after_a_try(self) -> Standing
         ensures { result ≡ after_a_try self }
     {
@@ -72,7 +72,7 @@ impl Standing {
     }
 }
 
-/// What is known of a look-up by its answer, if it has ended, and by how it stands.
+/// Returns what is known of a look-up, given its answer, if it has ended, and its state.
 pub fn known_by(found: Option<Found>, standing: Standing) -> Known
     ensures { result ≡ known_by found standing }
 {
@@ -86,8 +86,8 @@ pub fn known_by(found: Option<Found>, standing: Standing) -> Known
     }
 }
 
-/// What a look-up has found that took longer than a try. If it found no address it timed out: the system names a host unknown too if no
-/// name server answers.
+/// Returns the result of a look-up that took longer than a try. If it found no address it timed out: the system also calls a host unknown
+/// if no name server answers.
 fn late_answer(found: Found) -> Found
     ensures { result ≡ late_answer found }
 {
@@ -97,7 +97,7 @@ fn late_answer(found: Found) -> Found
     }
 }
 
-/// A look-up that was begun. One that is dropped goes on, and nobody sees what it finds.
+/// A look-up that was begun. If it is dropped, it goes on, and its result is lost.
 #[derive(Drop)]
 pub struct Lookup {
     question: Arc<Question, Global>,
@@ -105,26 +105,26 @@ pub struct Lookup {
 }
 
 impl Lookup {
-    /// What it has found, once it has ended. The thread that looks the host up writes it once; no clause sees what that wrote.
+    /// Returns its result, once it has ended. The thread that looks the host up writes it once; no clause sees what that wrote.
     pub fn found(&self) -> Option<Found> {
         self.question.found()
     }
 
-    /// What is known of it, where this is what it has found.
+    /// Returns what is known of it, given its result.
     pub fn known(&self, found: Option<Found>) -> Known
         ensures { result ≡ known_by found self.now.standing }
     {
         known_by(found, self.standing)
     }
 
-    /// Notes that the try that waits for it is given up.
+    /// Records that the try that waits for it is given up.
     pub fn outlast(&mut self)
         ensures { self.new ≡ record self.old { standing = after_a_try self.old.standing } }
     {
         self.standing = self.standing.after_a_try();
     }
 
-    /// Notes that the server has another address than that for which it was begun.
+    /// Records that the server has another address than that for which it was begun.
     pub fn give_up(&mut self)
         ensures { self.new ≡ record self.old { standing = Unwanted } }
     {
@@ -132,20 +132,20 @@ impl Lookup {
     }
 }
 
-/// What begins look-ups, by the thread that a [`Resolver`](crate::resolving::Resolver) joins. No call of it waits.
+/// The sender of look-ups to the thread that a [`Resolver`](crate::resolving::Resolver) joins. No call of it blocks.
 #[derive(Drop)]
 pub struct Lookups {
     alloc: Global,
-    /// Where the thread takes questions from.
+    /// The queue from which the thread takes questions.
     questions: Producer<Arc<Question, Global>>,
-    /// What ends the wait of the thread.
+    /// The parker that wakes the thread.
     bell: Arc<Parker, Global>,
-    /// What ends the wait of the poll: made for the first look-up.
+    /// The waker of the poll: made for the first look-up.
     waker: Option<Arc<Waker, Global>>,
 }
 
 impl Lookups {
-    /// None was begun.
+    /// Makes the state in which no look-up was begun.
     pub fn new(
         alloc: Global,
         questions: Producer<Arc<Question, Global>>,
@@ -159,8 +159,8 @@ impl Lookups {
         }
     }
 
-    /// Begins to look the host of `<host>:<port>` up. A poll of this registry is reported [`LOOKED_UP`] once that has ended. The error is
-    /// want of memory, or why the system gives no descriptor for the report.
+    /// Begins to look up the host of `<host>:<port>`. A poll of this registry reports [`LOOKED_UP`] once that has ended. The error is
+    /// lack of memory, or why the system gives no descriptor for the report.
     pub fn begin(&mut self, registry: &Registry, address: &str) -> Result<Lookup, Cause> {
         let waker = self.waker(registry)?;
         let address = address.to_string(self.alloc)?;
@@ -175,7 +175,7 @@ impl Lookups {
         })
     }
 
-    /// What ends the wait of the poll of a registry.
+    /// Returns the waker of a registry's poll.
     fn waker(&mut self, registry: &Registry) -> Result<Arc<Waker, Global>, Cause> {
         if let Some(waker) = &self.waker {
             return Ok(Arc::try_clone(waker)?);

@@ -10,7 +10,7 @@ use std::alloc::Global;
 /// The words of `--lost`.
 const WORDS: [&str; 2] = ["told", "missed"];
 
-/// The choice that a word names. Any other word stands for [`Losses::Told`].
+/// Returns the choice that a word names. Any other word stands for [`Losses::Told`].
 pub fn losses_named(word: &str) -> Losses
     ensures { result ≡ losses_named word.now }
 {
@@ -21,7 +21,7 @@ pub fn losses_named(word: &str) -> Losses
     }
 }
 
-/// The option `--lost`.
+/// Returns the option `--lost`.
 pub fn lost<'a>(alloc: Global) -> Arg<'a> {
     Arg::new(alloc, "lost")
         .long("lost")

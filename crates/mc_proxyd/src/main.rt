@@ -1,31 +1,29 @@
-//! A memcached proxy on a socket.
+//! A memcached proxy on a TCP socket.
 //!
-//! The exit status is 0 where `--check` was asked for, or where as many clients as `--accept` says were served. Else it is
-//! that of [`mc_program`], where a list of servers that is no ring is refused like any other word. The words are read first,
-//! then the list, then `--check` is obeyed, then it listens.
+//! The exit status is 0 after `--check`, or after serving the number of clients of `--accept`. Otherwise it is that of [`mc_program`]: a list of
+//! servers that is no ring is refused like any other word. The program reads the words first, then the list, then it obeys `--check`, then it listens.
 //!
 //! # How it serves
 //!
-//! Clients and servers are on sockets, over one [`mc_proxy::Proxy`].
+//! Clients and servers connect by sockets, over one [`mc_proxy::Proxy`].
 //!
-//! [`serve`] serves the clients that a listener accepts, and keeps a connection to each server of the ring as far as that is
-//! there: each is tried once before the first client is accepted, and while it is down again and again, less often the longer it is.
-//! Nobody waits for a connection, nor for a look-up of a host: that has a thread of its own. A connection that is given up is reset.
-//! [`ProxySettings`] says when it ends, how long a server may be silent that owes a reply, when an idle client is closed, how often it
-//! says what it has done, where the servers are, which one joins and which file lists them. A line that is appended to that file joins,
-//! and another address behind a name is taken over. As many clients are accepted as leave each server a descriptor ([`other_files`]). Its bodies are
-//! [`mc_proxy_pump::pump_client`] and [`mc_proxy_pump::pump_link`], which have the law of a client's stream and of a
-//! server's. [`command`] and [`Options`] are the command line of [`PROGRAM`], and a [`Server`] is what a word of it names. [`tell_mistake`] says which
-//! word, or which line of the file, names none.
+//! [`serve`] serves the clients that a listener accepts, and keeps a connection to each server of the ring, if the server can be reached. Each server
+//! is tried once before the first client is accepted, and again and again while it is down, with backoff. No client waits for a connection, nor for a
+//! look-up of a host: look-ups have threads of their own. A connection that is given up is reset. [`ProxySettings`] says when serving ends, how long a
+//! server with pending commands may be silent, when an idle client is closed, and how often the proxy reports its work. It also says where the servers
+//! are, which one joins and which file lists them. A server that is appended to that file joins, and a new address behind a name replaces the old one.
+//! The number of clients is limited so that each server has a descriptor ([`other_files`]). The pumps are [`mc_proxy_pump::pump_client`] and
+//! [`mc_proxy_pump::pump_link`], which have the law of a client's stream and of a server's. [`command`] and [`Options`] are the command line of
+//! [`PROGRAM`], and a [`Server`] is what a word of it names. [`tell_mistake`] reports which word, or which line of the file, names none.
 //!
-//! What a request is answered if a command of it is lost is a choice of [`ProxySettings`] too, the same for all clients.
+//! The answer to a request whose command is lost is a choice of [`ProxySettings`] too, the same for all clients.
 //!
-//! On standard error it says what becomes of its servers: a line `mc_proxyd: <server> <what>` where that is another than was said
-//! of the server last, and in each second at most one of each. The line of a new address comes at once beside these. Of a server that is there at
-//! first nothing is said. One that was lost is back with its first reply.
+//! On standard error it reports changes of its servers by lines `mc_proxyd: <server> <what>`. A line is printed if it differs from the last one about
+//! the server, and at most one a second for each. The line of a new address is printed at once, beside these. A server that is reachable from the
+//! start gets no line. A lost server is back with its first reply.
 //!
-//! [`serve`] waits for its sockets, and may wait for ever; it and [`Options::of`] wait for the file of servers. What a socket or a file carries,
-//! what a look-up finds and that a thread begins, no contract says.
+//! [`serve`] blocks on its sockets, possibly for ever; it and [`Options::of`] block on the file of servers. No contract says what a socket or a file
+//! carries, what a look-up finds, or that a thread begins.
 #![tactic(auto)]
 
 mod changes;
@@ -92,7 +90,7 @@ fn main(rt: HostRuntime) -> ExitCode {
     ExitCode::from(exit_status(&served))
 }
 
-/// Reads the words, says in which form they ask for lines, and then prints how large the ring is, or serves.
+/// Reads the words and the form of log lines they ask for, and then prints how large the ring is, or serves.
 fn run<R>(rt: &R, option: &mut LogOption) -> Result<(), Failure>
 where
     R: Net<Listener = TcpListener, Stream = TcpStream>,
@@ -160,7 +158,7 @@ where
 const BAD_HELD: &str =
     "invalid value for '--held <bytes>': neither in 1..=1099511627776 nor a number of K, M or G up to 1024G";
 
-/// How the program ends if the words, or the file that they name, name no pool. The mistake of a list is said beside it.
+/// Returns how the program ends if the words, or the file that they name, name no pool. The mistake of a list is printed too.
 fn refusal_of<R: Eprint>(rt: &R, matches: &ArgMatches<'_>, error: ListError) -> Failure {
     if let ListError::At(place, mistake) = error {
         tell_mistake(rt, matches, place, mistake);
@@ -168,7 +166,7 @@ fn refusal_of<R: Eprint>(rt: &R, matches: &ArgMatches<'_>, error: ListError) -> 
     failure_of(error)
 }
 
-/// How the program ends where the words name no pool.
+/// Returns how the program ends if the words name no pool.
 fn failure_of(error: ListError) -> Failure
     ensures bad { error ≡ ListError.Bad → status_of result ≡ 2 }
     ensures mistake { (place : Place) → (mistake : Mistake) → error ≡ ListError.At place mistake → status_of result ≡ 2 }

@@ -1,13 +1,13 @@
-//! How the mistake of a list of servers is said that ends the program.
+//! How a mistake in a list of servers, which ends the program, is reported.
 
 use crate::lists::Mistake;
 use crate::options::{PROGRAM, Place};
 use clap::ArgMatches;
 
-/// Says on standard error which mistake a list of servers has, by the matches of the command that names the list: with the path of the file, or
-/// with the number and the text of the word.
+/// Prints on standard error the mistake of a list of servers: with the path of the file, or with the number and the text of the word. The
+/// matches are those of the command that names the list.
 pub fn tell_mistake<R: Eprint>(rt: &R, matches: &ArgMatches<'_>, place: Place, mistake: Mistake) {
-    // Where it cannot be said, the status says that the list is bad.
+    // Best effort: if this write fails, the exit status still says that the list is bad.
     let _ = match (place, mistake.in_word()) {
         (Place::File, _) => {
             let path = matches.get_str("servers").unwrap_or("");
@@ -26,7 +26,7 @@ pub fn tell_mistake<R: Eprint>(rt: &R, matches: &ArgMatches<'_>, place: Place, m
     };
 }
 
-/// The word of a server, by its number among them.
+/// Returns the word of a server, by its number among them.
 fn word_at<'a>(matches: &ArgMatches<'a>, number: u64) -> &'a str {
     let Some(words) = matches.get_strs("server") else {
         return "";

@@ -1,4 +1,4 @@
-//! What a proxy says of its servers on standard error.
+//! What a proxy reports of its servers on standard error.
 ghost use Rattle.std.specs.Prelude.{◌≡◌, ◌≢◌, Some, None, IfSome, IfNone};
 ghost use Rattle.std.specs.IoError.{error_kind, raw_os_error};
 ghost use Rattle.mc_program.specs.Sockets.{socket_error_of};
@@ -26,28 +26,28 @@ pub enum Cause {
     /// The system gives no thread for the look-up of the host.
     #[error("no thread for a look-up")]
     NoThread,
-    /// The system refused the connection, or ended it, and calls it so.
+    /// The system refused the connection, or ended it, for this reason.
     #[error("{0}")]
     Connect(SocketError),
-    /// The connection was not there after [`CONNECT_MILLIS`](crate::limits::CONNECT_MILLIS).
+    /// The connection was not established after [`CONNECT_MILLIS`](crate::limits::CONNECT_MILLIS).
     #[error("timed out")]
     TimedOut,
-    /// The server owes a reply, and has sent nothing for as long as the settings allow.
+    /// The server has pending commands, and has sent nothing for longer than the settings allow.
     #[error("no reply in time")]
     Late,
-    /// What came is no reply to the command that waits longest, or no command waited.
+    /// A protocol violation: the bytes are no reply to the oldest pending command, or no command was pending.
     #[error("strange reply")]
     Strange,
     /// The connection has ended or failed.
     #[error("connection ended")]
     Ended,
-    /// No memory for what came, or for one more server.
+    /// No memory for received bytes, or for one more server.
     #[error("out of memory")]
     Memory,
-    /// A list has the server at another address. [`tell_address`] says so in place of this.
+    /// A list has another address for the server. [`tell_address`] says so in place of this.
     #[error("address changed")]
     Moved,
-    /// The ring has the server already, or as many as it may have.
+    /// The ring has the server already, or has no room for it.
     #[error("no place in the ring")]
     NoPlace,
 }
@@ -87,23 +87,23 @@ impl From<io::Error> for Cause {
     }
 }
 
-/// What became of a server, as it is said: `back`, `refused: <cause>`, `lost: <cause>`, `joined`, `not joined: <cause>`; or of a list of
-/// servers, `not taken: <mistake>`, `taken again`.
+/// What became of a server, as it is printed: `back`, `refused: <cause>`, `lost: <cause>`, `joined`, `not joined: <cause>`; or of a list
+/// of servers, `not taken: <mistake>`, `taken again`.
 #[derive(Clone, Copy, Debug, PartialEq, Eq)]
 pub enum Notice {
     /// It has replied.
     Back,
     /// It cannot be connected to.
     Refused(Cause),
-    /// It was connected, and is not any more.
+    /// Its connection was lost.
     Lost(Cause),
     /// It has joined the ring.
     Joined,
     /// It could not join the ring.
     NotJoined(Cause),
-    /// What is said is of a list of servers: it changes nothing.
+    /// The notice is about a list of servers: it changes nothing.
     NotTaken(Mistake),
-    /// What is said is of a list of servers: it is followed again.
+    /// The notice is about a list of servers: it is followed again.
     TakenAgain,
 }
 
@@ -121,21 +121,22 @@ impl Display for Notice {
     }
 }
 
-/// Says on standard error what became of a server.
+/// Prints on standard error what became of a server.
 pub fn tell<R: Eprint>(rt: &R, server: &str, notice: Notice) {
-    // Where it cannot be said, all are served all the same.
+    // Best effort: a failed write to standard error must not stop serving.
     let _ = eprintln!(rt; "{PROGRAM}: {server} {notice}");
 }
 
-/// Says on standard error where a server is now, whose address a list has changed: at once, also if something else was said of it in this second.
+/// Prints on standard error a server's new address, which a list has changed: at once, even if another line about it was printed in this
+/// second.
 pub fn tell_address<R: Eprint>(rt: &R, server: &str, address: &str) {
-    // Where it cannot be said, all are served all the same.
+    // Best effort: a failed write to standard error must not stop serving.
     let _ = eprintln!(rt; "{PROGRAM}: {server} now at {address}");
 }
 
-/// Says on standard error that a list is not taken, since the server of this number is another there, or is not there.
+/// Prints on standard error that a list is not taken, since the server of this number is another there, or is missing there.
 pub fn tell_other<R: Eprint>(rt: &R, list: &str, number: usize, server: &str, other: Option<&str>) {
-    // Where it cannot be said, all are served all the same.
+    // Best effort: a failed write to standard error must not stop serving.
     let _ = match other {
         Some(other) => eprintln!(rt;
             "{PROGRAM}: {list} not taken: server {number} is {server}, the list has {other}"
@@ -146,19 +147,19 @@ pub fn tell_other<R: Eprint>(rt: &R, list: &str, number: usize, server: &str, ot
     };
 }
 
-/// What was said of a server, and what is to be said: only what is new, and in a second no more than one notice.
+/// The last notice about a server, and the one that is due: only what is new, and at most one a second.
 #[derive(Clone, Copy, Debug)]
 pub struct Notices {
-    /// What was said last.
+    /// The last notice.
     pub said: Notice,
-    /// What became of the server since, where that is something else.
+    /// What became of the server since, if that is something else.
     pub due: Option<Notice>,
-    /// In which second something was said last.
+    /// The second of the last notice that was printed.
     pub second: Option<u64>,
 }
 
 impl Notices {
-    /// Nothing was said of a server, of which this is taken to be known.
+    /// Makes the state in which no notice was printed, and this one is taken to be known.
     pub fn new(said: Notice) -> Notices
         ensures { result ≡ record { said = said; due = None; second = None } }
     {
@@ -169,7 +170,7 @@ impl Notices {
         }
     }
 
-    /// Notes what became of the server. What was due before is not said any more.
+    /// Records what became of the server. It replaces the notice that was due before.
     pub fn note(&mut self, notice: Notice)
         ensures due { IfSome self.new.due (λ due. due ≡ notice) }
         ensures said { self.new.said ≡ self.old.said }
@@ -178,7 +179,7 @@ impl Notices {
         self.due = (notice != self.said).then_some(notice);
     }
 
-    /// Takes a notice as said, and drops what is due. What becomes of the server from now on is said if it is something else.
+    /// Takes a notice as printed, and drops the one that is due. A later notice about the server is printed if it is something else.
     pub fn take_as_said(&mut self, notice: Notice)
         ensures { self.new ≡ record self.old { said = notice; due = None } }
     {
@@ -189,12 +190,12 @@ impl Notices {
         };
     }
 
-    /// Whether something is to be said.
+    /// Returns whether a notice is due.
     pub fn is_due(&self) -> bool {
         self.due.is_some()
     }
 
-    /// What is to be said in this second, which is then said.
+    /// Returns the notice to print in this second, if any, and takes it as printed.
     pub fn take(&mut self, second: u64) -> Option<Notice>
         ensures once { self.old.second ≡ Some second → result ≡ None }
         ensures due { self.old.second ≢ Some second → result ≡ self.old.due }

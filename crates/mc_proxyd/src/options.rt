@@ -35,9 +35,9 @@ pub struct Options<'a> {
     pub listen: &'a str,
     /// The servers.
     pub ring: Ring,
-    /// What to serve with.
+    /// The settings to serve with.
     pub settings: ProxySettings,
-    /// In which form it says on standard error what happens.
+    /// The form of the lines on standard error.
     pub log: LogOption,
     /// Where operators are answered.
     pub admin: AdminTerms<'a>,
@@ -59,7 +59,7 @@ pub enum Place {
 /// Why the words name no pool.
 #[derive(Clone, Copy, Debug, PartialEq, Eq, Error)]
 pub enum ListError {
-    /// 1: a word names no server, or servers make no ring. Of a list of servers [`At`](ListError::At) says which, and where.
+    /// 1: a word names no server, or servers make no ring. For a list of servers [`At`](ListError::At) says which word or line, and where.
     #[error("bad server list")]
     Bad,
     /// 2: no memory.
@@ -68,7 +68,7 @@ pub enum ListError {
     /// 3: the word of `--held` is no number of bytes, or is outside its limits.
     #[error("bad number of bytes")]
     Held,
-    /// 4: the list of servers has this mistake, or the server that is to join.
+    /// 4: the list of servers, or the server of `--join`, has this mistake.
     #[error("{1}")]
     At(Place, Mistake),
 }
@@ -94,7 +94,7 @@ impl From<RingError> for ListError {
 }
 
 impl<'a> Options<'a> {
-    /// What matches of [`command`] ask for. The file that they name is read.
+    /// Returns what matches of [`command`] ask for. It reads the file that they name.
     pub fn of<R: Files>(
         rt: &R,
         alloc: Global,
@@ -134,18 +134,18 @@ impl<'a> Options<'a> {
     }
 }
 
-/// The servers that a file lists. The error is its mistake.
+/// Returns the servers that a file lists. The error is its mistake.
 fn listed<R: Files>(rt: &R, alloc: Global, path: &str) -> Result<Vec<Server>, ListError> {
     let servers = text_of(rt, alloc, path).and_then(|text| servers_in(alloc, text.as_str()));
     servers.map_err(|mistake| list_error_at(Place::File, mistake))
 }
 
-/// The servers of words. The error is their mistake.
+/// Returns the servers of words. The error is their mistake.
 fn named(alloc: Global, words: &[&str]) -> Result<Vec<Server>, ListError> {
     servers_of(alloc, words).map_err(|mistake| list_error_at(Place::Words, mistake))
 }
 
-/// What a mistake at a place is to who asks for a pool.
+/// Returns the error of a mistake at a place, for the caller that asks for a pool.
 fn list_error_at(place: Place, mistake: Mistake) -> ListError
     ensures { result ≡ list_error_at place mistake }
 {
@@ -155,7 +155,7 @@ fn list_error_at(place: Place, mistake: Mistake) -> ListError
     }
 }
 
-/// A text of one's own, where there is one.
+/// Copies a text, if there is one.
 fn owned(alloc: Global, text: Option<&str>) -> Result<Option<String>, AllocError> {
     match text {
         Some(text) => Ok(Some(text.to_string(alloc)?)),
@@ -163,8 +163,8 @@ fn owned(alloc: Global, text: Option<&str>) -> Result<Option<String>, AllocError
     }
 }
 
-/// Which server joins the servers that there are, and with which client: none if the client's number is 0, and else that of the word. The error is
-/// the mistake of the word, or that there is no word.
+/// Returns which server joins, and with which client: none if the client's number is 0, and else the server of the word. The error is the mistake
+/// of the word, or that there is no word.
 fn joining(
     alloc: Global,
     servers: &[Server],
@@ -190,7 +190,7 @@ fn joining(
     }
 }
 
-/// The server of the word of `--join`, if there is one, which joins the servers that there are.
+/// Returns the server of the word of `--join`, which joins the present servers, if there is a word.
 fn joiner(alloc: Global, servers: &[Server], join: Option<&str>) -> Result<Server, Mistake>
     ensures name { IfOk result (λ server. option_map (λ word. name_of word.now) join.entry ≡ Some server.name) }
     ensures address { IfOk result (λ server. option_map (λ word. address_of word.now) join.entry ≡ Some server.address) }
@@ -202,7 +202,7 @@ fn joiner(alloc: Global, servers: &[Server], join: Option<&str>) -> Result<Serve
     next_server(alloc, servers, word, servers.len() as u64 + 1)
 }
 
-/// The command of a proxy program, with the meaning, the default and the limits of each option.
+/// Returns the command of a proxy program, with the meaning, the default and the limits of each option.
 pub fn command<'a>(alloc: Global) -> Result<Command<'a>, AllocError> {
     Command::new(alloc, PROGRAM)
         .version(VERSION)

@@ -22,16 +22,16 @@ use std::net::Net;
 pub struct Pool {
     alloc: Global,
     upstreams: Vec<Upstream>,
-    /// What looks hosts up; none where no server may have a host's name.
+    /// The look-ups of hosts; none if no server may have a host's name.
     lookups: Option<Lookups>,
-    /// After how many milliseconds a server that owes a reply and sends nothing loses its link; 0 for never.
+    /// The timeout in milliseconds after which a server that has pending commands and sends nothing loses its link; 0 for never.
     timeout: u64,
-    /// What says when upstreams that failed are tried again: another number at each try.
+    /// A random number, another at each try, which decides when upstreams that failed are tried again.
     random: u64,
 }
 
 impl Pool {
-    /// Upstreams of which none was tried, what looks their hosts up, and a random number to begin with.
+    /// Makes a pool of upstreams, none of them tried, with the look-ups of their hosts, and a random number to begin with.
     pub fn new(
         alloc: Global,
         ring: &Ring,
@@ -53,29 +53,29 @@ impl Pool {
         })
     }
 
-    /// How many upstreams there are.
+    /// Returns how many upstreams there are.
     pub fn len(&self) -> usize {
         self.upstreams.len()
     }
 
-    /// Whether each upstream was tried.
+    /// Returns whether each upstream was tried.
     pub fn is_tried(&self) -> bool {
         self.upstreams.iter().all(|upstream| upstream.tried)
     }
 
-    /// When something is to be done for an upstream unasked, at the earliest.
+    /// Returns when something must be done for an upstream without an event, at the earliest.
     pub fn due(&self, now: u64) -> Option<u64> {
         self.upstreams.iter().fold(None, |due, upstream| {
             earlier(due, upstream.due(now, self.timeout))
         })
     }
 
-    /// Whether the socket of an upstream may have something for it.
+    /// Returns whether the socket of an upstream may be ready.
     pub fn is_stirred(&self) -> bool {
         self.upstreams.iter().any(|upstream| upstream.stirred)
     }
 
-    /// Tries the upstreams that are down where it is time for them, and goes on with the tries whose look-ups have come back.
+    /// Tries the upstreams that are down if it is time for them, and goes on with the tries whose look-ups have ended.
     pub fn keep<R: Net>(&mut self, rt: &R, registry: &Registry, now: u64) {
         let mut random = self.random;
         let lookups = &mut self.lookups;
@@ -86,7 +86,7 @@ impl Pool {
         self.random = random;
     }
 
-    /// Loses the upstreams on which a reply is late, and says whether there was one.
+    /// Loses the upstreams on which a reply is late, and returns whether there was one.
     pub fn give_up(&mut self, proxy: &mut Proxy, now: u64) -> bool {
         let mut any = false;
         for (place, upstream) in self.upstreams.iter_mut().enumerate() {
@@ -98,14 +98,14 @@ impl Pool {
         any
     }
 
-    /// Says on standard error what became of each upstream by a moment.
+    /// Prints on standard error the state of each upstream at a moment.
     pub fn report<R: Eprint>(&self, rt: &R, proxy: &Proxy, now: u64) {
         for (place, upstream) in self.upstreams.iter().enumerate() {
             upstream.report(rt, proxy.waiting(place), now);
         }
     }
 
-    /// What became of each upstream by a moment, as figures.
+    /// Returns the state of each upstream at a moment, as figures.
     pub fn figures(&self, proxy: &Proxy, now: u64) -> Result<Vec<LinkFigures<'_>>, AllocError> {
         let mut links = Vec::with_capacity(self.alloc, self.upstreams.len())?;
         for (place, upstream) in self.upstreams.iter().enumerate() {
@@ -114,14 +114,14 @@ impl Pool {
         Ok(links)
     }
 
-    /// Says on standard error what is new of the servers, of each at most once in a second.
+    /// Prints on standard error what is new of the servers, of each at most one line a second.
     pub fn tell<R: Eprint>(&mut self, rt: &R, second: u64) {
         for upstream in self.upstreams.iter_mut() {
             upstream.tell(rt, second);
         }
     }
 
-    /// Has a server join that was not tried. If it is awaited, new clients wait until it was. At an error nothing has changed.
+    /// Makes a server join that was not tried. If it is awaited, new clients wait until it was tried. At an error nothing has changed.
     pub fn join(
         &mut self,
         proxy: &mut Proxy,
@@ -137,7 +137,7 @@ impl Pool {
         Ok(())
     }
 
-    /// Has the server of a place be at another address from a moment on. The result says whether its link was lost by that. At an error
+    /// Moves the server at a place to another address from a moment on. The result is whether its link was lost by that. At an error
     /// nothing has changed.
     pub fn relocate(
         &mut self,
@@ -153,7 +153,7 @@ impl Pool {
         }
     }
 
-    /// Notes what an event says of the upstream whose token it has.
+    /// Records an event of the upstream whose token it has.
     pub fn note(&mut self, proxy: &mut Proxy, event: &Event) {
         let Token(token) = event.token();
         let Some(place) = token.checked_sub(MAX_SESSIONS) else {
@@ -164,11 +164,11 @@ impl Pool {
         }
     }
 
-    /// Carries the bytes of the upstreams that have something to send, or may have received something, at a moment. The sessions that
-    /// were answered are put after `woken`, and the places whose links are at their mark no more after `freed`. The result says
-    /// whether any other session may go on, since an upstream was lost or there was no memory to note one.
+    /// Carries the bytes of the upstreams that have something to send, or may have received something, at a moment. It appends the
+    /// sessions that were answered to `woken`, and the places of the links that fell below their mark to `freed`. The result is whether
+    /// any other session may go on, since an upstream was lost or there was no memory to note one.
     ///
-    /// An upstream that fails is dropped and its link is lost: the commands that wait on it are lost, and it is tried again.
+    /// An upstream that fails is dropped and its link is lost: its pending commands are lost, and it is tried again.
     pub fn carry(
         &mut self,
         proxy: &mut Proxy,
@@ -204,8 +204,8 @@ impl Pool {
         others
     }
 
-    /// Gives back the memory that the links have reserved and that holds nothing: all of it, or while they are used what is more than
-    /// [`KEPT_ROOM`] bytes. Once a second is enough: a link that many large commands or replies cross reserves anew only then.
+    /// Frees the memory that the links' empty buffers have reserved: all of it or, while the links are used, what exceeds [`KEPT_ROOM`]
+    /// bytes. Once a second is enough: only then does a link with many large commands or replies reserve anew.
     pub fn rest(&self, proxy: &mut Proxy, is_used: bool) {
         let kept = if is_used { KEPT_ROOM } else { 0 };
         for place in 0..self.upstreams.len() {
@@ -214,24 +214,24 @@ impl Pool {
     }
 }
 
-/// Whether so much is unsent on the link of a place that no more is put on it.
+/// Returns whether the link at a place has reached its mark of unsent bytes.
 fn is_marked(proxy: &Proxy, place: usize) -> bool {
     proxy.link_output(place).len() >= LINK_MARK
 }
 
-/// The token of the server of a place. No client has it.
+/// Returns the token of the server at a place. No client has it.
 fn token_of(place: usize) -> Token {
     Token(MAX_SESSIONS.saturating_add(place))
 }
 
-/// An upstream server of a name and an address, to which no connection was begun.
+/// Makes an upstream of a name and an address, to which no connection was begun.
 fn upstream_to(alloc: Global, name: &Address, address: &Address) -> Result<Upstream, AllocError> {
     let name = String::from_utf8_lossy(alloc, name.as_bytes())?;
     let address = String::from_utf8_lossy(alloc, address.as_bytes())?;
     Ok(Upstream::new(name, address))
 }
 
-/// The number after a random one: a step of a generator that has each number of 64 bits in turn.
+/// Returns the number after a random one: a step of a generator that has each number of 64 bits in turn.
 fn next_random(random: u64) -> u64 {
     random
         .wrapping_mul(6_364_136_223_846_793_005)

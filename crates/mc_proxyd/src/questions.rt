@@ -1,4 +1,4 @@
-//! A host that is looked up.
+//! A host to look up.
 
 use crate::notices::Cause;
 use mc_net::first_address;
@@ -7,22 +7,22 @@ use std::alloc::Global;
 use std::net::{Net, SocketAddr};
 use std::sync::{Arc, OnceLock};
 
-/// What a look-up has found: the first IPv4 address of a host, or why it has none.
+/// The result of a look-up: the first IPv4 address of a host, or why it has none.
 pub type Found = Result<SocketAddr, Cause>;
 
-/// A host that is looked up, and what was found.
+/// A host to look up, and the result.
 #[derive(Drop)]
 pub struct Question {
     /// `<host>:<port>`.
     address: String,
     /// Empty until the look-up has ended.
     found: OnceLock<Found>,
-    /// What ends the wait of the poll then.
+    /// The waker of the poll, called then.
     waker: Arc<Waker, Global>,
 }
 
 impl Question {
-    /// The question where `<host>:<port>` is. Once it is answered the waker's poll is woken.
+    /// Makes the question where `<host>:<port>` is. Its answer wakes the waker's poll.
     pub fn new(address: String, waker: Arc<Waker, Global>) -> Question {
         Question {
             address,
@@ -31,18 +31,18 @@ impl Question {
         }
     }
 
-    /// What was found, once the look-up has ended.
+    /// Returns the result, once the look-up has ended.
     pub fn found(&self) -> Option<Found> {
         self.found.get().copied()
     }
 
-    /// Looks the host up, which may wait for whoever knows the name.
+    /// Looks the host up, which may block on a name server.
     pub fn look_up<R: Net>(&self, rt: &R) {
         let first = first_address(rt, self.address.as_str());
         self.answer(first.ok_or(Cause::UnknownHost));
     }
 
-    /// Says what was found, and wakes the poll. Nobody else answers, and a poll that is not woken sees it later.
+    /// Stores the result, and wakes the poll. Nobody else answers, and a poll that is not woken sees it later.
     pub fn answer(&self, found: Found) {
         let _ = self.found.try_set(found);
         let _ = self.waker.wake();

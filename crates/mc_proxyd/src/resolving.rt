@@ -1,4 +1,4 @@
-//! The threads that look hosts up: one that begins the others, and one for each host while that is looked up.
+//! The threads that look hosts up: one that begins the others, and one for each host while its look-up is pending.
 
 use crate::lookups::Lookups;
 use crate::notices::Cause;
@@ -20,8 +20,8 @@ pub struct Resolver {
 }
 
 impl Resolver {
-    /// Ends the thread, whose [`Lookups`] are dropped, and waits for that. A look-up that is under way goes on, and nobody waits for it: it
-    /// ends with the process at the latest.
+    /// Ends the thread, whose [`Lookups`] are dropped, and waits for that. A pending look-up goes on, and nobody waits for it: it ends with
+    /// the process at the latest.
     pub fn end<R: Threads>(self, rt: &R) {
         let Resolver { bell, thread } = self;
         bell.unpark();
@@ -29,7 +29,7 @@ impl Resolver {
     }
 }
 
-/// Begins the thread. The error is `Memory`, also where the system gives no thread.
+/// Begins the thread. The error is `Memory`, even if the system gives no thread.
 pub fn begin_lookups<R>(rt: &R, alloc: Global) -> Result<(Lookups, Resolver), ServeError>
 where
     R: Net<Listener = net::TcpListener, Stream = net::TcpStream>,
@@ -50,7 +50,7 @@ where
     }
 }
 
-/// Begins a look-up for each question, until nobody asks any more.
+/// Begins a look-up for each question, until the sender is dropped.
 fn take_questions<R>(
     rt: &R,
     alloc: Global,
@@ -87,7 +87,7 @@ where
         .name(name)
         .spawn(rt, move || question.look_up(&system))
         .map_err(|_| Cause::NoThread)?;
-    // Nobody joins it: its end is the answer, and one that hangs must hold up nobody.
+    // Nobody joins it: it ends with its answer, and one that hangs must block nobody.
     drop(thread);
     Ok(())
 }

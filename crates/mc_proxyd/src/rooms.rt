@@ -6,10 +6,10 @@ use crate::limits::{LISTING_FILES, LOOKUP_FILES, WAKING_FILES};
 use mc_program::OWN_FILES;
 use mc_ring::SERVER_LIMIT;
 
-/// How many files a proxy over that many servers has open at most beside its clients, up to 2^64 - 1: its own, and the one by which
-/// look-ups wake it, if a server may have a host's name (`named`). Then a socket for each server, also for the one that joins, if one does
-/// (`joins`), or those of its look-up in place of it. If a file lists the servers (`listed`), that file, and for each of the most servers of a
-/// ring a socket and those of a look-up beside it.
+/// Returns how many files a proxy over `servers` servers has open at most beside its clients, up to 2^64 - 1. These are its own; and the one
+/// by which look-ups wake it, if a server may have a host's name (`named`). Then a socket for each server, and for the one that joins, if one
+/// does (`joins`), or the sockets of its look-up in place of it. If a file lists the servers (`listed`), it is that file, and for each of the
+/// most servers of a ring a socket and those of a look-up beside it.
 pub fn other_files(servers: usize, joins: bool, listed: bool, named: bool) -> u64
     ensures { result ≡ min (files_beside servers joins listed named) (2 ^ 64 - 1) }
 {
@@ -24,8 +24,8 @@ pub fn other_files(servers: usize, joins: bool, listed: bool, named: bool) -> u6
         .saturating_add(OWN_FILES + waking)
 }
 
-/// How many files each server has open at most. The look-up of an address that a file gave a server before may go on beside the link to the
-/// new one; without a file a link begins once its look-up has ended.
+/// Returns how many files each server has open at most. If a file gives a server a new address, the look-up of the old one may go on beside
+/// the link to the new one. Without a file a link begins once its look-up has ended.
 fn files_of_each(listed: bool, named: bool) -> u64
     ensures { result ≡ files_of_each listed named }
 {

@@ -7,18 +7,18 @@ use mc_ring::Address;
 use mc_text::is_address;
 use std::alloc::Global;
 
-/// A server of a pool. Its name stays while its machine is replaced by another at another address: then no key moves.
+/// A server of a pool. Its name stays if its machine is replaced by another at another address: then no key moves.
 #[derive(Clone, Debug, Drop)]
 pub struct Server {
-    /// The text by which keys are spread, and by which the server is named in what the program says.
+    /// The text by which keys are spread, and by which the program's lines name the server.
     pub name: Address,
     /// Where it is.
     pub address: Address,
 }
 
 impl Server {
-    /// The server of a word: `<name>:<port>=<host>:<port>`, or `<host>:<port>`, which is its name and its address. The error is
-    /// `Bad` where either is no address, and else `Memory`.
+    /// Makes the server of a word: `<name>:<port>=<host>:<port>`, or `<host>:<port>`, which is its name and its address. The
+    /// error is `Bad` if either is no address, and else `Memory`.
     pub fn new(alloc: Global, word: &str) -> Result<Server, ListError>
         ensures name { IfOk result (λ server. server.name ≡ name_of word.now) }
         ensures address { IfOk result (λ server. server.address ≡ address_of word.now) }
@@ -36,7 +36,7 @@ impl Server {
     }
 }
 
-/// The name and the address that a word says.
+/// Returns the name and the address that a word says.
 fn parts_of(word: &str) -> (&str, &str)
     ensures name { result.0.now ≡ name_of word.now }
     ensures address { result.1.now ≡ address_of word.now }

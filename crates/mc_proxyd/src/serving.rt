@@ -19,17 +19,17 @@ use std::thread::Threads;
 
 /// Serves the clients that a listener accepts at a place, over the servers of a ring.
 ///
-/// Once all is reserved that it needs at the start, the thread that begins look-ups too, it prints `listening` and that place. Who waits for
-/// that line is served.
+/// It prints `listening` and that place once all is reserved that it needs at the start, including the thread that begins look-ups. A client
+/// that connects after that line is served.
 ///
-/// Each server is tried once before the first client is let in, and while it is down again and again, less often the longer that
-/// is. It answers once as many clients as the settings say were accepted and all of them are gone; without
-/// such a limit it serves for ever. A client or an upstream that fails is closed, and the others go on. What becomes of servers is
-/// said on standard error by `rt`; where that fails nothing else changes, and a write to it that waits holds all clients up.
+/// Each server is tried once before the first client is let in, and again and again while it is down, with backoff. The call returns once as
+/// many clients as the settings say were accepted and all of them are gone; without such a limit it serves for ever. A client or an upstream
+/// that fails is closed, and the others go on. `rt` prints the changes of servers on standard error. If that fails nothing else changes, but a
+/// write that blocks stalls all clients.
 ///
-/// Hosts' names are looked up in threads of `system`, where a server may have one ([`ProxySettings::may_look_up`]): one thread that begins the
-/// others, and one for each look-up that is under way, at most one a server. At the end it joins the first and no other. The error
-/// is `Memory` too where the system gives no first thread.
+/// Hosts' names are looked up in threads of `system`, if a server may have one ([`ProxySettings::may_look_up`]). One thread begins the others.
+/// Each pending look-up has one, at most one a server. At the end it joins the first and no other. The error is `Memory` too if the system
+/// gives no first thread.
 pub fn serve<S, R>(
     system: &S,
     rt: &R,
@@ -57,7 +57,7 @@ where
     served
 }
 
-/// The same, with what looks hosts up.
+/// Serves with these look-ups of hosts.
 fn serve_with<R: Net + Clock + Files + RandomSource + Wait + Print + EprintSeldom>(
     rt: &R,
     alloc: Global,
@@ -75,7 +75,7 @@ fn serve_with<R: Net + Clock + Files + RandomSource + Wait + Print + EprintSeldo
     serve_rounds(rt, alloc, listener, accept, &mut clock, &mut host)
 }
 
-/// A random number; 0 where the system gives none.
+/// Returns a random number; 0 if the system gives none.
 fn random_number<R: RandomSource>(rt: &R) -> u64 {
     let mut bytes = [0; 8];
     let filled = rt.fill_bytes(&mut bytes);

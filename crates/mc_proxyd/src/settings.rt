@@ -1,4 +1,4 @@
-//! What a proxy is started with.
+//! The settings that a proxy starts with.
 ghost use Rattle.std.specs.Prelude.{IfSome, IsSomeAnd, MatchBool};
 ghost use Rattle.mc_proxyd.specs.Names.{AreSpelled, HasName, HaveName, IsSpelled, MayLookUp, NeedsNoLookUp};
 
@@ -8,27 +8,29 @@ use mc_proxy::Losses;
 use mc_ring::Address;
 use std::net::SocketAddrV4;
 
-/// What a proxy is started with, beside its ring.
+/// The settings that a proxy starts with, beside its ring.
 #[derive(Drop)]
 pub struct ProxySettings {
     /// On which terms all clients are served.
     pub terms: Terms,
-    /// What a request is answered if a command of it is lost.
+    /// The answer to a request whose command is lost.
     pub losses: Losses,
-    /// If more bytes are kept for one client, its turns and reads stop until it has no pending answer.
+    /// If more bytes are buffered for one client, its turns and reads stop until it has no pending answer.
     pub held: u64,
-    /// After how many milliseconds a server that has pending commands and sends nothing loses its link; 0 for never.
+    /// The timeout in milliseconds after which a server that has pending commands and sends nothing loses its link; 0 for
+    /// never.
     pub timeout: u64,
     /// Where the servers of the ring are: an address for each, in its order.
     pub addresses: Vec<Address>,
     /// The file that lists the servers while the proxy runs, if there is one.
     pub list: Option<String>,
-    /// Which server joins, and with which client's coming: 1 is the first. Where it cannot, it is tried with each later client.
+    /// Which server joins, and with which client: 1 is the first. If it cannot, it is tried with each later client.
     pub join: Option<(Server, u64)>,
 }
 
 impl ProxySettings {
-    /// Whether a host's name may have to be looked up: one of its words has it, or a file, which may have another one later.
+    /// Returns whether a host's name may have to be looked up: one of its words has it, or a file, which may have another one
+    /// later.
     pub fn may_look_up(&self) -> bool
         ensures { MatchBool result (MayLookUp self.now.list self.now.join self.now.addresses.items)
             (NeedsNoLookUp self.now.list self.now.join self.now.addresses.items) }
@@ -43,7 +45,7 @@ impl ProxySettings {
     }
 }
 
-/// Whether the server that joins, if one does, has a host's name.
+/// Returns whether the server that joins, if one does, has a host's name.
 fn joins_by_name(join: &Option<(Server, u64)>) -> bool
     ensures { MatchBool result (IsSomeAnd join.now (λ joins. HasName joins.0.address)) (IfSome join.now (λ joins. IsSpelled joins.0.address)) }
 {
@@ -53,7 +55,7 @@ fn joins_by_name(join: &Option<(Server, u64)>) -> bool
     }
 }
 
-/// Whether one of these addresses has a host's name.
+/// Returns whether one of these addresses has a host's name.
 fn have_name(addresses: &[Address]) -> bool
     ensures { MatchBool result (HaveName addresses.now) (AreSpelled addresses.now) }
 {
@@ -66,7 +68,7 @@ fn have_name(addresses: &[Address]) -> bool
     have_name(addresses)
 }
 
-/// Whether an address has a host's name, and no IPv4 address.
+/// Returns whether an address has a host's name, and no IPv4 address.
 fn has_name(address: &Address) -> bool
     ensures { MatchBool result (HasName address.now) (IsSpelled address.now) }
 {

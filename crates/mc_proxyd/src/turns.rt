@@ -14,7 +14,7 @@ pub enum Stage {
     Asking,
     /// It was begun, and no event has said whether it is established.
     Connecting,
-    /// It is there.
+    /// It is established.
     Up,
 }
 
@@ -25,13 +25,14 @@ pub enum Turn {
     Rest,
     /// A try is begun.
     Begin,
-    /// The try that is under way goes on with what is known of the look-up.
+    /// The pending try goes on with what is known of the look-up.
     GoOn,
     /// The try has failed.
     GiveUp(Cause),
 }
 
-/// What is done at a moment, where the last try was begun at another, and the next may begin at a third: all in milliseconds.
+/// Returns what is done at the moment `now`. The last try was begun at `begun`, and the next may begin at `next`: all in
+/// milliseconds.
 pub fn turn_by(stage: Stage, begun: u64, next: u64, now: u64) -> Turn
     ensures { result ≡ turn_by stage begun next now }
 {
@@ -43,7 +44,7 @@ pub fn turn_by(stage: Stage, begun: u64, next: u64, now: u64) -> Turn
     }
 }
 
-/// That a try is given up for a cause if it has taken too long, and else another turn.
+/// Returns that a try is given up for a cause if it has taken too long, and else another turn.
 fn until_late(begun: u64, now: u64, cause: Cause, turn: Turn) -> Turn
     ensures { result ≡ until_late begun now cause turn }
 {

@@ -1,4 +1,4 @@
-//! An upstream server: its socket, if there is one, how far the connection is, and what is to be said of it.
+//! An upstream server: its socket, if there is one, the state of its connection, and its notices.
 ghost use Rattle.std.specs.Prelude.{◌<◌, length};
 
 use crate::delays::delay_after;
@@ -20,7 +20,7 @@ use mio::{Interest, Registry, Token};
 use std::mem;
 use std::net::{Net, SocketAddr};
 
-/// How far the connection to a server is.
+/// The state of the connection to a server.
 #[derive(Drop)]
 enum State {
     /// There is none.
@@ -29,19 +29,19 @@ enum State {
     Asking,
     /// It was begun, and no event has said whether it is established.
     Connecting(TcpStream),
-    /// It is there, and the proxy's link is up.
+    /// It is established, and the proxy's link is up.
     Up(TcpStream),
 }
 
-/// The server of a place, as a proxy reaches it.
+/// The server at a place, as a proxy reaches it.
 #[derive(Drop)]
 pub struct Upstream {
-    /// What it is called: `<name>:<port>`.
+    /// Its name: `<name>:<port>`.
     name: String,
     /// Where it is: `<host>:<port>`.
     address: String,
     state: State,
-    /// The look-up of its host that was begun last, where no try has taken its answer.
+    /// The look-up of its host that was begun last, if no try has taken its answer.
     lookup: Option<Lookup>,
     /// When it was tried last, in milliseconds.
     begun: u64,
@@ -49,27 +49,27 @@ pub struct Upstream {
     next: u64,
     /// How many tries failed in a row.
     failures: u32,
-    /// Whether the first connection came to be, or the first try failed; also where nobody waits for that.
+    /// Whether the first connection was established, or the first try failed; true too if nobody waits for that.
     pub tried: bool,
     edge: Edge,
-    /// Whether its socket may have something for it: only where it is up.
+    /// Whether its socket may be ready: only if it is up.
     pub stirred: bool,
     notices: Notices,
     waits: Waits,
-    /// How often a connection was lost that was there.
+    /// How often an established connection was lost.
     losses: u64,
-    /// How many bytes have come since the last reply but one was taken: no fewer than are kept of a reply that is not whole.
+    /// How many bytes have arrived since the last reply but one was taken: no fewer than are buffered of a partial reply.
     unread: u64,
     /// How many bytes the replies have at most that its last pump took.
     pub brought: u64,
     /// Whether its last pump read anything.
     came: bool,
-    /// Why the system has ended the connection, where it did.
+    /// Why the system has ended the connection, if it did.
     failure: Option<Cause>,
 }
 
 impl Upstream {
-    /// An upstream server to which no connection was begun.
+    /// Makes an upstream to which no connection was begun.
     pub fn new(name: String, address: String) -> Upstream {
         Upstream {
             name,
@@ -92,31 +92,31 @@ impl Upstream {
         }
     }
 
-    /// Whether the connection is there.
+    /// Returns whether the connection is established.
     pub fn is_up(&self) -> bool {
         matches!(self.state, State::Up(_))
     }
 
-    /// Whether its server is up at a moment, as that is reported, where so many commands wait: the connection is there, and a reply has come since
-    /// commands were last lost, or nobody has asked since the connection was begun, some time ago. The system accepts connections for a process
-    /// that is stopped, too.
+    /// Returns whether its server is reported as up at a moment, with this number of pending commands. That is so if the connection is
+    /// established, and a reply has arrived since commands were last lost, or nobody has asked since the connection was begun, some time ago. The
+    /// system accepts connections even for a stopped process.
     fn serves(&self, waiting: usize, now: u64) -> bool {
         self.is_up() && self.waits.is_up(waiting, self.begun, now)
     }
 
-    /// Whether something is to be said of it.
+    /// Returns whether a notice about it is due.
     pub fn is_due(&self) -> bool {
         self.notices.is_due()
     }
 
-    /// Says on standard error what is new of its server, where nothing was said in this second.
+    /// Prints on standard error what is new of its server, if nothing was printed in this second.
     pub fn tell<R: Eprint>(&mut self, rt: &R, second: u64) {
         if let Some(notice) = self.notices.take(second) {
             tell(rt, self.name.as_str(), notice);
         }
     }
 
-    /// How far its connection is.
+    /// Returns the state of its connection.
     fn stage(&self) -> Stage {
         match &self.state {
             State::Down => Stage::Down,
@@ -126,8 +126,8 @@ impl Upstream {
         }
     }
 
-    /// Tries the server where it is down and it is time for that, goes on with a try that waits for a look-up, and gives one up that takes
-    /// longer than [`CONNECT_MILLIS`]. Nobody waits for either. A random number says when the next is begun where this one fails.
+    /// Tries the server if it is down and it is time for that, and goes on with a try that waits for a look-up. It gives up a try that takes
+    /// longer than [`CONNECT_MILLIS`]. It blocks on neither. A random number decides when the next try begins if this one fails.
     pub fn keep<R: Net>(
         &mut self,
         rt: &R,
@@ -169,7 +169,7 @@ impl Upstream {
         }
     }
 
-    /// The same. The error is why it has failed.
+    /// Goes on with a try. The error is why it has failed.
     fn try_on<R: Net>(
         &mut self,
         rt: &R,
@@ -201,21 +201,21 @@ impl Upstream {
         Ok(())
     }
 
-    /// Has a host whose look-up has found no address wait a second more, so that name servers are asked less.
+    /// Delays the next look-up by a second if the last one found no address, so that name servers are asked less.
     fn rest_after(&mut self, cause: Cause) {
         if matches!(cause, Cause::UnknownHost | Cause::LookUp) {
             self.next = self.next.saturating_add(NEXT_DELAY);
         }
     }
 
-    /// Says when the next connection may be begun, where the one that is begun now fails, or has failed now.
+    /// Sets when the next connection may begin, if the one that begins now fails, or has failed now.
     fn delay(&mut self, now: u64, random: u64) {
         let failures = self.failures.saturating_add(1);
         self.next = now.saturating_add(delay_after(failures, random));
     }
 
-    /// When something is to be done for it unasked, at the earliest: a connection is to be begun or given up, a reply is late, or
-    /// something is to be said. A server that sends nothing for `timeout` milliseconds is late; 0 for never.
+    /// Returns when something must be done for it without an event, at the earliest. A connection must be begun or given up, a reply is late, or a
+    /// notice is due. A server that sends nothing for `timeout` milliseconds is late; 0 for never.
     pub fn due(&self, now: u64, timeout: u64) -> Option<u64> {
         let own = match self.state {
             State::Up(_) => self.late(timeout),
@@ -226,7 +226,7 @@ impl Upstream {
         earlier(own, self.is_due().then_some(said))
     }
 
-    /// When it is late, where it owes a reply.
+    /// Returns when it is late, if it has pending commands.
     fn late(&self, timeout: u64) -> Option<u64> {
         if timeout == 0 {
             return None;
@@ -234,7 +234,7 @@ impl Upstream {
         self.waits.late(timeout)
     }
 
-    /// Whether it owes a reply, and has sent nothing for too long.
+    /// Returns whether it has pending commands, and has sent nothing for too long.
     pub fn is_late(&self, now: u64, timeout: u64) -> bool {
         self.is_up() && self.late(timeout).is_some_and(|late| now >= late)
     }
@@ -249,7 +249,7 @@ impl Upstream {
     ) -> Result<(), Cause> {
         let mut stream = TcpStream::connect(rt, address)?;
         registry.register(&mut stream, token, Interest::READABLE | Interest::WRITABLE)?;
-        // A server whose commands may come late is used all the same.
+        // A server whose commands may be delayed is used all the same.
         let _ = stream.set_nodelay(true);
         keep_alive_by(&stream, LINK_KEEPALIVE);
         self.edge = Edge::new();
@@ -257,7 +257,7 @@ impl Upstream {
         Ok(())
     }
 
-    /// Notes what an event says. Of a connection that was begun it tells whether it is there, or has failed.
+    /// Records an event. For a connection that was begun it says whether it is established, or has failed.
     pub fn note(&mut self, event: &Event, proxy: &mut Proxy, server: usize) {
         self.edge.note(event);
         match &self.state {
@@ -272,7 +272,7 @@ impl Upstream {
         self.stirred = self.is_up();
     }
 
-    /// A connection that was begun is there, and the link is up.
+    /// Marks the connection as established, and brings the link up.
     fn arrive(&mut self, proxy: &mut Proxy, server: usize) {
         match mem::replace(&mut self.state, State::Down) {
             State::Connecting(stream) if proxy.back(server).is_ok() => {
@@ -285,7 +285,7 @@ impl Upstream {
         }
     }
 
-    /// There is no connection now: one that was begun is dropped.
+    /// Drops the connection that was begun, and records that it failed.
     fn refuse(&mut self, cause: Cause) {
         self.state = State::Down;
         self.tried = true;
@@ -293,8 +293,8 @@ impl Upstream {
         self.notices.note(Notice::Refused(cause));
     }
 
-    /// Carries its bytes, and gives commands their replies. The sessions that were answered are put after `woken`. What a strange
-    /// reply leaves without an answer is lost. With a reply the server is back, if it was lost.
+    /// Carries its bytes, and matches replies to commands. It appends the sessions that were answered to `woken`. After a protocol violation the
+    /// commands without a reply are lost. With a reply the server is back, if it was lost.
     pub fn pump(
         &mut self,
         proxy: &mut Proxy,
@@ -336,7 +336,7 @@ impl Upstream {
         pumped
     }
 
-    /// Notes that `count` commands got their replies. If any did, the server is back, if it was lost.
+    /// Records that `count` commands got their replies. If any did, the server is back, if it was lost.
     fn note_replies(&mut self, count: usize) {
         self.waits.answer(count);
         if count > 0 {
@@ -344,30 +344,30 @@ impl Upstream {
         }
     }
 
-    /// Notes that so many bytes came, and whether a reply was taken. What came after that is part of the next one.
+    /// Records how many bytes arrived, and whether a reply was taken. The bytes after that reply are part of the next one.
     fn note_brought(&mut self, came: u64, taken: bool) {
         let unread = self.unread.saturating_add(came);
         self.brought = if taken { unread } else { 0 };
         self.unread = if taken { came } else { unread };
     }
 
-    /// Notes how many commands wait after a pump at a moment, so that it is known once its server sends nothing for too long.
+    /// Records how many commands are pending after a pump at a moment, so that a server that sends nothing for too long is detected.
     pub fn note_waiting(&mut self, proxy: &Proxy, server: usize, now: u64) {
         self.waits.note(proxy.waiting(server), self.came, now);
     }
 
-    /// Lets the connection go, whose pump has failed, and loses the link if it is still up.
+    /// Drops the connection, whose pump has failed, and loses the link if it is still up.
     pub fn lose(&mut self, proxy: &mut Proxy, server: usize) {
         let cause = self.cause_of_loss(proxy, server);
         self.lose_by(proxy, server, cause);
     }
 
-    /// Gives the connection up for a cause, and loses the link if it is still up. The connection is reset: a command that is lost and
-    /// undelivered must not reach the server after later ones.
+    /// Gives the connection up for a cause, and loses the link if it is still up. The connection is reset: a command that is lost and undelivered
+    /// must not reach the server after later ones.
     pub fn lose_by(&mut self, proxy: &mut Proxy, server: usize, cause: Cause) {
         self.waits.lose(proxy.waiting(server));
         self.losses = self.losses.saturating_add(1);
-        // A strange reply has lost the link before.
+        // A protocol violation has lost the link before.
         let _ = proxy.lost(server);
         if let State::Up(stream) = mem::replace(&mut self.state, State::Down) {
             reset(stream);
@@ -378,10 +378,9 @@ impl Upstream {
         self.notices.note(Notice::Lost(cause));
     }
 
-    /// Has its server be at another address from a moment on, at which it is tried. The connection to the old one is lost; the result says
-    /// whether there was one. The look-up of the old one is given up, and no client waits for the first connection to the new one. What becomes
-    /// of the server there is said, also if the same was said of the old one. That the old one is lost is not said: the line of the new address
-    /// says it.
+    /// Moves its server to another address from a moment on, at which it is tried. The connection to the old one is lost; the result is whether
+    /// there was one. The look-up of the old one is given up, and no client waits for the first connection to the new one. Notices about the
+    /// server there are printed, even if the same was printed of the old one. The loss of the old one is not: the line of the new address says it.
     pub fn relocate(
         &mut self,
         proxy: &mut Proxy,
@@ -406,7 +405,7 @@ impl Upstream {
         was_up
     }
 
-    /// Says on standard error what became of it by a moment, and of the commands that were put on it, of which so many wait.
+    /// Prints on standard error its state at a moment, and what became of its commands, `waiting` of which are pending.
     pub fn report<R: Eprint>(&self, rt: &R, waiting: usize, now: u64) {
         let server = self.name.as_str();
         let state = if self.serves(waiting, now) {
@@ -415,13 +414,13 @@ impl Upstream {
             "down"
         };
         let (losses, sent, lost) = (self.losses, self.waits.sent(waiting), self.waits.lost());
-        // Where it cannot be said, all are served all the same.
+        // Best effort: a failed write to standard error must not stop serving.
         let _ = eprintln!(rt;
             "{PROGRAM}: server={server} state={state} losses={losses} sent={sent} lost={lost} waiting={waiting}"
         );
     }
 
-    /// What became of it by a moment, and of the commands that were put on it, of which so many wait, as figures.
+    /// Returns its state at a moment, and what became of its commands, `waiting` of which are pending, as figures.
     pub fn figures(&self, waiting: usize, now: u64) -> LinkFigures<'_> {
         LinkFigures {
             server: self.name.as_bytes(),
@@ -433,8 +432,8 @@ impl Upstream {
         }
     }
 
-    /// Why its pump has failed: the link is lost by a strange reply, or there was no memory, or the connection is over, of which the
-    /// system may say why.
+    /// Returns why its pump has failed: a protocol violation lost the link, or there was no memory, or the connection is over; the system may say
+    /// why.
     fn cause_of_loss(&self, proxy: &Proxy, server: usize) -> Cause {
         match &self.state {
             _ if !proxy.is_up(server) => Cause::Strange,
@@ -444,12 +443,12 @@ impl Upstream {
     }
 }
 
-/// Why the system has ended a connection, where it says so.
+/// Returns why the system has ended a connection, if it says so.
 fn failure_of(stream: &TcpStream) -> Option<Cause> {
     stream.take_error().ok()?.map(Cause::from)
 }
 
-/// Whether a connection that was begun is there, by an event of it. The error is why it has failed.
+/// Returns whether a connection that was begun is established, given an event of it. The error is why it has failed.
 fn arrival(stream: &TcpStream, event: &Event) -> Result<bool, Cause> {
     if let Some(error) = stream.take_error()? {
         return Err(Cause::from(error));
@@ -460,7 +459,7 @@ fn arrival(stream: &TcpStream, event: &Event) -> Result<bool, Cause> {
     Ok(stream.peer_addr().is_ok())
 }
 
-/// Whether a connection is over: the system has no peer of it any more, or the peer has ended it and all is read.
+/// Returns whether a connection is over: the system no longer has a peer for it, or the peer has ended it and all is read.
 fn is_over(stream: &TcpStream) -> bool {
     stream.peer_addr().is_err() || matches!(stream.peek(&mut [0]), Ok(0))
 }

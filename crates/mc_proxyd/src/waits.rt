@@ -12,14 +12,14 @@ pub struct Waits {
     answered: u64,
     /// How many commands were lost while they waited.
     lost: u64,
-    /// Since when the server owes a reply and has sent nothing, in milliseconds; none where it owes none.
+    /// Since when the server has pending commands and has sent nothing, in milliseconds; none if no command is pending.
     since: Option<u64>,
     /// Whether commands were lost while they waited, and none got its reply since.
     silent: bool,
 }
 
 impl Waits {
-    /// A link that no command was put on.
+    /// Makes the state of a link that has sent no command.
     pub fn new() -> Waits
         ensures { result ≡ record { answered = 0; lost = 0; since = None; silent = false } }
     {
@@ -31,28 +31,28 @@ impl Waits {
         }
     }
 
-    /// How many commands were lost while they waited.
+    /// Returns how many commands were lost while they waited.
     pub fn lost(&self) -> u64
         ensures { result ≡ self.now.lost }
     {
         self.lost
     }
 
-    /// How many commands were put on the link, of which so many wait.
+    /// Returns how many commands were sent on the link, `waiting` of which are pending.
     pub fn sent(&self, waiting: usize) -> u64 {
         let done = self.answered.saturating_add(self.lost);
         done.saturating_add(waiting as u64)
     }
 
-    /// Whether the server is up at a moment, where its connection is there and was begun at another, and so many commands wait: it is not silent, or
-    /// nobody has asked it for [`QUIET_MILLIS`].
+    /// Returns whether the server is up at the moment `now`: it is not silent, or nobody has asked it for [`QUIET_MILLIS`]. Its connection is
+    /// established and was begun at `begun`, and `waiting` commands are pending.
     pub fn is_up(&self, waiting: usize, begun: u64, now: u64) -> bool
         ensures { result ≡ is_up_by self.now.silent waiting begun now }
     {
         !self.silent || is_unasked(waiting, begun, now)
     }
 
-    /// Notes that `count` commands got their replies.
+    /// Records that `count` commands got their replies.
     pub fn answer(&mut self, count: usize)
         ensures { self.new ≡ record self.old {
           answered = min (self.old.answered + count) (2 ^ 64 - 1);
@@ -63,7 +63,7 @@ impl Waits {
         self.silent = self.silent && count == 0;
     }
 
-    /// Notes that `count` commands were lost, and that none waits any more.
+    /// Records that `count` commands were lost, and that none is pending any more.
     pub fn lose(&mut self, count: usize)
         ensures { self.new ≡ record self.old {
           lost = min (self.old.lost + count) (2 ^ 64 - 1);
@@ -76,15 +76,15 @@ impl Waits {
         self.silent = self.silent || count > 0;
     }
 
-    /// Notes that another server is behind the link, of which nothing is known.
+    /// Records that another server is behind the link, of which nothing is known.
     pub fn begin_anew(&mut self)
         ensures { self.new ≡ record self.old { silent = false } }
     {
         self.silent = false;
     }
 
-    /// Notes how many commands wait at a moment, and whether bytes have come from the server since it was noted last. The server answers in
-    /// order: what comes is progress for the command that has waited longest.
+    /// Records how many commands are pending at a moment, and whether bytes have arrived from the server since the last record. The server answers
+    /// in order: bytes that arrive are progress for the oldest pending command.
     pub fn note(&mut self, waiting: usize, came: bool, at: u64)
         ensures { self.new ≡ record self.old { since = since_after waiting came self.old.since at } }
     {
@@ -95,7 +95,7 @@ impl Waits {
         };
     }
 
-    /// When a server is late that owes a reply and has sent nothing for so many milliseconds; none where it owes none.
+    /// Returns when a server with pending commands is late, after it has sent nothing for `timeout` milliseconds; none if no command is pending.
     pub fn late(&self, timeout: u64) -> Option<u64>
         ensures { result ≡ option_map (λ since. min (since + timeout) (2 ^ 64 - 1)) self.now.since }
     {
@@ -103,7 +103,8 @@ impl Waits {
     }
 }
 
-/// Whether nobody has asked a server for [`QUIET_MILLIS`] at a moment, where its connection was begun at another, and so many commands wait.
+/// Returns whether nobody has asked a server for [`QUIET_MILLIS`] at the moment `now`, if its connection was begun at `begun` and has `waiting`
+/// pending commands.
 fn is_unasked(waiting: usize, begun: u64, now: u64) -> bool
     ensures { result ≡ is_unasked waiting begun now }
 {

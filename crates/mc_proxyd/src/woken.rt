@@ -1,18 +1,18 @@
-//! Sessions that go on, and what was brought to them.
+//! Sessions that go on, and how many bytes arrived for them.
 
 use std::alloc::{AllocError, Global};
 
-/// The sessions that go on since commands of theirs were answered, and how many bytes were brought to each at most.
+/// The sessions that go on since commands of theirs were answered, and how many bytes arrived for each at most.
 #[derive(Drop)]
 pub struct Woken {
-    /// The numbers of the sessions that the pump of one link has woken. The pump puts them here.
+    /// The numbers of the sessions that the pump of one link has woken. The pump appends them here.
     pub pumped: Vec<u64>,
-    /// The sessions that all pumps have woken, each with the bytes that a pump brought to it.
+    /// The sessions that all pumps have woken, each with the bytes that a pump carried for it.
     brought: Vec<(u64, u64)>,
 }
 
 impl Woken {
-    /// Nobody, with room for so many.
+    /// Makes an empty list, with room for `capacity` sessions.
     pub fn with_capacity(alloc: Global, capacity: usize) -> Result<Woken, AllocError> {
         Ok(Woken {
             pumped: Vec::with_capacity(alloc, capacity)?,
@@ -20,17 +20,18 @@ impl Woken {
         })
     }
 
-    /// Whether there is nobody.
+    /// Returns whether the list is empty.
     pub fn is_empty(&self) -> bool {
         self.brought.is_empty()
     }
 
-    /// How often a pump has woken a session.
+    /// Returns how often a pump has woken a session.
     pub fn len(&self) -> usize {
         self.brought.len()
     }
 
-    /// Notes that a pump has brought so many bytes to those that it woke, and says whether there was memory to note it.
+    /// Records how many bytes a pump has carried for the sessions that it woke, and returns whether there was memory for
+    /// it.
     pub fn bring(&mut self, bytes: u64) -> bool {
         let mut noted = true;
         for session in self.pumped.iter() {
@@ -40,12 +41,12 @@ impl Woken {
         noted
     }
 
-    /// Puts them in order, so that each is taken once.
+    /// Sorts the sessions, so that each is taken once.
     pub fn gather(&mut self) {
         self.brought.sort_unstable_by_key(|one| one.0);
     }
 
-    /// Takes a session, with all that was brought to it where they are in order.
+    /// Takes a session, with all bytes that arrived for it if the sessions are sorted.
     pub fn take(&mut self) -> Option<(u64, u64)> {
         let (session, mut bytes) = self.brought.pop()?;
         for _ in 0..self.brought.len() {

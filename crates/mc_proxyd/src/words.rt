@@ -8,7 +8,8 @@ use crate::servers::Server;
 use mc_ring::SERVER_LIMIT;
 use std::alloc::Global;
 
-/// The servers of words, in their order. The error is the first mistake in them, or `Memory`. The first word has the number 1.
+/// Returns the servers of words, in their order. The error is the first mistake in them, or `Memory`. The first word has the
+/// number 1.
 pub fn servers_of(alloc: Global, words: &[&str]) -> Result<Vec<Server>, Mistake>
     ensures names { IfOk result (λ servers. map (λ server. server.name) servers.items ≡ map (λ word. name_of word.now) words.now) }
     ensures addresses { IfOk result (λ servers. map (λ server. server.address) servers.items ≡ map (λ word. address_of word.now) words.now) }
@@ -25,7 +26,7 @@ pub fn servers_of(alloc: Global, words: &[&str]) -> Result<Vec<Server>, Mistake>
     Ok(servers)
 }
 
-/// Adds the servers of words, of which the first has this number. The error is the first mistake in them, or `Memory`.
+/// Adds the servers of words, the first of which has this number. The error is the first mistake in them, or `Memory`.
 fn add_words(
     alloc: Global,
     servers: &mut Vec<Server>,

@@ -119,7 +119,7 @@ to_filter t (p ∷ ps) q pass held = filter_member_by (t p) t p q ps refl pass (
 
 -- ---- what holds a hash
 
--- for a hash one pair comes no later than another: what is not below the hash comes first
+-- for a hash one pair comes no later than another: a pair that is not below the hash comes first
 abbrev pub ComesFirst : ℕ → Point → Point → Type 0
 ComesFirst hash p q = ((hash ≤ p.point) × ((q.point < hash) ⊎ IsUpTo p q)) ⊎ ((p.point < hash) × (q.point < hash) × IsUpTo p q)
 
@@ -152,7 +152,7 @@ above_first : (b : Bool) (hash : ℕ) (m q : Point) → nat_le hash q.point ≡ 
 above_first true hash m q e high first = inl (high, inr (first refl))
 above_first false hash m q e high first = inl (high, inl (grind (arith, nat_tests)))
 
--- what holds a hash, by the pairs that are not below it
+-- the pair that holds a hash, by the pairs that are not below it
 holds_by : (hash : ℕ) (ps fs : List Point) (m : Point) → fs ≡ filter (λ p. nat_le hash p.point) ps → option_or (least fs) (least ps) ≡ Some m → Holds hash ps m
 holds_by hash [] [] m is e = absurd cc
 holds_by hash (p ∷ ps) [] m is e =
@@ -188,12 +188,12 @@ some_or : (o : Option Point) (p : Point) → (m : Point) × (option_or o (Some p
 some_or None p = (p, refl)
 some_or (Some q) p = (q, refl)
 
--- where there is a pair, one holds the hash
+-- if there is a pair, one holds the hash
 pub holder_some : (hash : ℕ) (p : Point) (ps : List Point) → (m : Point) × (holder_of (p ∷ ps) hash ≡ Some m)
 unfolding holder_of
 holder_some hash p ps = some_or (least (filter (λ x. nat_le hash x.point) (p ∷ ps))) (lesser p (least ps))
 
--- what holds the hash is the holder of the definition
+-- the pair that holds the hash is the holder of the definition
 pub holder_is : (hash : ℕ) (ps : List Point) (m : Point) → Holds hash ps m → holder_of ps hash ≡ Some m
 holder_is hash [] m held = absurd held.here
 holder_is hash (p ∷ ps) m held =

@@ -29,7 +29,7 @@ first_cause Doubled other never = refl
 first_cause BadAddress other never = refl
 first_cause Memory other never = absurd (never refl)
 
--- what is wrong with the servers comes before what is wrong with the pairs
+-- a fault of the servers precedes a fault of the pairs
 pub servers_first : (e : RingError) (servers : List (List ℕ)) (pairs : List Point) → (length pairs == 0) ≡ false → cause_of e ≡ refusal_of servers → (e ≡ Memory → ⊥) → cause_of e ≡ refusal_of_points servers pairs
 servers_first e servers pairs some refused never =
     rw (some, ← refused) (sym (first_cause e (refusal_of_pairs (length servers) pairs) never))
@@ -73,7 +73,7 @@ any_more p (x ∷ xs) y none last =
     let parts = or_false (p x) (list_any p xs) none in
     both_false (p x) (list_any p (xs ++ y ∷ [])) parts.0 (any_more p xs y parts.1 last)
 
--- one server more that is like none
+-- one server more that equals none
 apart_more : (xs : List (List ℕ)) (y : List ℕ) → has_doubled xs ≡ false → list_any (λ other. bytes_eq other y) xs ≡ false → has_doubled (xs ++ y ∷ []) ≡ false
 apart_more [] y apart new = refl
 apart_more (x ∷ xs) y apart new =
@@ -166,7 +166,7 @@ pub moves : (held points : List Point) (place : ℕ) (added : List ℕ) → 0 < 
 moves held [] place added some shows hash = absurd (omega arith)
 moves held (p ∷ ps) place added some shows hash = let top = holder_some hash p ps in moves_by hash held (p ∷ ps) place added top.0 shows top.1
 
--- the ring that one server more makes, by what its parts are
+-- the ring that one server more makes, by its parts
 pub ring_with : (ring : RingState) (held : List (List ℕ)) (old : List Point) (server : List ℕ) (servers : List (List ℕ)) (points : List Point) → IsRing ring → held ≡ ring.servers → old ≡ ring.points
     → None ≡ refusal_of_more held server → servers ≡ held ++ server ∷ [] → Shows (old ++ pairs_at (length held) (points_of server)) points → IsRing (record { servers = servers; points = points })
 ring_with ring held old server servers points is h o free s shows =

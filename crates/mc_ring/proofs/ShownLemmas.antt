@@ -114,7 +114,7 @@ holds_at points hash place d rising inside parted =
           );
     }
 
--- where all are below the hash, the first of all holds it
+-- if all are below the hash, the first of all holds it
 pub holds_first : (points : List Point) (hash place : ℕ) (d : Point) → IsRising points → 0 < length points → length points ≤ place
     → IsPartitionPoint (λ p. nat_lt p.point hash ≡ true) (λ p. nat_lt p.point hash ≡ false) points place → Holds hash points (get_or points 0 d)
 holds_first points hash place d rising some past parted =

@@ -28,15 +28,15 @@ points_of address = first_points address 40
 unfoldable pub hash_of : List ℕ → ℕ
 hash_of key = word_at (md5 key) 0
 
--- a point of the server at a place of the list: this and what follows is this project's own
+-- a point of the server at a place of the list: this and the definitions below are this project's own
 abbrev pub pair_at : ℕ → ℕ → Point
 pair_at place point = record { point = point; place = place }
 
--- points that all are of that server
+-- points that are all of that server
 abbrev pub pairs_at : ℕ → List ℕ → List Point
 pairs_at place points = map (pair_at place) points
 
--- the pairs of servers of which the first is at a place
+-- the pairs of servers, the first of which is at a place
 abbrev pub pairs_from : ℕ → List (List ℕ) → List Point
 pairs_from place [] = []
 pairs_from place (server ∷ servers) = pairs_at place (points_of server) ++ pairs_from (suc place) servers

@@ -30,7 +30,7 @@ abbrev pub has_doubled : List (List ℕ) → Bool
 has_doubled [] = false
 has_doubled (server ∷ servers) = list_any (λ other. bytes_eq other server) servers || has_doubled servers
 
--- what is true of every ring: 1 to 64 servers, no two alike, and at least one point, each of a server that is there
+-- what is true of every ring: 1 to 64 servers, no two alike, and at least one point, each of a server of the ring
 pub record IsRing (ring : RingState) : Type 0 where
   pub some : 0 < length ring.servers
   pub few : length ring.servers ≤ 64
@@ -39,6 +39,6 @@ pub record IsRing (ring : RingState) : Type 0 where
   pub rising : IsRising ring.points
   pub inside : All (λ p. p.place < length ring.servers) ring.points
 
--- where points are added, each hash keeps its owner or goes to the server at a place
+-- if points are added, each hash keeps its owner or goes to the server at a place
 abbrev pub MovesOnlyTo : ℕ → List Point → List Point → Type 0
 MovesOnlyTo place before after = (hash : ℕ) → (owner_of after hash ≡ owner_of before hash) ⊎ (owner_of after hash ≡ place)

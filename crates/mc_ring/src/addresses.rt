@@ -41,8 +41,8 @@ impl Eq for Address {
 }
 
 impl Address {
-    /// The address that a text is: a host of 1 to 255 letters, digits, dots and hyphens, a colon, and a port from 1
-    /// to 65535 in decimal digits without a leading zero. Any other text is `BadAddress`.
+    /// Makes the address of a text: a host, a colon and a port. A host is 1 to 255 letters, digits, dots and hyphens. A
+    /// port is from 1 to 65535, in decimal digits without a leading zero. Any other text is `BadAddress`.
     pub fn new(alloc: Global, text: &[u8]) -> Result<Address, RingError>
         ensures address { IfOk result (λ address. address ≡ text.now) }
         ensures refused { refusal_in result ≡ refusal_of_text text.now }
@@ -54,7 +54,7 @@ impl Address {
         Ok(Address { bytes })
     }
 
-    /// The text.
+    /// Returns the text.
     pub fn as_bytes(&self) -> &[u8]
         ensures bytes { result.now ≡ self.now }
         ensures address { is_address self.now ≡ true }

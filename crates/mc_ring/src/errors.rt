@@ -5,7 +5,7 @@ ghost use Rattle.mc_ring.specs.declared.errors.RingError.TheVariants.{Memory};
 use std::alloc::AllocError;
 use thiserror::Error;
 
-/// Why there is no ring, or no address. Where several causes hold, the least number is answered, `Memory` last.
+/// Why there is no ring, or no address. If several causes hold, the least number is returned, `Memory` last.
 #[derive(Debug, Drop, Error)]
 pub enum RingError {
     /// 1: there is no server, or no point.
@@ -17,7 +17,7 @@ pub enum RingError {
     /// 3: two servers have equal addresses.
     #[error("server given twice")]
     Doubled,
-    /// 4: a text is no address, or a point belongs to a server that is not there.
+    /// 4: a text is no address, or a point belongs to a server that is not in the list.
     #[error("bad server address")]
     BadAddress,
     /// 5: no memory.

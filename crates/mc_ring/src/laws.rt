@@ -7,7 +7,7 @@ ghost use Rattle.mc_ring.specs.Rings.{HasSame, Shows};
 
 use crate::points::POINTS_OF_SERVER;
 
-/// Who owns a hash depends only on which pairs there are, and not on their order, nor on how often each is listed.
+/// The owner of a hash depends only on which pairs there are, not on their order, nor on how often each is listed.
 pub fn only_members_count()
     ensures { (pairs others : List Point) (hash : ℕ) → HasSame pairs others → owner_of pairs hash ≡ owner_of others hash }
 {}

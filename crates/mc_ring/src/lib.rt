@@ -1,12 +1,12 @@
 //! The ring, which decides which server owns a key: libketama's continuum with equal weights.
 //!
-//! A caller meets the calls in this order: [`Address::new`] reads a server's address, [`Ring::new`] makes the ring of a
-//! list of servers, and [`Ring::owner`] gives the place of the server that owns a key, [`Ring::owner_of_bytes`] the same
-//! by bytes that are lent. [`Ring::with_server`] makes the ring with one server more, [`Ring::of_points`] one with points
-//! of the caller's own. [`Ring::servers`] and [`Ring::points`] show what a ring is made of.
+//! A caller meets the calls in this order. [`Address::new`] parses a server's address, and [`Ring::new`] makes the ring of a list
+//! of servers. [`Ring::owner`] returns the place of the server that owns a key; [`Ring::owner_of_bytes`] does so for a borrowed
+//! key. [`Ring::with_server`] makes a ring with one server more, and [`Ring::of_points`] one with the caller's own points.
+//! [`Ring::servers`] and [`Ring::points`] show what a ring is made of.
 //!
-//! Each server has 160 points: four of each of the 40 MD5 digests of `host:port-k`. A key belongs to the server of the
-//! least point that is not below the key's hash, or, where there is none, of the least point of all. The definitions
+//! In a ring of [`Ring::new`] each server has 160 points: four of each of the 40 MD5 digests of `host:port-k`. A key belongs to
+//! the server of the least point that is not below the key's hash or, if there is none, of the least point of all. The definitions
 //! in `specs/` say this of a set of pairs; the code keeps them sorted and finds an owner by binary search. A new server takes keys
 //! from the others and moves none between them.
 //!

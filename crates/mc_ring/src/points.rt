@@ -25,7 +25,7 @@ pub struct Point {
     pub place: usize,
 }
 
-/// The hash of a key's bytes, which is where the key is on the ring.
+/// Returns the hash of a key's bytes, which is the key's place on the ring.
 #[tactic(auto, unfolding(crate::specs::Points::hash_of))]
 pub fn hash_of(key: &[u8]) -> u32
     ensures { result ≡ hash_of key.now }
@@ -33,7 +33,7 @@ pub fn hash_of(key: &[u8]) -> u32
     word_at(&Md5::digest(key), 0)
 }
 
-/// Four bytes of a digest as a number, the least first.
+/// Returns four bytes of a digest as a number, the least first.
 fn word_at(digest: &[u8; DIGEST_LEN], at: usize) -> u32
     requires { at + 4 ≤ 16 }
     ensures { result ≡ word_at digest.now at }
@@ -41,7 +41,7 @@ fn word_at(digest: &[u8; DIGEST_LEN], at: usize) -> u32
     u32::from_le_bytes([digest[at], digest[at + 1], digest[at + 2], digest[at + 3]])
 }
 
-/// The digest of number `k` of a server.
+/// Returns the digest of number `k` of a server.
 fn digest_of(server: &Address, k: u8) -> [u8; DIGEST_LEN]
     ensures { result ≡ md5 (label server.now k) }
 {
@@ -53,7 +53,7 @@ fn digest_of(server: &Address, k: u8) -> [u8; DIGEST_LEN]
     hasher.finalize()
 }
 
-/// The point of four bytes of a digest, for the server at a place.
+/// Returns the point of four bytes of a digest, for the server at a place.
 fn point_at(digest: &[u8; DIGEST_LEN], at: usize, place: usize) -> Point
     requires { at + 4 ≤ 16 }
     ensures { result ≡ pair_at place (word_at digest.now at) }
@@ -64,7 +64,7 @@ fn point_at(digest: &[u8; DIGEST_LEN], at: usize, place: usize) -> Point
     }
 }
 
-/// The four points of a digest, for the server at a place.
+/// Returns the four points of a digest, for the server at a place.
 #[tactic(auto, unfolding(crate::specs::Points::points_of_digest))]
 fn points_of_digest(digest: &[u8; DIGEST_LEN], place: usize) -> [Point; 4]
     ensures { result ≡ pairs_at place (points_of_digest digest.now) }
@@ -77,7 +77,7 @@ fn points_of_digest(digest: &[u8; DIGEST_LEN], place: usize) -> [Point; 4]
     ]
 }
 
-/// Puts the points of a server after others. At an error some of them may be there.
+/// Appends the points of a server. At an error some of them may be appended.
 pub fn push_points(
     points: &mut Vec<Point>,
     server: &Address,
@@ -91,7 +91,7 @@ pub fn push_points(
     Ok(())
 }
 
-/// The points of all servers, in the servers' order.
+/// Returns the points of all servers, in the servers' order.
 pub fn points_of_all(alloc: Global, servers: &[Address]) -> Result<Vec<Point>, AllocError>
     ensures { IfOk result (λ points. points.items ≡ pairs_of servers.now) }
 {
@@ -102,7 +102,7 @@ pub fn points_of_all(alloc: Global, servers: &[Address]) -> Result<Vec<Point>, A
     Ok(points)
 }
 
-/// Puts points in rising order, each once. It takes no memory.
+/// Sorts points in rising order, and keeps each once. It takes no memory.
 pub fn put_in_order(points: &mut Vec<Point>)
     ensures { Shows points.old.items points.new.items }
 {
@@ -110,8 +110,8 @@ pub fn put_in_order(points: &mut Vec<Point>)
     points.dedup();
 }
 
-/// The points of a ring with those of one server more, in rising order, each once. The last sort keeps what rises
-/// already and merges it.
+/// Returns the points of a ring with those of one server more, in rising order, each once. The last sort keeps what
+/// rises already and merges it.
 pub fn points_with(
     alloc: Global,
     held: &[Point],
@@ -126,7 +126,7 @@ pub fn points_with(
     joined(alloc, held, added.as_slice())
 }
 
-/// Two lists of points as one, in rising order, each once.
+/// Merges two lists of points into one, in rising order, each once.
 fn joined(alloc: Global, held: &[Point], added: &[Point]) -> Result<Vec<Point>, AllocError>
     ensures { IfOk result (λ points. Shows (held.now ++ added.now) points.items) }
 {
@@ -138,7 +138,7 @@ fn joined(alloc: Global, held: &[Point], added: &[Point]) -> Result<Vec<Point>, 
     Ok(points)
 }
 
-/// The point that holds a hash: the least that is not below it, else the least of all.
+/// Returns the point that holds a hash: the least that is not below it, else the least of all.
 pub fn holder_of(points: &[Point], hash: u32) -> Point
     requires pointed { 0 < length points.now }
     requires rising { IsRising points.now }

@@ -11,7 +11,7 @@ use std::marker::Model;
 /// The most servers that a ring has.
 pub const SERVER_LIMIT: usize = 64;
 
-/// Servers, and the points by which each key has one of them for its owner. Contracts see the servers and the points.
+/// Servers, and the points by which each key has one of them as its owner. Contracts see the servers and the points.
 #[derive(Clone, Debug, Drop)]
 pub struct Ring {
     servers: Vec<Address>,
@@ -34,7 +34,7 @@ impl Ring {
     ghost use Rattle.mc_ring.specs.Rings.{Shows, IsRing, MovesOnlyTo};
     ghost use Rattle.mc_ring.specs.Refusals.{refusal_in, refusal_of, refusal_of_points, refusal_of_more};
 
-    /// A ring of 1 to 64 servers, no two alike, each with its 160 points.
+    /// Makes a ring of 1 to 64 servers, no two alike, each with its 160 points.
     pub fn new(alloc: Global, servers: &[Address]) -> Result<Ring, RingError>
         ensures servers { IfOk result (λ ring. ring.servers ≡ servers.now) }
         ensures points { IfOk result (λ ring. Shows (pairs_of servers.now) ring.points) }
@@ -47,8 +47,8 @@ impl Ring {
         Ok(Ring { servers, points })
     }
 
-    /// A ring of these servers and of points of the caller's own, each for a server that is there. A point that is
-    /// given twice for one server counts once.
+    /// Makes a ring of these servers and of the caller's own points, each for one of the servers. A point that is given
+    /// twice for one server counts once.
     pub fn of_points(
         alloc: Global,
         servers: &[Address],
@@ -69,8 +69,8 @@ impl Ring {
         Ok(Ring { servers, points })
     }
 
-    /// A ring with one server more, after the others and with its 160 points. The servers and points of this ring
-    /// stay as they are, also where they were given by [`Ring::of_points`].
+    /// Makes a ring with one server more, after the others and with its 160 points. The servers and points of this ring
+    /// stay as they are, even those given to [`Ring::of_points`].
     pub fn with_server(&self, alloc: Global, server: Address) -> Result<Ring, RingError>
         ensures servers { IfOk result (λ ring. ring.servers ≡ self.now.servers ++ server ∷ []) }
         ensures points { IfOk result (λ ring. Shows (self.now.points ++ pairs_at (length self.now.servers) (points_of server)) ring.points) }
@@ -84,7 +84,7 @@ impl Ring {
         Ok(Ring { servers, points })
     }
 
-    /// The place of the server that owns a key, counted from 0. It takes no memory.
+    /// Returns the place of the server that owns a key, counted from 0. It takes no memory.
     pub fn owner(&self, key: &Key) -> usize
         ensures owner { result ≡ owner_of self.now.points (hash_of key.now) }
         ensures inside { result < length self.now.servers }
@@ -92,7 +92,7 @@ impl Ring {
         self.owner_of_bytes(key.as_bytes())
     }
 
-    /// The same by the key's bytes, whoever has them. It takes no memory.
+    /// Returns the place of the server that owns a borrowed key, counted from 0. It takes no memory.
     pub fn owner_of_bytes(&self, key: &[u8]) -> usize
         ensures owner { result ≡ owner_of self.now.points (hash_of key.now) }
         ensures inside { result < length self.now.servers }
@@ -100,7 +100,7 @@ impl Ring {
         holder_of(&self.points, hash_of(key)).place
     }
 
-    /// The servers, in the order in which they were given.
+    /// Returns the servers, in the order in which they were given.
     pub fn servers(&self) -> &[Address]
         ensures servers { result.now ≡ self.now.servers }
         ensures ring { IsRing self.now }
@@ -108,7 +108,7 @@ impl Ring {
         self.servers.as_slice()
     }
 
-    /// The points, in rising order of their numbers, then of places; each once.
+    /// Returns the points, in rising order of their numbers, then of places; each once.
     pub fn points(&self) -> &[Point]
         ensures points { result.now ≡ self.now.points }
         ensures ring { IsRing self.now }
@@ -122,7 +122,7 @@ ghost use Rattle.std.specs.List.{list_all};
 ghost use Rattle.mc_ring.specs.Rings.{has_doubled};
 ghost use Rattle.mc_ring.specs.Refusals.{refusal_in, refusal_of, refusal_of_pairs, refusal_of_more};
 
-/// Whether these servers can form a ring.
+/// Checks that these servers can form a ring.
 fn check(servers: &[Address]) -> Result<(), RingError>
     ensures refused { refusal_in result ≡ refusal_of servers.now }
     ensures never_memory { ¬ IsErrOf result RingError.Memory }
@@ -139,7 +139,7 @@ fn check(servers: &[Address]) -> Result<(), RingError>
     Ok(())
 }
 
-/// Whether two of the servers are alike.
+/// Returns whether two of the servers are alike.
 fn has_doubled(servers: &[Address]) -> bool
     ensures { result ≡ has_doubled servers.now }
 {
@@ -153,7 +153,7 @@ fn has_doubled(servers: &[Address]) -> bool
     false
 }
 
-/// Whether each point belongs to one of so many servers.
+/// Checks that each point belongs to one of `count` servers.
 fn check_places(points: &[Point], count: usize) -> Result<(), RingError>
     ensures { refusal_in result ≡ refusal_of_pairs count points.now }
 {
@@ -169,7 +169,7 @@ fn has_places_below(points: &[Point], count: usize) -> bool
     points.iter().all(|p| p.place < count)
 }
 
-/// Whether a server can come after those of a ring.
+/// Checks that a server can be added to those of a ring.
 fn check_more(servers: &[Address], server: &Address) -> Result<(), RingError>
     ensures { refusal_in result ≡ refusal_of_more servers.now server.now }
 {
@@ -182,7 +182,7 @@ fn check_more(servers: &[Address], server: &Address) -> Result<(), RingError>
     Ok(())
 }
 
-/// A copy of the servers, and one more after them.
+/// Copies the servers, and adds one after them.
 fn servers_with(
     alloc: Global,
     servers: &[Address],
@@ -196,7 +196,7 @@ fn servers_with(
     Ok(copies)
 }
 
-/// A copy of the servers.
+/// Copies the servers.
 fn copied(alloc: Global, servers: &[Address]) -> Result<Vec<Address>, AllocError>
     ensures { IfOk result (λ copies. copies.items ≡ servers.now) }
 {

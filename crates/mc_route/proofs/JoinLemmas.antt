@@ -1,4 +1,4 @@
--- The answer to a request, by what became of its commands.
+-- The answer to a request, by the outcomes of its commands.
 use Rattle.std.proofs.Common.{◌≡◌, ℕ, zero, suc, ◌≤◌, min, true, false, map, List, [], ◌∷◌, ◌++◌, Some, length, drop, refl, sym, ap, append-nil, arith}
 use Rattle.mc_request.specs.Atoms.{atoms_of}
 use Rattle.mc_request.specs.declared.parts.Request.{Request}
@@ -11,7 +11,7 @@ use Rattle.mc_route.specs.declared.outcomes.Outcome.TheVariants as outcomes
 use Rattle.mc_route.specs.Joins.{has_lost, replies_in, joined_answer, lost_line}
 use Rattle.mc_route.specs.Losses.{reply_or_miss}
 
--- where there is one command, its reply's part is the whole answer
+-- if there is one command, its reply's part is the whole answer
 pub one_part : (request : Request) (reply : Reply (List ℕ)) (replies : List (Reply (List ℕ))) → length (atoms_of request) ≡ 1
     → part_of request 0 (Some reply) ≡ answer_of request (reply ∷ replies)
 one_part (Get [] exptime with_cas) reply replies one = absurd (omega arith)
@@ -38,7 +38,7 @@ blocks_past (key ∷ keys) [] (suc n) past = blocks_of-none (drop n keys)
 blocks_past (key ∷ keys) (outcome ∷ outcomes) zero past = absurd (omega arith)
 blocks_past (key ∷ keys) (outcome ∷ outcomes) (suc n) past = blocks_past keys outcomes n (omega arith)
 
--- if each reply came, none of them is a miss for a loss
+-- if each reply has arrived, none of them is a miss for a loss
 pub replies_told : (outcomes : List Outcome) → has_lost outcomes ≡ false → map reply_or_miss outcomes ≡ replies_in outcomes
 replies_told [] came = refl
 replies_told (outcomes.Reply reply ∷ others) came = ap (λ (rs : List (Reply (List ℕ))). reply ∷ rs) (replies_told others came)

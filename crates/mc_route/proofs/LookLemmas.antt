@@ -7,7 +7,7 @@ use Rattle.mc_ring.specs.Rings.{RingState}
 use Rattle.mc_route.specs.Looks.{goes_to}
 use Rattle.mc_route.specs.Routes.{owner_in, to_each, route_of_gets}
 
--- of a retrieval command, by the owners of its keys
+-- whether a retrieval command goes to a place, by the owners of its keys
 pub gets_go_to : (ring : RingState) (exptime : Option ℤ) (with_cas : Bool) (place : ℕ) (keys : List (List ℕ))
     → goes_to place (route_of_gets ring exptime with_cas keys) ≡ list_any (λ key. owner_in ring key == place) keys
 gets_go_to ring exptime with_cas place [] = refl

@@ -1,4 +1,4 @@
--- The answer to a request of which a command was lost, by the site's choice.
+-- The answer to a request that lost a command, by the site's choice.
 use Rattle.std.proofs.Common.{◌≡◌, ◌≢◌, ℕ, ℤ, Bool, true, false, map, List, [], ◌∷◌, ◌++◌, Option, codes, if◌then◌else◌, not, ◌||◌, refl, sym, ap}
 use Rattle.mc_request.specs.Hides.{hides_of}
 use Rattle.mc_request.specs.declared.hides.Hides.TheVariants.{Nothing}
@@ -32,7 +32,7 @@ pub joined-missed : (losses : Losses) (request : Request) (outcomes : List Outco
     → joined_with losses request outcomes ≡ answer_of request (map reply_or_miss outcomes)
 joined-missed losses request outcomes missed = missed_by losses request outcomes (has_lost outcomes) refl missed
 
--- what is answered by replies, and what is not
+-- which requests are answered by replies, and which are not
 answered_by : (losses : Losses) (request : Request) (outcomes : List Outcome) (lost : Bool) → has_lost outcomes ≡ lost → (not lost || is_missed losses request) ≡ true
     → joined_with losses request outcomes ≡ answer_of request (map reply_or_miss outcomes)
 answered_by losses request outcomes true is missed = rw (is, missed) refl
@@ -51,7 +51,7 @@ pub joined_unanswered : (losses : Losses) (request : Request) (outcomes : List O
     → joined_with losses request outcomes ≡ (if is_silent losses request then [] else lost_line)
 joined_unanswered losses request outcomes never = unanswered_by losses request outcomes (has_lost outcomes) refl never
 
--- so a loss looks like a miss
+-- a loss looks like a miss
 like_a_miss : (front back : List Outcome) → map reply_or_miss (front ++ outcomes.Lost ∷ back) ≡ map reply_or_miss (front ++ outcomes.Reply replies.Miss ∷ back)
 like_a_miss [] back = refl
 like_a_miss (outcome ∷ front) back = ap (λ (rs : List (Reply (List ℕ))). reply_or_miss outcome ∷ rs) (like_a_miss front back)
@@ -95,7 +95,7 @@ pub joined-meta : (key : List ℕ) (get : MetaGet) (form : MetaForm (List (List 
     → joined_with Missed (Meta (metas.Get key get) form) outcomes ≡ answer_of (Meta (metas.Get key get) form) (map reply_or_miss outcomes)
 joined-meta key get form outcomes = joined-missed Missed (Meta (metas.Get key get) form) outcomes refl
 
--- `EN`, or nothing
+-- the answer is `EN`, or nothing
 meta_lost_by : (quiet : Bool) (key : List ℕ) (get : MetaGet) (form : MetaForm (List (List ℕ))) (others : List Outcome) → form.quiet ≡ quiet
     → joined_with Missed (Meta (metas.Get key get) form) (outcomes.Lost ∷ others) ≡ (if quiet then [] else codes "EN\r\n")
 meta_lost_by true key get form others is = rw is refl

@@ -23,7 +23,7 @@ pub each_length : (place : ℕ) (servers : List (List ℕ)) (atom : Atom (List �
 each_length place [] atom = refl
 each_length place (server ∷ servers) atom = ap suc (each_length (suc place) servers atom)
 
--- the first of those for the servers to come
+-- the first of the commands for the servers to come
 each_from : (servers : List (List ℕ)) (n place : ℕ) (atom : Atom (List ℕ)) → n < length servers
     → to_each place (drop n servers) atom ≡ to_place place atom ∷ to_each (suc place) (drop (suc n) servers) atom
 each_from [] n place atom h = absurd (omega arith)

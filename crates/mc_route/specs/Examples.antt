@@ -1,4 +1,4 @@
--- What worked examples are written with.
+-- Abbreviations of the worked examples.
 use Rattle.std.specs.Prelude.{ℕ, List, [], ◌∷◌, codes, pos, None, false}
 use Rattle.mc_text.specs.Words.{words}
 use Rattle.mc_request.specs.Meanings.{meaning}
@@ -17,33 +17,33 @@ use Rattle.mc_route.specs.Joins.{joined_answer}
 use Rattle.mc_route.specs.Losses.{joined_with}
 use Rattle.mc_route.specs.declared.losses.Losses.TheVariants.{Missed}
 
--- where the commands of a line go, with a data block of `x` where one follows
+-- the servers of a line's commands, with a data block of `x` if one follows
 abbrev pub route_to : RingState → List ℕ → List Routed
 route_to ring line = route_of_taken ring (taken_with (meaning (words line)))
 
--- the answer to what was taken by what became of its commands; none to a fault
+-- the answer to a request by the outcomes of its commands; none to a fault
 abbrev pub joined_in : Taken → List Outcome → List ℕ
 joined_in (Whole request) outcomes = joined_answer request outcomes
 joined_in (Faulty fault) outcomes = []
 
--- the same of a line
+-- the answer to a line by the outcomes of its commands
 abbrev pub joined_to : List ℕ → List Outcome → List ℕ
 joined_to line outcomes = joined_in (taken_with (meaning (words line))) outcomes
 
--- the answer to what was taken if losses count as misses; none to a fault
+-- the answer to a request if losses count as misses; none to a fault
 abbrev pub missed_in : Taken → List Outcome → List ℕ
 missed_in (Whole request) outcomes = joined_with Missed request outcomes
 missed_in (Faulty fault) outcomes = []
 
--- likewise for a line
+-- the answer to a line if losses count as misses
 abbrev pub missed_to : List ℕ → List Outcome → List ℕ
 missed_to line outcomes = missed_in (taken_with (meaning (words line))) outcomes
 
--- the first server owns what is where `abc` is, the second what is where `a` is
+-- the first server owns the keys with the hash of `abc`, the second those with the hash of `a`
 abbrev pub two_servers : RingState
 two_servers = record { servers = codes "h:1" ∷ codes "h:2" ∷ []; points = pair_at 0 0x98500190 ∷ pair_at 1 0xb975c10c ∷ [] }
 
--- three servers, of which the first has the only point
+-- three servers, the first with the only point
 abbrev pub three_servers : RingState
 three_servers = record { servers = codes "h:1" ∷ codes "h:2" ∷ codes "h:3" ∷ []; points = pair_at 0 0 ∷ [] }
 

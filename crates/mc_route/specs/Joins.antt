@@ -10,25 +10,25 @@ use Rattle.mc_route.specs.declared.outcomes.Outcome.TheVariants as outcomes
 abbrev pub lost_line : List ℕ
 lost_line = codes "SERVER_ERROR link lost\r\n"
 
--- whether any command was lost; one whose reply is awaited counts as lost
+-- whether any command was lost; one whose reply is pending counts as lost
 abbrev pub has_lost : List Outcome → Bool
 has_lost [] = false
 has_lost (outcomes.Reply reply ∷ others) = has_lost others
 has_lost (outcome ∷ others) = true
 
--- the replies that came
+-- the replies that have arrived
 abbrev pub replies_in : List Outcome → List (Reply (List ℕ))
 replies_in [] = []
 replies_in (outcomes.Reply reply ∷ others) = reply ∷ replies_in others
 replies_in (outcome ∷ others) = replies_in others
 
--- what a key of a retrieval command adds by what became of its command
+-- what a key of a retrieval command adds, by the outcome of its command
 abbrev pub outcome_part : List ℕ → Outcome → List ℕ
 outcome_part key (outcomes.Reply reply) = key_part key reply
 outcome_part key outcome = []
 
--- the whole answer to a request by what became of its commands: where one was lost, that alone is said, also of a request
--- that hides its answer; else it is what one server would answer
+-- the whole answer to a request by the outcomes of its commands: if one was lost, the line of a lost link alone, also to
+-- a request that hides its answer; else what one server would answer
 -- source: this project's own
 abbrev pub joined_answer : Request → List Outcome → List ℕ
 joined_answer request outcomes = if has_lost outcomes then lost_line else answer_of request (replies_in outcomes)

@@ -53,7 +53,7 @@ abbrev pub reply_or_miss : Outcome → Reply (List ℕ)
 reply_or_miss (outcomes.Reply reply) = reply
 reply_or_miss outcome = Miss
 
--- the answer to a request of which a command was lost
+-- the answer to a request that lost a command
 -- source: this project's own
 abbrev pub lost_answer : Losses → Request → List Outcome → List ℕ
 lost_answer losses request outcomes =
@@ -61,12 +61,12 @@ lost_answer losses request outcomes =
     else if is_silent losses request then []
     else lost_line
 
--- the whole answer to a request by what became of its commands; if none was lost, it is what one server would answer
+-- the whole answer to a request by the outcomes of its commands; if none was lost, it is what one server would answer
 -- source: this project's own
 abbrev pub joined_with : Losses → Request → List Outcome → List ℕ
 joined_with losses request outcomes = if has_lost outcomes then lost_answer losses request outcomes else answer_of request (replies_in outcomes)
 
--- the items of a retrieval's keys, in their order, by what became of their commands
+-- the items of a retrieval's keys, in their order, by the outcomes of their commands
 abbrev pub blocks_by : List (List ℕ) → List Outcome → List ℕ
 blocks_by [] outcomes = []
 blocks_by (key ∷ keys) [] = []

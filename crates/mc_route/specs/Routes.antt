@@ -26,7 +26,7 @@ to_place place atom = record { server = place; atom = atom }
 abbrev pub to_owner : RingState → List ℕ → Atom (List ℕ) → Routed
 to_owner ring key atom = to_place (owner_in ring key) atom
 
--- one command to each server, in their order, the first of them being that of a place
+-- one command to each server, in their order, the first of them the server at a place
 abbrev pub to_each : ℕ → List (List ℕ) → Atom (List ℕ) → List Routed
 to_each place [] atom = []
 to_each place (server ∷ servers) atom = to_place place atom ∷ to_each (suc place) servers atom

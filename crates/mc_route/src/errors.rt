@@ -1,11 +1,11 @@
-//! Why a call gave up.
+//! Why a call failed.
 ghost use Rattle.std.specs.Prelude.{◌≡◌};
 ghost use Rattle.mc_route.specs.declared.errors.RouteError.TheVariants.{Memory};
 
 use std::alloc::AllocError;
 use thiserror::Error;
 
-/// Why a call of this crate gave up.
+/// Why a call of this crate failed.
 #[derive(Debug, Drop, Error)]
 pub enum RouteError {
     /// 1: no memory. Nothing has changed.

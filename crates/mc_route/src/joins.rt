@@ -1,4 +1,4 @@
-//! From what became of a request's commands to its answer.
+//! From the outcomes of a request's commands to its answer.
 ghost use Rattle.std.specs.Prelude.{◌≡◌, ◌+◌, ◌-◌, ◌^◌, ◌<◌, ◌≤◌, ◌++◌, ◌∷◌, ◌||◌, not, List, map, min, length, vec_len, vec_capacity, IsOk, OnOk, OnErr};
 ghost use Rattle.mc_request.specs.Atoms.{atoms_of};
 ghost use Rattle.mc_reply.specs.Spelling.{answer_of, blocks_of, end_line};
@@ -16,14 +16,13 @@ use mc_reply::{KEY_ROOM, LINE_ROOM, Reply, part_room, write_end, write_key, writ
 use mc_request::{Hides, Keys, MetaCommand, Request};
 use mc_text::{Block, Key};
 
-/// What a client is told where a command of its request was lost.
+/// The answer to a client if a command of its request was lost.
 const LOST_LINE: &[u8] = b"SERVER_ERROR link lost\r\n";
 
-/// Appends the answer to a request by what became of its commands, in their order. Where one was lost, or is awaited, that it was lost alone is
-/// said, once, also to a client that asked for no answer; else the answer is what one server would give.
+/// Appends the answer to a request by the outcomes of its commands, in their order. If a command was lost, or its reply is pending, the answer
+/// is the line of a lost link alone, even to a client that asked for no answer. Otherwise it is what one server would give.
 ///
-/// It takes memory once, for [`join_room`] bytes, and none where there is that room. Where there is no memory, nothing is
-/// appended.
+/// It takes memory once, for [`join_room`] bytes, and none if there is that room. If there is no memory, nothing is appended.
 pub fn join(request: &Request, outcomes: &[Outcome], out: &mut Vec<u8>) -> Result<(), RouteError>
     ensures ok { OnOk result (out.new.items ≡ out.old.items ++ joined_answer request.now outcomes.now) }
     ensures len { vec_len out.new ≤ vec_len out.old + join_room request.now outcomes.now }
@@ -34,8 +33,8 @@ pub fn join(request: &Request, outcomes: &[Outcome], out: &mut Vec<u8>) -> Resul
     join_with(Losses::Told, request, outcomes, out)
 }
 
-/// Appends the answer to a request by what became of its commands, in their order. If one was lost, or its reply is pending, the answer
-/// is as [`Losses`] says, else it is what one server would give.
+/// Appends the answer to a request by the outcomes of its commands, in their order. If a command was lost, or its reply is pending, the answer
+/// is as [`Losses`] says. Otherwise it is what one server would give.
 ///
 /// It takes memory as [`join`] does.
 #[tactic(auto, using(crate::proofs::LossLemmas::joined_answered, crate::proofs::LossLemmas::joined_unanswered))]
@@ -60,29 +59,29 @@ pub fn join_with(
     Ok(())
 }
 
-/// Whether a request is answered by replies: no command was lost, or its lost commands count as misses.
+/// Returns whether a request is answered by replies: no command was lost, or its lost commands count as misses.
 fn is_answered(losses: Losses, request: &Request, outcomes: &[Outcome]) -> bool
     ensures { result ≡ (not (has_lost outcomes.now) || is_missed losses request.now) }
 {
     !has_lost(outcomes) || is_missed(losses, request)
 }
 
-/// Whether a command of a request was lost, and its answer does not say so: a retrieval counts it as a miss, and another request hides its
-/// reply. With [`Losses::Told`] that is never so. It takes no memory.
+/// Returns whether a command of a request was lost and its answer does not say so: a retrieval counts it as a miss, and another request hides
+/// its reply. With [`Losses::Told`] it is never so. It takes no memory.
 pub fn hides_loss(losses: Losses, request: &Request, outcomes: &[Outcome]) -> bool
     ensures { result ≡ hides_loss losses request.now outcomes.now }
 {
     is_unreported(losses, request) && has_lost(outcomes)
 }
 
-/// Whether the answer to a request says nothing of its lost commands.
+/// Returns whether the answer to a request says nothing of its lost commands.
 fn is_unreported(losses: Losses, request: &Request) -> bool
     ensures { result ≡ is_unreported losses request.now }
 {
     is_missed(losses, request) || is_silent(losses, request)
 }
 
-/// Whether a request counts its lost commands as misses.
+/// Returns whether a request counts its lost commands as misses.
 fn is_missed(losses: Losses, request: &Request) -> bool
     ensures { result ≡ is_missed losses request.now }
 {
@@ -92,7 +91,7 @@ fn is_missed(losses: Losses, request: &Request) -> bool
     }
 }
 
-/// Whether a request, if it is no retrieval, gets no answer if a command of it was lost.
+/// Returns whether a request, if it is no retrieval, gets no answer if a command of it was lost.
 fn is_silent(losses: Losses, request: &Request) -> bool
     ensures { result ≡ is_silent losses request.now }
 {
@@ -102,7 +101,7 @@ fn is_silent(losses: Losses, request: &Request) -> bool
     }
 }
 
-/// Whether a request asks for items.
+/// Returns whether a request asks for items.
 fn is_retrieval(request: &Request) -> bool
     ensures { result ≡ is_retrieval request.now }
 {
@@ -116,7 +115,7 @@ fn is_retrieval(request: &Request) -> bool
     }
 }
 
-/// Whether a request that hides this hides any of its replies.
+/// Returns whether a request that hides this hides any of its replies.
 fn hides_any(hides: Hides) -> bool
     ensures { result ≡ hides_any hides }
 {
@@ -126,14 +125,14 @@ fn hides_any(hides: Hides) -> bool
     }
 }
 
-/// The most bytes that [`join`] appends; [`usize::MAX`] where it is that or more.
+/// Returns the most bytes that [`join`] appends; [`usize::MAX`] if they are that many or more.
 pub fn join_room(request: &Request, outcomes: &[Outcome]) -> usize
     ensures { result ≡ min (join_room request.now outcomes.now) (2 ^ 64 - 1) }
 {
     outcomes_room(outcomes).saturating_add(part_room(request))
 }
 
-/// How many bytes what became of the commands adds to an answer at most; [`usize::MAX`] where it is that or more.
+/// Returns how many bytes the outcomes of the commands add to an answer at most; [`usize::MAX`] if they are that many or more.
 fn outcomes_room(outcomes: &[Outcome]) -> usize
     ensures { result ≡ min (outcomes_room outcomes.now) (2 ^ 64 - 1) }
 {
@@ -144,7 +143,7 @@ fn outcomes_room(outcomes: &[Outcome]) -> usize
     room
 }
 
-/// How many bytes what became of a command adds to an answer at most.
+/// Returns how many bytes the outcome of a command adds to an answer at most.
 fn outcome_room(outcome: &Outcome) -> usize
     ensures { result ≡ outcome_room outcome.now }
 {
@@ -154,7 +153,7 @@ fn outcome_room(outcome: &Outcome) -> usize
     }
 }
 
-/// How many bytes of a value a reply shows: fewer than 2^63.
+/// Returns how many bytes of a value a reply shows: fewer than 2^63.
 fn shown_len(reply: &Reply<Block>) -> usize
     ensures len { result ≡ value_len reply.now }
     ensures bound { result < 2 ^ 63 }
@@ -169,7 +168,7 @@ fn shown_len(reply: &Reply<Block>) -> usize
     }
 }
 
-/// How many bytes a block has.
+/// Returns how many bytes a block has.
 fn block_len(block: &Block) -> usize
     ensures len { result ≡ length block.now }
     ensures bound { result < 2 ^ 63 }
@@ -177,7 +176,7 @@ fn block_len(block: &Block) -> usize
     block.as_slice().len()
 }
 
-/// Whether a command was lost.
+/// Returns whether a command was lost.
 fn has_lost(outcomes: &[Outcome]) -> bool
     ensures { result ≡ has_lost outcomes.now }
 {
@@ -189,7 +188,7 @@ fn has_lost(outcomes: &[Outcome]) -> bool
     false
 }
 
-/// Appends the answer to a request by the replies to its commands. One that was lost counts as a miss.
+/// Appends the answer to a request by the replies to its commands. A lost command counts as a miss.
 fn append_answer(request: &Request, outcomes: &[Outcome], out: &mut Vec<u8>)
     requires room { vec_len out.old + join_room request.now outcomes.now ≤ vec_capacity out.old }
     ensures items { out.new.items ≡ out.old.items ++ answer_of request.now (map reply_or_miss outcomes.now) }
@@ -205,7 +204,7 @@ fn append_answer(request: &Request, outcomes: &[Outcome], out: &mut Vec<u8>)
     }
 }
 
-/// Appends the answer to a request of one command, by what became of it.
+/// Appends the answer to a request of one command, by its outcome.
 fn append_line(request: &Request, outcomes: &[Outcome], out: &mut Vec<u8>)
     requires one { length (atoms_of request.now) ≡ 1 }
     requires room { vec_len out.old + join_room request.now outcomes.now ≤ vec_capacity out.old }
@@ -220,7 +219,7 @@ fn append_line(request: &Request, outcomes: &[Outcome], out: &mut Vec<u8>)
     }
 }
 
-/// Appends what a command adds to the answer to its request, which has no other.
+/// Appends what a command adds to the answer to its request, which has no other command.
 fn append_part(request: &Request, outcome: &Outcome, out: &mut Vec<u8>)
     requires one { length (atoms_of request.now) ≡ 1 }
     requires room { vec_len out.old + outcome_room outcome.now + part_room request.now ≤ vec_capacity out.old }
@@ -232,7 +231,7 @@ fn append_part(request: &Request, outcome: &Outcome, out: &mut Vec<u8>)
     write_part(request, 0, Some(&reply), out).unwrap();
 }
 
-/// The reply to a command, with its value's bytes borrowed; a miss if it was lost, or if its reply is pending.
+/// Returns the reply to a command, with its value borrowed; a miss if the command was lost, or if its reply is pending.
 fn reply_or_miss(outcome: &Outcome) -> Reply<&[u8]>
     ensures reply { bytes_seen result ≡ reply_or_miss outcome.now }
     ensures room { value_len (bytes_seen result) ≤ outcome_room outcome.now }
@@ -256,7 +255,7 @@ fn append_items(keys: &Keys, outcomes: &[Outcome], out: &mut Vec<u8>)
     write_end(out).unwrap();
 }
 
-/// Appends what a key of a retrieval command adds by what became of its command.
+/// Appends what a key of a retrieval command adds, by the outcome of its command.
 fn append_item(key: &Key, outcome: &Outcome, out: &mut Vec<u8>)
     requires { vec_len out.old + outcome_room outcome.now ≤ vec_capacity out.old }
     ensures items { out.new.items ≡ out.old.items ++ outcome_part key.now outcome.now }

@@ -1,4 +1,4 @@
-//! What of a request stays for its answer.
+//! What is kept of a request for its answer.
 ghost use Rattle.std.specs.Prelude.{◌≡◌, IfOk};
 ghost use Rattle.mc_route.specs.Kept.{emptied, emptied_meta, without_block};
 
@@ -7,8 +7,9 @@ use mc_request::{MetaCommand, Request, Update};
 use mc_text::{Block, Key};
 use std::alloc::{AllocError, Global};
 
-/// A copy of a request without its data block, by which [`crate::join`] answers just the same. So who sends the commands
-/// of [`crate::into_atoms`], which take the block along, keeps this for the answer, and no block is copied.
+/// Copies a request without its data block. The answer of [`crate::join`] by the copy is the same. A caller that sends
+/// the commands of [`crate::into_atoms`], which take the block along, keeps the copy for the answer, and no block is
+/// copied.
 pub fn without_block(alloc: Global, request: &Request) -> Result<Request, RouteError>
     ensures { IfOk result (λ kept. kept ≡ without_block request.now) }
 {
@@ -36,7 +37,7 @@ pub fn without_block(alloc: Global, request: &Request) -> Result<Request, RouteE
     })
 }
 
-/// The same of a meta command.
+/// Copies a meta command without its data block.
 pub fn meta_without_block(
     alloc: Global,
     command: &MetaCommand<Key, Block>,
@@ -55,7 +56,7 @@ pub fn meta_without_block(
     })
 }
 
-/// The same of an update.
+/// Copies an update without its data block.
 pub fn update_without_block(
     alloc: Global,
     update: &Update<Key, Block>,

@@ -45,7 +45,7 @@ pub fn commands_are_those_of_one_server()
         → map (λ routed. routed.atom) (route_of ring (Update (FlushAll delay) noreply)) ≡ map (λ server. AnUpdate (FlushAll delay)) ring.servers }
 {}
 
-/// Where each reply came, the answer is what one server would give; where one command was lost, that alone is said.
+/// If each reply has arrived, the answer is what one server would give; if a command was lost, it is the line of a lost link alone.
 pub fn answers_are_those_of_one_server()
     ensures came { (request : Request) (replies : List (Reply (List ℕ)))
         → joined_answer request (map (λ reply. outcomes.Reply reply) replies) ≡ answer_of request replies }
@@ -67,10 +67,10 @@ pub fn choices_differ_in_losses_alone()
         → joined_with losses request outcomes ≡ answer_of request (replies_in outcomes) }
 {}
 
-/// With [`Losses::Missed`] each value that a retrieval shows is one that a server replied, under the key that was asked for.
+/// With [`Losses::Missed`] each value that a retrieval shows is one that a server replied under the requested key.
 ///
-/// A `get` shows the items of its keys in their order, and an item is shown only of a hit. An `mg` shows what its reply shows; if it was lost it is
-/// answered by `EN`, or by nothing if it is quiet.
+/// A `get` shows the items of its keys in their order, and shows an item only of a hit. An `mg` shows what its reply shows; if it was lost, its
+/// answer is `EN`, or nothing if it is quiet.
 pub fn shown_values_are_replies()
     ensures items { (keys : List (List ℕ)) (exptime : Option ℤ) (with_cas : Bool) (outcomes : List Outcome)
         → joined_with Missed (Get keys exptime with_cas) outcomes ≡ blocks_by keys outcomes ++ end_line }
@@ -83,14 +83,15 @@ pub fn shown_values_are_replies()
         → joined_with Missed (Meta (metas.Get key get) form) (outcomes.Lost ∷ others) ≡ (if form.quiet then [] else codes "EN\r\n") }
 {}
 
-/// With [`Losses::Missed`] a retrieval's answer does not say which keys were lost: it is the same if the server replied that it has no item.
+/// With [`Losses::Missed`] a retrieval's answer does not say which keys were lost: the answer is the same if the server replied that it has no
+/// item.
 pub fn losses_look_like_misses()
     ensures { (request : Request) (front back : List Outcome) → is_retrieval request ≡ true
         → joined_with Missed request (front ++ outcomes.Lost ∷ back) ≡ joined_with Missed request (front ++ outcomes.Reply Miss ∷ back) }
 {}
 
-/// No choice confirms a request that is no retrieval, as a store, a deletion, a count or a flush, if a command of it was lost. It gets the line
-/// of a lost link; with [`Losses::Missed`] it gets nothing if it hides any of its replies.
+/// Neither choice confirms a request that is no retrieval, such as a store, a deletion, a count or a flush, if a command of it was lost. The
+/// request gets the line of a lost link; with [`Losses::Missed`] it gets nothing if it hides any of its replies.
 pub fn lost_requests_are_not_confirmed()
     ensures line { (losses : Losses) (request : Request) (outcomes : List Outcome)
         → is_retrieval request ≡ false → hides_of request ≡ Nothing → has_lost outcomes ≡ true

@@ -1,4 +1,4 @@
-//! From a request that is lent to its servers.
+//! From a borrowed request to its servers.
 ghost use Rattle.std.specs.Prelude.{◌≡◌, ◌<◌, ◌++◌, true, length, IfOk, OnOk, OnErr};
 ghost use Rattle.std.specs.List.{list_all};
 ghost use Rattle.mc_text.specs.Keys.{is_plain_key};
@@ -17,11 +17,11 @@ use mc_text::WordIter;
 use std::alloc::Global;
 use std::collections::VecDeque;
 
-/// Puts the commands of what a reader lends after those of a queue, each with its server, and gives what stays of it for
-/// its answer: the request without its data block, or the fault, which has no command.
+/// Appends the commands of a borrowed request to a queue, each with its server. It returns what is kept for the answer: the
+/// request without its data block, or the fault, which has no command.
 ///
-/// A queue that is kept and emptied from the front takes no memory for most requests. What is copied is each key, once for
-/// its command and once for the answer, the block, and the flag words of a meta command. Where there is no memory, the queue
+/// A queue that is kept and consumed from the front takes no memory for most requests. The call copies each key, once for
+/// its command and once for the answer; the block; and the flag words of a meta command. If there is no memory, the queue
 /// has the commands that it had.
 pub fn route(
     alloc: Global,
@@ -49,7 +49,7 @@ pub fn route(
     }
 }
 
-/// The same of a retrieval command, by the words that are its keys.
+/// Appends the commands of a retrieval command, given the words that are its keys.
 fn route_keys(
     alloc: Global,
     words: WordIter<'_>,
@@ -75,7 +75,7 @@ fn route_keys(
     }))
 }
 
-/// The same of an update.
+/// Appends the commands of an update.
 fn route_update(
     alloc: Global,
     update: &Update<&[u8], &[u8]>,
@@ -96,7 +96,7 @@ fn route_update(
     Ok(Taken::Whole(Request::Update { update, noreply }))
 }
 
-/// The same of a meta command.
+/// Appends the command of a meta command.
 fn route_meta(
     alloc: Global,
     command: &MetaCommand<&[u8], &[u8]>,

@@ -1,25 +1,23 @@
-//! Routes: from a request to its servers, and from what became of its commands to its answer.
+//! Routes: from a request to its servers, and from the outcomes of its commands to its answer.
 //!
-//! Who has what a reader lends, and a ring, asks which servers it is for: [`route`] puts its commands, each with its server
-//! ([`Routed`]), after those of a queue that the caller keeps, and gives what stays of it for the answer. Each key's digest
-//! is computed once, there. Of a request that is taken already, [`atoms`] gives the commands, and copies keys and blocks;
-//! [`into_atoms`] takes the request apart and copies none, and [`without_block`] copies what stays for the answer. When each
-//! command has its [`Outcome`], its reply or that it was lost, [`join`] appends the answer to bytes that are still to be
-//! sent, for which [`join_room`] is room enough.
+//! [`route`] takes a request that a reader lends, and a ring. It appends the request's commands, each with its server ([`Routed`]), to a queue of
+//! the caller, and returns what is kept for the answer. It computes each key's digest once. Three calls take an owned request: [`atoms`] returns
+//! its commands, and copies keys and blocks. [`into_atoms`] consumes the request and copies none. [`without_block`] copies what is kept for the
+//! answer. When each command has its [`Outcome`], its reply or that it was lost, [`join`] appends the answer to the output, for which
+//! [`join_room`] is room enough.
 //!
-//! A key's command goes to the owner of the key, a flush to each server; `mn`, `version` and `quit` have no command. The
-//! answer is the one that a single server would give, or, where any command was lost, the line of a lost link alone.
-//! [`join_with`] takes the site's choice for lost commands, [`Losses`]: with [`Losses::Missed`] a retrieval counts them as misses.
+//! A key's command goes to the owner of the key, a flush to each server; `mn`, `version` and `quit` have no command. The answer is the one that a
+//! single server would give or, if any command was lost, the line of a lost link alone. [`join_with`] takes the site's choice for lost commands,
+//! [`Losses`]: with [`Losses::Missed`] a retrieval counts them as misses.
 //!
-//! `specs/Routes.antt` says which server gets which command (`route_of`), `specs/Joins.antt` what the client is answered
-//! (`joined_answer`), `specs/Losses.antt` what by the site's choice (`joined_with`). The laws say that nothing else depends on how many
-//! servers there are ([`one_server_answers_alike`], [`commands_are_those_of_one_server`], [`answers_are_those_of_one_server`]),
-//! and what each choice promises ([`choices_differ_in_losses_alone`], [`shown_values_are_replies`], [`losses_look_like_misses`],
-//! [`lost_requests_are_not_confirmed`]).
+//! `specs/Routes.antt` says which server gets which command (`route_of`), `specs/Joins.antt` what the client is answered (`joined_answer`), and
+//! `specs/Losses.antt` what it is answered by the site's choice (`joined_with`). The laws say that nothing else depends on the number of servers
+//! ([`one_server_answers_alike`], [`commands_are_those_of_one_server`], [`answers_are_those_of_one_server`]), and what each choice promises
+//! ([`choices_differ_in_losses_alone`], [`shown_values_are_replies`], [`losses_look_like_misses`], [`lost_requests_are_not_confirmed`]).
 //!
-//! [`goes_to`] says of what a reader lends whether a server gets any command of it.
+//! [`goes_to`] returns whether a server gets any command of a borrowed request.
 //!
-//! `route`, `atoms`, `into_atoms` and `without_block` take memory, and `join` and `join_with` where there is not room enough; a call that gives up
+//! `route`, `atoms`, `into_atoms` and `without_block` take memory, and so do `join` and `join_with` if there is not room enough. A call that fails
 //! has changed nothing. `join_room` and `goes_to` take none.
 #![tactic(auto)]
 

@@ -1,4 +1,4 @@
-//! Whether a server gets any command of a request that is lent.
+//! Whether a server gets any command of a borrowed request.
 ghost use Rattle.std.specs.Prelude.{◌≡◌, ◌==◌, true};
 ghost use Rattle.std.specs.List.{list_any};
 ghost use Rattle.mc_text.specs.Keys.{is_key};
@@ -13,10 +13,10 @@ use mc_request::{Asked, MetaCommand, Update, key_bytes};
 use mc_ring::Ring;
 use mc_text::{CODED_ROOM, WordIter};
 
-/// Whether what a reader lends has a command for the server of a place: a flush has one for each server, and a fault, `mn`,
-/// `version` and `quit` have none. It takes no memory.
+/// Returns whether a borrowed request has a command for the server at a place: a flush has one for each server, and a
+/// fault, `mn`, `version` and `quit` have none. It takes no memory.
 ///
-/// Of a retrieval command the keys' digests are computed, up to the first key that the server owns.
+/// For a retrieval command it computes the keys' digests, up to the first key that the server owns.
 pub fn goes_to(asked: &Asked<'_>, ring: &Ring, place: usize) -> bool
     requires { is_well_formed (asked_of asked.now) ≡ true }
     ensures { result ≡ goes_to place (route_of_taken ring.now (asked_of asked.now)) }
@@ -29,7 +29,7 @@ pub fn goes_to(asked: &Asked<'_>, ring: &Ring, place: usize) -> bool
     }
 }
 
-/// Whether the server of a place owns one of some keys.
+/// Returns whether the server at a place owns one of some keys.
 fn keys_go_to(keys: WordIter<'_>, ring: &Ring, place: usize) -> bool
     ensures { result ≡ list_any (λ key. owner_in ring.now key == place) keys.entry }
 {
@@ -41,7 +41,7 @@ fn keys_go_to(keys: WordIter<'_>, ring: &Ring, place: usize) -> bool
     false
 }
 
-/// Whether an update has a command for the server of a place.
+/// Returns whether an update has a command for the server at a place.
 fn update_goes_to(update: &Update<&[u8], &[u8]>, ring: &Ring, place: usize) -> bool
     ensures { result ≡ goes_to place (route_of_update ring.now (update_seen update.now)) }
 {
@@ -54,7 +54,7 @@ fn update_goes_to(update: &Update<&[u8], &[u8]>, ring: &Ring, place: usize) -> b
     }
 }
 
-/// Whether the server of a place owns the key of a meta command. A flush has none, but it has no meta form.
+/// Returns whether the server at a place owns the key of a meta command. A flush has no key, but it has no meta form.
 fn meta_goes_to(command: &MetaCommand<&[u8], &[u8]>, coded: bool, ring: &Ring, place: usize) -> bool
     requires { has_meta_key (meta_said coded command.now) ≡ true }
     ensures { result ≡ (owner_in ring.now (meta_key (meta_said coded command.now)) == place) }
@@ -71,7 +71,7 @@ fn meta_goes_to(command: &MetaCommand<&[u8], &[u8]>, coded: bool, ring: &Ring, p
     }
 }
 
-/// Whether the server of a place owns the key that a word of a meta command says.
+/// Returns whether the server at a place owns the key that a word of a meta command says.
 fn word_goes_to(word: &[u8], coded: bool, ring: &Ring, place: usize) -> bool
     requires { is_key (key_bytes coded word.now) ≡ true }
     ensures { result ≡ (owner_in ring.now (key_bytes coded word.now) == place) }

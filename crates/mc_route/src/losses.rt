@@ -1,4 +1,4 @@
-//! What a site chooses for lost commands.
+//! The site's choice for lost commands.
 
 /// What a request is answered if a command of it was lost.
 #[derive(Clone, Copy, Debug, PartialEq, Eq)]

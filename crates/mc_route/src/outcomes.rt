@@ -1,15 +1,15 @@
-//! What became of a command.
+//! The outcome of a command.
 
 use mc_reply::Reply;
 use mc_text::Block;
 
-/// What became of a command that was sent to its server, or was to be.
+/// The outcome of a command that was sent to its server, or could not be.
 #[derive(Debug, Drop)]
 pub enum Outcome {
-    /// Its reply has not come. Who answers by it all the same says that it was lost.
+    /// Its reply is pending. An answer made meanwhile counts the command as lost.
     Awaited,
-    /// Its reply came.
+    /// Its reply has arrived.
     Reply(Reply<Block>),
-    /// The link to its server was down, or was lost before the reply came.
+    /// The link to its server was down, or was lost before the reply arrived.
     Lost,
 }

@@ -20,10 +20,10 @@ pub struct Routed {
     pub atom: Atom<Block>,
 }
 
-/// The commands of a request, each with its server: one for each key, in order, to the key's owner; a flush to each
-/// server, in their order; none for `mn`, `version` and `quit`.
+/// Returns the commands of a request, each with its server. There is one for each key, in order, to the key's owner. A
+/// flush has one for each server, in their order. `mn`, `version` and `quit` have none.
 ///
-/// The keys and blocks are copied.
+/// It copies the keys and blocks.
 pub fn atoms(alloc: Global, request: &Request, ring: &Ring) -> Result<Vec<Routed>, RouteError>
     ensures { IfOk result (λ routed. routed.items ≡ route_of ring.now request.now) }
 {
@@ -32,8 +32,8 @@ pub fn atoms(alloc: Global, request: &Request, ring: &Ring) -> Result<Vec<Routed
     Ok(routed.into_vec())
 }
 
-/// The same of a request that is taken apart: no key and no block is copied. Where there is no memory, the request comes
-/// back.
+/// Returns the commands of a request, which it consumes: no key and no block is copied. If there is no memory, the
+/// request is returned.
 pub fn into_atoms(
     alloc: Global,
     request: Request,
@@ -51,7 +51,7 @@ pub fn into_atoms(
     }
 }
 
-/// How many commands a request has.
+/// Returns how many commands a request has.
 fn command_count(request: &Request, ring: &Ring) -> usize
     ensures { result ≡ length (route_of ring.now request.now) }
 {
@@ -63,7 +63,7 @@ fn command_count(request: &Request, ring: &Ring) -> usize
     }
 }
 
-/// How many commands an update has.
+/// Returns how many commands an update has.
 #[tactic(auto, using(crate::proofs::RouteLemmas::each_steps))]
 pub fn update_count(update: &Update<Key, Block>, ring: &Ring) -> usize
     ensures { result ≡ length (route_of_update ring.now update.now) }
@@ -74,7 +74,7 @@ pub fn update_count(update: &Update<Key, Block>, ring: &Ring) -> usize
     }
 }
 
-/// Puts the commands of a request after others. Its keys and blocks are copied; at an error some commands may be there.
+/// Appends the commands of a request. It copies keys and blocks; at an error some commands may be appended.
 fn push_copied(
     routed: &mut VecDeque<Routed>,
     ring: &Ring,
@@ -96,7 +96,7 @@ fn push_copied(
     Ok(())
 }
 
-/// Puts the commands of a request after others. Its keys and blocks are moved.
+/// Appends the commands of a request. It moves keys and blocks.
 fn push_moved(routed: &mut VecDeque<Routed>, ring: &Ring, request: Request)
     requires { deque_len routed.old + length (route_of ring.now request) ≤ deque_capacity routed.old }
     ensures { routed.new.items ≡ routed.old.items ++ route_of ring.now request }
@@ -113,7 +113,7 @@ fn push_moved(routed: &mut VecDeque<Routed>, ring: &Ring, request: Request)
     }
 }
 
-/// Puts a command after others, for which there is room.
+/// Appends a command; there must be room for it.
 fn push(routed: &mut VecDeque<Routed>, server: usize, atom: Atom<Block>)
     requires { deque_len routed.old + 1 ≤ deque_capacity routed.old }
     ensures items { routed.new.items ≡ routed.old.items ++ to_place server atom ∷ [] }
@@ -123,7 +123,7 @@ fn push(routed: &mut VecDeque<Routed>, server: usize, atom: Atom<Block>)
     routed.push_back_reserved(Routed { server, atom });
 }
 
-/// Puts the command on one key of a retrieval command after others.
+/// Appends the command on one key of a retrieval command.
 fn push_get(
     routed: &mut VecDeque<Routed>,
     ring: &Ring,
@@ -145,7 +145,7 @@ fn push_get(
     push(routed, server, atom);
 }
 
-/// Puts the commands of a retrieval command after others. Its keys are copied; at an error some of them may be there.
+/// Appends the commands of a retrieval command. It copies the keys; at an error some commands may be appended.
 fn push_copied_keys(
     routed: &mut VecDeque<Routed>,
     ring: &Ring,
@@ -174,7 +174,7 @@ fn meta_copy_of(command: &MetaCommand<Key, Block>) -> Result<MetaCommand<Key, Bl
     command.clone()
 }
 
-/// Puts the commands of a retrieval command after others. Its keys are moved.
+/// Appends the commands of a retrieval command. It moves the keys.
 pub fn push_moved_keys(
     routed: &mut VecDeque<Routed>,
     ring: &Ring,
@@ -192,7 +192,7 @@ pub fn push_moved_keys(
     }
 }
 
-/// Puts the command of an update after others, to the owner of its key; a flush to each server.
+/// Appends the command of an update, to the owner of its key; a flush to each server.
 pub fn push_update(routed: &mut VecDeque<Routed>, ring: &Ring, update: Update<Key, Block>)
     requires { deque_len routed.old + length (route_of_update ring.now update) ≤ deque_capacity routed.old }
     ensures { routed.new.items ≡ routed.old.items ++ route_of_update ring.now update }
@@ -207,7 +207,7 @@ pub fn push_update(routed: &mut VecDeque<Routed>, ring: &Ring, update: Update<Ke
     push(routed, server, Atom::Update(update));
 }
 
-/// Puts a flush for each server after others, in the servers' order.
+/// Appends a flush for each server, in the servers' order.
 #[tactic(auto, using(crate::proofs::RouteLemmas::each_steps))]
 fn push_flush(routed: &mut VecDeque<Routed>, ring: &Ring, delay: i64)
     requires { deque_len routed.old + length (to_each 0 ring.now.servers (Atom.Update (Update.FlushAll delay))) ≤ deque_capacity routed.old }
@@ -218,7 +218,7 @@ fn push_flush(routed: &mut VecDeque<Routed>, ring: &Ring, delay: i64)
     }
 }
 
-/// Puts a meta command after others, to the owner of its key.
+/// Appends a meta command, to the owner of its key.
 pub fn push_meta(routed: &mut VecDeque<Routed>, ring: &Ring, command: MetaCommand<Key, Block>)
     requires { deque_len routed.old + 1 ≤ deque_capacity routed.old }
     ensures { routed.new.items ≡ routed.old.items ++ to_owner ring.now (meta_key command) (Atom.Meta command) ∷ [] }

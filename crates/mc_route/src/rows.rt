@@ -20,7 +20,7 @@ pub fn flush_over_three_servers()
     ensures answer { joined_to (codes "flush_all 5") (Reply Flushed ∷ Reply Flushed ∷ Reply Flushed ∷ []) ≡ codes "OK\r\n" }
 {}
 
-/// What asks no server is answered all the same.
+/// A request without commands is answered too.
 pub fn requests_without_commands()
     ensures version_route { (ring : RingState) → route_to ring (codes "version") ≡ [] }
     ensures version_answer { joined_to (codes "version") [] ≡ codes "VERSION 1.6.0\r\n" }
@@ -36,14 +36,14 @@ pub fn items_of_two_servers()
         ≡ codes "VALUE a 1 1\r\nx\r\nVALUE c 2 2\r\nyz\r\nEND\r\n" }
 {}
 
-/// Where one command was lost, that alone is said, and once: neither what the others found, nor an end.
+/// If one command was lost, the answer says only that, and once: neither what the others found, nor an end.
 pub fn one_lost_of_three()
     ensures misses { joined_to (codes "get a b a") (Reply Miss ∷ Lost ∷ Reply Miss ∷ []) ≡ codes "SERVER_ERROR link lost\r\n" }
     ensures hits { joined_to (codes "get a b") (Reply (Hit 1 None (codes "x")) ∷ Lost ∷ []) ≡ codes "SERVER_ERROR link lost\r\n" }
     ensures all { joined_to (codes "flush_all 5") (Lost ∷ Lost ∷ Lost ∷ []) ≡ codes "SERVER_ERROR link lost\r\n" }
 {}
 
-/// What hides its answer is told of a loss too.
+/// A request that hides its answer gets the line of a lost link too.
 pub fn quiet_request_that_is_lost()
     ensures quiet_miss { joined_to (codes "mg a v q") (Reply Miss ∷ []) ≡ [] }
     ensures quiet_lost { joined_to (codes "mg a v q") (Lost ∷ []) ≡ lost_line }
@@ -51,7 +51,7 @@ pub fn quiet_request_that_is_lost()
     ensures hidden_lost { joined_to (codes "set a 0 0 1 noreply") (Lost ∷ []) ≡ lost_line }
 {}
 
-/// If losses count as misses, a `get` over two servers, of which one is dead, shows what the other has, before one end.
+/// If losses count as misses, a `get` over two servers, one of them dead, shows the other's items, before one end.
 pub fn get_of_four_keys_with_a_dead_server()
     ensures items { missed_to (codes "get a b c d") (Reply (Hit 1 None (codes "x")) ∷ Lost ∷ Reply (Hit 2 None (codes "yz")) ∷ Lost ∷ [])
         ≡ codes "VALUE a 1 1\r\nx\r\nVALUE c 2 2\r\nyz\r\nEND\r\n" }

@@ -5,7 +5,7 @@ use Rattle.mc_proxy.specs.Sending.{handed_to}
 use Rattle.mc_proxy.proofs.SessionLinkLemmas.{handed_to_up, link_is_there, states_set}
 use Rattle.mc_proxy.proofs.sending.hand_over.Goals as goal
 
--- the link that is up is sent the command
+-- the link that is up sends the command
 pub returns-then-is_up_at-clause-handed : goal.returns-then-is_up_at-clause-handed
 returns-then-is_up_at-clause-handed c =
     let links = c.args.links.now in

@@ -13,13 +13,13 @@ returns-then-is_marked_for c =
     sym (marked_at (states c.args.links.now) c.loop-place.place (route_of_taken c.args.ring.now (asked_of c.args.asked.now))
     (sym c.is_marked_for.ensures ∙ c.if-is_marked_for.true))
 
--- this one is not such
+-- this link is not needed, or has not reached its mark
 pub loop-place-preserved : goal.loop-place-preserved
 loop-place-preserved c =
     none_before_next (states c.args.links.now) (route_of_taken c.args.ring.now (asked_of c.args.asked.now)) c.loop-place.place c.loop-place.invariant
     (sym c.is_marked_for.ensures ∙ c.if-is_marked_for.false)
 
--- none is
+-- no link is needed and has reached its mark
 pub returns : goal.returns
 returns c =
     let links = c.args.links.now in

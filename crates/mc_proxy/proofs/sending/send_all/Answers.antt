@@ -8,7 +8,7 @@ hand_over-requires c =
     let rest : c.loop-command.queue.items ≡ c.in-Some.command ∷ c.pop_front.new.self.items = c.in-Some.ensures.items in
     roomy_first c.loop-command.links c.in-Some.command c.pop_front.new.self.items (rw rest at c.loop-command.invariant.roomy)
 
--- it is handed over, and after it there is room for the others
+-- it is sent, and after it there is room for the others
 pub loop-command-preserved : goal.loop-command-preserved
 loop-command-preserved c =
     let rest : c.loop-command.queue.items ≡ c.in-Some.command ∷ c.pop_front.new.self.items = c.in-Some.ensures.items in

@@ -6,7 +6,7 @@ use Rattle.mc_proxy.specs.Sending.{handed_to}
 use Rattle.mc_proxy.proofs.SessionLinkLemmas.{handed_to_up, link_is_there, states_set}
 use Rattle.mc_proxy.proofs.stores.hand_over_store.Goals as goal
 
--- the link that is up is sent the command
+-- the link that is up sends the command
 pub returns-then-is_up_at : goal.returns-then-is_up_at
 returns-then-is_up_at c =
     let links = c.args.links.now in

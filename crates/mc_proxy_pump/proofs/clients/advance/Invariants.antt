@@ -4,7 +4,7 @@ use Rattle.mc_proxy_pump.specs.Calls.{Stretch}
 use Rattle.mc_proxy_pump.specs.Rounds.{work_of}
 use Rattle.mc_proxy_pump.proofs.clients.advance.Given as goal
 
--- what was taken, put out and counted so far
+-- what was taken, emitted and counted so far
 abbrev pub invariant-loop-stop : goal.invariant-loop-stop
 invariant-loop-stop l = Stretch l.session l.fn.proxy l.proxy [] [] l.fn.tally.missed l.tally.missed
 

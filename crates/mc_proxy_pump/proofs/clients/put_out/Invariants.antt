@@ -4,10 +4,10 @@ use Rattle.mc_proxy_pump.specs.Calls.{Stretch}
 use Rattle.mc_proxy_pump.specs.Rounds.{HowMany}
 use Rattle.mc_proxy_pump.proofs.clients.put_out.Given as goal
 
--- what was put out and counted so far
+-- what was emitted and counted so far
 abbrev pub invariant-loop-proxy : goal.invariant-loop-proxy
 invariant-loop-proxy l = Stretch l.session l.fn.proxy l.proxy [] [] l.fn.tally.missed l.tally.missed × HowMany l.answered l.session l.fn.proxy l.proxy
 
--- each answer is one less to put out
+-- each answer is one fewer to emit
 abbrev pub decreases-loop-proxy : goal.decreases-loop-proxy
 decreases-loop-proxy l = unanswered_of (session_at l.proxy l.session)

@@ -7,6 +7,6 @@ use Rattle.mc_proxy_pump.proofs.links.take_replies.Given as goal
 abbrev pub invariant-loop : goal.invariant-loop
 invariant-loop l = LinkStretch l.server l.fn.proxy l.proxy [] [] l.fn.woken.items l.woken.items × ((link_at l.proxy.links l.server).up ≡ true)
 
--- each reply is one less to wait for
+-- each reply is one fewer that is pending
 abbrev pub decreases-loop : goal.decreases-loop
 decreases-loop l = length (link_at l.proxy.links l.server).waiting

@@ -5,7 +5,7 @@ use Rattle.mc_proxy.specs.SessionState.{states}
 use Rattle.mc_proxy.specs.Joins.{joined_link}
 use Rattle.mc_proxy.proofs.proxies.Proxy.join_server.Goals as goal
 
--- the last place is that after the servers of before, and so are the links
+-- the last place is the number of servers before, and of links before
 pub returns-clause-joined : goal.returns-clause-joined
 returns-clause-joined c =
     let own = c.self.inside in

@@ -3,13 +3,13 @@ use Rattle.std.proofs.lemmas.Result.{err_from_is_err_and}
 use Rattle.mc_proxy.proofs.LinkLemmas.{read_at, states-set, states-set_same, at_error, same_error}
 use Rattle.mc_proxy.proofs.proxies.Proxy.link_turn.Goals as goal
 
--- the link that was refused is as it was
+-- the link that refused is as it was
 pub returns-in_err-tag-clause-err : goal.returns-in_err-tag-clause-err
 returns-in_err-tag-clause-err c =
     let same = states-set_same c.self.inside.links.items c.args.server c.in-Some.link.now c.turn.new.self c.in-Some.ensures.value c.in_err-tag.ensures.err in
     at_error c.from_residual.result (rw (← c.self.view_is, same) refl)
 
--- strange bytes leave the link as it was, until it is lost
+-- a violation leaves the link as it was, until it is lost
 pub returns-in_err-lost-in-Strange-clause-state : goal.returns-in_err-lost-in-Strange-clause-state
 returns-in_err-lost-in-Strange-clause-state c =
     let told = rw c.in-Strange.is at c.in_ok-tag.ensures.turn in
@@ -23,7 +23,7 @@ returns-in_err-lost-in-Strange-clause-err c =
     let same = states-set_same c.self.inside.links.items c.args.server c.in-Some.link.now c.turn.new.self c.in-Some.ensures.value told.1 in
     at_error c.from_residual-in_err-lost-in-Strange.result (rw (c.in_err-lost-in-Strange.ensures.err, ← c.self.view_is, same) refl)
 
--- the reply is noted under the tag of the oldest command that waited
+-- the reply is recorded under the tag of the oldest pending command
 pub returns-in-Took-clause-turn : goal.returns-in-Took-clause-turn
 returns-in-Took-clause-turn c =
     let taken = rw c.in-Took.is at c.in_ok-tag.ensures.turn in
@@ -50,7 +50,7 @@ returns-in-Idle-clause-turn c =
     let same = states-set_same links c.args.server c.in-Some.link.now c.turn.new.self c.in-Some.ensures.value told.1 in
     rw (← c.self.view_is, same, here) (told.0, refl)
 
--- the link is lost as it was before
+-- the link is lost from its state before
 pub returns-in_ok-lost-in-Strange-clause-turn : goal.returns-in_ok-lost-in-Strange-clause-turn
 returns-in_ok-lost-in-Strange-clause-turn c =
     let told = rw c.in-Strange.is at c.in_ok-tag.ensures.turn in

@@ -5,12 +5,12 @@ use Rattle.mc_proxy.proofs.LinkLemmas.{read_at, states-set, states-set_same, at_
 use Rattle.mc_proxy.proofs.NotingLemmas.{all_lost-none, same_proxy}
 use Rattle.mc_proxy.proofs.proxies.Proxy.lost.Goals as goal
 
--- the link that was refused is as it was
+-- the link that refused is as it was
 pub returns-in_err-lost-clause-err : goal.returns-in_err-lost-clause-err
 returns-in_err-lost-clause-err c =
     at_error c.from_residual.result (rw (← c.self.view_is, states-set_same c.self.inside.links.items c.args.server c.in-Some.link.now c.lose.new.self c.in-Some.ensures.value c.in_err-lost.ensures.err) refl)
 
--- what is left to lose is one command less, and that one is noted
+-- one command fewer is left to lose, and that one is recorded
 pub loop-tag-preserved : goal.loop-tag-preserved
 loop-tag-preserved c = record {
   sessions = rw c.note.ensures (rw c.in-Some-2.ensures.steps.0 at c.loop-tag.invariant.sessions);
@@ -20,13 +20,13 @@ loop-tag-preserved c = record {
   links = rw c.note.ensures c.loop-tag.invariant.links;
 }
 
--- what the link hands out is what it was to send
+-- the link returns its output
 pub returns-clause-bytes : goal.returns-clause-bytes
 returns-clause-bytes c =
     let here = read_at c.self.inside.links.items c.args.server c.in-Some.link.now c.in-Some.ensures.item.3.0 c.in-Some.ensures.value in
     rw (← c.self.view_is, here) c.in_ok-lost.ensures.bytes
 
--- each command that waited is lost
+-- each pending command is lost
 pub returns-clause-lost : goal.returns-clause-lost
 returns-clause-lost c =
     let links = c.self.inside.links.items in

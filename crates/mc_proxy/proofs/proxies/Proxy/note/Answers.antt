@@ -2,7 +2,7 @@ use Rattle.std.proofs.Common.{refl, sym}
 use Rattle.mc_proxy.proofs.NotingLemmas.{noted_open}
 use Rattle.mc_proxy.proofs.proxies.Proxy.note.Goals as goal
 
--- what is under the number is the session of the command
+-- the session under the number is that of the command
 pub returns : goal.returns
 returns c =
     let was = sym c.in-Some.ensures.value in

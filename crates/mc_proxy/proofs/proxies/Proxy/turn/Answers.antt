@@ -4,7 +4,7 @@ use Rattle.mc_table.proofs.NumberedEntryLemmas.{updated_same}
 use Rattle.mc_proxy.proofs.LinkLemmas.{at_error}
 use Rattle.mc_proxy.proofs.proxies.Proxy.turn.Goals as goal
 
--- there are as many links
+-- the number of links stays
 pub invariant_of-self-in-Some : goal.invariant_of-self-in-Some
 invariant_of-self-in-Some c =
     let as_many : length c.turn.new.links ≡ c.self.inside.links.len = omega (arith, c.turn.auto.links, c.as_mut_slice-links.ensures.len, c.self.inside.links.ok) in
@@ -13,7 +13,7 @@ invariant_of-self-in-Some c =
       emptied = c.turn.ensures.emptied;
     }
 
--- what is under the number takes a turn
+-- the session under the number takes a turn
 pub returns-in_ok-turn-in-Some-clause-turn : goal.returns-in_ok-turn-in-Some-clause-turn
 returns-in_ok-turn-in-Some-clause-turn c =
     let as_many : length c.turn.new.links ≡ c.self.inside.links.len = omega (arith, c.turn.auto.links, c.as_mut_slice-links.ensures.len, c.self.inside.links.ok) in
@@ -28,7 +28,7 @@ returns-in_ok-turn-in-Some-clause-turn c =
       step = rw c.as_mut_slice-links.ensures.value at c.in_ok-turn-in-Some.ensures.turn;
     })
 
--- a session that is refused memory stays, and so do the links
+-- a session that gets no memory stays, and so do the links
 pub returns-in_err-turn-in-Some-clause-err : goal.returns-in_err-turn-in-Some-clause-err
 returns-in_err-turn-in-Some-clause-err c =
     let as_many : length c.turn.new.links ≡ c.self.inside.links.len = omega (arith, c.turn.auto.links, c.as_mut_slice-links.ensures.len, c.self.inside.links.ok) in

@@ -2,11 +2,11 @@ use Rattle.std.proofs.Common.{◌≡◌, ℕ, List, length, ap, arith}
 use Rattle.mc_proxy.proofs.LinkLemmas.{states-push, length_never_up}
 use Rattle.mc_proxy.proofs.proxies.Proxy.with_losses.Goals as goal
 
--- one more link is there
+-- one more link is made
 pub loop-preserved : goal.loop-preserved
 loop-preserved c = rw c.in_ok-push.ensures.items (states-push c.loop.links.items c.new.result c.loop.counter c.loop.invariant c.new.ensures)
 
--- there are as many links as servers
+-- the number of links is that of the servers
 pub invariant_of-result : goal.invariant_of-result
 invariant_of-result c =
     let many : length c.loop.links.items ≡ c.loop.counter = length_never_up c.loop.links.items c.loop.counter c.loop.invariant in

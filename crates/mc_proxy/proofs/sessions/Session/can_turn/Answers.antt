@@ -6,7 +6,7 @@ use Rattle.mc_proxy.proofs.TurnLemmas.{ready_if}
 use Rattle.mc_proxy.specs.contracts.sessions.Session.{the_view}
 use Rattle.mc_proxy.proofs.sessions.Session.can_turn.Goals as goal
 
--- what is shown is ready where no link that it needs has reached its mark
+-- the request that is shown is ready if no link that it needs has reached its mark
 pub returns-then-not-is_marked : goal.returns-then-not-is_marked
 returns-then-not-is_marked c =
     let seen = rw c.in-First.is at c.peek.ensures.seen in

@@ -18,7 +18,7 @@ returns-in-First-clause-turn c =
     let marked : is_marked own links (route_of_taken ring what) ≡ true = rw (← c.self.view_is) at (sym c.must_wait.ensures ∙ c.if-must_wait.true) in
     (rw (← c.self.view_is) (held ring links own what c.in-First.field-1 seen marked), (refl, refl))
 
--- none is where the request cannot be routed for want of memory
+-- no mark is reached if the request cannot be routed for lack of memory
 pub returns-in_err-route-in-First-2-clause-cause : goal.returns-in_err-route-in-First-2-clause-cause
 returns-in_err-route-in-First-2-clause-cause c =
     let seen = rw c.in-First.is at c.peek.ensures.seen in
@@ -29,7 +29,7 @@ returns-in_err-route-in-First-2-clause-cause c =
     let unmarked : is_marked own links (route_of_taken ring what) ≡ false = rw (← c.self.view_is) at (sym c.must_wait.ensures ∙ c.if-must_wait.false) in
     at_error c.from_residual.result (rw (← c.self.view_is) (unheld ring links own what c.in-First.field-1 seen unmarked))
 
--- nor where there is none for its commands
+-- no mark is reached if there is no memory for its commands
 pub returns-in_err-take-clause-cause : goal.returns-in_err-take-clause-cause
 returns-in_err-take-clause-cause c =
     let seen = rw c.in-First.is at c.peek.ensures.seen in

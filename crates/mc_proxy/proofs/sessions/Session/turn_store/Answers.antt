@@ -19,7 +19,7 @@ returns-in-First-clause-turn c =
     let marked : is_marked own links (route_of_taken ring what) ≡ true = rw (← c.self.view_is) at (sym waits ∙ c.if-is_held_up.true) in
     (rw (← c.self.view_is) (held ring links own what c.in-First.field-1 seen marked), (refl, refl))
 
--- none is, if there is no memory for the command
+-- no mark is reached if there is no memory for the command
 pub returns-in_err-send_store-in-First-2-clause-cause : goal.returns-in_err-send_store-in-First-2-clause-cause
 returns-in_err-send_store-in-First-2-clause-cause c =
     let seen = rw c.in-First.is at c.peek.ensures.seen in

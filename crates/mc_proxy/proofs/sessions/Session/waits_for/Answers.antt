@@ -7,7 +7,7 @@ use Rattle.mc_proxy.proofs.TurnLemmas.{waits_by}
 use Rattle.mc_proxy.specs.contracts.sessions.Session.{the_view}
 use Rattle.mc_proxy.proofs.sessions.Session.waits_for.Goals as goal
 
--- what is shown is the first that waits
+-- the request that is shown is the first that waits
 pub returns-in-First : goal.returns-in-First
 returns-in-First c =
     let seen = rw c.in-First.is at c.peek.ensures.seen in
@@ -16,13 +16,13 @@ returns-in-First c =
     let first = shown_waits own.reader what c.in-First.field-1 seen in
     rw (← c.self.view_is) (waits_by c.args.ring.now c.args.place (rest_of own.reader []) (what ∷ rest_of (past c.in-First.field-1 own.reader) []) c.goes_to.result first c.goes_to.ensures)
 
--- none has come whole
+-- none has arrived whole
 pub returns-in-More : goal.returns-in-More
 returns-in-More c =
     let seen = rw c.in-More.is at c.peek.ensures.seen in
     rw (← c.self.view_is, seen.none) refl
 
--- nothing is read any more
+-- the session is closed to input
 pub returns-in-Closed : goal.returns-in-Closed
 returns-in-Closed c =
     let seen = rw c.in-Closed.is at c.peek.ensures.seen in

@@ -2,21 +2,21 @@ use Rattle.std.proofs.Common.{◌<◌, length, refl, arith}
 use Rattle.mc_proxy.proofs.AwaitedLemmas.{with_outcome_outside, awaited_bound, awaited_in_set, counted_bound, counts_one}
 use Rattle.mc_proxy.proofs.unanswered.Unanswered.note.Goals as goal
 
--- where there is none of that number, nothing is noted
+-- if there is no command of that number, nothing is recorded
 pub returns-then-at-len : goal.returns-then-at-len
 returns-then-at-len c =
     let own = c.self.inside in
     let same = with_outcome_outside c.args.at c.args.outcome own.outcomes.items (omega (arith, c.if-at-len.true, c.len.ensures, own.outcomes.ok)) in
     rw (← c.self.view_is) (rw same refl)
 
--- what is awaited includes the one that is noted
+-- the pending ones include the one that is recorded
 pub overflow_sub-self : goal.overflow_sub-self
 overflow_sub-self c =
     let own = c.self.inside in
     let inside : c.args.at < length own.outcomes.items = omega (arith, c.if-at-len.false, c.len.ensures, own.outcomes.ok) in
     omega (arith, counted_bound c.args.at c.index.result.now own.outcomes.items inside c.index.ensures, c.count_awaited-before.ensures, c.self.invariant)
 
--- and is no more than there are commands
+-- no more are pending than there are commands
 pub overflow_add-self : goal.overflow_add-self
 overflow_add-self c =
     let own = c.self.inside in
