@@ -50,7 +50,7 @@ where
         )?;
         return Ok(());
     }
-    // The script is read first, so that each line can be told.
+    // The script is read first, so that each line can be reported.
     let input = read_input(alloc, &mut rt.reader())?;
     trace(rt, alloc, input.as_slice())?;
     run(
