@@ -67,7 +67,7 @@ admit_stays (LinkBack server) old new e = inr (server, refl, e)
 admit_stays (ServerSeesEnd server generation) old new e =
     inl (admit_one server e.1.there.site e.1.there.now old new e.1.there.at e.1.there.sites (ap (λ (s : ServerState). s.admitted) e.1.ends.closes))
 
--- a link that can come back is not up
+-- a link that can come up is not up
 down_now : (link : LinkState) → can_come_back link ≡ true → link.up ≡ true → ⊥
 down_now link can up = grind arith
 
