@@ -21,7 +21,7 @@ from suite import counted
 
 
 class Forgiving(Pool):
-    """Receives the replies of commands whose request is answered already, and knows how each command is spelled."""
+    """Accepts outcomes of commands whose request is answered already, and knows how each command is spelled."""
 
     def __init__(self, script):
         super().__init__(script)

@@ -40,7 +40,7 @@ from suite import are_built
 
 HELP = pathlib.Path(__file__).with_name("proxyd.help").read_text()
 LINK_MARK = 8_388_608  # unsent bytes on a link that stop the requests that need it
-IDLE, PROCESSOR = 3, 0.1  # the most seconds of processor time that a proxy uses in this many seconds of doing nothing
+IDLE, PROCESSOR = 3, 0.1  # seconds without requests, and the most seconds of processor time that a proxy uses in them
 
 DIALOGUES = {
     "expiry": (

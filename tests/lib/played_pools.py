@@ -1,5 +1,5 @@
-"""A pool of one server, played by a script on a socket of this machine: a right one, and some that make a mistake each. A checker of pools is
-tried on them.
+"""A pool of one server, played by a script on a socket of this machine: a right one, and some that make a mistake each. They test a checker
+of pools.
 
     with Relay(seed) as pool:
         ..pool.connected()..
@@ -66,7 +66,7 @@ class Relay:
                     text, unread = unread[: request.size], unread[request.size :]
                     connection.sendall(self.answer(connection, text))
 
-    # What a pool does with a request. A mistake overrides one of these.
+    # How a pool handles a request. A mistake overrides one of these.
 
     def new_cache(self):
         return Server(0, BUDGET, ITEMS)
