@@ -444,7 +444,7 @@ TAKEN = re.compile(r"^server (\d+), client 0, request (\d+), command 0, ", re.M)
 
 
 def program_names_the_same_owners(program, count):
-    """mc_sim's pools are of 127.0.0.1:11211 and the ports after it. Its account tells which server took the set of each key."""
+    """mc_sim's pools are of 127.0.0.1:11211 and the ports after it. Its account shows which server took the set of each key."""
     sets = [f"bytes 0 set {key_of(rank).decode()} 0 0 1\\r\\nx\\r\\n\ndrain 100" for rank in range(SAMPLE)]
     script = "\n".join([f"pool {count} 1 67108864 65536", *sets]) + "\n"
     told = subprocess.run([program, "--account"], input=script, capture_output=True, text=True, check=True).stdout

@@ -1,7 +1,7 @@
 #!/usr/bin/env python3
 """Cuts the network between a proxy and its server, and between clients and a server.
 
-Usage: cuts.py PROXY SERVER [--cuts N]      (N cuts with a store each, 5 unless it is said)
+Usage: cuts.py PROXY SERVER [--cuts N]      (N cuts with a store each, 5 by default)
 
 Two hosts have a network namespace each, and the script carries their packets (tests/lib/network.py says what that needs). In a cut packets
 vanish, and neither side is notified. It checks:

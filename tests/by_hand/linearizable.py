@@ -78,7 +78,7 @@ PAUSE, PAUSE_LOST = 0.002, 0.06  # seconds between a client's commands, at most,
 PATIENCE = 30  # seconds that a client waits for an answer
 MOST_TO_END = 10  # seconds more, in which a client ends
 SECONDS_TO_RETURN = 20
-TIMEOUT = "300"  # milliseconds of silence, until a proxy gives a server up
+TIMEOUT = "300"  # milliseconds of silence, until a proxy gives up on a server
 CALM, AWAY, STOPPED = 0.6, 0.4, 1.0  # seconds between faults, until a program is started again, and of a stop, at most
 LINES = {
     b"STORED\r\n": STORED,

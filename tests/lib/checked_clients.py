@@ -4,8 +4,8 @@ A client sends batches of requests on keys of its own. A value has its key and t
 number of the request that it answers. `Wrong` is raised if anything arrives except the answer of the next request:
 
 - another's value, one that was never stored under its key, or one that a newer command has replaced;
-- no value, where one was stored, its server was not killed since, and no deletion of it may still be done;
-- a command that is said to be lost, while nothing happened to its server;
+- no value, if one was stored, its server was not killed since, and no deletion of it may still be done;
+- a command that is reported lost, while nothing happened to its server;
 - a missing answer, or one too many.
 
 A store or a deletion that was reported lost, or was never answered, is done at most once: before, later, or never. An answer that shows

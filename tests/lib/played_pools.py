@@ -186,7 +186,7 @@ class ShowsOlder(Relay):
 
 
 class ComesBack(Relay):
-    """A get of an item that is held misses. Later gets show it."""
+    """A get of a stored item misses. Later gets show it."""
 
     def executed(self, text):
         reply = super().executed(text)
@@ -211,7 +211,7 @@ class AnswersAhead(Relay):
 
 
 class AddsAlways(Relay):
-    """An add stores, though something is held. No client can see that: the register may have forgotten it."""
+    """An add stores, though an item is stored. No client can see that: the register may have forgotten it."""
 
     def executed(self, text):
         text = b"set" + text[3:] if text.startswith(b"add ") and self.errs() else text

@@ -45,8 +45,8 @@ pub fn shown_values_are_replies()
         × IsToldLost (owner_in h.ring key) (tag_of client request 0) (histories (owner_in h.ring key)) log) }
 {}
 
-/// Nothing is reported as done that has no entry. The answer to a request that is no retrieval is made of the replies of its servers, one to
-/// each of its commands, as their histories have them; or it is the line of a lost link. With `Missed` it may also be empty.
+/// Nothing is reported as done that has no entry. The answer to a request that is no retrieval is made of the replies of its servers, as their
+/// histories have them, one to each of its commands; or it is the line of a lost link. With `Missed` it may also be empty.
 pub fn done_is_executed()
     ensures told { (ring : RingState) (texts : ℕ → List ℕ) (histories : ℕ → List Entry) (log : Log) (client request : ℕ) (answer : List ℕ)
         → (h : IsAnswerTo Told ring texts histories log client request answer) → (what : Request) → h.what ≡ Whole what → answer ≢ lost_line

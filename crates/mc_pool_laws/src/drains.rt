@@ -14,8 +14,8 @@ ghost use Rattle.mc_world.specs.Worlds.{CourseState, history_of, put_out_of, tak
 ghost use Rattle.mc_pool_laws.specs.Drained.{is_of_drain_at};
 ghost use Rattle.mc_pool_laws.specs.Told.{AreAnswersFrom};
 
-/// A drain at a moment adds these entries to the log: no client sends or goes, no link is lost or comes up, no server joins, and each
-/// server takes its requests at that moment.
+/// In the entries that a drain at a moment adds to the log, no client sends or goes, no link is lost or comes up, and no server
+/// joins. Each server takes its requests at that moment.
 pub fn drains_add_what_is_left()
     ensures { (moment : ℕ) (old new : CourseState) → Drains moment old new
         → (added : Log) × (new.log ≡ old.log ++ added) × (list_all (is_of_drain_at moment) added ≡ true) }

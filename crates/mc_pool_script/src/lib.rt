@@ -14,9 +14,8 @@
 //!
 //! [`text_of_pool_script`] goes from a script's bytes to its printed text: its contract is the main theorem, and holds of every input.
 //! [`account_of_pool_script`] prints the account of the play after that, and [`steps_of_pool_script`] returns what each line did. A
-//! caller that wants the parts calls them in this order: [`played_script`] plays a script that was read, and returns a world and what
-//! each line did ([`Played`]); [`push_output_lines`] prints the bytes that were emitted to the clients, and [`push_account`] the
-//! account.
+//! caller that wants the parts calls [`played_script`] first. It plays a script that was read, and returns a world and what each line
+//! did ([`Played`]). Then [`push_output_lines`] prints the bytes that were emitted to the clients, and [`push_account`] the account.
 //!
 //! Each server's cache keeps its items in a store of any kind that a script can be played over (`mc_script::ScriptStore`). The
 //! definitions in `specs/`, over those of `mc_world`, say what a script's lines do to a world.

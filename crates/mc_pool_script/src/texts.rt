@@ -12,9 +12,9 @@ use mc_script::{ScriptStore, SimError};
 use mc_world::Step;
 use std::alloc::Global;
 
-/// The text that is printed for a pool script: a line for each of its clients, in order, with the bytes that were emitted to it
-/// by a world of servers over such stores that executed the script's lines in order. The error is the script's first bad line,
-/// or `Memory`.
+/// The text that is printed for a pool script: a line for each of its clients, in order. It has the bytes that were emitted to
+/// the client by a world of servers over such stores that executed the script's lines in order. The error is the script's first
+/// bad line, or `Memory`.
 ///
 /// The contract has no condition: it holds of every input, whatever its source. If the call succeeds, the input is a script,
 /// and the lines are those of a world that has played it, and that gives account. If the error names a line, the input is no

@@ -19,8 +19,8 @@ const ROOM: usize = WIDEST * BLOCK;
 /// Fewer bytes than this are escaped one by one, since that starts sooner.
 const FEW: usize = 4;
 
-/// Appends bytes to a text, each escaped. 32 to 126 are appended as they are, except the backslash, which is doubled; 13 and 10 become `\r`
-/// and `\n`, and any other `\x` and two small hexadecimal digits. An error leaves the text as it was.
+/// Appends bytes to a text, each escaped. A byte from 32 to 126 is appended as it is, except the backslash, which is doubled. 13 and 10
+/// become `\r` and `\n`, and any other `\x` and two small hexadecimal digits. An error leaves the text as it was.
 pub fn push_escaped(bytes: &[u8], out: &mut Vec<u8>) -> Result<(), AllocError>
     ensures escaped { OnOk result (out.new.items ≡ out.old.items ++ escaped bytes.now) }
     ensures unchanged { OnErr result (out.new.items ≡ out.old.items) }
@@ -266,9 +266,9 @@ fn read_front<'a>(text: &'a [u8], bytes: &mut Vec<u8>) -> Result<Option<&'a [u8]
 }
 
 /// Appends the bytes of a text up to its first backslash to some bytes. The answer is the text from there on. If a run ends in the first
-/// block, the whole block is appended, and the bytes after the run are cut off: a copy of a block's size is one move. So it asks for room
-/// for at most 15 bytes more than the run has, and never for more than the text has, which `read_escaped` asks for at its beginning. One or
-/// two bytes are faster to append by themselves.
+/// block, the whole block is appended, which is one move, and the bytes after the run are cut off. So it asks for room for at most 15 bytes
+/// more than the run has. It never asks for more than the text has, which `read_escaped` asks for at its beginning. One or two bytes are
+/// faster to append by themselves.
 fn read_run<'a>(text: &'a [u8], bytes: &mut Vec<u8>) -> Result<&'a [u8], AllocError>
     ensures read { IfOk result (λ rest. ReadsFront bytes.old.items Between text.now bytes.new.items rest.now) }
     ensures over { IfOk result (λ rest. position_or_len (λ b. b == 92) rest.now ≡ 0) }

@@ -13,8 +13,8 @@ pub fn texts_by_connection()
         ≡ codes "x" }
 {}
 
-/// A turn is served if its connection's text has one more request or fault than were taken of it: not before that has
-/// arrived whole, not twice, and not for bytes of another connection.
+/// A turn is served if its connection's text has one more request or fault than were taken of it. It is not served
+/// before that has arrived whole, not twice, and not for bytes of another connection.
 pub fn turns_that_find_one()
     ensures early { turns_served [] [] (Bytes 0 (codes "x") ∷ Turn 0 1 ∷ Bytes 0 (codes "\n") ∷ Turn 0 2 ∷ []) ≡ (0, 2) ∷ [] }
     ensures once { turns_served [] [] (Bytes 0 (codes "x\n") ∷ Turn 0 1 ∷ Turn 0 2 ∷ []) ≡ (0, 1) ∷ [] }

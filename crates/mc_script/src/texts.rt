@@ -12,8 +12,8 @@ use crate::stores::ScriptStore;
 use std::alloc::Global;
 use std::io::Write;
 
-/// The text that is printed for a script: a line for each of its clients, in order, with the bytes that a server over such a store
-/// sends them when it plays the script. The error is the script's first bad line, or `Memory`.
+/// The text that is printed for a script: a line for each of its clients, in order. It has the bytes that a server over such a
+/// store sends the client when it plays the script. The error is the script's first bad line, or `Memory`.
 ///
 /// The contract has no condition: it holds of every input, whatever its source. If the call succeeds, the input is a script, and
 /// the lines are those of outputs that answer it. If the error names a line, the input is no script, and that line is its first bad

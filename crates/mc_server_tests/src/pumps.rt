@@ -122,9 +122,9 @@ fn calls_of(
     Ok(is_whole.then_some(made))
 }
 
-/// Plays an exchange to a server that stores an older key, with calls one of which ends its connection. Returns whether the exchange fails
-/// with correct bytes sent until then, the server still stores the older key, and its next connection, which is sent the first exchange,
-/// gets all its answers.
+/// Plays an exchange to a server that stores an older key, with calls one of which ends its connection. The exchange must fail, with correct
+/// bytes sent until then. The server must still store the older key, and its next connection, which is sent the first exchange, must get all
+/// its answers. Returns whether all this holds.
 fn fails_alone(
     alloc: Global,
     exchange: &Exchange,

@@ -1,8 +1,8 @@
 //! Plays the script on standard input, of a server or of a pool, and prints what its clients were sent. Options ask for the account of a
 //! pool ([`options`]), or choose the kind of store that the servers keep their items in.
 //!
-//! The exit status is 0 if the script was played to its end. Otherwise it is 2 at a bad line, and if words are refused or ask for help;
-//! 3 if a read or a write failed; and 4 if memory was refused. Standard error has the reason. The words are read before the script.
+//! The exit status is 0 if the script was played to its end, and 2 at a bad line. It is 2 also if words are refused or ask for help, 3
+//! if a read or a write failed, and 4 if memory was refused. Standard error has the reason. The words are read before the script.
 #![tactic(auto)]
 
 mod endings;

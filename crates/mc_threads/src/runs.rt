@@ -106,8 +106,8 @@ fn run_in<'s, E: 's, C: Clock + Send + Drop + 's, G: Gate + Sync, R: Threads + W
     Ok(Ran { outputs, clocks })
 }
 
-/// Runs a pool until all requests of its clients are answered: a server on a thread of its own for each clock, and the proxy on the
-/// caller's thread, with two rings of 65,536 bytes for each link.
+/// Runs a pool until all requests of its clients are answered. For each clock it has a server on a thread of its own; the proxy is on
+/// the caller's thread, with two rings of 65,536 bytes for each link.
 ///
 /// `inputs` has the pieces of each client's text. Each server takes a request only if the gate lets it, at the next moment of its own
 /// clock. At the end it is sent `quit`, which it takes as any other request. The account gives the answers to each client and the

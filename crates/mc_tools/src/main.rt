@@ -1,7 +1,7 @@
 //! Tools that measure speed, and tools that tests compare with models of their own. No program uses them.
 //!
-//! `bench ..` measures how fast a server takes bytes (`bench.rt`), `threads ..` plays a load over a pool on threads and on one thread
-//! (`threads.rt`), and `read_back` encodes commands and decodes replies (`read_back.rt`). Without arguments each of them runs at its
+//! `bench ..` measures how fast a server takes bytes (`bench.rt`). `threads ..` plays a load over a pool on threads and on one thread
+//! (`threads.rt`). `read_back` encodes commands and decodes replies (`read_back.rt`). Without arguments each of them runs at its
 //! smallest size, the last one first.
 #![tactic(auto)]
 

@@ -2,8 +2,9 @@
 //!
 //! Each line of standard input is a case: words in hexadecimal digits, with a space between. The first is the text of a
 //! request. The others are the bytes that arrive in answer to the first of its commands, piece by piece. The printed line
-//! of a case has the command's canonical spelling, and after each piece what a reader of replies then returns: each reply
-//! by its spelling, and last `more` or `strange`. If a text has no first request with a command, the line is `none`.
+//! of a case has the command's canonical spelling. After each piece it has what a reader of replies then returns: each
+//! reply by its spelling, and last `more` or `strange`. If a text has no first request with a command, the line is
+//! `none`.
 //!
 //! So this project's spellings and replies can be compared with a model that was written independently.
 

@@ -14,12 +14,12 @@ impl<S: Store + Drop> World<S> {
     ghost use Rattle.mc_world.specs.Quiet.{IsQuiet};
     ghost use Rattle.mc_world.specs.Steps.{GivesAccount};
 
-    /// Does all that is left to do, at a moment, until the world is quiet: each whole request of each client that has not gone is answered and
-    /// taken, and nothing is left on any way. It loses no link, and no link comes up.
+    /// Does all that is left to do, at a moment, until the world is quiet. Then each whole request of each client that has not gone is
+    /// answered and taken, and nothing is left on any way. It loses no link, and no link comes up.
     ///
     /// First the servers see the ends of all lost generations, servers and generations in order. Then it goes in rounds, until a round does
     /// nothing. In a round the proxy takes, for each client in order, every request that it can. Each server, in order, gets all bytes and
-    /// takes every request that it can, in alternation until neither applies; then the proxy gets all its bytes, and takes all replies. Each
+    /// takes every request that it can, in alternation until neither applies. Then the proxy gets all its bytes, and takes all replies. Each
     /// client, in order, is sent every answer that is known, and takes all bytes.
     ///
     /// At `Memory` some of these events were done: the world gives account, and can be drained again.

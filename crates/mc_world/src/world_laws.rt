@@ -75,9 +75,9 @@ pub fn every_world_gives_account<S: Store + Drop>(
     Ok(world)
 }
 
-/// Whatever was done, and whichever servers joined or restarted: if no event applies that moves bytes, takes a turn, emits an answer or shows a
-/// server an end, the pool is quiet. Then each request of each client that has not gone is answered, and nothing is left on any way. No client had
-/// 2^64 - 1 requests.
+/// A pool is quiet if no event applies that moves bytes, takes a turn, emits an answer or shows a server an end. This holds whatever was done, and
+/// whichever servers joined or restarted. In a quiet pool each request of each client that has not gone is answered, and nothing is left on any way.
+/// No client had 2^64 - 1 requests.
 pub fn nothing_is_stuck()
     ensures { (losses : Losses) (ring : RingState) (clients budget items : ℕ) (calls : List Call) (c : CourseState) → IsRing ring → IsWithinBounds budget items
         → Calls (opening_cache budget items 0) calls (world_opened losses ring clients budget items).course c
