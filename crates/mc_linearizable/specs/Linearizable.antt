@@ -43,7 +43,7 @@ pub record Executed (order : Order) (histories : ℕ → List Entry) (key : List
   pub command : command_at order (tag_in entry) ≡ Some (to_place place atom)
   pub on : is_on key atom ≡ true
 
--- The one order of a key's commands. A key stays where it is, or goes to a server that joins, whose place is higher: so a command comes before
+-- The one order of a key's commands. A key stays where it is, or goes to a server that joins, whose place is higher. So a command comes before
 -- another if its place is lower, or if it is earlier in the same history.
 abbrev pub ComesFirst : {order : Order} {histories : ℕ → List Entry} {key : List ℕ} → Executed order histories key → Executed order histories key → Type 0
 ComesFirst a b = (a.place < b.place) ⊎ ((a.place ≡ b.place) × (a.number < b.number))

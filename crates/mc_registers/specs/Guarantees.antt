@@ -91,7 +91,7 @@ ReadsSeeOwnWrites last held =
     → may_have_written read.atom read.reply ≡ false
     → ((shown : List ℕ) → value_shown read.reply ≡ Some shown → shown ≡ value) × ((shown : ℕ) → flags_shown read.reply ≡ Some shown → shown ≡ flags)
 
--- Counters count, by `incr`, `decr` and `ma`. A client was shown a number, and since then there are only counts that ask for no item to be made, and
+-- Counters count, by `incr`, `decr` and `ma`. A client was shown a number. Since then there are only counts that ask for no item to be made, and
 -- commands that write nothing: each count goes on from the number before.
 abbrev pub IsCountOrQuiet : Done → Type 0
 IsCountOrQuiet e =

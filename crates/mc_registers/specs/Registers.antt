@@ -110,8 +110,8 @@ abbrev pub last_by : ℕ → Option Body → ℕ
 last_by last None = last
 last_by last (Some body) = body.cas
 
--- commands on the key, in the order in which its server executed them, are a run of the register: each was answered what the register
--- answers, whether or not it had forgotten its item, and whatever numbers it gave
+-- Commands on the key, in the order in which its server executed them, are a run of the register. Each was answered what the register
+-- answers, whether or not it had forgotten its item, and whatever numbers it gave.
 abbrev pub IsRun : ℕ → Option Body → List Done → Type 0
 IsRun last held [] = Unit {0}
 IsRun last held (e ∷ es) =

@@ -38,8 +38,8 @@ abbrev pub is_reply : Outcome → Bool
 is_reply (Reply reply) = true
 is_reply other = false
 
--- The account of a run of threads, by an order in which all requests were taken: the clients' texts, the bytes emitted to them, the
--- servers' histories, and the moments that the servers' clocks had given before the run and after it, all by number.
+-- The account of a run of threads, by an order in which all requests were taken. It is over the clients' texts, the bytes emitted
+-- to them, the servers' histories, and the moments that the servers' clocks had given before the run and after it, all by number.
 pub record Accounts (ring : RingState) (opening : CacheState) (order : Order) (texts outs : ℕ → List ℕ) (histories : ℕ → List Entry) (began ended : ℕ → List ℕ) : Type 0 where
   -- the order has all requests of each client, in the client's order; each was routed by this ring, its choice for lost commands is
   -- `Told`, and each of its commands has a reply

@@ -90,8 +90,8 @@ pub record Accounts (losses : Losses) (ring : RingState) (opening : CacheState) 
 abbrev pub Account : Losses → RingState → CacheState → (ℕ → List ℕ) → (ℕ → List ℕ) → (ℕ → List Entry) → Log → Type 0
 Account losses ring opening texts outs histories log = (order : Order) × Accounts losses ring opening order texts outs histories log
 
--- The clauses of the account that name no place of the log: each client's requests were taken in order, each command has its outcome, the
--- entries of each server since its life began are legal, all its entries are of commands to it, and no command has two entries in all
+-- The clauses of the account that name no place of the log. Each client's requests were taken in order, and each command has its outcome.
+-- The entries of each server since its life began are legal, and all its entries are of commands to it. No command has two entries in all
 -- histories.
 pub record AccountsForCommands (opening : CacheState) (order : Order) (texts : ℕ → List ℕ) (histories : ℕ → List Entry) (begun : ℕ → ℕ) : Type 0 where
   pub asked : (client : ℕ) → (untaken : List Taken) × (taken_of client order ++ untaken ≡ requests_of (texts client))

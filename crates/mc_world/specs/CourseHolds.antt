@@ -28,8 +28,8 @@ HaveOneGeneration pool = (place : ℕ) (site : SiteState) → slice_get pool.sit
 abbrev pub HaveOneConnection : Log → PoolState → Type 0
 HaveOneConnection log pool = (place : ℕ) (site : SiteState) → slice_get pool.sites place ≡ Some site → number_of (loses place) log ≡ 0 → site.server.admitted ≡ 1
 
--- The life of each server began at its last restart; a server whose link was never lost is in its first life; and a server's entries
--- in each life that has ended are legal.
+-- The life of each server began at its last restart. A server whose link was never lost is in its first life. A server's entries in
+-- each life that has ended are legal.
 pub record LivesHold (opening : CacheState) (order : Order) (log : Log) (sites : List SiteState) : Type 0 where
   pub begun : (place : ℕ) → begun_of sites place ≡ taken_before place (number_of (restarts place) log) log
   pub first : (place : ℕ) → number_of (loses place) log ≡ 0 → begun_of sites place ≡ 0

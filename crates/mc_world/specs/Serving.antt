@@ -28,7 +28,7 @@ pub record ServesProxy (number : ℕ) (server : ServerState) : Type 0 where
   pub spelled : (what : Taken) (after : ReaderState) → IsFirst end.reader what after → IsSpelled what
   pub good_cache : IsGoodCache server.cache
 
--- A site, whose link this is, serves on each generation: if a whole request has arrived, its tag is known; the server's bytes are no
+-- A site, whose link this is, serves on each generation. If a whole request has arrived, its tag is known. The server's bytes are no
 -- protocol violation, and each reply is to a command that was taken.
 pub record SiteServes (link : LinkState) (site : SiteState) : Type 0 where
   pub generation : site.generation ≡ link.generation

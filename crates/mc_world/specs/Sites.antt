@@ -43,8 +43,8 @@ pub record IsLostWay (place : ℕ) (order : Order) (made : List Made) (texts : �
   pub untaken : way.untaken ≡ map (λ command. command.1) others
   pub named : Each (IsNamed place order) others
 
--- The invariant of a server with its ways, from what it made in this life: its history records what it made in all its lives, and its
--- cache is good, so its replies are ones that commands can have.
+-- The invariant of a server with its ways, from what it made in this life. Its history records what it made in all its lives. Its cache
+-- is good, so its replies are ones that commands can have.
 pub record SiteHolds (place : ℕ) (order : Order) (lane : Lane) (link : LinkState) (opening : CacheState) (site : SiteState) : Type 0 where
   pub past : List Made
   pub made : List Made
